@@ -1,0 +1,22 @@
+//! Jobs, what they promise, the callbacks that wait and the records of those that ran, and the plain types in which
+//! the calls of the runtime answer.
+//!
+//! The surface stands in docs/specification/surface.md, "rcu_jobs".
+#![tactic(auto)]
+
+mod answers;
+mod boxed;
+mod callback;
+mod counts;
+mod job;
+mod turns;
+
+pub use answers::{BarrierFault, Closed, Passed, Refused, SwitchFault, Ticket};
+pub use boxed::BoxedJob;
+pub use callback::{Callback, Record, run_callback};
+pub use counts::Counts;
+pub use job::Job;
+pub use turns::{DriverTurn, GroupTurn, HandTurn, Lists, Mode, Stop, Ticked};
+
+#[cfg(test)]
+mod tests;

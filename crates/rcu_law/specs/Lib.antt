@@ -1,0 +1,12 @@
+pub mod Law
+pub mod Numbers
+pub mod Lists
+pub mod Calls
+pub mod LabelledLists
+pub mod States
+pub mod Releases
+pub mod Steps
+pub mod Events
+pub mod Places
+pub mod Invariant
+pub mod Closing

@@ -1,0 +1,64 @@
+-- The values of places that are joined.
+use Rattle.std.proofs.Common.{◌≡◌, ◌+◌, List, [], ◌∷◌, ◌++◌, length, Option, Some, None, refl, ap, ◌∙◌, sym, length-append, MatchOption, ◌≤◌, subst, arith, Bool, true, false, not, IsTrue, ◌↔◌, ◌<◌, take, drop, ℕ}
+use Rattle.std.proofs.Math.Seq.{take-add}
+use Rattle.std.proofs.lemmas.List.{drop-drop}
+use Rattle.rcu_lists.specs.Release.{is_any}
+use Rattle.rcu_lists.specs.Filled.{filled, AreFilled}
+
+module _ {T : Type 0} where
+  pub filled-append : (xs ys : List (Option T)) → filled (xs ++ ys) ≡ filled xs ++ filled ys
+  filled-append [] ys = refl
+  filled-append (None ∷ xs) ys = filled-append xs ys
+  filled-append (Some x ∷ xs) ys = ap (λ l. x ∷ l) (filled-append xs ys)
+
+  pub filled-snoc : (xs : List (Option T)) (x : T) → filled (xs ++ Some x ∷ []) ≡ filled xs ++ x ∷ []
+  filled-snoc xs x = filled-append xs (Some x ∷ [])
+
+  pub still-filled : (xs : List (Option T)) (x : T) → AreFilled xs → AreFilled (xs ++ Some x ∷ [])
+  still-filled xs x h = ap length (filled-snoc xs x) ∙ length-append (filled xs) (x ∷ []) ∙ ap (λ n. n + 1) h ∙ sym (length-append xs (Some x ∷ []))
+
+  pub no-snoc : (xs : List T) (x : T) → xs ++ x ∷ [] ≡ [] → ⊥
+  no-snoc [] x e = cc
+  no-snoc (y ∷ xs) x e = cc
+
+  pub filled-le : (xs : List (Option T)) → length (filled xs) ≤ length xs
+  filled-le [] = omega arith
+  filled-le (None ∷ xs) = let h = filled-le xs in omega arith
+  filled-le (Some x ∷ xs) = let h = filled-le xs in omega arith
+
+  -- the first place of filled ones holds the first value
+  pub first-filled : (place : Option T) (rest : List (Option T)) → AreFilled (place ∷ rest) → AreFilled rest × MatchOption place ⊥ (λ x. filled (place ∷ rest) ≡ x ∷ filled rest)
+  first-filled None rest h = let le = filled-le rest in absurd (omega arith)
+  first-filled (Some x) rest h = (omega arith, refl)
+
+  at_place : (A : Type 0) (place : Option T) (rest : List (Option T)) (old new : List T) → MatchOption place ⊥ (λ x. filled (place ∷ rest) ≡ x ∷ filled rest) → old ≡ filled (place ∷ rest) → new ≡ filled rest → MatchOption place A (λ x. old ≡ x ∷ new)
+  at_place A None rest old new h e n = absurd h
+  at_place A (Some x) rest old new h e n = e ∙ ap (λ l. x ∷ l) (sym n)
+
+  pub takes-first : (A : Type 0) (r place : Option T) (rest : List (Option T)) (old new : List T) → AreFilled (place ∷ rest) → r ≡ place → old ≡ filled (place ∷ rest) → new ≡ filled rest → MatchOption r A (λ x. old ≡ x ∷ new)
+  takes-first A r place rest old new h e o n = let P : Option T → Type 0 = λ q. MatchOption q A (λ x. old ≡ x ∷ new) in subst P (sym e) (at_place A place rest old new (first-filled place rest h).1 o n)
+
+pub marks : (r : Bool) (P : Type 0) → (IsTrue r ↔ P) → (P → not r ≡ false) × (not r ≡ false → P)
+marks true P h = ((λ _. refl), λ _. h.0 refl)
+marks false P h = ((λ p. absurd (let e = h.1 p in cc)), λ (e : true ≡ false). absurd cc)
+
+-- moving the first of the rest
+module _ {T : Type 0} where
+  pub moves-one : (i : ℕ) (xs : List T) (x : T) (rest : List T) → drop i xs ≡ x ∷ rest → (take (i + 1) xs ≡ take i xs ++ x ∷ []) × (drop (i + 1) xs ≡ rest)
+  moves-one i xs x rest e = (take-add i 1 xs ∙ ap (λ z. take i xs ++ take 1 z) e, sym (drop-drop 1 i xs) ∙ ap (drop 1) e)
+
+  pub any-of : (r : Bool) (xs : List T) → (IsTrue r ↔ (xs ≡ [])) → not r ≡ is_any xs
+  any-of true xs h = sym (ap is_any (h.0 refl))
+  any-of false [] h = absurd (let e = h.1 refl in cc)
+  any-of false (x ∷ xs) h = refl
+
+  pub any-long : (xs : List T) → 0 < length xs → is_any xs ≡ true
+  any-long [] h = absurd (omega arith)
+  any-long (x ∷ xs) h = refl
+
+  pub any-none : (xs : List T) → length xs ≡ 0 → is_any xs ≡ false
+  any-none [] h = refl
+  any-none (x ∷ xs) h = absurd (omega arith)
+
+  pub take_none : (n : ℕ) (xs : List T) → n ≡ 0 → take n xs ≡ []
+  take_none n xs e = rw e refl

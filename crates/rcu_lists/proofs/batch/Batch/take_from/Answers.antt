@@ -1,0 +1,22 @@
+use Rattle.std.proofs.Common.{◌≡◌, [], ◌∷◌, ◌++◌, ◌+◌, ◌-◌, ◌∙◌, take, drop, sym, ap, arith, append_assoc}
+use Rattle.rcu_lists.specs.Batches.{batch_items}
+use Rattle.rcu_lists.proofs.Fills.{moves-one}
+use Rattle.rcu_lists.proofs.batch.Batch.take_from.Goals as goal
+
+pub loop-preserved : goal.loop-preserved
+loop-preserved g c = let xs = c.args.list.now.items in let x = c.in-Some.callback in
+    let first : drop c.loop.counter xs ≡ x ∷ c.pop_front.new.self.items = sym c.loop.invariant.left ∙ c.in-Some.ensures.items in
+    let one = moves-one c.loop.counter xs x c.pop_front.new.self.items first in
+    let more = c.add.ensures.room (c.args.number - (c.loop.counter + 1)) (omega arith) in
+    record {
+      moved = c.add.ensures.items ∙ ap (λ z. z ++ x ∷ []) c.loop.invariant.moved ∙ append_assoc (batch_items c.args.self.now) (take c.loop.counter xs) (x ∷ []) ∙ ap (λ z. batch_items c.args.self.now ++ z) (sym one.0);
+      left = sym one.1;
+      room = more;
+      capacity = c.pop_front.ensures.capacity ∙ c.loop.invariant.capacity;
+    }
+
+pub returns-clause-moved : goal.returns-clause-moved
+returns-clause-moved g c = let all : c.loop.counter ≡ c.args.number = omega arith in rw all at c.loop.invariant.moved
+
+pub returns-clause-left : goal.returns-clause-left
+returns-clause-left g c = let all : c.loop.counter ≡ c.args.number = omega arith in rw all at c.loop.invariant.left

@@ -1,0 +1,14 @@
+use Rattle.std.proofs.Common.{◌<◌, ◌∙◌, length, ap, sym, rules}
+use Rattle.rcu_lists.specs.Stamps.{newest_of}
+use Rattle.rcu_lists.proofs.Stamps.{newest-back}
+use Rattle.rcu_lists.proofs.Cuts.{callbacks-cut}
+use Rattle.rcu_lists.proofs.segments.Segments.newest.Goals as goal
+
+pub returns-then-not-self : goal.returns-then-not-self
+returns-then-not-self g c = let s = c.args.self.now in c.greatest_stamp.ensures ∙ ap newest_of (sym (callbacks-cut s.wait_number s.ready_number s.done s.wait s.ready s.list.items s.within))
+
+pub returns : goal.returns
+returns g c = let s = c.args.self.now in
+    let some : 0 < length s.list.items = search rules in
+    rw (callbacks-cut s.wait_number s.ready_number s.done s.wait s.ready s.list.items s.within)
+    (sym (newest-back s.list.items c.in_ok-last.last.now (s.stamps (search rules)) some (search rules)))

@@ -1,0 +1,121 @@
+//! A short list of callbacks, as it goes over a lane.
+
+ghost use Rattle.std.specs.Prelude.{◌≡◌, ℕ, ◌+◌, ◌≤◌, ◌↔◌, [], ◌∷◌, ◌++◌, length, take, drop, IsTrue, MatchOption, OnOk, OnErr};
+ghost use Rattle.std.specs.VecDeque.{deque_capacity};
+ghost use Rattle.rcu_lists.specs.Filled.{AreFilled};
+
+use rcu_jobs::Callback;
+use smallvec::SmallVec;
+use std::alloc::{AllocError, Global};
+use std::collections::VecDeque;
+use std::mem;
+
+/// How many callbacks of a batch stand in the value itself.
+pub const INLINE_PLACES: usize = 16;
+
+/// Callbacks in order. The first sixteen need no memory.
+#[derive(Drop)]
+pub struct Batch<J> {
+    // An unused inline place wants a default value, so each place is an Option.
+    slots: SmallVec<Option<Callback<J>>, INLINE_PLACES>,
+    // The places before this one were taken, and the others are filled.
+    next: usize,
+    ghost within: { next ≤ length slots.items },
+    ghost full: { AreFilled (drop next slots.items) },
+}
+
+impl<J: Drop> Batch<J> {
+    ghost use Rattle.rcu_lists.specs.Batches.{batch_items, HasRoom};
+
+    /// No callbacks, with room for sixteen.
+    pub fn new(alloc: Global) -> Batch<J>
+        ensures items { batch_items result ≡ [] }
+        ensures room { HasRoom result INLINE_PLACES }
+    {
+        Batch {
+            slots: SmallVec::new(alloc),
+            next: 0,
+        }
+    }
+
+    /// How many callbacks it holds.
+    pub fn len(&self) -> u64
+        ensures { result ≡ length (batch_items self.now) }
+    {
+        (self.slots.len() - self.next) as u64
+    }
+
+    /// Whether it holds none.
+    pub fn is_empty(&self) -> bool
+        ensures { IsTrue result ↔ (batch_items self.now ≡ []) }
+    {
+        self.len() == 0
+    }
+
+    /// Finds room for so many more.
+    ///
+    /// # Errors
+    ///
+    /// Refusal 2, want of memory: everything is as it was.
+    pub fn reserve(&mut self, more: usize) -> Result<(), AllocError>
+        ensures items { batch_items self.new ≡ batch_items self.old }
+        ensures found { OnOk result (HasRoom self.new more) }
+        ensures room { (k : ℕ) → HasRoom self.old k → HasRoom self.new k }
+        ensures refused { OnErr result (self.new ≡ self.old) }
+    {
+        self.slots.reserve(more)
+    }
+
+    /// Adds a callback at the end, in the room that there is.
+    pub fn add(&mut self, callback: Callback<J>)
+        requires { HasRoom self.old 1 }
+        ensures items { batch_items self.new ≡ batch_items self.old ++ callback ∷ [] }
+        ensures room { (k : ℕ) → HasRoom self.old (k + 1) → HasRoom self.new k }
+    {
+        self.slots.push_reserved(Some(callback))
+    }
+
+    /// Takes the first callback.
+    pub fn take_first(&mut self) -> Option<Callback<J>>
+        ensures { MatchOption result
+            ((batch_items self.old ≡ []) × (batch_items self.new ≡ []))
+            (λ c. batch_items self.old ≡ c ∷ batch_items self.new) }
+    {
+        let next = self.next;
+        if next >= self.slots.len() {
+            return None;
+        }
+        let Some(slot) = self.slots.get_mut(next) else {
+            unreachable!()
+        };
+        let first = slot.take();
+        self.next = next + 1;
+        first
+    }
+
+    /// Takes all callbacks, in order, and leaves none, with room for sixteen.
+    pub fn take_all(&mut self) -> Batch<J>
+        ensures all { result ≡ self.old }
+        ensures left { batch_items self.new ≡ [] }
+        ensures room { HasRoom self.new INLINE_PLACES }
+    {
+        let empty = Batch::new(*self.slots.allocator());
+        mem::replace(self, empty)
+    }
+
+    // Moves so many callbacks from the front of a list to the end, in the room that there is.
+    pub(crate) fn take_from(&mut self, list: &mut VecDeque<Callback<J>>, number: usize)
+        requires few { number ≤ length list.old.items }
+        requires room { HasRoom self.old number }
+        ensures moved { batch_items self.new ≡ batch_items self.old ++ take number list.old.items }
+        ensures left { list.new.items ≡ drop number list.old.items }
+        ensures capacity { deque_capacity list.new ≡ deque_capacity list.old }
+    {
+        for _ in 0..number {
+            let Some(callback) = list.pop_front() else {
+                unreachable!()
+            };
+            self.add(callback);
+        }
+    }
+}

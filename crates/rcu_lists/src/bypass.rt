@@ -1,0 +1,157 @@
+//! The list in which an offloaded processor holds its callbacks back.
+
+ghost use Rattle.std.specs.Prelude.{◌≡◌, ℕ, ◌+◌, true, false, [], ◌∷◌, ◌++◌, None, OnOk, OnErr, length};
+ghost use Rattle.rcu_lists.specs.Batches.{batch_items, HasRoom};
+
+use crate::batch::{Batch, INLINE_PLACES};
+use crate::pace::{Kind, Pace};
+use rcu_jobs::Callback;
+use std::alloc::{AllocError, Global};
+use std::collections::VecDeque;
+
+/// Callbacks that an offloaded processor holds back, to release them together
+/// (docs/specification/rules.md, "Bypass lists").
+#[derive(Drop)]
+pub struct Bypass<J> {
+    held: Batch<J>,
+    qhimark: u64,
+    pace: Pace,
+    // The pace knows a plain callback, or a kept moment, exactly where the list holds callbacks.
+    ghost unmarked: { batch_items held ≡ [] → (pace.plain ≡ false) × (pace.lazy ≡ None) },
+    ghost marked: { pace.plain ≡ false → pace.lazy ≡ None → batch_items held ≡ [] },
+}
+
+/// What became of a callback that was placed.
+#[derive(Drop)]
+pub enum Placed<J> {
+    /// It is in the list.
+    Kept,
+    /// It released the list. This is all of it, which is to be put on the lane.
+    Out(Batch<J>),
+}
+
+impl<J: Drop> Bypass<J> {
+    ghost use Rattle.rcu_lists.specs.Bypasses.{bypass_items, bypass_pace, bypass_qhimark, BypassRoom, BypassUnchanged, out_items, is_out};
+    ghost use Rattle.rcu_lists.specs.Release.{beginning, placed, is_late, ticked, emptied, refilled, joined_plain};
+
+    /// An empty list that is released at the length `qhimark`.
+    pub fn new(alloc: Global, qhimark: u64) -> Bypass<J>
+        ensures items { bypass_items result ≡ [] }
+        ensures pace { bypass_pace result ≡ beginning }
+        ensures qhimark { bypass_qhimark result ≡ qhimark }
+        ensures room { BypassRoom result INLINE_PLACES }
+    {
+        Bypass {
+            held: Batch::new(alloc),
+            qhimark,
+            pace: Pace::new(),
+        }
+    }
+
+    /// How many callbacks it holds.
+    pub fn len(&self) -> u64
+        ensures { result ≡ length (bypass_items self.now) }
+    {
+        self.held.len()
+    }
+
+    /// Finds room for one more.
+    ///
+    /// # Errors
+    ///
+    /// Refusal 2, want of memory.
+    pub fn reserve(&mut self) -> Result<(), AllocError>
+        ensures same { BypassUnchanged self.old self.new }
+        ensures found { OnOk result (BypassRoom self.new 1) }
+    {
+        self.make_room(1)
+    }
+
+    /// Adds a callback at the end, and releases the list where that is due.
+    pub fn place(&mut self, moment: u64, kind: Kind, callback: Callback<J>) -> Placed<J>
+        requires { BypassRoom self.old 1 }
+        ensures items { out_items result ++ bypass_items self.new ≡ bypass_items self.old ++ callback ∷ [] }
+        ensures all { is_out result ≡ true → bypass_items self.new ≡ [] }
+        ensures pace { (is_out result, bypass_pace self.new)
+            ≡ placed moment kind (bypass_pace self.old) (length (bypass_items self.old) + 1) (bypass_qhimark self.old) }
+        ensures qhimark { bypass_qhimark self.new ≡ bypass_qhimark self.old }
+
+        // How much room there is then.
+        ensures kept_room { is_out result ≡ false → (k : ℕ) → BypassRoom self.old (k + 1) → BypassRoom self.new k }
+        ensures out_room { is_out result ≡ true → BypassRoom self.new INLINE_PLACES }
+    {
+        self.held.add(callback);
+        let (out, pace) = self.pace.place(moment, kind, self.held.len(), self.qhimark);
+        self.pace = pace;
+        if out {
+            Placed::Out(self.held.take_all())
+        } else {
+            Placed::Kept
+        }
+    }
+
+    /// Whether a tick releases the list because of its moment, which then becomes the last one, the count 0.
+    pub fn late(&mut self, moment: u64) -> bool
+        ensures late { result ≡ is_late moment (bypass_pace self.old) }
+        ensures empty { bypass_items self.old ≡ [] → result ≡ false }
+        ensures items { bypass_items self.new ≡ bypass_items self.old }
+        ensures pace { bypass_pace self.new ≡ ticked moment (bypass_pace self.old) }
+        ensures qhimark { bypass_qhimark self.new ≡ bypass_qhimark self.old }
+        ensures room { (k : ℕ) → BypassRoom self.old k → BypassRoom self.new k }
+    {
+        let late = self.pace.is_late(moment);
+        if late {
+            self.pace.last = Some(moment);
+            self.pace.direct = 0;
+        }
+        late
+    }
+
+    /// Takes all of the list. The last moment and the count stay.
+    pub fn flush(&mut self) -> Batch<J>
+        ensures all { batch_items result ≡ bypass_items self.old }
+        ensures none { bypass_items self.new ≡ [] }
+        ensures pace { bypass_pace self.new ≡ emptied (bypass_pace self.old) }
+        ensures qhimark { bypass_qhimark self.new ≡ bypass_qhimark self.old }
+        ensures room { BypassRoom self.new INLINE_PLACES }
+    {
+        self.pace = self.pace.emptied();
+        self.held.take_all()
+    }
+
+    /// Puts back what was released, as plain callbacks. The last moment and the count stay.
+    pub fn refill(&mut self, batch: Batch<J>)
+        requires { bypass_items self.old ≡ [] }
+        ensures items { bypass_items self.new ≡ batch_items batch }
+        ensures pace { bypass_pace self.new ≡ refilled (batch_items batch) (bypass_pace self.old) }
+        ensures qhimark { bypass_qhimark self.new ≡ bypass_qhimark self.old }
+        ensures room { (k : ℕ) → HasRoom batch k → BypassRoom self.new k }
+    {
+        self.pace.plain = !batch.is_empty();
+        self.held = batch;
+        self.pace.lazy = None;
+    }
+
+    // Finds room for so many more.
+    pub(crate) fn make_room(&mut self, more: usize) -> Result<(), AllocError>
+        ensures same { BypassUnchanged self.old self.new }
+        ensures found { OnOk result (BypassRoom self.new more) }
+    {
+        self.held.reserve(more)
+    }
+
+    // Moves a whole list to the end, where its callbacks count as plain.
+    pub(crate) fn take_list(&mut self, list: &mut VecDeque<Callback<J>>)
+        requires { BypassRoom self.old (length list.old.items) }
+        ensures items { bypass_items self.new ≡ bypass_items self.old ++ list.old.items }
+        ensures left { list.new.items ≡ [] }
+        ensures pace { bypass_pace self.new ≡ joined_plain list.old.items (bypass_pace self.old) }
+        ensures qhimark { bypass_qhimark self.new ≡ bypass_qhimark self.old }
+    {
+        let number = list.len();
+        self.held.take_from(list, number);
+        if number > 0 {
+            self.pace.plain = true;
+        }
+    }
+}

@@ -1,0 +1,3 @@
+pub mod RootLaw
+pub mod SnapLaw
+pub mod WordLaws

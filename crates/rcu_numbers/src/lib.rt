@@ -1,0 +1,18 @@
+//! Grace-period numbers, the board's word, and the limits of a runtime. Nothing here takes memory.
+//!
+//! The rules stand in docs/specification/rules.md: "Grace-period numbers", "Quiescent reports" and "Limits".
+#![tactic(auto)]
+
+mod sequence;
+mod shape;
+mod word;
+
+pub use sequence::{GREATEST_NUMBER, NumbersSpent, done, ended, snap, started};
+pub use shape::{
+    DEFAULT_BLIMIT, DEFAULT_LIMIT, DEFAULT_QHIMARK, MOST_CALLBACKS, MOST_PROCESSORS, Shape,
+    default_stride,
+};
+pub use word::{BoardWord, all_but, all_processors, word_laws};
+
+#[cfg(test)]
+mod tests;

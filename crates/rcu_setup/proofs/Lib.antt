@@ -1,0 +1,4 @@
+pub mod Numerals
+pub mod Steps
+pub mod Masks
+pub mod Roots

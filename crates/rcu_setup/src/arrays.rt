@@ -1,0 +1,83 @@
+//! The keys that are arrays of strings, `routes` and `script`.
+
+ghost use Rattle.std.specs.Prelude.{◌≡◌, ◌≤◌, [], map, option_map, IfOk, length, vec_len};
+ghost use Rattle.toml.specs.View.{view};
+ghost use Rattle.rcu_setup.specs.Faults.{Gives};
+ghost use Rattle.rcu_setup.specs.Arrays.{lines_of, lines_view, routes_of, routes_view, texts_in, texts_or_none, texts_view};
+
+use crate::fault::{Key, SetupFault};
+use crate::line::{Command, script_line};
+use crate::words::route;
+use std::alloc::Global;
+use toml::Value;
+
+/// The texts of an array.
+fn texts<'a>(alloc: Global, key: Key, value: &'a Value) -> Result<Vec<&'a str>, SetupFault>
+    ensures { Gives texts_view result (texts_in key (view value.now)) }
+{
+    let Some(items) = value.as_array() else {
+        return Err(SetupFault::WrongKind(key));
+    };
+    let mut found = Vec::new(alloc);
+    for item in items {
+        let Some(text) = item.as_str() else {
+            return Err(SetupFault::WrongKind(key));
+        };
+        found.push(text)?;
+    }
+    Ok(found)
+}
+
+/// The texts of an array of `most` items at most, and none where there is no array.
+#[tactic(auto, unfolding(crate::specs::Arrays::texts_or_none))]
+pub(crate) fn texts_or_none<'a>(
+    alloc: Global,
+    key: Key,
+    most: usize,
+    value: Option<&'a Value>,
+) -> Result<Vec<&'a str>, SetupFault>
+    ensures answer { Gives texts_view result (texts_or_none key most (option_map (λ v. view v.now) value.entry)) }
+    ensures few { IfOk result (λ found. vec_len found ≤ most) }
+{
+    let Some(value) = value else {
+        return Ok(Vec::new(alloc));
+    };
+    let texts = texts(alloc, key, value)?;
+    if texts.len() > most {
+        return Err(SetupFault::OutOfRange(key));
+    }
+    Ok(texts)
+}
+
+/// The routes that the texts say, each `NAME=HOP`.
+pub(crate) fn routes(alloc: Global, texts: &[&str]) -> Result<Vec<(String, u32)>, SetupFault>
+    ensures answer { Gives routes_view result (routes_of 1 [] (map (λ s. s.now) texts.now)) }
+    ensures each { IfOk result (λ found. vec_len found ≡ length texts.now) }
+{
+    let mut found = Vec::new(alloc);
+    for (i, text) in texts.iter().enumerate() {
+        let Some((name, hop)) = route(text) else {
+            return Err(SetupFault::BadRoute(i as u64 + 1));
+        };
+        let name = String::from_str(alloc, name)?;
+        found.push((name, hop))?;
+    }
+    Ok(found)
+}
+
+/// The commands that the texts say.
+pub(crate) fn lines(alloc: Global, texts: &[&str]) -> Result<Vec<Command>, SetupFault>
+    ensures answer { Gives lines_view result (lines_of 1 [] (map (λ s. s.now) texts.now)) }
+    ensures each { IfOk result (λ found. vec_len found ≡ length texts.now) }
+{
+    let mut found = Vec::new(alloc);
+    for (i, text) in texts.iter().enumerate() {
+        let command = match script_line(alloc, text) {
+            Ok(command) => command,
+            Err(SetupFault::Memory) => return Err(SetupFault::Memory),
+            Err(_) => return Err(SetupFault::BadLine(i as u64 + 1)),
+        };
+        found.push(command)?;
+    }
+    Ok(found)
+}

@@ -1,0 +1,29 @@
+//! The setup of a run, read from a text: a TOML document of limits, routes and a script.
+//!
+//! What is accepted, and which fault is named, stands in docs/specification/tables.md: "Setup keys", "CPU list",
+//! "Names and hops", "Order of tests", "Fault lines" and "Script commands and what they print".
+#![tactic(auto)]
+
+mod arrays;
+mod fault;
+mod keys;
+mod limits;
+mod line;
+mod list;
+mod numbers;
+mod reading;
+mod setup;
+mod words;
+
+pub use fault::{Key, SetupFault};
+pub use limits::{
+    HOP_DIGITS, MOMENT_DIGITS, MOST_BYTES, MOST_CALLS, MOST_LINES, MOST_ROUTES, NAME_LENGTH,
+    NUM_DIGITS, PLACE_DIGITS,
+};
+pub use line::{Command, script_line};
+pub use list::cpu_list;
+pub use reading::read_setup;
+pub use setup::Setup;
+
+#[cfg(test)]
+mod tests;

@@ -1,0 +1,109 @@
+//! The keys that make the shape, and other whole numbers: docs/specification/rules.md, "Limits".
+
+ghost use Rattle.std.specs.Prelude.{◌≡◌, ◌<◌, ◌≤◌, ◌^◌, Ok, Err, IfOk, option_map};
+ghost use Rattle.toml.specs.View.{table_view, view};
+ghost use Rattle.rcu_setup.specs.Faults.{Gives, missing_processors};
+ghost use Rattle.rcu_setup.specs.Numbers.{default_stride_of, nocbs_of, shape_of, shape_view, whole_in, whole_or};
+
+use crate::fault::{Key, SetupFault};
+use crate::keys::at;
+use crate::list::cpu_list;
+use rcu_numbers::{
+    DEFAULT_BLIMIT, DEFAULT_LIMIT, DEFAULT_QHIMARK, MOST_CALLBACKS, MOST_PROCESSORS, Shape,
+    default_stride,
+};
+use toml::{Table, Value};
+
+/// A whole number from `least` to `most`.
+fn whole(key: Key, least: u64, most: u64, value: &Value) -> Result<u64, SetupFault>
+    ensures answer { Gives (λ n. n) result (whole_in key least most (view value.now)) }
+    ensures within { IfOk result (λ n. (least ≤ n) × (n ≤ most)) }
+{
+    let Some(number) = value.as_integer() else {
+        return Err(SetupFault::WrongKind(key));
+    };
+    match u64::try_from(number) {
+        Ok(number) if least <= number && number <= most => Ok(number),
+        _ => Err(SetupFault::OutOfRange(key)),
+    }
+}
+
+/// The same, or `other` where there is no value.
+#[tactic(auto, unfolding(crate::specs::Numbers::whole_or))]
+pub(crate) fn whole_or(
+    key: Key,
+    least: u64,
+    most: u64,
+    other: u64,
+    value: Option<&Value>,
+) -> Result<u64, SetupFault>
+    requires { (least ≤ other) × (other ≤ most) }
+    ensures answer { Gives (λ n. n) result (whole_or key least most (Ok other) (option_map (λ v. view v.now) value.entry)) }
+    ensures within { IfOk result (λ n. (least ≤ n) × (n ≤ most)) }
+{
+    match value {
+        Some(value) => whole(key, least, most, value),
+        None => Ok(other),
+    }
+}
+
+#[tactic(auto, unfolding(crate::specs::Numbers::whole_or))]
+fn processors(value: Option<&Value>) -> Result<u64, SetupFault>
+    ensures answer { Gives (λ n. n) result (whole_or Key.Processors 1 32 (Err missing_processors) (option_map (λ v. view v.now) value.entry)) }
+    ensures within { IfOk result (λ n. (1 ≤ n) × (n ≤ 32)) }
+{
+    match value {
+        Some(value) => whole(Key::Processors, 1, MOST_PROCESSORS, value),
+        None => Err(SetupFault::MissingProcessors),
+    }
+}
+
+/// The mask of the offloadable processors, among `n`.
+#[tactic(auto, unfolding(crate::specs::Numbers::nocbs_of))]
+fn nocbs(n: u64, value: Option<&Value>) -> Result<u32, SetupFault>
+    requires { n ≤ 32 }
+    ensures answer { Gives (λ m. m) result (nocbs_of n (option_map (λ v. view v.now) value.entry)) }
+    ensures within { IfOk result (λ m. m < 2 ^ n) }
+{
+    let Some(value) = value else {
+        return Ok(0);
+    };
+    match value.as_str() {
+        Some(text) => cpu_list(text, n),
+        None => Err(SetupFault::WrongKind(Key::Nocbs)),
+    }
+}
+
+/// The stride of `n` processors where none is given.
+fn stride_of(n: u64) -> u64
+    requires { (1 ≤ n) × (n ≤ 32) }
+    ensures value { result ≡ default_stride_of n }
+    ensures within { (1 ≤ result) × (result ≤ 32) }
+{
+    default_stride(n)
+}
+
+/// The shape that the keys from `processors` to `limit` give.
+#[tactic(auto, unfolding(crate::specs::Numbers::shape_of))]
+pub(crate) fn shape(table: &Table) -> Result<Shape, SetupFault>
+    ensures { Gives shape_view result (shape_of (table_view table.now)) }
+{
+    let n = processors(at(table, "processors"))?;
+    let offloadable = nocbs(n, at(table, "nocbs"))?;
+    let stride = at(table, "stride");
+    let stride = whole_or(Key::Stride, 1, MOST_PROCESSORS, stride_of(n), stride)?;
+    let blimit = at(table, "blimit");
+    let blimit = whole_or(Key::Blimit, 1, MOST_CALLBACKS, DEFAULT_BLIMIT, blimit)?;
+    let qhimark = at(table, "qhimark");
+    let qhimark = whole_or(Key::Qhimark, 1, MOST_CALLBACKS, DEFAULT_QHIMARK, qhimark)?;
+    let limit = at(table, "limit");
+    let limit = whole_or(Key::Limit, 1, MOST_CALLBACKS, DEFAULT_LIMIT, limit)?;
+    Ok(Shape {
+        processors: n,
+        offloadable,
+        stride,
+        blimit,
+        qhimark,
+        limit,
+    })
+}

@@ -1,0 +1,55 @@
+//! Reading a whole setup, in the order of tests of docs/specification/tables.md, "Order of tests".
+
+ghost use Rattle.std.specs.Prelude.{◌≡◌, ◌≤◌, IfOk, vec_len};
+ghost use Rattle.toml.specs.View.{table_view};
+ghost use Rattle.rcu_setup.specs.Faults.{Gives};
+ghost use Rattle.rcu_setup.specs.Setup.{setup_of, setup_view, table_setup};
+
+use crate::arrays::{lines, routes, texts_or_none};
+use crate::fault::{Key, SetupFault};
+use crate::keys::{at, known};
+use crate::limits::{MOST_BYTES, MOST_CALLS, MOST_LINES, MOST_ROUTES};
+use crate::numbers::{shape, whole_or};
+use crate::setup::Setup;
+use std::alloc::Global;
+use toml::Table;
+
+#[tactic(auto, unfolding(crate::specs::Setup::table_setup))]
+fn table_setup(alloc: Global, table: &Table) -> Result<Setup, SetupFault>
+    ensures { Gives setup_view result (table_setup (table_view table.now)) }
+{
+    known(alloc, table)?;
+    let shape = shape(table)?;
+    let route_texts = texts_or_none(alloc, Key::Routes, MOST_ROUTES, at(table, "routes"))?;
+    let routes = routes(alloc, route_texts.as_slice())?;
+    let script_texts = texts_or_none(alloc, Key::Script, MOST_LINES, at(table, "script"))?;
+    let script = lines(alloc, script_texts.as_slice())?;
+    let most_calls = shape.limit.min(MOST_CALLS);
+    let calls = whole_or(Key::Calls, 0, most_calls, 0, at(table, "calls"))?;
+    Ok(Setup {
+        shape,
+        calls,
+        routes,
+        script,
+    })
+}
+
+/// The setup that a text says, or the first fault in the order of tests.
+///
+/// # Errors
+///
+/// The text first (`NotToml`), then unknown keys (the first by byte order), missing `processors`, then the keys in
+/// the order `processors`, `nocbs`, `stride`, `blimit`, `qhimark`, `limit`, `routes`, `script`, `calls`, for each its
+/// kind, then its range, then its grammar. `Memory` may stand in place of any answer.
+pub fn read_setup(alloc: Global, text: &str) -> Result<Setup, SetupFault>
+    ensures { Gives setup_view result (setup_of text.now) }
+{
+    if text.len() > MOST_BYTES {
+        return Err(SetupFault::NotToml);
+    }
+    match toml::table_from_str(alloc, text) {
+        Ok(table) => table_setup(alloc, &table),
+        Err(error) if error.is_memory() => Err(SetupFault::Memory),
+        Err(_) => Err(SetupFault::NotToml),
+    }
+}

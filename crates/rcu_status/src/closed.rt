@@ -1,0 +1,65 @@
+//! The totals at the end of a run.
+
+ghost use Rattle.std.specs.Prelude.{◌≡◌, ◌≤◌, ◌<◌, ◌++◌, IfOk, string_bytes, vec_len};
+ghost use Rattle.rcu_status.specs.Totals.{receipts_of, reports_text, total_text, totals_text};
+
+use crate::numbers::commas;
+use rcu_jobs::{Closed, Job, Record};
+use std::alloc::{AllocError, Global};
+
+/// The sum of the receipts.
+fn receipts(ran: &[Record<u64>]) -> u128
+    ensures { result ≡ receipts_of ran.now }
+{
+    let mut sum = 0u128;
+    for record in ran {
+        sum += u128::from(record.receipt);
+    }
+    sum
+}
+
+/// The line of processor `p`.
+fn total(
+    alloc: Global,
+    p: usize,
+    ran: usize,
+    back: usize,
+    routes: u128,
+) -> Result<String, AllocError>
+    ensures { IfOk result (λ s. string_bytes s ≡ total_text p ran back routes) }
+{
+    format!(in alloc; "cpu {p} ran {ran} back {back} routes {routes}\n")
+}
+
+/// The lines of all processors.
+fn processors<J: Job<Receipt = u64>>(
+    alloc: Global,
+    closed: &Closed<J>,
+) -> Result<String, AllocError>
+    ensures { IfOk result (λ s. string_bytes s ≡ totals_text 0 closed.now.ran.items closed.now.back.items) }
+{
+    let mut text = String::new(alloc);
+    for (p, (ran, back)) in closed.ran.iter().zip(closed.back.iter()).enumerate() {
+        let line = total(alloc, p, ran.len(), back.len(), receipts(ran))?;
+        text.push_str(line.as_str())?;
+    }
+    Ok(text)
+}
+
+/// The totals: for each processor how many of its callbacks ran, how many were handed back, and the sum of its
+/// receipts, and then, where `reports` is true, how many counted reports each made. Each line ends with a line feed.
+pub fn totals<J: Job<Receipt = u64>>(
+    alloc: Global,
+    closed: &Closed<J>,
+    reports: bool,
+) -> Result<String, AllocError>
+    ensures { IfOk result (λ s. string_bytes s ≡ totals_text 0 closed.now.ran.items closed.now.back.items ++ reports_text reports closed.now.reports.items) }
+{
+    let mut text = processors(alloc, closed)?;
+    if reports {
+        let counts = commas(alloc, closed.reports.as_slice())?;
+        let line = format!(in alloc; "reports {counts}\n")?;
+        text.push_str(line.as_str())?;
+    }
+    Ok(text)
+}

@@ -1,0 +1,92 @@
+//! The lines of `show`.
+
+ghost use Rattle.std.specs.Prelude.{◌≡◌, ◌++◌, IfOk, string_bytes, Some};
+ghost use Rattle.rcu_status.specs.Line.{line_text, mode_name, segments_text, wait_text};
+
+use rcu_jobs::{Lists, Mode};
+use std::alloc::{AllocError, Global};
+use std::fmt;
+
+/// A mode by its name.
+#[derive(Drop)]
+struct ModeName {
+    mode: Mode,
+}
+
+impl fmt::Display for ModeName {
+    ghost output = { λ name. Some (mode_name name.mode) };
+
+    fn fmt<W: fmt::Write>(&self, f: &mut fmt::Formatter<W>) -> fmt::Result {
+        match self.mode {
+            Mode::Local => write!(f, "Local"),
+            Mode::Offloading => write!(f, "Offloading"),
+            Mode::Offloaded => write!(f, "Offloaded"),
+            Mode::Deoffloading => write!(f, "Deoffloading"),
+        }
+    }
+}
+
+/// The length of a segment, and the number that it waits for: `W@X`.
+#[derive(Drop)]
+struct Wait {
+    length: u64,
+    number: u64,
+}
+
+impl fmt::Display for Wait {
+    ghost output = { λ wait. Some (wait_text wait.length wait.number) };
+
+    fn fmt<W: fmt::Write>(&self, f: &mut fmt::Formatter<W>) -> fmt::Result {
+        let length = self.length;
+        let number = self.number;
+        write!(f, "{length}@{number}")
+    }
+}
+
+/// The four segments of a callback list: `done D wait W@X ready R@Y next N`.
+#[derive(Drop)]
+struct Segments {
+    lengths: [u64; 4],
+    numbers: [u64; 2],
+}
+
+impl fmt::Display for Segments {
+    ghost output = { λ segments. Some (segments_text segments.lengths segments.numbers) };
+
+    fn fmt<W: fmt::Write>(&self, f: &mut fmt::Formatter<W>) -> fmt::Result {
+        let [done, wait, ready, next] = self.lengths;
+        let [wait_number, ready_number] = self.numbers;
+        let wait = Wait {
+            length: wait,
+            number: wait_number,
+        };
+        let ready = Wait {
+            length: ready,
+            number: ready_number,
+        };
+        write!(f, "done {done} wait {wait} ready {ready} next {next}")
+    }
+}
+
+/// The line of processor `p`, or of its group, by the kind of `lists`. It ends with a line feed.
+pub fn line(alloc: Global, p: u64, lists: &Lists) -> Result<String, AllocError>
+    ensures { IfOk result (λ s. string_bytes s ≡ line_text p lists.now) }
+{
+    match *lists {
+        Lists::Cpu {
+            mode,
+            accepted,
+            bypass,
+            lengths,
+            numbers,
+        } => {
+            let mode = ModeName { mode };
+            let segments = Segments { lengths, numbers };
+            format!(in alloc; "cpu {p} {mode} accepted {accepted} bypass {bypass} {segments}\n")
+        }
+        Lists::Folk { lengths, numbers } => {
+            let segments = Segments { lengths, numbers };
+            format!(in alloc; "group of {p} {segments}\n")
+        }
+    }
+}

@@ -1,0 +1,15 @@
+pub mod Waits
+pub mod Seen
+pub mod Giving
+pub mod Keeping
+pub mod Members
+pub mod Leaving
+pub mod Opening
+pub mod Settling
+pub mod Resting
+pub mod Leading
+pub mod Running
+pub mod Masks
+pub mod Ticking
+pub mod Readying
+pub mod Counting

@@ -1,0 +1,24 @@
+use Rattle.std.proofs.Common.{◌∙◌, ◌&&◌, None, Some, sym, ap, arith, refl, set}
+use Rattle.rcu_law.specs.States.{Barrier, has}
+use Rattle.rcu_law.specs.Lists.{is_none}
+use Rattle.rcu_law.specs.States.{count_at}
+use Rattle.rcu_law.specs.Steps.{counts_cpu}
+use Rattle.rcu_world.specs.Views.{state}
+use Rattle.rcu_world.specs.Barrings.{barrier}
+use Rattle.rcu_world.proofs.Seen.{barred, barrier_sizes, has_at, seen_at}
+use Rattle.rcu_world.proofs.barring.Core+J+J+Receipt.count.Goals as goal
+
+pub count-requires : goal.count-requires
+count-requires g c =
+    let b = barrier_sizes g.J.Job.key_of c.args.self.now c.args.barrier c.index_mut-b.result.now c.requires.core (omega arith) c.index_mut-b.ensures.value in
+    omega (arith, b.0)
+
+pub returns-clause-answers : goal.returns-clause-answers
+returns-clause-answers g c =
+    let w = state g.J.Job.key_of c.args.self.now in
+    let h = has_at g.J.Job.key_of c.args.self.now c.args.cpu (omega arith) in
+    let n = ap (λ x. x.count) (seen_at g.J.Job.key_of c.args.self.now.processors.items c.args.cpu c.index.result.now (omega arith) c.index.ensures) in
+    barred g.J.Job.key_of c.args.self.now c.args.barrier c.index_mut-b.result.now c.count.new.self (λ x. has w c.args.cpu && is_none (count_at x c.args.cpu)) (counts_cpu w c.args.cpu)
+    c.args.self.now.history.items None (omega arith) c.index_mut-b.ensures.value c.if-b.false
+    (ap (λ x. x && is_none (count_at (barrier c.index_mut-b.result.now) c.args.cpu)) h ∙ sym c.is_uncounted.ensures ∙ c.if-not-is_uncounted.false)
+    (c.count.ensures ∙ ap {B = Barrier} (λ k. record (barrier c.index_mut-b.result.now) { counts = set c.index_mut-b.result.now.counts.items c.args.cpu (Some k) }) n) refl

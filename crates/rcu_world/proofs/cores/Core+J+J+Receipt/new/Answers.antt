@@ -1,0 +1,37 @@
+use Rattle.std.proofs.Common.{rules, refl, ◌≡◌, ◌≤◌, ◌∙◌, arith, ap, length, false, sym, replicate, map, ◌++◌, ◌∷◌, []}
+use Rattle.std.proofs.lemmas.List.{replicate-append-replicate, map-append}
+use Rattle.rcu_law.specs.States.{opening_cpu}
+use Rattle.rcu_world.specs.Views.{AreGiven, seen, all_seen}
+use Rattle.rcu_world.specs.Barrings.{barrier}
+use Rattle.rcu_world.specs.Worlds.{plan}
+use Rattle.rcu_world.proofs.Opening.{bits_start, all_more, at_rest, bits_next, bits_end, opening_bits}
+use Rattle.rcu_world.proofs.cores.Core+J+J+Receipt.new.Goals as goal
+
+pub loop-cpu-init : goal.loop-cpu-init
+loop-cpu-init g c = record {
+  bits = bits_start c.args.shape.processors c.args.shape.offloadable c.new-offloadable.result.items c.new-offloadable.ensures.items;
+  seen = rw (c.new-processors.ensures.items, c.new-offloadable.ensures.items) refl;
+  owing = rw c.new-owing.ensures.items refl;
+  given = rw c.new-processors.ensures.items tt;
+}
+
+pub loop-cpu-preserved : goal.loop-cpu-preserved
+loop-cpu-preserved g c =
+    let i = c.loop-cpu.invariant in
+    record {
+      bits = rw c.in_ok-push.ensures.items (i.bits ∙ bits_next c.args.shape.processors c.loop-cpu._cpu c.loop-cpu.mask c.loop-cpu.offloadable.items (omega arith));
+      seen = rw (c.in_ok-push-3.ensures.items, c.in_ok-push.ensures.items)
+          (map-append (seen g.J.Job.key_of) c.loop-cpu.processors.items (c.new.result ∷ []) ∙ ap (λ x. x ++ seen g.J.Job.key_of c.new.result ∷ []) i.seen
+          ∙ ap (λ x. map opening_cpu c.loop-cpu.offloadable.items ++ x ∷ []) c.new.ensures.opens ∙ sym (map-append opening_cpu c.loop-cpu.offloadable.items _));
+      owing = rw (c.in_ok-push-2.ensures.items, i.owing) (replicate-append-replicate c.loop-cpu._cpu 1 false);
+      given = rw c.in_ok-push-3.ensures.items (all_more (AreGiven g.J.Job.gives) c.loop-cpu.processors.items c.new.result i.given c.new.ensures.given);
+    }
+
+pub returns-clause-opens : goal.returns-clause-opens
+returns-clause-opens g c =
+    let b = bits_end c.args.shape.processors c.loop-cpu._cpu c.loop-cpu.mask c.args.shape.offloadable c.loop-cpu.offloadable.items c.loop-cpu-test.false c.loop-cpu.invariant.bits in
+    at_rest (plan c.args.shape) c.args.shape.processors _ _ _ _ _ b (c.loop-cpu.invariant.owing ∙ ap (λ k. replicate k false) (let e : c.loop-cpu._cpu ≡ c.args.shape.processors = search rules in e))
+    (c.loop-cpu.invariant.seen ∙ opening_bits c.args.shape.processors c.args.shape.offloadable _ b) (ap (map barrier) c.new-2.ensures.items) c.new-3.ensures.items
+
+pub returns-clause-given : goal.returns-clause-given
+returns-clause-given g c = c.loop-cpu.invariant.given

@@ -1,0 +1,20 @@
+use Rattle.std.proofs.Common.{◌∙◌, ap, ◌++◌, map}
+use Rattle.rcu_law.specs.Closing.{shut_marks}
+use Rattle.rcu_world.specs.Leaving.{backs, left_keys}
+use Rattle.rcu_world.specs.Views.{all_seen}
+use Rattle.rcu_world.proofs.Leaving.{shuts_room, last_room, backs_left}
+use Rattle.rcu_world.proofs.ending.Core+J+J+Receipt.into_closed.Goals as goal
+
+pub add_shuts-requires-clause-room : goal.add_shuts-requires-clause-room
+add_shuts-requires-clause-room g c κs within = shuts_room g.J.Job.key_of c.args.self.processors.items _ _ _ c.args.self.processors.ok.0 c.requires.more
+
+pub add_backs-requires-clause-room : goal.add_backs-requires-clause-room
+add_backs-requires-clause-room g c κs within = last_room g.J.Job.key_of c.args.self.processors.items c.args.room.back.items c.take_apart.new.back.items _ _ _ _ _ c.args.self.processors.ok.0 c.requires.empty.1 c.take_apart.ensures.back
+    c.add_shuts.ensures.len c.add_shuts.ensures.capacity c.requires.more
+
+pub returns-clause-marks : goal.returns-clause-marks
+returns-clause-marks g c = c.add_backs.ensures
+    ∙ ap (λ x. x ++ backs 0 (map (λ v. map g.J.Job.key_of v.items) c.take_apart.new.back.items)) (c.add_shuts.ensures.marks ∙ ap (λ x. x ++ shut_marks 0 (all_seen g.J.Job.key_of c.args.self.processors.items)) c.requires.marks)
+    ∙ ap (λ x. (c.args.self.history.items ++ shut_marks 0 (all_seen g.J.Job.key_of c.args.self.processors.items)) ++ backs 0 x)
+    (c.take_apart.ensures.back ∙ ap (λ x. map (λ v. map g.J.Job.key_of v.items) x ++ map left_keys (all_seen g.J.Job.key_of c.args.self.processors.items)) c.requires.empty.1)
+    ∙ ap (λ x. (c.args.self.history.items ++ shut_marks 0 (all_seen g.J.Job.key_of c.args.self.processors.items)) ++ x) (backs_left 0 (all_seen g.J.Job.key_of c.args.self.processors.items))

@@ -1,0 +1,14 @@
+use Rattle.std.proofs.Common.{◌∙◌, sym, arith}
+use Rattle.rcu_world.specs.Members.{is_wanting}
+use Rattle.rcu_world.proofs.Members.{any_fails, any_meets}
+use Rattle.rcu_world.proofs.groups.wants_member.Goals as goal
+
+pub loop-i-preserved : goal.loop-i-preserved
+loop-i-preserved g c = c.loop-i.invariant
+    ∙ any_fails g.J.Job.key_of c.args.offloadable.now.items c.args.stride c.args.group is_wanting c.loop-i.i c.args.processors.now.items c.index.result.now c.is_member_of-member.result
+    (omega arith) c.index.ensures c.is_member_of-member.ensures (sym c.wants_as.ensures ∙ c.if-wants_as.false)
+
+pub returns-then-wants_as : goal.returns-then-wants_as
+returns-then-wants_as g c = sym (c.loop-i.invariant
+    ∙ any_meets g.J.Job.key_of c.args.offloadable.now.items c.args.stride c.args.group is_wanting c.loop-i.i c.args.processors.now.items c.index.result.now c.is_member_of-member.result
+    (omega arith) c.index.ensures c.is_member_of-member.ensures (sym c.wants_as.ensures ∙ c.if-wants_as.true))

@@ -1,0 +1,21 @@
+use Rattle.std.proofs.Common.{◌≡◌, ◌∙◌, ap, sym, arith, refl, length, cond}
+use Rattle.rcu_law.specs.States.{State}
+use Rattle.rcu_law.specs.Events.{most_wanted}
+use Rattle.rcu_world.specs.Members.{is_wanting, forgets}
+use Rattle.rcu_world.specs.Views.{state, all_seen}
+use Rattle.rcu_world.proofs.Members.{any_same, most_same, each_same}
+use Rattle.rcu_world.proofs.looking.Core+J+J+Receipt.need_group.Goals as goal
+
+pub returns-then-not-wants_member-clause-answers : goal.returns-then-not-wants_member-clause-answers
+returns-then-not-wants_member-clause-answers g c =
+    (sym (any_same (state g.J.Job.key_of c.args.self.now) c.args.group is_wanting 0 (all_seen g.J.Job.key_of c.args.self.now.processors.items) (omega arith)) ∙ sym c.wants_member.ensures ∙ c.if-not-wants_member.true, refl, refl)
+
+pub returns-clause-answers : goal.returns-clause-answers
+returns-clause-answers g c = (
+  sym (any_same (state g.J.Job.key_of c.args.self.now) c.args.group is_wanting 0 (all_seen g.J.Job.key_of c.args.self.now.processors.items) (omega arith)) ∙ sym c.wants_member.ensures ∙ c.if-not-wants_member.false,
+  ap {B = State} (λ x. record (state g.J.Job.key_of c.args.self.now) { needed = x; cpus = all_seen g.J.Job.key_of c.forget_members.new.processors.items })
+      (c.most_wanted-self.ensures ∙ most_same (state g.J.Job.key_of c.args.self.now) c.args.group c.args.self.now.needed 0 (all_seen g.J.Job.key_of c.args.self.now.processors.items) (omega arith))
+      ∙ ap {B = State} (λ x. record (state g.J.Job.key_of c.args.self.now) { needed = most_wanted (state g.J.Job.key_of c.args.self.now) c.args.group c.args.self.now.needed 0 (all_seen g.J.Job.key_of c.args.self.now.processors.items); cpus = x })
+      (c.forget_members.ensures.forgets ∙ each_same (state g.J.Job.key_of c.args.self.now) c.args.group forgets 0 (all_seen g.J.Job.key_of c.args.self.now.processors.items) (omega arith)),
+  refl,
+)

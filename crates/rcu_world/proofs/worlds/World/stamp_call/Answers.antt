@@ -1,0 +1,30 @@
+use Rattle.std.proofs.Common.{◌∙◌}
+use Rattle.rcu_world.proofs.Leading.{length_took}
+use Rattle.rcu_world.specs.declared.events.Event.TheVariants.{Stamp}
+use Rattle.rcu_world.proofs.Keeping.{answers_kept}
+use Rattle.rcu_world.proofs.Resting.{rest_stamped}
+use Rattle.rcu_world.proofs.worlds.World.stamp_call.Goals as goal
+
+pub put-requires-after_bounds : goal.put-requires-after_bounds
+put-requires-after_bounds g c κs within = record {
+  fit = answers_kept g.J.Job.key_of _ (Stamp c.args.cpu c.args.moment c.args.lazy) c.stamp.result _ c.requires.world.fit c.stamp.ensures.answers;
+  given = c.stamp.ensures.given c.requires.world.given;
+}
+
+pub returns-in-Done-clause-kept : goal.returns-in-Done-clause-kept
+returns-in-Done-clause-kept g c = record {
+  fit = answers_kept g.J.Job.key_of _ (Stamp c.args.cpu c.args.moment c.args.lazy) c.stamp.result _ c.requires.world.fit c.stamp.ensures.answers;
+  given = c.stamp.ensures.given c.requires.world.given;
+}
+
+pub returns-in-Done-clause-rest : goal.returns-in-Done-clause-rest
+returns-in-Done-clause-rest g c = rest_stamped _ _ c.args.cpu c.args.moment c.args.lazy c.requires.fresh c.in-Done.ensures.answers.1
+
+pub returns-in-Due-clause-rest : goal.returns-in-Due-clause-rest
+returns-in-Due-clause-rest g c = λ i. c.put.ensures.rest (rest_stamped _ _ c.args.cpu c.args.moment c.args.lazy c.requires.fresh c.in-Due.ensures.answers.1 i)
+
+pub returns-in-Done-clause-len : goal.returns-in-Done-clause-len
+returns-in-Done-clause-len g c = length_took g.J.Job.key_of _ (Stamp c.args.cpu c.args.moment c.args.lazy) _ c.in-Done.ensures.answers.1
+
+pub returns-in-Due-clause-len : goal.returns-in-Due-clause-len
+returns-in-Due-clause-len g c = c.put.ensures.len ∙ length_took g.J.Job.key_of _ (Stamp c.args.cpu c.args.moment c.args.lazy) _ c.in-Due.ensures.answers.1

@@ -1,0 +1,12 @@
+use Rattle.rcu_law.specs.declared.who.Side.TheVariants.{Local}
+use Rattle.rcu_world.specs.Turns.{look_events, offloadable_events, run_events, and_then}
+use Rattle.rcu_world.proofs.Leading.{leads_then}
+use Rattle.rcu_world.proofs.worlds.World.tick.Goals as goal
+
+pub returns-clause-events : goal.returns-clause-events
+returns-clause-events g c =
+    let o = c.tick_offloadable.ensures.leads in (
+      o.0,
+      leads_then (look_events c.args.cpu) (and_then (offloadable_events c.args.cpu c.args.moment o.0) (λ w. run_events c.args.cpu Local c.run_some.result.ran)) _ _ _ c.look_own.ensures.leads
+          (leads_then (offloadable_events c.args.cpu c.args.moment o.0) (λ w. run_events c.args.cpu Local c.run_some.result.ran) _ _ _ o.1 c.run_some.ensures.leads),
+    )

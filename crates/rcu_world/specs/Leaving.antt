@@ -1,0 +1,71 @@
+-- What a close finds room for, and what it hands back. docs/specification/definitions.md, "The law": settled, given
+use Rattle.std.specs.Prelude.{◌≡◌, ℕ, ◌+◌, ◌/◌, ◌≤◌, ◌<◌, List, [], ◌∷◌, ◌++◌, length, map, All, vec_len, vec_capacity, slice_index_or}
+use Rattle.std.specs.Global.{Vec}
+use Rattle.std.specs.List.{AllByRecursion}
+use Rattle.rcu_jobs.specs.declared.Record.{Record}
+use Rattle.rcu_law.specs.declared.marks.Mark.{Mark}
+use Rattle.rcu_law.specs.declared.marks.Mark.TheVariants.{Back}
+use Rattle.rcu_law.specs.Law.{ran, back}
+use Rattle.rcu_law.specs.States.{Cpu}
+use Rattle.rcu_law.specs.Places.{key_of, remaining_callbacks}
+use Rattle.rcu_law.specs.Invariant.{reports}
+use Rattle.rcu_world.specs.declared.processors.Processor.{Processor}
+use Rattle.rcu_world.specs.declared.cores.Core.{Core}
+use Rattle.rcu_world.specs.declared.ending.Room.{Room}
+use Rattle.rcu_world.specs.Views.{seen, all_seen}
+
+-- the keys of what is left of a processor, place after place
+abbrev pub left_keys : Cpu → List ℕ
+left_keys c = map key_of (remaining_callbacks c)
+
+-- a Shut, and a Back for each callback that is left
+abbrev pub most_marks : List Cpu → ℕ
+most_marks [] = 0
+most_marks (c ∷ cs) = (1 + length (remaining_callbacks c)) + most_marks cs
+
+-- the marks of what is handed back, by processor and in order
+abbrev pub backs : ℕ → List (List ℕ) → List Mark
+backs p [] = []
+backs p (keys ∷ rest) = map (λ key. Back p key) keys ++ backs (p + 1) rest
+
+-- what was accepted ran or is left
+pub record IsCounted (c : Cpu) : Type 0 where
+  pub count : c.count ≡ (c.turn + 1) / 2 + length (remaining_callbacks c)
+  pub few : c.count ≤ 1000000
+
+module _ {J R : Type 0} (job_key : J → ℕ) where
+  abbrev pub AreCounted : List (Processor J R) → Type 0
+  AreCounted ps = AllByRecursion (λ p. IsCounted (seen job_key p)) ps
+
+  -- an empty list for each processor, with room for what is left of it
+  abbrev pub HaveRoom : List (Processor J R) → List (Vec J) → Type 0
+  HaveRoom [] [] = Unit {0}
+  HaveRoom (p ∷ ps) (v ∷ vs) = ((v.items ≡ []) × (length (remaining_callbacks (seen job_key p)) ≤ vec_capacity v)) × HaveRoom ps vs
+  HaveRoom [] (v ∷ vs) = ⊥
+  HaveRoom (p ∷ ps) [] = ⊥
+
+-- the room that a close needs: the history with room for the last marks, and lists for what is left, for what ran, and for the counts of reports
+pub record IsRoomFor {J R : Type 0} (job_key : J → ℕ) (w : Core J R) (room : Room J R) : Type 0 where
+  pub marks : room.marks.items ≡ w.history.items
+  pub more : vec_len room.marks + most_marks (all_seen job_key w.processors.items) ≤ vec_capacity room.marks
+  pub jobs : HaveRoom job_key w.processors.items room.jobs.items
+  pub empty : (room.ran.items ≡ []) × (room.back.items ≡ []) × (room.reports.items ≡ [])
+  pub ran : vec_len w.processors ≤ vec_capacity room.ran
+  pub back : vec_len w.processors ≤ vec_capacity room.back
+  pub reports : vec_len w.processors ≤ vec_capacity room.reports
+
+-- for each of the n processors the jobs whose keys stand in its Back marks, in order
+pub record AreHandedBack {J : Type 0} (job_key : J → ℕ) (n : ℕ) (h : List Mark) (lists : List (Vec J)) : Type 0 where
+  pub each : (p : ℕ) → p < n → slice_index_or (map (λ v. map job_key v.items) lists) p [] ≡ back p h
+  pub len : length lists ≡ n
+
+-- "given": for each of the n processors a record for each of its Ran marks, with the mark's key and a receipt that the job's relation allows
+pub record AreRecorded {R : Type 0} (gives : ℕ → R → Type 0) (n : ℕ) (h : List Mark) (lists : List (Vec (Record R))) : Type 0 where
+  pub each : (p : ℕ) → p < n → slice_index_or (map (λ v. map (λ r. r.key) v.items) lists) p [] ≡ ran p h
+  pub given : AllByRecursion (λ v. All (λ r. gives r.key r.receipt) v.items) lists
+  pub len : length lists ≡ n
+
+-- for each of the n processors how often it reported
+pub record AreReported (n : ℕ) (h : List Mark) (counts : List ℕ) : Type 0 where
+  pub each : (q : ℕ) → q < n → slice_index_or counts q 0 ≡ reports q h
+  pub len : length counts ≡ n

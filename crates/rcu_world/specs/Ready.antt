@@ -1,0 +1,40 @@
+-- Room for a Stamp that follows directly on Accept. docs/specification/surface.md, "rcu_world"
+use Rattle.std.specs.Prelude.{ℕ, ◌≡◌, ◌+◌, ◌≤◌, Bool, true, false, Option, None, Some, slice_index_or, vec_len, vec_capacity}
+use Rattle.rcu_jobs.specs.declared.Refused.{Refused}
+use Rattle.rcu_jobs.specs.declared.Refused.TheVariants.{Limit, Memory, Closed}
+use Rattle.rcu_law.specs.States.{State, cpu_at, is_offloaded}
+use Rattle.rcu_law.specs.Steps.{can_accept}
+use Rattle.rcu_world.specs.declared.events.Answer.{Answer}
+use Rattle.rcu_world.specs.declared.events.Answer.TheVariants as answers
+use Rattle.rcu_world.specs.declared.processors.Processor.{Processor}
+use Rattle.rcu_world.specs.declared.cores.Core.{Core}
+use Rattle.rcu_world.specs.Batches.{HasRoom}
+
+-- room for one more in the bypass list of an offloaded processor, else in its own list
+abbrev pub IsRoomy : {J R : Type 0} → Bool → Processor J R → Type 0
+IsRoomy true p = HasRoom p.bypass 1
+IsRoomy false p = vec_len p.own + 1 ≤ vec_capacity p.own
+
+abbrev pub IsReady : {J R : Type 0} → Processor J R → Type 0
+IsReady p = IsRoomy (is_offloaded p.mode) p
+
+abbrev pub IsReadyAt : {J R : Type 0} → Core J R → ℕ → Type 0
+IsReadyAt {J} {R} w cpu = (p : Processor J R) → p ≡ slice_index_or w.processors.items cpu p → IsReady p
+
+abbrev pub is_done : {J : Type 0} → Answer J → Bool
+is_done answers.Done = true
+is_done answers.Due = true
+is_done (answers.Skipped job) = false
+is_done (answers.Memory job) = false
+
+abbrev pub lacks_room : {J : Type 0} → Answer J → Bool
+lacks_room answers.Done = false
+lacks_room answers.Due = false
+lacks_room (answers.Skipped job) = false
+lacks_room (answers.Memory job) = true
+
+-- A refused call, in the order of its tests: at the limit, exactly then; else shut; else no room. The job comes back.
+abbrev pub IsRefusal : {J : Type 0} → State → ℕ → J → Refused J → Type 0
+IsRefusal w cpu job (Limit back) = (back ≡ job) × (w.shape.limit ≤ (cpu_at w cpu).count)
+IsRefusal w cpu job (Closed back) = (back ≡ job) × ((cpu_at w cpu).count + 1 ≤ w.shape.limit) × ((cpu_at w cpu).shut ≡ true)
+IsRefusal w cpu job (Memory back) = (back ≡ job) × (can_accept w.shape.limit (cpu_at w cpu) ≡ true)

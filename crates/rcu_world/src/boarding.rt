@@ -1,0 +1,93 @@
+//! The events of the board word: `Report`, `Start`, `End`.
+
+ghost use Rattle.std.specs.Prelude.{◌≡◌, ◌%◌, ◌&&◌, ◌==◌, true, length, nat_lt, replicate};
+ghost use Rattle.rcu_law.specs.Lists.{none_owes};
+ghost use Rattle.rcu_law.specs.Numbers.{GREATEST_NUMBER};
+ghost use Rattle.rcu_world.specs.Worlds.{IsFit};
+ghost use Rattle.rcu_world.specs.Events.{Answers};
+ghost use Rattle.rcu_world.specs.Views.{state, AllGiven};
+ghost use Rattle.rcu_world.specs.declared.events.Event.TheVariants as events;
+
+use crate::cores::Core;
+use crate::events::Answer;
+use crate::lists::push_within;
+use rcu_jobs::Job;
+use rcu_law::marks::Mark;
+
+fn set_all(owing: &mut Vec<bool>)
+    ensures { owing.new.items ≡ replicate (length owing.old.items) true }
+{
+    for b in owing.iter_mut() {
+        *b = true;
+    }
+}
+
+fn may_start(number: u64, needed: u64) -> bool
+    ensures { result ≡ ((number % 4 == 0) && (nat_lt number needed && nat_lt number GREATEST_NUMBER)) }
+{
+    number % 4 == 0 && number < needed && number < 2147483644
+}
+
+fn no_one_owes(owing: &Vec<bool>) -> bool
+    ensures { result ≡ none_owes owing.now.items }
+{
+    for b in owing {
+        if *b {
+            return false;
+        }
+    }
+    true
+}
+
+impl<J: Job> Core<J, J::Receipt> {
+    pub(crate) fn report(&mut self, cpu: u64) -> Answer<J>
+        requires { IsFit (state J.key_of self.old) }
+        ensures answers { Answers J.key_of (state J.key_of self.old) (events.Report cpu) result (state J.key_of self.new) }
+        ensures given { AllGiven J.gives self.old → AllGiven J.gives self.new }
+    {
+        let i = cpu as usize;
+        if i >= self.processors.len() {
+            return Answer::Skipped(None);
+        }
+        if i >= self.owing.len() {
+            return Answer::Skipped(None);
+        }
+        if self.owing[i] {
+            match self.history.reserve(1) {
+                Err(_) => return Answer::Memory(None),
+                Ok(()) => {}
+            }
+            push_within(&mut self.history, Mark::Reported(cpu));
+        }
+        self.owing[i] = false;
+        Answer::Done
+    }
+
+    pub(crate) fn start(&mut self) -> Answer<J>
+        requires { IsFit (state J.key_of self.old) }
+        ensures answers { Answers J.key_of (state J.key_of self.old) events.Start result (state J.key_of self.new) }
+        ensures given { AllGiven J.gives self.old → AllGiven J.gives self.new }
+    {
+        if !may_start(self.number, self.needed) {
+            return Answer::Skipped(None);
+        }
+        self.number += 1;
+        set_all(&mut self.owing);
+        Answer::Done
+    }
+
+    pub(crate) fn end(&mut self) -> Answer<J>
+        requires { IsFit (state J.key_of self.old) }
+        ensures answers { Answers J.key_of (state J.key_of self.old) events.End result (state J.key_of self.new) }
+        ensures given { AllGiven J.gives self.old → AllGiven J.gives self.new }
+    {
+        if self.number % 4 != 1 {
+            return Answer::Skipped(None);
+        }
+        if !no_one_owes(&self.owing) {
+            return Answer::Skipped(None);
+        }
+        self.number += 3;
+        Answer::Done
+    }
+}

@@ -1,0 +1,113 @@
+//! The calls of control: `shut` and `barrier` (docs/specification/rules.md, "On the core").
+
+ghost use Rattle.std.specs.Prelude.{◌≡◌, ◌<◌, ◌≤◌, ℕ, length, IfOk, OnOk, OnErr, Option, None, Some};
+ghost use Rattle.rcu_world.specs.Turns.{AreCounts, IsAtRest, IsBarrierAnswer, Leads, barrier_events, barrier_fault, counts_for, shuts, ticket_fault, upto};
+ghost use Rattle.rcu_world.specs.Views.{state};
+ghost use Rattle.rcu_world.specs.Worlds.{IsWorld};
+
+use crate::events::Event;
+use crate::worlds::World;
+use rcu_jobs::{BarrierFault, Counts, Job, Ticket};
+use std::alloc::AllocError;
+
+impl<J: Job> World<J> {
+    /// The counts of all processors.
+    fn counts(&self) -> Counts
+        requires { length (state J.key_of self.now.core).cpus ≤ 32 }
+        ensures { AreCounts (state J.key_of self.now.core) result.n result.counts }
+    {
+        let n = self.core.processors.len();
+        let mut counts = Counts::new(n as u64);
+        for cpu in 0..n {
+            counts.set(cpu as u64, self.core.processors[cpu].count);
+        }
+        counts
+    }
+
+    /// Shuts all processors: their final counts. On an error those before the one that was refused are shut.
+    pub fn shut(&mut self) -> Result<Counts, AllocError>
+        requires world { IsWorld J.key_of J.gives self.old.core }
+        requires rest { IsAtRest (state J.key_of self.old.core) }
+        ensures events { OnOk result (Leads (state J.key_of self.old.core) (upto shuts (length (state J.key_of self.old.core).cpus) (state J.key_of self.old.core)) (state J.key_of self.new.core)) }
+        ensures counts { IfOk result (λ counts. AreCounts (state J.key_of self.new.core) counts.n counts.counts) }
+        ensures err { OnErr result ((n : ℕ) × Leads (state J.key_of self.old.core) (upto shuts n (state J.key_of self.old.core)) (state J.key_of self.new.core)) }
+        ensures rest { IsAtRest (state J.key_of self.new.core) }
+        ensures len { length (state J.key_of self.new.core).cpus ≡ length (state J.key_of self.old.core).cpus }
+        ensures kept { IsWorld J.key_of J.gives self.new.core }
+    {
+        for cpu in 0..self.core.processors.len() {
+            self.attempt(Event::Shut { cpu: cpu as u64 })?;
+        }
+        Ok(self.counts())
+    }
+
+    /// The first fault of the tickets, in their order.
+    fn ticket_fault(&self, tickets: &[Ticket]) -> Option<BarrierFault>
+        ensures { result ≡ ticket_fault (state J.key_of self.now.core) tickets.now }
+    {
+        for ticket in tickets {
+            let Ticket { cpu, number } = *ticket;
+            if cpu as usize >= self.core.processors.len() {
+                return Some(BarrierFault::NoProcessor(cpu));
+            }
+            let count = self.core.processors[cpu as usize].count;
+            if count <= number {
+                return Some(BarrierFault::Ahead { cpu, count });
+            }
+        }
+        None
+    }
+
+    /// The first fault of a barrier's caller and its tickets.
+    fn barrier_fault(&self, by: Option<u64>, tickets: &[Ticket]) -> Option<BarrierFault>
+        ensures { result ≡ barrier_fault (state J.key_of self.now.core) by tickets.now }
+    {
+        if let Some(cpu) = by {
+            if cpu as usize >= self.core.processors.len() {
+                return Some(BarrierFault::NoProcessor(cpu));
+            }
+        }
+        self.ticket_fault(tickets)
+    }
+
+    /// Takes the counts of all processors for an open barrier.
+    fn count_all(&mut self, barrier: u64)
+        requires { IsWorld J.key_of J.gives self.old.core }
+        ensures events { Leads (state J.key_of self.old.core) (upto (counts_for barrier) (length (state J.key_of self.old.core).cpus) (state J.key_of self.old.core)) (state J.key_of self.new.core) }
+        ensures rest { IsAtRest (state J.key_of self.old.core) → IsAtRest (state J.key_of self.new.core) }
+        ensures len { length (state J.key_of self.new.core).cpus ≡ length (state J.key_of self.old.core).cpus }
+        ensures kept { IsWorld J.key_of J.gives self.new.core }
+    {
+        for cpu in 0..self.core.processors.len() {
+            self.perform(Event::Count {
+                barrier,
+                cpu: cpu as u64,
+            });
+        }
+    }
+
+    /// Opens a barrier, which waits for all that was accepted so far: its name. `by` is the processor that calls, or none for
+    /// control. A refused barrier opens nothing.
+    pub fn barrier(&mut self, by: Option<u64>, tickets: &[Ticket]) -> Result<u64, BarrierFault>
+        requires world { IsWorld J.key_of J.gives self.old.core }
+        requires rest { IsAtRest (state J.key_of self.old.core) }
+        ensures answer { IsBarrierAnswer (state J.key_of self.old.core) by tickets.now result }
+        ensures events { IfOk result (λ name. Leads (state J.key_of self.old.core) (barrier_events name (length (state J.key_of self.old.core).cpus) (state J.key_of self.old.core)) (state J.key_of self.new.core)) }
+        ensures same { OnErr result (state J.key_of self.new.core ≡ state J.key_of self.old.core) }
+        ensures rest { IsAtRest (state J.key_of self.new.core) }
+        ensures len { length (state J.key_of self.new.core).cpus ≡ length (state J.key_of self.old.core).cpus }
+        ensures kept { IsWorld J.key_of J.gives self.new.core }
+    {
+        if let Some(fault) = self.barrier_fault(by, tickets) {
+            return Err(fault);
+        }
+        let barrier = self.core.barriers.len() as u64;
+        match self.attempt(Event::Open { barrier }) {
+            Err(_) => return Err(BarrierFault::Memory),
+            Ok(_) => {}
+        }
+        self.count_all(barrier);
+        self.perform(Event::Urge);
+        Ok(barrier)
+    }
+}

@@ -1,0 +1,108 @@
+//! The state of the core, and its events.
+
+ghost use Rattle.std.specs.Prelude.{◌≡◌, IfOk};
+ghost use Rattle.rcu_law.specs.States.{opening};
+ghost use Rattle.rcu_world.specs.Worlds.{IsFit, plan};
+ghost use Rattle.rcu_world.specs.Events.{Answers};
+ghost use Rattle.rcu_world.specs.Views.{state, AllGiven};
+
+use crate::barriers::Barring;
+use crate::events::{Answer, Event};
+use crate::processors::Processor;
+use rcu_jobs::Job;
+use rcu_law::marks::Mark;
+use rcu_law::who::Who;
+use rcu_numbers::Shape;
+use std::alloc::{AllocError, Global};
+
+/// All processors, their board, and the history.
+#[derive(Drop)]
+pub struct Core<J, R> {
+    pub(crate) alloc: Global,
+    pub(crate) offloadable: Vec<bool>,
+    pub(crate) stride: u64,
+    pub(crate) blimit: u64,
+    pub(crate) qhimark: u64,
+    pub(crate) limit: u64,
+    pub(crate) number: u64,
+    pub(crate) owing: Vec<bool>,
+    pub(crate) needed: u64,
+    pub(crate) processors: Vec<Processor<J, R>>,
+    pub(crate) barriers: Vec<Barring>,
+    pub(crate) history: Vec<Mark>,
+}
+
+impl<J: Job> Core<J, J::Receipt> {
+    /// One event.
+    pub fn apply(&mut self, event: Event<J>) -> Answer<J>
+        requires { IsFit (state J.key_of self.old) }
+        ensures answers { Answers J.key_of (state J.key_of self.old) event result (state J.key_of self.new) }
+        ensures given { AllGiven J.gives self.old → AllGiven J.gives self.new }
+    {
+        match event {
+            Event::Accept { cpu, job } => self.accept(cpu, job),
+            Event::Stamp { cpu, moment, lazy } => self.stamp(cpu, moment, lazy),
+            Event::Put { cpu, moment } => self.put(cpu, moment),
+            Event::Report { cpu } => self.report(cpu),
+            Event::Start => self.start(),
+            Event::End => self.end(),
+            Event::Look { cpu } => self.look(cpu),
+            Event::LookGroup { group } => self.look_group(group),
+            Event::LookHand { cpu } => self.look_hand(cpu),
+            Event::Draw { cpu } => self.draw(cpu),
+            Event::Join { cpu } => self.join(cpu),
+            Event::Give { cpu } => self.give(cpu),
+            Event::Fetch { cpu } => self.fetch(cpu),
+            Event::Claim { cpu, by } => self.claim(cpu, by),
+            Event::Finish { cpu, by } => self.finish(cpu, by),
+            Event::Ask { cpu, on } => self.ask(cpu, on),
+            Event::Heed { cpu } => self.heed(cpu),
+            Event::Settle { cpu } => self.settle(cpu),
+            Event::Open { barrier } => self.open(barrier),
+            Event::Count { barrier, cpu } => self.count(barrier, cpu),
+            Event::Turn { barrier, cpu } => self.turn(barrier, cpu),
+            Event::Pass { barrier } => self.pass(barrier),
+            Event::Shut { cpu } => self.shut(cpu),
+            Event::Urge => self.urge(),
+            Event::Hear { cpu } => self.hear(cpu),
+            Event::Need { who } => match who {
+                Who::Cpu(cpu) => self.need_own(cpu),
+                Who::Group(group) => self.need_group(group),
+            },
+        }
+    }
+}
+
+impl<J: Job> Core<J, J::Receipt> {
+    /// All processors at rest. The offloadable ones are Offloaded, all others Local.
+    pub fn new(alloc: Global, shape: Shape) -> Result<Self, AllocError>
+        ensures opens { IfOk result (λ w. state J.key_of w ≡ opening shape.processors (plan shape)) }
+        ensures given { IfOk result (λ w. AllGiven J.gives w) }
+    {
+        let mut offloadable = Vec::new(alloc);
+        let mut owing = Vec::new(alloc);
+        let mut processors = Vec::new(alloc);
+        let mut mask = shape.offloadable;
+        for _cpu in 0..shape.processors {
+            let is_offloadable = mask % 2 == 1;
+            offloadable.push(is_offloadable)?;
+            owing.push(false)?;
+            processors.push(Processor::new(alloc, is_offloadable))?;
+            mask /= 2;
+        }
+        Ok(Core {
+            alloc,
+            offloadable,
+            stride: shape.stride,
+            blimit: shape.blimit,
+            qhimark: shape.qhimark,
+            limit: shape.limit,
+            number: 0,
+            owing,
+            needed: 0,
+            processors,
+            barriers: Vec::new(alloc),
+            history: Vec::new(alloc),
+        })
+    }
+}

@@ -1,0 +1,141 @@
+ghost use Rattle.std.specs.Prelude.{◌≡◌, ◌%◌};
+
+use crate::events::{Answer, Event};
+use crate::worlds::World;
+use rcu_jobs::{
+    BarrierFault, BoxedJob, DriverTurn, Lists, Mode, Stop, SwitchFault, Ticked, Ticket,
+};
+use rcu_law::marks::Mark;
+use rcu_law::who::{Side, Who};
+use rcu_numbers::Shape;
+use std::test::Fail;
+
+const KEY: u64 = 65536;
+
+// A job in a box, which hands out its key's rest.
+fn boxed(rt: &HostRuntime, key: u64) -> Result<BoxedJob<KEY>, Fail> {
+    let call: Box<dyn FnOnce() -> u64 + Send> = Box::new(
+        rt.alloc(),
+        move || -> u64
+            ensures { result ≡ key % 65536 }
+        { key % 65536 },
+    )?;
+    Ok(BoxedJob::<65536>::new(key, call))
+}
+
+#[test]
+fn boxed_jobs_run(rt: HostRuntime) -> Result<(), Fail> {
+    let shape = Shape::new(1, 0, 1, 10, 100, 10).ok_or("no shape")?;
+    let mut world = World::new(rt.alloc(), shape)?;
+    let job = boxed(&rt, 65543)?;
+    let mut events = Vec::new(rt.alloc());
+    events.push(Event::Accept { cpu: 0, job })?;
+    events.push(Event::Stamp {
+        cpu: 0,
+        moment: 1,
+        lazy: false,
+    })?;
+    events.push(Event::Look { cpu: 0 })?;
+    events.push(Event::Need { who: Who::Cpu(0) })?;
+    events.push(Event::Start)?;
+    events.push(Event::Report { cpu: 0 })?;
+    events.push(Event::End)?;
+    events.push(Event::Look { cpu: 0 })?;
+    events.push(Event::Claim {
+        cpu: 0,
+        by: Side::Local,
+    })?;
+    let answers = world.run(rt.alloc(), events).ok().ok_or("no room")?;
+    assert_eq!(rt; answers.len(), 9);
+    for answer in &answers {
+        assert!(rt; matches!(answer, Answer::Done));
+    }
+    // the claim still runs: its job counts as run
+    let (marks, closed) = world.close().ok().ok_or("no room")?;
+    assert_eq!(rt; marks.len(), 4);
+    assert_eq!(rt; marks[0], Mark::Accepted(0, 65543));
+    assert_eq!(rt; marks[1], Mark::Reported(0));
+    assert_eq!(rt; marks[2], Mark::Ran(0, 65543));
+    assert_eq!(rt; marks[3], Mark::Shut(0));
+    let ran = closed.ran.first().ok_or("no processor")?;
+    let record = ran.first().ok_or("no record")?;
+    assert_eq!(rt; record.receipt, 7);
+    assert_eq!(rt; closed.reports.first().ok_or("no count")?, &1);
+    Ok(())
+}
+
+// The row `first-run`, and the ample memory of each of its calls.
+#[test]
+fn first_run(rt: HostRuntime) -> Result<(), Fail> {
+    let shape = Shape::new(1, 0, 1, 10, 100, 10).ok_or("no shape")?;
+    let mut world = World::new(rt.alloc(), shape)?;
+    let job = boxed(&rt, 65537)?;
+    let ticket = world.call_rcu(0, 0, job).ok().ok_or("refused")?;
+    assert_eq!(rt; ticket, Ticket { cpu: 0, number: 0 });
+    assert_eq!(rt; world.tick(0, 0)?.ran, 0);
+    assert_eq!(rt; world.driver_turn()?, DriverTurn::Started(1));
+    assert_eq!(rt; world.quiescent(0)?, Some(1));
+    assert_eq!(rt; world.quiescent(0)?, None);
+    assert_eq!(rt; world.driver_turn()?, DriverTurn::Ended(4));
+    assert_eq!(rt;
+        world.tick(0, 0)?,
+        Ticked {
+            ran: 1,
+            stop: Stop::Empty
+        }
+    );
+    assert_eq!(rt; world.history().len(), 3);
+    Ok(())
+}
+
+// The first half of the row `two-generations`, with its line of `show`.
+#[test]
+fn two_generations(rt: HostRuntime) -> Result<(), Fail> {
+    let shape = Shape::new(1, 0, 1, 10, 100, 10).ok_or("no shape")?;
+    let mut world = World::new(rt.alloc(), shape)?;
+    let first = boxed(&rt, 65538)?;
+    let second = boxed(&rt, 65539)?;
+    assert!(rt; world.call_rcu(0, 0, first).is_ok());
+    assert_eq!(rt; world.tick(0, 0)?.ran, 0);
+    assert_eq!(rt; world.driver_turn()?, DriverTurn::Started(1));
+    assert!(rt; world.call_rcu_lazy(0, 0, second).is_ok());
+    assert_eq!(rt; world.tick(0, 0)?.ran, 0);
+    assert_eq!(rt;
+        world.lists(0),
+        Lists::Cpu {
+            mode: Mode::Local,
+            accepted: 2,
+            bypass: 0,
+            lengths: [0, 1, 1, 0],
+            numbers: [4, 8],
+        }
+    );
+    let (_marks, closed) = world.close().ok().ok_or("no room")?;
+    assert_eq!(rt; closed.back.first().ok_or("no processor")?.len(), 2);
+    Ok(())
+}
+
+// The row `barrier-tickets`, and the counts of `shut`.
+#[test]
+fn barrier_tickets(rt: HostRuntime) -> Result<(), Fail> {
+    let shape = Shape::new(1, 1, 1, 10, 100, 10).ok_or("no shape")?;
+    let mut world = World::new(rt.alloc(), shape)?;
+    let job = boxed(&rt, 65536)?;
+    assert!(rt; world.call_rcu(0, 5, job).is_ok());
+    let early = [Ticket { cpu: 0, number: 1 }];
+    assert_eq!(rt;
+        world.barrier(None, &early),
+        Err(BarrierFault::Ahead { cpu: 0, count: 1 })
+    );
+    let elsewhere = [Ticket { cpu: 1, number: 0 }];
+    assert_eq!(rt;
+        world.barrier(Some(0), &elsewhere),
+        Err(BarrierFault::NoProcessor(1))
+    );
+    assert_eq!(rt; world.barrier(None, &[Ticket { cpu: 0, number: 0 }]), Ok(0));
+    assert_eq!(rt; world.offload(1), Err(SwitchFault::NoProcessor(1)));
+    assert_eq!(rt; world.deoffload(0), Ok(()));
+    let counts = world.shut()?;
+    assert_eq!(rt; counts.of_processors().first().ok_or("no count")?, &1);
+    Ok(())
+}

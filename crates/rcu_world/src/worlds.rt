@@ -1,0 +1,95 @@
+//! The core as its users see it.
+
+ghost use Rattle.std.specs.Prelude.{◌≡◌, length, IfOk, IfErr};
+ghost use Rattle.rcu_law.specs.Law.{IsClosed, IsLawful};
+ghost use Rattle.rcu_law.specs.Closing.{closing};
+ghost use Rattle.rcu_world.specs.Leaving.{AreHandedBack, AreRecorded, AreReported};
+ghost use Rattle.rcu_world.specs.Events.{Answers, Runs};
+ghost use Rattle.rcu_world.specs.Turns.{IsAtRest};
+ghost use Rattle.rcu_world.specs.Views.{state};
+ghost use Rattle.rcu_world.specs.Worlds.{IsWorld, plan};
+ghost use Rattle.rcu_law.specs.States.{opening};
+
+use crate::cores::Core;
+use crate::events::{Answer, Event};
+use crate::lists::push_within;
+use rcu_jobs::{Closed, Job};
+use rcu_law::marks::Mark;
+use rcu_numbers::Shape;
+use std::alloc::{AllocError, Global};
+
+/// The core: its history is lawful.
+#[derive(Drop)]
+pub struct World<J: Job> {
+    pub(crate) core: Core<J, J::Receipt>,
+}
+
+impl<J: Job> World<J> {
+    /// All processors at rest.
+    pub fn new(alloc: Global, shape: Shape) -> Result<Self, AllocError>
+        ensures opens { IfOk result (λ w. state J.key_of w.core ≡ opening shape.processors (plan shape)) }
+        ensures rest { IfOk result (λ w. IsAtRest (state J.key_of w.core)) }
+        ensures kept { IfOk result (λ w. IsWorld J.key_of J.gives w.core) }
+    {
+        let core = Core::new(alloc, shape)?;
+        Ok(World { core })
+    }
+
+    /// One event. An event that isn't enabled changes nothing, nor does one that finds no room.
+    pub fn step(&mut self, event: Event<J>) -> Answer<J>
+        requires { IsWorld J.key_of J.gives self.old.core }
+        ensures step { Answers J.key_of (state J.key_of self.old.core) event result (state J.key_of self.new.core) }
+        ensures kept { IsWorld J.key_of J.gives self.new.core }
+    {
+        self.core.apply(event)
+    }
+
+    /// All the events, in order. On an error nothing happened, and they come back.
+    pub fn run(
+        &mut self,
+        alloc: Global,
+        events: Vec<Event<J>>,
+    ) -> Result<Vec<Answer<J>>, Vec<Event<J>>>
+        requires { IsWorld J.key_of J.gives self.old.core }
+        ensures ok { IfOk result (λ answers. Runs J.key_of (state J.key_of self.old.core) events.items answers.items (state J.key_of self.new.core)) }
+        ensures err { IfErr result (λ back. (back ≡ events) × (self.new ≡ self.old)) }
+        ensures kept { IsWorld J.key_of J.gives self.new.core }
+    {
+        let mut answers = Vec::new(alloc);
+        match answers.reserve(events.len()) {
+            Err(_) => return Err(events),
+            Ok(()) => {}
+        }
+        for event in events {
+            let answer = self.step(event);
+            push_within(&mut answers, answer);
+        }
+        Ok(answers)
+    }
+
+    /// What happened so far.
+    pub fn history(&self) -> &[Mark]
+        requires { IsWorld J.key_of J.gives self.now.core }
+        ensures all { result.now ≡ (state J.key_of self.now.core).history }
+        ensures lawful { IsLawful (length (state J.key_of self.now.core).cpus) result.now }
+    {
+        self.core.history.as_slice()
+    }
+
+    /// Closes the world: its whole history, and what is left of it. A claim that still runs counts as run. Where no room is
+    /// found the world comes back unchanged.
+    pub fn close(self) -> Result<(Vec<Mark>, Closed<J>), Self>
+        requires { IsWorld J.key_of J.gives self.core }
+        ensures marks { IfOk result (λ r. r.0.items ≡ closing (state J.key_of self.core)) }
+        ensures closed { IfOk result (λ r. IsClosed (length (state J.key_of self.core).cpus) r.0.items) }
+        ensures ran { IfOk result (λ r. AreRecorded J.gives (length (state J.key_of self.core).cpus) r.0.items r.1.ran.items) }
+        ensures back { IfOk result (λ r. AreHandedBack J.key_of (length (state J.key_of self.core).cpus) r.0.items r.1.back.items) }
+        ensures reports { IfOk result (λ r. AreReported (length (state J.key_of self.core).cpus) r.0.items r.1.reports.items) }
+        ensures err { IfErr result (λ back. back ≡ self) }
+    {
+        match self.core.find_room() {
+            Err(_) => Err(self),
+            Ok(room) => Ok(self.core.into_closed(room)),
+        }
+    }
+}

@@ -1,0 +1,4 @@
+pub mod Counting
+pub mod Known
+pub mod TakenWords
+pub mod Whole

@@ -1,0 +1,4 @@
+pub mod Plan
+pub mod FaultLines
+pub mod Calls
+pub mod Lines

@@ -1,0 +1,80 @@
+//! The program `rcuo`: it replays a script of calls, turns and reports over a runtime of deferred work, and prints
+//! what each call answers. docs/specification/program.md has its surface.
+#![tactic(auto)]
+
+ghost use Rattle.std.specs.Prelude.{◌≡◌};
+
+mod commands;
+mod fault;
+mod lines;
+mod plan;
+mod read;
+mod replay;
+#[cfg(test)]
+mod tests;
+mod versions;
+
+use fault::{Fault, write_fault};
+use plan::{Refusal, read_plan};
+use rcu_jobs::BoxedJob;
+use replay::replay;
+use std::io;
+use std::process::ExitCode;
+use versions::{Retired, versions};
+
+/// The words of the command line after the program's name.
+fn words(rt: &HostRuntime) -> Result<Vec<String>, Refusal> {
+    let mut words = Vec::new(rt.alloc());
+    let given = match std::env::args(rt) {
+        Ok(given) => given,
+        Err(error) if error.kind() == io::ErrorKind::OutOfMemory => {
+            return Err(Refusal::Fault(Fault::memory()));
+        }
+        Err(_) => return Err(Refusal::NoText),
+    };
+    for word in given.skip(1) {
+        words.push(word)?;
+    }
+    Ok(words)
+}
+
+/// Does what the words and the setup say. Each version that is retired makes a job, which owns it, drops it, and answers
+/// how many routes it held.
+fn run(rt: &HostRuntime) -> Result<(), Refusal> {
+    let alloc = rt.alloc();
+    let words = words(rt)?;
+    let plan = read_plan(alloc, words.as_slice(), &mut rt.stdin())?;
+    let mut jobs = Vec::new(alloc);
+    for Retired { key, table } in versions(alloc, &plan)? {
+        let routes = table.len() as u64;
+        let call: Box<dyn FnOnce() -> u64 + Send> = Box::new(
+            alloc,
+            move || -> u64
+                ensures { result ≡ routes }
+            {
+                drop(table);
+                routes
+            },
+        )?;
+        jobs.push(BoxedJob::<65536>::new(key, call))?;
+    }
+    Ok(replay(alloc, &plan, jobs, &mut io::writer(rt))?)
+}
+
+fn main(rt: HostRuntime) -> ExitCode {
+    match run(&rt) {
+        Ok(()) => ExitCode::SUCCESS,
+        Err(Refusal::Words(error)) => {
+            let _ = rt.eprint(&error);
+            ExitCode::from(2)
+        }
+        Err(Refusal::NoText) => {
+            let _ = rt.eprint("error: a word of the command line is no text\n");
+            ExitCode::from(2)
+        }
+        Err(Refusal::Fault(fault)) => {
+            let _ = write_fault(&fault, &mut rt.stderr());
+            ExitCode::from(1)
+        }
+    }
+}

@@ -1,0 +1,156 @@
+//! What a run is to do: the subcommand that the words name, and the setup that is read.
+
+ghost use Rattle.std.specs.Prelude.{◌≡◌, ◌≢◌, ◌≤◌, ◌∷◌, [], IfOk, IfErr, IfSome, All, OnOk, Ok, Some, codes, true, map, option_map, string_bytes};
+ghost use Rattle.clap.specs.Words.{app_of, kind_of};
+ghost use Rattle.rcu_setup.specs.Setup.{setup_of, setup_view};
+ghost use Rattle.rcuo.specs.Calls.{can_run};
+ghost use Rattle.rcuo.specs.Plan.{Names, RefusesWords, TakesAtMost, rcuo, word_of};
+
+use crate::fault::Fault;
+use crate::read::read_text;
+use clap::error::ErrorKind;
+use rcu_setup::{Command, Key, Setup, SetupFault, read_setup};
+use std::alloc::{AllocError, AllocFailed, Global};
+use std::io::Read;
+
+/// The most bytes that are read of a setup: one more than a setup may have.
+pub const MOST_READ: usize = 1048577;
+
+/// How much is read at once.
+const PIECE: usize = 4096;
+
+/// Why there is no plan.
+#[derive(Debug, Drop)]
+pub enum Refusal {
+    /// The words of the command line were refused; clap's text says why.
+    Words(clap::Error),
+    /// A word of the command line is no text.
+    NoText,
+    /// The setup can't be had, or the run failed.
+    Fault(Fault),
+}
+
+impl From<Fault> for Refusal {
+    fn from(fault: Fault) -> Refusal {
+        Refusal::Fault(fault)
+    }
+}
+
+impl From<AllocError> for Refusal {
+    fn from(_error: AllocError) -> Refusal {
+        Refusal::Fault(Fault::memory())
+    }
+}
+
+impl<T: Drop> From<AllocFailed<T>> for Refusal {
+    fn from(_error: AllocFailed<T>) -> Refusal {
+        Refusal::Fault(Fault::memory())
+    }
+}
+
+/// The subcommands of the program.
+#[derive(Clone, Copy, Debug, PartialEq, Eq)]
+pub enum Subcommand {
+    Replay,
+}
+
+/// What a run is to do.
+#[derive(Debug, Drop)]
+pub struct Plan {
+    pub subcommand: Subcommand,
+    pub setup: Setup,
+}
+
+fn refused(error: clap::Error) -> Refusal
+    ensures { RefusesWords result → kind_of error ≢ ErrorKind.OutOfMemory }
+{
+    if error.kind() == ErrorKind::OutOfMemory {
+        Refusal::Fault(Fault::memory())
+    } else {
+        Refusal::Words(error)
+    }
+}
+
+fn command<'a>(alloc: Global) -> Result<clap::Command<'a>, AllocError>
+    ensures { IfOk result (λ c. app_of c ≡ rcuo) }
+{
+    clap::Command::new(alloc, "rcuo")
+        .no_binary_name(true)
+        .subcommand_required(true)
+        .subcommand(clap::Command::new(alloc, "replay"))
+}
+
+fn subcommand_of(alloc: Global, words: &[String]) -> Result<Subcommand, clap::Error>
+    // One word that names a subcommand is not refused but for want of memory.
+    ensures err { (s : Subcommand) → Names (map string_bytes words.now) s → IfErr result (λ e. kind_of e ≡ ErrorKind.OutOfMemory) }
+    ensures ok { (s : Subcommand) → Names (map string_bytes words.now) s → IfOk result (λ found. found ≡ s) }
+{
+    let _matches = command(alloc)?.try_get_matches_from(words)?;
+    Ok(Subcommand::Replay)
+}
+
+/// The setup that the reader holds.
+fn setup_of<R: Read>(alloc: Global, reader: &mut R) -> Result<Setup, Fault>
+    ensures most { TakesAtMost MOST_READ (R.remaining reader.old) (R.remaining reader.new) }
+    ensures exact { IfSome (R.remaining reader.old) (λ bytes. IfOk result (λ setup. setup_of bytes ≡ Ok (setup_view setup))) }
+{
+    let bytes = read_text(alloc, reader, MOST_READ, PIECE)?;
+    let Ok(text) = std::str::from_utf8(bytes.as_slice()) else {
+        return Err(Fault::Setup(SetupFault::NotToml));
+    };
+    match read_setup(alloc, text) {
+        Ok(setup) => Ok(setup),
+        Err(fault) => Err(Fault::Setup(fault)),
+    }
+}
+
+/// Whether this version runs the command: the core of local processors has no barriers and no shut yet.
+fn can_run(command: &Command) -> bool
+    ensures { result ≡ can_run command.now }
+{
+    !matches!(command, Command::Barrier | Command::Poll | Command::Shut)
+}
+
+/// What a setup asks for that this version can't run: offloadable processors, or a command that is to come.
+fn unready(setup: &Setup) -> Result<(), SetupFault>
+    ensures { OnOk result (All (λ c. can_run c ≡ true) setup.now.script.items) }
+{
+    if setup.shape.offloadable != 0 {
+        return Err(SetupFault::OutOfRange(Key::Nocbs));
+    }
+    for (i, command) in setup.script.iter().enumerate() {
+        if !can_run(command) {
+            return Err(SetupFault::BadLine(i as u64 + 1));
+        }
+    }
+    Ok(())
+}
+
+/// The subcommand that the words name, and the setup that the reader holds. The words are those after the program's
+/// name; they are looked at before anything is read.
+///
+/// # Errors
+///
+/// `Words` where clap refuses the words, help included; else the setup's fault, the fault of a failed read, or want of
+/// memory.
+pub fn read_plan<R: Read>(alloc: Global, words: &[String], reader: &mut R) -> Result<Plan, Refusal>
+    ensures taken { (s : Subcommand) → Names (map string_bytes words.now) s → IfErr result (λ e. ¬ RefusesWords e) }
+    ensures named { (s : Subcommand) → Names (map string_bytes words.now) s → IfOk result (λ plan. plan.subcommand ≡ s) }
+    ensures most { TakesAtMost MOST_READ (R.remaining reader.old) (R.remaining reader.new) }
+    ensures ready { IfOk result (λ plan. All (λ c. can_run c ≡ true) plan.setup.script.items) }
+    // The setup is the one of the bytes read.
+    ensures exact { IfSome (R.remaining reader.old) (λ bytes. IfOk result (λ plan. setup_of bytes ≡ Ok (setup_view plan.setup))) }
+{
+    let subcommand = match subcommand_of(alloc, words) {
+        Ok(subcommand) => subcommand,
+        Err(error) => return Err(refused(error)),
+    };
+    let setup = match setup_of(alloc, reader) {
+        Ok(setup) => setup,
+        Err(fault) => return Err(Refusal::Fault(fault)),
+    };
+    match unready(&setup) {
+        Ok(()) => Ok(Plan { subcommand, setup }),
+        Err(fault) => Err(Refusal::Fault(Fault::Setup(fault))),
+    }
+}
