@@ -13,3 +13,4 @@ pub mod Masks
 pub mod Ticking
 pub mod Readying
 pub mod Counting
+pub mod Passing

@@ -10,3 +10,4 @@ pub mod Leaving
 pub mod Turns
 pub mod Ready
 pub mod Shown
+pub mod Polls

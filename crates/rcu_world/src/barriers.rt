@@ -82,4 +82,24 @@ impl Barring {
     {
         all_of(&self.seen)
     }
+
+    /// Whether a processor was seen to have come as far as its count.
+    pub fn has_seen(&self, i: usize) -> bool
+        ensures { result ≡ slice_index_or (barrier self.now).seen i false }
+    {
+        i < self.seen.len() && self.seen[i]
+    }
+
+    /// The count that is kept of a processor, 0 where there is none.
+    pub fn kept(&self, i: usize) -> u64
+        ensures { result ≡ value_or (count_at (barrier self.now) i) }
+    {
+        if i >= self.counts.len() {
+            return 0;
+        }
+        match self.counts[i] {
+            None => 0,
+            Some(count) => count,
+        }
+    }
 }

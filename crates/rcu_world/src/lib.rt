@@ -17,6 +17,7 @@ mod groups;
 mod lists;
 mod looking;
 mod moving;
+mod polling;
 mod processors;
 mod showing;
 mod switching;

@@ -1,0 +1,27 @@
+use Rattle.std.proofs.Common.{◌∙◌, sym, refl}
+use Rattle.rcu_world.specs.Polls.{turns_for}
+use Rattle.rcu_world.proofs.Leading.{leads_upto, leads_none}
+use Rattle.rcu_world.proofs.Passing.{history_turned, seen_skipped, seen_turned}
+use Rattle.rcu_world.proofs.worlds.World.see_all.Goals as goal
+
+pub loop-place-preserved-then-has_seen : goal.loop-place-preserved-then-has_seen
+loop-place-preserved-then-has_seen g c =
+    let i = c.loop-place.invariant in
+    record {
+      leads = leads_upto (turns_for c.args.barrier) c.loop-place.place _ _ _ i.leads (seen_skipped _ c.args.barrier c.loop-place.place (sym c.has_seen.ensures ∙ c.if-has_seen.true));
+      history = i.history;
+      len = i.len;
+      rest = i.rest;
+      kept = i.kept;
+    }
+
+pub loop-place-preserved : goal.loop-place-preserved
+loop-place-preserved g c =
+    let i = c.loop-place.invariant in
+    record {
+      leads = leads_upto (turns_for c.args.barrier) c.loop-place.place _ _ _ i.leads (seen_turned _ _ c.args.barrier c.loop-place.place (sym c.has_seen.ensures ∙ c.if-has_seen.false) c.perform.ensures.leads.1);
+      history = history_turned _ _ c.args.barrier c.loop-place.place c.perform.ensures.leads.1 ∙ i.history;
+      len = c.perform.ensures.len ∙ i.len;
+      rest = λ r. c.perform.ensures.rest refl (i.rest r);
+      kept = c.perform.ensures.kept;
+    }
