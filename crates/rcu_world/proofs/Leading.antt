@@ -28,7 +28,7 @@ leads_skipped w new e h n = subst (λ b. Leads w (cond b (e ∷ []) []) new) (sy
 pub leads_one : (w new : State) (e : CoreEvent) → is_enabled w e ≡ true → Leads w (where_enabled e w) new → Leads w (e ∷ []) new
 leads_one w new e h l = subst (λ b. Leads w (cond b (e ∷ []) []) new) h l
 
-run_append : (es fs : List CoreEvent) (w : State) → run (es ++ fs) w ≡ run fs (run es w)
+pub run_append : (es fs : List CoreEvent) (w : State) → run (es ++ fs) w ≡ run fs (run es w)
 run_append [] fs w = refl
 run_append (e ∷ es) fs w = run_append es fs (happens w e)
 

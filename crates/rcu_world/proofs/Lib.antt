@@ -14,3 +14,4 @@ pub mod Ticking
 pub mod Readying
 pub mod Counting
 pub mod Passing
+pub mod Drawing

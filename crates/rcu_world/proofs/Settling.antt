@@ -62,7 +62,7 @@ all_unmapped P f [] a = tt
 all_unmapped P f (x ∷ xs) a = (a.0, all_unmapped P f xs a.1)
 
 -- what was accepted ran or is left
-is_counted : (w : State) (p : ℕ) → IsCore w → p < length w.cpus → IsCounted (cpu_at w p)
+pub is_counted : (w : State) (p : ℕ) → IsCore w → p < length w.cpus → IsCounted (cpu_at w p)
 is_counted w p k l =
     let i = (k.cpu p l).placed in
     record {

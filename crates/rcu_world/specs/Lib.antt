@@ -11,3 +11,4 @@ pub mod Turns
 pub mod Ready
 pub mod Shown
 pub mod Polls
+pub mod GroupTurns

@@ -13,6 +13,7 @@ mod control;
 mod cores;
 mod ending;
 mod events;
+mod grouping;
 mod groups;
 mod lists;
 mod looking;

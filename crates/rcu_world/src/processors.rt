@@ -406,7 +406,7 @@ impl<J: Job> Processor<J, J::Receipt> {
     }
 }
 
-ghost use Rattle.std.specs.Prelude.{◌++◌, ◌∷◌, [], map, take, drop, min, if◌then◌else◌};
+ghost use Rattle.std.specs.Prelude.{◌++◌, ◌∷◌, [], length, map, take, drop, min, if◌then◌else◌};
 ghost use Rattle.rcu_law.specs.Lists.{needed_with};
 ghost use Rattle.rcu_world.specs.Members.{forgets, is_wanting};
 ghost use Rattle.rcu_world.specs.Giving.{gives_done, gives_out, gives_by_case};
@@ -586,6 +586,16 @@ impl<J: Job> Processor<J, J::Receipt> {
         ensures { result ≡ not (is_nil (given blimit (seen J.key_of self.now))) }
     {
         !self.out.is_empty() || count_done(&self.joined) > 0
+    }
+
+    /// How many callbacks the next batch for the done lane would have.
+    pub fn given_len(&self, blimit: u64) -> u64
+        ensures { result ≡ length (given blimit (seen J.key_of self.now)) }
+    {
+        if !self.out.is_empty() {
+            return self.out.len() as u64;
+        }
+        blimit.min(count_done(&self.joined) as u64)
     }
 
     pub fn ask(&mut self, on: bool)

@@ -1,0 +1,50 @@
+use Rattle.std.proofs.Common.{◌∙◌, ◌<◌, ◌≤◌, ◌≡◌, ◌+◌, ap, arith, refl, sym, subst, length}
+use Rattle.std.proofs.lemmas.List.{length-map}
+use Rattle.rcu_law.specs.States.{Cpu, cpu_at}
+use Rattle.rcu_world.specs.Views.{seen, state}
+use Rattle.rcu_world.proofs.Drawing.{drawn_all, drawn_empty, drawn_none, drawn_one, drawn_waits, few_drawn, joins_where, waits_where}
+use Rattle.rcu_world.proofs.Leading.{seen_there}
+use Rattle.rcu_world.proofs.worlds.World.draw_some.Goals as goal
+
+pub loop-batch-init : goal.loop-batch-init
+loop-batch-init g c = record {
+  drawn = drawn_none c.args.cpu (state g.J.Job.key_of c.args.self.now.core);
+  most = omega arith;
+  there = c.requires.there;
+  len = refl;
+  shape = refl;
+  rest = λ r. r;
+  kept = c.requires.world;
+}
+
+pub returns-then-not-perform-clause-events : goal.returns-then-not-perform-clause-events
+returns-then-not-perform-clause-events g c = drawn_empty c.args.cpu c.loop-batch.batch _ _ _ _ c.loop-batch.invariant.drawn (sym c.perform.ensures.enabled ∙ c.if-not-perform.true) c.perform.ensures.leads.1
+
+pub returns-then-not-join-clause-events : goal.returns-then-not-join-clause-events
+returns-then-not-join-clause-events g c =
+    let i = c.loop-batch.invariant in
+    let l : c.args.cpu < length c.perform.new.self.core.processors.items = subst (λ n. c.args.cpu < n) (sym c.perform.ensures.len ∙ length-map c.perform.new.self.core.processors.items (seen g.J.Job.key_of)) i.there in
+    let s = seen_there g.J.Job.key_of c.perform.new.self.core c.args.cpu c.index.result.now l c.index.ensures in
+    drawn_waits c.args.cpu c.loop-batch.batch _ _ _ _ c.loop-batch.took c.len-drawn.result (omega arith) i.there i.drawn (sym c.perform.ensures.enabled ∙ c.if-not-perform.false) c.perform.ensures.leads.1
+    (waits_where c.args.cpu c.join.result _ _ c.if-not-join.true c.join.ensures.leads) (c.len-drawn.ensures ∙ ap {A = Cpu} (λ x. length x.drawn) s)
+
+pub loop-batch-preserved : goal.loop-batch-preserved
+loop-batch-preserved g c =
+    let i = c.loop-batch.invariant in
+    let l : c.args.cpu < length c.perform.new.self.core.processors.items = subst (λ n. c.args.cpu < n) (sym c.perform.ensures.len ∙ length-map c.perform.new.self.core.processors.items (seen g.J.Job.key_of)) i.there in
+    let s = seen_there g.J.Job.key_of c.perform.new.self.core c.args.cpu c.index.result.now l c.index.ensures in
+    let d = c.len-drawn.ensures ∙ ap {A = Cpu} (λ x. length x.drawn) s in
+    let f = few_drawn (state g.J.Job.key_of c.perform.new.self.core) c.args.cpu c.perform.ensures.kept.fit.core (subst (λ n. c.args.cpu < n) (sym c.perform.ensures.len) i.there) in
+    record {
+      drawn = drawn_one c.args.cpu c.loop-batch.batch _ _ _ _ c.loop-batch.took c.len-drawn.result (omega arith) i.there i.drawn (sym c.perform.ensures.enabled ∙ c.if-not-perform.false) c.perform.ensures.leads.1
+          (joins_where c.args.cpu c.join.result _ _ c.if-not-join.false c.join.ensures.leads) d;
+      most = omega (arith, i.most, f, d);
+      there = subst (λ n. c.args.cpu < n) (sym (c.join.ensures.len ∙ c.perform.ensures.len)) i.there;
+      len = c.join.ensures.len ∙ c.perform.ensures.len ∙ i.len;
+      shape = c.join.ensures.shape ∙ c.perform.ensures.shape ∙ i.shape;
+      rest = λ r. c.join.ensures.rest (c.perform.ensures.rest refl (i.rest r));
+      kept = c.join.ensures.kept;
+    }
+
+pub returns-clause-events : goal.returns-clause-events
+returns-clause-events g c = drawn_all c.args.cpu c.loop-batch.batch _ _ _ (omega arith) c.loop-batch.invariant.drawn

@@ -1,0 +1,25 @@
+use Rattle.std.proofs.Common.{◌∙◌, ◌<◌, arith, refl, length}
+use Rattle.rcu_world.specs.GroupTurns.{Gives}
+use Rattle.rcu_world.specs.Views.{state}
+use Rattle.rcu_world.proofs.Drawing.{upto_more, upto_none}
+use Rattle.rcu_world.proofs.worlds.World.give_all.Goals as goal
+
+pub loop-cpu-init : goal.loop-cpu-init
+loop-cpu-init g c = record {
+  made = upto_none (Gives c.args.group) (state g.J.Job.key_of c.args.self.now.core);
+  most = omega arith;
+  len = refl;
+  rest = λ r. r;
+  kept = c.requires;
+}
+
+pub loop-cpu-preserved : goal.loop-cpu-preserved
+loop-cpu-preserved g c =
+    let i = c.loop-cpu.invariant in
+    record {
+      made = upto_more (Gives c.args.group) c.loop-cpu.cpu _ _ _ 0 0 c.loop-cpu.gave c.give-put.result _ _ (omega arith) refl i.made c.give-put.ensures.events;
+      most = omega (arith, i.most, c.give-put.ensures.most);
+      len = c.give-put.ensures.len ∙ i.len;
+      rest = λ r. c.give-put.ensures.rest (i.rest r);
+      kept = c.give-put.ensures.kept;
+    }

@@ -1,0 +1,5 @@
+use Rattle.rcu_world.proofs.Drawing.{looked_made}
+use Rattle.rcu_world.proofs.worlds.World.look_group.Goals as goal
+
+pub returns-clause-events : goal.returns-clause-events
+returns-clause-events g c = looked_made c.args.group _ _ _ c.perform.ensures.leads.1 c.perform-2.ensures.leads.1

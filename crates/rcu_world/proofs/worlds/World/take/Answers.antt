@@ -1,0 +1,12 @@
+use Rattle.std.proofs.Common.{◌∙◌, arith, sym}
+use Rattle.rcu_law.specs.Events.CoreEvent.{Join}
+use Rattle.rcu_world.specs.GroupTurns.{Draws, WhereRoom, most_batches}
+use Rattle.rcu_world.proofs.Drawing.{joined_made, takes_made, takes_none, then_made}
+use Rattle.rcu_world.proofs.worlds.World.take.Goals as goal
+
+pub returns-then-not-is_member-clause-events : goal.returns-then-not-is_member-clause-events
+returns-then-not-is_member-clause-events g c = takes_none c.args.group c.args.cpu _ (sym c.is_member.ensures ∙ c.if-not-is_member.true)
+
+pub returns-clause-events : goal.returns-clause-events
+returns-clause-events g c = takes_made c.args.group c.args.cpu _ _ _ _ (sym c.is_member.ensures ∙ c.if-not-is_member.false)
+    (then_made (WhereRoom (Join c.args.cpu)) (Draws c.args.cpu most_batches) _ _ _ 0 c.draw_some.result 0 0 _ _ (omega arith) (omega arith) (joined_made c.args.cpu c.join.result _ _ c.join.ensures.leads) c.draw_some.ensures.events)

@@ -1,0 +1,25 @@
+use Rattle.std.proofs.Common.{◌∙◌, ◌<◌, arith, refl, length}
+use Rattle.rcu_world.specs.GroupTurns.{Takes}
+use Rattle.rcu_world.specs.Views.{state}
+use Rattle.rcu_world.proofs.Drawing.{upto_more, upto_none}
+use Rattle.rcu_world.proofs.worlds.World.take_all.Goals as goal
+
+pub loop-cpu-init : goal.loop-cpu-init
+loop-cpu-init g c = record {
+  made = upto_none (Takes c.args.group) (state g.J.Job.key_of c.args.self.now.core);
+  most = omega arith;
+  len = refl;
+  rest = λ r. r;
+  kept = c.requires;
+}
+
+pub loop-cpu-preserved : goal.loop-cpu-preserved
+loop-cpu-preserved g c =
+    let i = c.loop-cpu.invariant in
+    record {
+      made = upto_more (Takes c.args.group) c.loop-cpu.cpu _ _ _ c.loop-cpu.took c.take-drawn.result 0 0 _ _ refl (omega arith) i.made c.take-drawn.ensures.events;
+      most = omega (arith, i.most, c.take-drawn.ensures.most);
+      len = c.take-drawn.ensures.len ∙ i.len;
+      rest = λ r. c.take-drawn.ensures.rest (i.rest r);
+      kept = c.take-drawn.ensures.kept;
+    }

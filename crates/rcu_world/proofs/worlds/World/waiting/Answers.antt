@@ -1,0 +1,37 @@
+use Rattle.std.proofs.Common.{◌∙◌, ◌<◌, ◌≡◌, ◌≤◌, ◌+◌, ap, arith, sym, subst, length}
+use Rattle.std.proofs.lemmas.List.{length-map}
+use Rattle.rcu_law.specs.States.{Cpu, cpu_at}
+use Rattle.rcu_world.specs.Views.{seen, state}
+use Rattle.rcu_world.proofs.Drawing.{few_drawn, waits_more, waits_none, waits_other}
+use Rattle.rcu_world.proofs.Leading.{seen_there}
+use Rattle.rcu_world.proofs.worlds.World.waiting.Goals as goal
+
+pub loop-cpu-init : goal.loop-cpu-init
+loop-cpu-init g c = record { sum = waits_none c.args.group (state g.J.Job.key_of c.args.self.now.core); most = omega arith }
+
+pub loop-cpu-preserved-then-not-is_member : goal.loop-cpu-preserved-then-not-is_member
+loop-cpu-preserved-then-not-is_member g c =
+    let i = c.loop-cpu.invariant in
+    record { sum = waits_other c.args.group c.loop-cpu.cpu _ (state g.J.Job.key_of c.args.self.now.core) (sym c.is_member.ensures ∙ c.if-not-is_member.true) i.sum; most = omega (arith, i.most) }
+
+pub overflow_add-waiting-in-loop-cpu : goal.overflow_add-waiting-in-loop-cpu
+overflow_add-waiting-in-loop-cpu g c =
+    let w = state g.J.Job.key_of c.args.self.now.core in
+    let l : c.loop-cpu.cpu < length c.args.self.now.core.processors.items = omega arith in
+    let s : seen g.J.Job.key_of c.index-p.result.now ≡ cpu_at w c.loop-cpu.cpu = seen_there g.J.Job.key_of c.args.self.now.core c.loop-cpu.cpu c.index-p.result.now l c.index-p.ensures in
+    let f = few_drawn w c.loop-cpu.cpu c.requires.fit.core (subst (λ n. c.loop-cpu.cpu < n) (sym (length-map c.args.self.now.core.processors.items (seen g.J.Job.key_of))) l) in
+    omega (arith, c.loop-cpu.invariant.most, f, c.len-drawn.ensures ∙ ap {A = Cpu} (λ x. length x.drawn) s, c.len-out.ensures ∙ ap {A = Cpu} (λ x. length x.out) s, c.requires.fit.few, length-map c.args.self.now.core.processors.items (seen g.J.Job.key_of))
+
+pub loop-cpu-preserved : goal.loop-cpu-preserved
+loop-cpu-preserved g c =
+    let i = c.loop-cpu.invariant in
+    let w = state g.J.Job.key_of c.args.self.now.core in
+    let l : c.loop-cpu.cpu < length c.args.self.now.core.processors.items = omega arith in
+    let s : seen g.J.Job.key_of c.index-p.result.now ≡ cpu_at w c.loop-cpu.cpu = seen_there g.J.Job.key_of c.args.self.now.core c.loop-cpu.cpu c.index-p.result.now l c.index-p.ensures in
+    let f = few_drawn w c.loop-cpu.cpu c.requires.fit.core (subst (λ n. c.loop-cpu.cpu < n) (sym (length-map c.args.self.now.core.processors.items (seen g.J.Job.key_of))) l) in
+    let d = c.len-drawn.ensures ∙ ap {A = Cpu} (λ x. length x.drawn) s in
+    let o = c.len-out.ensures ∙ ap {A = Cpu} (λ x. length x.out) s in
+    record {
+      sum = waits_more c.args.group c.loop-cpu.cpu _ _ _ w (sym c.is_member.ensures ∙ c.if-not-is_member.false) i.sum d o;
+      most = omega (arith, i.most, f, d, o);
+    }
