@@ -68,6 +68,7 @@ accepts_placed h p key c f i =
       count = rw ea (omega (arith, i.count, length-append (accepted p h) (key ∷ [])));
       turn = rw er i.turn;
       runs = rw er i.runs;
+      numbered = i.numbered;
     }
 
 accepts_timely : (n : ℕ) (h : List Mark) (p key s : ℕ) (c : Cpu) → ((q : ℕ) → q < n → reports q h ≤ begun s) → c.count ≡ length (accepted p h) → IsStampedInTime n h p s c
@@ -130,6 +131,7 @@ stamped_cpu n h s limit p c d f e places fresh count turn runs shut running sigh
         count = count ∙ i.placed.count;
         turn = ap (λ x. (x + 1) / 2) turn ∙ i.placed.turn;
         runs = ap (map (λ r. r.call.key)) runs ∙ i.placed.runs;
+        numbered = subst (λ x. AreNumbered 0 (map (λ r. r.call) x)) (sym runs) i.placed.numbered;
       };
       timely = record {
         stamped = subst (AllByRecursion (IsStamped n h p s)) (sym places)

@@ -128,7 +128,7 @@ finish_kept w p by k e =
     let odd : (cpu_at w p).turn % 2 ≡ 1 = i.running ∙ running_side by (cpu_at w p).running e1.1 in
     core_with_cpu w p (finishes (cpu_at w p)) k l
     (record {
-      placed = record { keys = i.placed.keys; numbers = i.placed.numbers; count = i.placed.count; turn = omega (arith, i.placed.turn); runs = i.placed.runs };
+      placed = record { keys = i.placed.keys; numbers = i.placed.numbers; count = i.placed.count; turn = omega (arith, i.placed.turn); runs = i.placed.runs; numbered = i.placed.numbered };
       timely = record { stamped = i.timely.stamped; fresh = i.timely.fresh; sight = i.timely.sight; hand_sight = i.timely.hand_sight };
       lists = i.lists;
       running = omega arith;
@@ -159,7 +159,7 @@ shut_kept w p k e =
     let t = timely_after (length w.cpus) w.history (Shut p) p w.number (cpu_at w p) i.timely in
     core_with_cpu_mark w p (record (cpu_at w p) { shut = true }) (Shut p) k l (shut_of p) tt
     (record {
-      placed = record { keys = m.keys; numbers = m.numbers; count = m.count; turn = m.turn; runs = m.runs };
+      placed = record { keys = m.keys; numbers = m.numbers; count = m.count; turn = m.turn; runs = m.runs; numbered = m.numbered };
       timely = record { stamped = t.stamped; fresh = t.fresh; sight = t.sight; hand_sight = t.hand_sight };
       lists = i.lists;
       running = i.running;

@@ -3,7 +3,7 @@ use Rattle.std.proofs.Common.{◌≡◌, ℕ, zero, suc, ◌+◌, ◌*◌, ◌/�
 use Rattle.std.specs.List.{slice_get, AllByRecursion}
 use Rattle.std.specs.Option.{option_to_list}
 use Rattle.std.proofs.lemmas.Bool.{cases_eq, ne_eqb, and_parts, ltb-true, eqb-true, leb-true}
-use Rattle.std.proofs.lemmas.List.{append-nil, map-append}
+use Rattle.std.proofs.lemmas.List.{length-map, append-nil, map-append}
 use Rattle.rcu_law.specs.declared.marks.Mark.{Mark}
 use Rattle.rcu_law.specs.declared.marks.Mark.TheVariants.{Accepted, Reported, Ran, Opened, Passed, Shut, Back}
 use Rattle.rcu_law.specs.declared.labels.Label.{Label}
@@ -100,6 +100,11 @@ nil_of_length : {X : Type 0} (xs : List X) → length xs ≡ 0 → xs ≡ []
 nil_of_length [] e = refl
 nil_of_length (x ∷ xs) e = absurd (omega arith)
 
+-- one more, whose number is the next
+numbered_more : (k : ℕ) (runs : List Run) (r : Run) → AreNumbered k (map (λ x. x.call) runs) → r.call.number ≡ k + length runs → AreNumbered k (map (λ x. x.call) (runs ++ r ∷ []))
+numbered_more k [] r a e = (omega (arith, e), tt)
+numbered_more k (x ∷ runs) r a e = (a.0, numbered_more (k + 1) runs r a.1 (omega (arith, e)))
+
 -- d is c after f, the first of its places, was taken
 pub record IsTaken (c d : Cpu) (f : Call) (ready : ℕ) : Type 0 where
   pub places : stamped_callbacks c ≡ f ∷ stamped_callbacks d
@@ -145,6 +150,7 @@ module _ (n : ℕ) (h : List Mark) (s limit p : ℕ) (c d : Cpu) (f : Call) (rea
           count = t.count ∙ i.placed.count ∙ ap length (sym ea);
           turn = omega (arith, i.placed.turn, t.was, t.turn, en.0, el);
           runs = ap (map (λ r. r.call.key)) t.runs ∙ map-append (λ r. r.call.key) c.runs (record { call = f; ready = ready } ∷ []) ∙ ap (λ x. x ++ f.key ∷ []) i.placed.runs ∙ sym er;
+          numbered = subst (λ x. AreNumbered 0 (map (λ r. r.call) x)) (sym t.runs) (numbered_more 0 c.runs (record { call = f; ready = ready }) i.placed.numbered (omega (arith, en.0, ap length (sym i.placed.runs), length-map c.runs (λ r. r.call.key))));
         };
         timely = record {
           stamped = (subst (AllByRecursion (IsStamped n (h ++ Ran p f.key ∷ []) p s)) t.places ti.stamped).1;

@@ -101,6 +101,7 @@ placed_after h m p c a r i =
       count = rw ea i.count;
       turn = rw er i.turn;
       runs = rw er i.runs;
+      numbered = i.numbered;
     }
 
 -- a mark that doesn't shut p
@@ -260,6 +261,7 @@ cpu_moved n h s limit p c d places fresh count turn runs shut running lists one_
         count = count ∙ i.placed.count;
         turn = ap (λ x. (x + 1) / 2) turn ∙ i.placed.turn;
         runs = ap (map (λ r. r.call.key)) runs ∙ i.placed.runs;
+        numbered = subst (λ x. AreNumbered 0 (map (λ r. r.call) x)) (sym runs) i.placed.numbered;
       };
       timely = record {
         stamped = subst (AllByRecursion (IsStamped n h p s)) (sym places) i.timely.stamped;

@@ -30,7 +30,7 @@ opening_offloaded false = refl
 
 cpu_opening : (n limit p : ℕ) (b : Bool) → IsCpu n [] 0 limit p (opening_cpu b)
 cpu_opening n limit p b = record {
-  placed = record { keys = refl; numbers = tt; count = refl; turn = refl; runs = refl };
+  placed = record { keys = refl; numbers = tt; count = refl; turn = refl; runs = refl; numbered = tt };
   timely = record { stamped = tt; fresh = tt; sight = omega arith; hand_sight = omega arith };
   lists = (labelled_nothing 0 0, labelled_nothing 0 0);
   running = refl;
@@ -44,7 +44,7 @@ cpu_opening n limit p b = record {
 
 idle_opening : (n limit p : ℕ) → IsCpu n [] 0 limit p empty_cpu
 idle_opening n limit p = record {
-  placed = record { keys = refl; numbers = tt; count = refl; turn = refl; runs = refl };
+  placed = record { keys = refl; numbers = tt; count = refl; turn = refl; runs = refl; numbered = tt };
   timely = record { stamped = tt; fresh = tt; sight = omega arith; hand_sight = omega arith };
   lists = (labelled_nothing 0 0, labelled_nothing 0 0);
   running = refl;

@@ -29,7 +29,7 @@ every_close n shape ms l = subst (λ x. IsClosed x (closing (run ms (opening n s
 
 -- what is recorded of each processor
 records_of : (w : State) (p : ℕ) → IsCore w → p < length w.cpus → AreRecords p w
-records_of w p k l = record { keys = (k.cpu p l).placed.runs; ready = (k.cpu p l).ready }
+records_of w p k l = record { numbers = (k.cpu p l).placed.numbered; keys = (k.cpu p l).placed.runs; ready = (k.cpu p l).ready }
 
 pub every_record : (n : ℕ) (shape : Shape) (ms : List CoreEvent) → shape.limit ≤ 1000000 → (p : ℕ) → p < n → AreRecords p (run ms (opening n shape))
 every_record n shape ms l p m = records_of (run ms (opening n shape)) p (run_kept ms (opening n shape) (opening_kept n shape l))

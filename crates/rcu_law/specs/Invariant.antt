@@ -77,13 +77,14 @@ AreNumbered k [] = Unit {0}
 AreNumbered k (c ∷ cs) = (c.number ≡ k) × AreNumbered (k + 1) cs
 
 -- "Places" and "turn law": what was accepted is what ran and then what is in the eight places, with numbers that rise by
--- one; the count is that of the accepted ones, the turn that of those that ran
+-- one; the count is that of the accepted ones, the turn that of those that ran; the records have the numbers from 0 on
 pub record IsPlacedInOrder (h : List Mark) (p : ℕ) (c : Cpu) : Type 0 where
   pub keys : accepted p h ≡ ran p h ++ map key_of (remaining_callbacks c)
   pub numbers : AreNumbered (length (ran p h)) (remaining_callbacks c)
   pub count : c.count ≡ length (accepted p h)
   pub turn : (c.turn + 1) / 2 ≡ length (ran p h)
   pub runs : map (λ r. r.call.key) c.runs ≡ ran p h
+  pub numbered : AreNumbered 0 (map (λ r. r.call) c.runs)
 
 -- the turn is odd exactly while a claim runs
 abbrev pub running_part : Option Side → ℕ
@@ -101,8 +102,9 @@ abbrev pub AreReady : List Run → Type 0
 AreReady runs = AllByRecursion (λ r. snap r.call.stamp ≤ r.ready) runs
 
 -- "Given", but for the receipts: p has as many records as `Ran` marks, the k-th has the key of the k-th `Ran` of p, and
--- each was ready
+-- each was ready; its numbers are 0, 1, 2, .. (`docs/specification/surface.md`, "Shared answer types")
 pub record AreRecords (p : ℕ) (w : State) : Type 0 where
+  pub numbers : AreNumbered 0 (map (λ r. r.call) (cpu_at w p).runs)
   pub keys : map (λ r. r.call.key) (cpu_at w p).runs ≡ ran p w.history
   pub ready : AreReady (cpu_at w p).runs
 
