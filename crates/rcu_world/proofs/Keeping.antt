@@ -1,5 +1,5 @@
 -- Answers keep what always holds
-use Rattle.std.proofs.Common.{◌≡◌, ℕ, ◌≤◌, Bool, true, ap, subst, sym, refl, List, [], ◌∷◌, ◌++◌, length}
+use Rattle.std.proofs.Common.{◌≡◌, ℕ, ◌≤◌, Bool, true, false, None, ap, subst, sym, refl, ◌∙◌, List, [], ◌∷◌, ◌++◌, length}
 use Rattle.rcu_world.specs.declared.events.Event.{Event}
 use Rattle.rcu_world.specs.declared.events.Answer.{Answer}
 use Rattle.rcu_world.specs.declared.events.Answer.TheVariants as answers
@@ -8,7 +8,9 @@ use Rattle.rcu_world.specs.declared.events.Event.TheVariants as events
 use Rattle.rcu_law.specs.declared.who.Who.TheVariants as who
 use Rattle.rcu_law.specs.Events.{CoreEvent, is_enabled, after}
 use Rattle.rcu_law.specs.Events.CoreEvent.{Accept, Stamp, Put, Report, Start, End, Look, LookGroup, LookHand, Need, Draw, Join, Give, Fetch, Claim, Finish, Ask, Heed, Settle, Open, Count, Turn, Pass, Shut, Urge, Hear}
-use Rattle.rcu_law.specs.States.{State}
+use Rattle.rcu_law.specs.States.{State, cpu_at, is_offloaded}
+use Rattle.rcu_law.specs.declared.who.Side.TheVariants.{Local}
+use Rattle.rcu_law.proofs.Schedules.{offloaded_claims_nothing}
 use Rattle.rcu_law.specs.Invariant.{IsCore}
 use Rattle.rcu_law.specs.Law.{HasNoBack}
 use Rattle.rcu_world.specs.Worlds.{IsFit}
@@ -131,3 +133,16 @@ runs_step key_of old mid [] [] e a new r s = (new, subst (λ w. Answers key_of w
 runs_step key_of old mid (f ∷ es) (x ∷ xs) e a new r s = (r.0, r.1, runs_step key_of r.0 mid es xs e a new r.2 s)
 runs_step key_of old mid [] (x ∷ xs) e a new r s = absurd r
 runs_step key_of old mid (f ∷ es) [] e a new r s = absurd r
+
+-- nothing is claimed by an Offloaded processor
+no_claim : {A : Type 0} (b : Bool) → b ≡ false → b ≡ true → A
+no_claim b f t = let x : false ≡ true = sym f ∙ t in absurd cc
+
+skipped_claim : {J : Type 0} (key_of : J → ℕ) (old new : State) (a : Answer J) (p : ℕ) → is_enabled old (Claim p Local) ≡ false → Answers key_of old (events.Claim p Local) a new → a ≡ answers.Skipped None
+skipped_claim key_of old new answers.Done p f h = no_claim (is_enabled old (Claim p Local)) f h.0
+skipped_claim key_of old new answers.Due p f h = no_claim (is_enabled old (Claim p Local)) f h.0
+skipped_claim key_of old new (answers.Skipped job) p f h = ap answers.Skipped h.2
+skipped_claim key_of old new (answers.Memory job) p f h = no_claim (is_enabled old (Claim p Local)) f h.0
+
+pub skipped_local : {J : Type 0} (key_of : J → ℕ) (old new : State) (e : Event J) (a : Answer J) (p : ℕ) → IsCore old → is_offloaded (cpu_at old p).mode ≡ true → e ≡ events.Claim p Local → Answers key_of old e a new → a ≡ answers.Skipped None
+skipped_local key_of old new e a p k o s h = skipped_claim key_of old new a p (offloaded_claims_nothing old p k o) (subst (λ x. Answers key_of old x a new) s h)

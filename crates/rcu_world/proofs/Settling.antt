@@ -11,12 +11,12 @@ use Rattle.rcu_law.specs.Law.{accepted, ran, back, key_accepted, key_ran, HasNoB
 use Rattle.rcu_law.specs.Calls.{Call}
 use Rattle.rcu_law.specs.States.{State, Cpu, cpu_at, empty_cpu}
 use Rattle.rcu_law.specs.Places.{key_of, remaining_callbacks}
-use Rattle.rcu_law.specs.Invariant.{IsCore}
+use Rattle.rcu_law.specs.Invariant.{AreNumbered, IsCore}
 use Rattle.rcu_law.specs.Closing.{closing, shut_mark, shut_marks, back_marks}
 use Rattle.rcu_law.proofs.Closing.{closed}
 use Rattle.rcu_world.specs.declared.processors.Processor.{Processor}
 use Rattle.rcu_world.specs.declared.cores.Core.{Core}
-use Rattle.rcu_world.specs.Leaving.{AreCounted, AreHandedBack, AreRecorded, IsCounted, left_keys}
+use Rattle.rcu_world.specs.Leaving.{AreCounted, AreHandedBack, AreNumberedFrom, AreRecorded, IsCounted, left_keys}
 use Rattle.rcu_world.specs.Views.{run, seen, all_seen, state, AreGiven}
 
 -- what reads nothing of the marks that close adds
@@ -74,6 +74,15 @@ same_keys : {R : Type 0} (rs : List (Record R)) → map (λ r. r.key) rs ≡ map
 same_keys [] = refl
 same_keys (r ∷ rs) = ap (λ l. r.key ∷ l) (same_keys rs)
 
+same_numbers : {R : Type 0} (k : ℕ) (rs : List (Record R)) → AreNumbered k (map (λ r. r.call) (map run rs)) → AreNumberedFrom k rs
+same_numbers k [] a = tt
+same_numbers k (r ∷ rs) a = (a.0, same_numbers (k + 1) rs a.1)
+
+all_numbered : {J R : Type 0} (job_key : J → ℕ) (ps : List (Processor J R)) → AllByRecursion (λ p. AreNumbered 0 (map (λ r. r.call) (seen job_key p).runs)) ps
+    → AllByRecursion (λ (v : Vec (Record R)). AreNumberedFrom 0 v.items) (map (λ p. p.records) ps)
+all_numbered job_key [] a = tt
+all_numbered job_key (p ∷ ps) a = (same_numbers 0 p.records.items a.0, all_numbered job_key ps a.1)
+
 all_given : {J R : Type 0} (gives : ℕ → R → Type 0) (ps : List (Processor J R)) → AllByRecursion (AreGiven gives) ps → AllByRecursion (λ (v : Vec (Record R)). All (λ r. gives r.key r.receipt) v.items) (map (λ p. p.records) ps)
 all_given gives [] a = tt
 all_given gives (p ∷ ps) a = (a.0, all_given gives ps a.1)
@@ -100,5 +109,8 @@ module _ {J R : Type 0} (job_key : J → ℕ) (w : Core J R) (k : IsCore (state 
     each = λ p l. ap (λ x. get_or (map (λ (v : Vec (Record R)). map (λ r. r.key) v.items) x) p []) e ∙ ran_keys w.processors.items p (omega (arith, length-map w.processors.items (seen job_key)))
         ∙ (k.cpu p l).placed.runs ∙ sym (ran_closing p (state job_key w));
     given = subst (AllByRecursion (λ (v : Vec (Record R)). All (λ r. gives r.key r.receipt) v.items)) (sym e) (all_given gives w.processors.items a);
+    numbered = subst (AllByRecursion (λ (v : Vec (Record R)). AreNumberedFrom 0 v.items)) (sym e)
+        (all_numbered job_key w.processors.items (all_unmapped (λ c. AreNumbered 0 (map (λ r. r.call) c.runs)) (seen job_key) w.processors.items
+        (all_from (λ c. AreNumbered 0 (map (λ r. r.call) c.runs)) empty_cpu (all_seen job_key w.processors.items) (λ p l. (k.cpu p l).placed.numbered))));
     len = ap length e ∙ length-map w.processors.items (λ p. p.records) ∙ sym (length-map w.processors.items (seen job_key));
   }

@@ -59,10 +59,16 @@ pub record AreHandedBack {J : Type 0} (job_key : J → ℕ) (n : ℕ) (h : List 
   pub each : (p : ℕ) → p < n → slice_index_or (map (λ v. map job_key v.items) lists) p [] ≡ back p h
   pub len : length lists ≡ n
 
--- "given": for each of the n processors a record for each of its Ran marks, with the mark's key and a receipt that the job's relation allows
+-- the records have the numbers from k on
+abbrev pub AreNumberedFrom : {R : Type 0} → ℕ → List (Record R) → Type 0
+AreNumberedFrom k [] = Unit {0}
+AreNumberedFrom k (r ∷ rs) = (r.number ≡ k) × AreNumberedFrom (k + 1) rs
+
+-- "given": for each of the n processors a record for each of its Ran marks, with the mark's key and a receipt that the job's relation allows; their numbers are 0, 1, 2, ..
 pub record AreRecorded {R : Type 0} (gives : ℕ → R → Type 0) (n : ℕ) (h : List Mark) (lists : List (Vec (Record R))) : Type 0 where
   pub each : (p : ℕ) → p < n → slice_index_or (map (λ v. map (λ r. r.key) v.items) lists) p [] ≡ ran p h
   pub given : AllByRecursion (λ v. All (λ r. gives r.key r.receipt) v.items) lists
+  pub numbered : AllByRecursion (λ v. AreNumberedFrom 0 v.items) lists
   pub len : length lists ≡ n
 
 -- for each of the n processors how often it reported

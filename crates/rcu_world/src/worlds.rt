@@ -1,6 +1,6 @@
 //! The core as its users see it.
 
-ghost use Rattle.std.specs.Prelude.{◌≡◌, length, IfOk, IfErr};
+ghost use Rattle.std.specs.Prelude.{◌≡◌, ℕ, length, true, IfOk, IfErr, None};
 ghost use Rattle.rcu_law.specs.Law.{IsClosed, IsLawful};
 ghost use Rattle.rcu_law.specs.Closing.{closing};
 ghost use Rattle.rcu_world.specs.Leaving.{AreHandedBack, AreRecorded, AreReported};
@@ -8,7 +8,10 @@ ghost use Rattle.rcu_world.specs.Events.{Answers, Runs};
 ghost use Rattle.rcu_world.specs.Turns.{IsAtRest};
 ghost use Rattle.rcu_world.specs.Views.{state};
 ghost use Rattle.rcu_world.specs.Worlds.{IsWorld, plan};
-ghost use Rattle.rcu_law.specs.States.{opening};
+ghost use Rattle.rcu_law.specs.States.{cpu_at, is_offloaded, opening};
+ghost use Rattle.rcu_law.specs.declared.who.Side.TheVariants.{Local};
+ghost use Rattle.rcu_world.specs.declared.events.Answer.TheVariants as answers;
+ghost use Rattle.rcu_world.specs.declared.events.Event.TheVariants as events;
 
 use crate::cores::Core;
 use crate::events::{Answer, Event};
@@ -39,6 +42,8 @@ impl<J: Job> World<J> {
     pub fn step(&mut self, event: Event<J>) -> Answer<J>
         requires { IsWorld J.key_of J.gives self.old.core }
         ensures step { Answers J.key_of (state J.key_of self.old.core) event result (state J.key_of self.new.core) }
+        // While a processor is Offloaded it runs nothing itself.
+        ensures offloaded { (cpu : ℕ) → is_offloaded (cpu_at (state J.key_of self.old.core) cpu).mode ≡ true → event ≡ events.Claim cpu Local → result ≡ answers.Skipped None }
         ensures kept { IsWorld J.key_of J.gives self.new.core }
     {
         self.core.apply(event)
