@@ -139,3 +139,91 @@ fn barrier_tickets(rt: HostRuntime) -> Result<(), Fail> {
     assert_eq!(rt; counts.of_processors().first().ok_or("no count")?, &1);
     Ok(())
 }
+
+// A barrier passes in one poll, and only once all that it counted has run.
+#[test]
+fn a_barrier_passes_once(rt: HostRuntime) -> Result<(), Fail> {
+    let shape = Shape::new(1, 0, 1, 10, 100, 10).ok_or("no shape")?;
+    let mut world = World::new(rt.alloc(), shape)?;
+    let job = boxed(&rt, 65536)?;
+    assert!(rt; world.call_rcu(0, 5, job).is_ok());
+    assert_eq!(rt; world.barrier(None, &[]), Ok(0));
+    assert_eq!(rt; world.poll(0)?, None);
+    world.tick(0, 5)?;
+    world.driver_turn()?;
+    world.quiescent(0)?;
+    world.driver_turn()?;
+    assert_eq!(rt; world.poll(0)?, None);
+    assert_eq!(rt; world.tick(0, 5)?.ran, 1);
+    let passed = world.poll(0)?.ok_or("it waits")?;
+    assert_eq!(rt; passed.counts.of_processors().first().ok_or("no count")?, &1);
+    assert_eq!(rt; world.poll(0)?, None, "a barrier that has passed");
+    Ok(())
+}
+
+// A callback that is called, stamped, and put on the lane where its processor is Offloaded.
+fn push_call(events: &mut Vec<Event<BoxedJob<KEY>>>, job: BoxedJob<KEY>) -> Result<(), Fail> {
+    events.push(Event::Accept { cpu: 0, job })?;
+    let (moment, lazy) = (0, false);
+    events.push(Event::Stamp {
+        cpu: 0,
+        moment,
+        lazy,
+    })?;
+    events.push(Event::Put {
+        cpu: 0,
+        moment: None,
+    })?;
+    Ok(())
+}
+
+// A grace period, from what is wanted to its end.
+fn push_grace_period(events: &mut Vec<Event<BoxedJob<KEY>>>, who: Who) -> Result<(), Fail> {
+    events.push(Event::Need { who })?;
+    events.push(Event::Start)?;
+    events.push(Event::Report { cpu: 0 })?;
+    events.push(Event::End)?;
+    Ok(())
+}
+
+// The row `turn-word-claims` on the core: the hand claims number 0, and the processor number 1 once that has run.
+#[test]
+fn turn_word_claims(rt: HostRuntime) -> Result<(), Fail> {
+    let shape = Shape::new(1, 1, 1, 5, 100, 10).ok_or("no shape")?;
+    let mut world = World::new(rt.alloc(), shape)?;
+    let mut events = Vec::new(rt.alloc());
+    let (first, second) = (boxed(&rt, 0)?, boxed(&rt, 1)?);
+    push_call(&mut events, first)?;
+    events.push(Event::Draw { cpu: 0 })?;
+    events.push(Event::Join { cpu: 0 })?;
+    events.push(Event::LookGroup { group: 0 })?;
+    push_grace_period(&mut events, Who::Group(0))?;
+    events.push(Event::LookGroup { group: 0 })?;
+    events.push(Event::Give { cpu: 0 })?;
+    events.push(Event::Ask { cpu: 0, on: false })?;
+    events.push(Event::Heed { cpu: 0 })?;
+    push_call(&mut events, second)?;
+    events.push(Event::Look { cpu: 0 })?;
+    push_grace_period(&mut events, Who::Cpu(0))?;
+    events.push(Event::Look { cpu: 0 })?;
+    events.push(Event::LookHand { cpu: 0 })?;
+    events.push(Event::Fetch { cpu: 0 })?;
+    let made = events.len();
+    for (on_hand, by) in [(true, Side::Hand), (false, Side::Local), (true, Side::Local)] {
+        events.push(Event::Claim { cpu: 0, by })?;
+        if on_hand {
+            continue;
+        }
+        events.push(Event::Finish {
+            cpu: 0,
+            by: Side::Hand,
+        })?;
+    }
+    let answers = world.run(rt.alloc(), events).ok().ok_or("no room")?;
+    let mut won = answers.iter().skip(made).map(|answer| matches!(answer, Answer::Done));
+    assert!(rt; won.eq([true, false, true, true]));
+    let (_marks, closed) = world.close().ok().ok_or("no room")?;
+    let ran = closed.ran.first().ok_or("no processor")?;
+    assert!(rt; ran.iter().map(|record| record.number).eq(0..2u64));
+    Ok(())
+}
