@@ -22,6 +22,7 @@ mod polling;
 mod processors;
 mod showing;
 mod switching;
+mod testing;
 mod turns;
 mod waiting;
 mod worlds;

@@ -1,4 +1,7 @@
 pub mod Counting
 pub mod Known
+pub mod Printing
+pub mod Refusals
+pub mod Showing
 pub mod TakenWords
 pub mod Whole

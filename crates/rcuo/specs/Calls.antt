@@ -24,18 +24,13 @@ route_in command.Show = None
 abbrev pub is_call : Command → Bool
 is_call c = is_some (route_in c)
 
--- this version runs the command
-abbrev pub can_run : Command → Bool
-can_run (command.Call cpu moment name hop) = true
-can_run (command.Lazy cpu moment name hop) = true
-can_run (command.Quiet cpu) = true
-can_run (command.Tick cpu moment) = true
-can_run command.Driver = true
-can_run (command.Group group) = true
-can_run (command.Hand cpu) = true
-can_run (command.Offload cpu) = true
-can_run (command.Deoffload cpu) = true
-can_run command.Barrier = false
-can_run command.Poll = false
-can_run command.Shut = false
-can_run command.Show = true
+-- `show`, which alone prints more than one line
+abbrev pub is_show : Command → Bool
+is_show command.Show = true
+is_show c = false
+
+-- `barrier` and `poll`, which alone change which barrier is open
+abbrev pub is_barrier : Command → Bool
+is_barrier command.Barrier = true
+is_barrier command.Poll = true
+is_barrier c = false

@@ -1,5 +1,5 @@
 -- The lines of `replay`: docs/specification/tables.md, "Script commands and what they print".
-use Rattle.std.specs.Prelude.{ℕ, List, ◌++◌, codes}
+use Rattle.std.specs.Prelude.{ℕ, List, ◌++◌, codes, string_bytes}
 use Rattle.std.specs.Fmt.{decimal}
 use Rattle.rcu_jobs.specs.declared.turns.DriverTurn.{DriverTurn}
 use Rattle.rcu_jobs.specs.declared.turns.DriverTurn.TheVariants as turn
@@ -33,4 +33,10 @@ line_text (line.Counted cpu seq) = codes "quiet " ++ (decimal cpu ++ (codes " co
 line_text (line.Nothing cpu) = codes "quiet " ++ (decimal cpu ++ codes " nothing")
 line_text (line.Ran v cpu n) = verb_text v ++ (codes " " ++ (decimal cpu ++ (codes " ran " ++ decimal n)))
 line_text (line.Driver t) = codes "driver " ++ driver_text t
+line_text (line.Group group took gave) = codes "group " ++ (decimal group ++ (codes " took " ++ (decimal took ++ (codes " gave " ++ decimal gave))))
 line_text (line.Asked v cpu) = verb_text v ++ (codes " " ++ (decimal cpu ++ codes " asked"))
+line_text line.Opened = codes "barrier opened"
+line_text line.Passed = codes "barrier passed"
+line_text line.Waits = codes "barrier waits"
+line_text line.NoBarrier = codes "barrier none"
+line_text (line.Shut counts) = codes "shut " ++ string_bytes counts

@@ -1,15 +1,17 @@
 //! The commands of a script: the call that each makes, and the line of its answer.
 
-ghost use Rattle.std.specs.Prelude.{◌≡◌, ◌<◌, ◌≤◌, ℕ, length, true, false, IfOk};
-ghost use Rattle.std.specs.Option.{is_some};
+ghost use Rattle.std.specs.Prelude.{◌≡◌, ◌<◌, ◌≤◌, ◌++◌, ℕ, length, true, false, IfOk, OnOk, None};
+ghost use Rattle.std.specs.Io.KnownBytes.{Appends};
 ghost use Rattle.rcu_world.specs.Turns.{IsAtRest};
 ghost use Rattle.rcu_world.specs.Views.{state};
 ghost use Rattle.rcu_world.specs.Worlds.{IsWorld};
+ghost use Rattle.rcuo.specs.Outcomes.{IsBarrier, IsCall, IsDriver, IsGroup, IsHand, IsPoll, IsQuiet, IsShut, IsSwitch, IsTick, lists_line, shown, shown_one};
+ghost use Rattle.rcuo.specs.declared.lines.Line.TheVariants.{Refused};
 
 use crate::fault::Fault;
 use crate::lines::{Line, Verb, write_text};
-use rcu_jobs::Job;
-use rcu_status::line;
+use rcu_jobs::{Job, Lists};
+use rcu_status::{counts, line};
 use rcu_world::World;
 use std::alloc::Global;
 use std::io::Write;
@@ -21,7 +23,9 @@ const NO_PROCESSOR: u64 = 6;
 const NOT_OFFLOADABLE: u64 = 5;
 
 /// The refusal of a command that names something that isn't there.
-pub fn no_such(verb: Verb, place: u64) -> Line {
+fn no_such(verb: Verb, place: u64) -> Line
+    ensures { result ≡ Refused verb place 6 }
+{
     Line::Refused {
         verb,
         place,
@@ -30,9 +34,11 @@ pub fn no_such(verb: Verb, place: u64) -> Line {
 }
 
 /// `call` and `lazy`: the job goes in, or is dropped where it is refused.
+#[tactic(auto, using(crate::proofs::Refusals::no_call))]
 pub fn call<J: Job>(world: &mut World<J>, verb: Verb, cpu: u64, moment: u64, job: J) -> Line
     requires world { IsWorld J.key_of J.gives world.old.core }
     requires rest { IsAtRest (state J.key_of world.old.core) }
+    ensures line { IsCall (state J.key_of world.old.core) verb cpu moment (J.key_of job) result (state J.key_of world.new.core) }
     ensures kept { IsWorld J.key_of J.gives world.new.core }
     ensures rest { IsAtRest (state J.key_of world.new.core) }
 {
@@ -62,6 +68,7 @@ pub fn call<J: Job>(world: &mut World<J>, verb: Verb, cpu: u64, moment: u64, job
 pub fn quiet<J: Job>(world: &mut World<J>, cpu: u64) -> Result<Line, Fault>
     requires world { IsWorld J.key_of J.gives world.old.core }
     requires rest { IsAtRest (state J.key_of world.old.core) }
+    ensures line { IfOk result (λ line. IsQuiet (state J.key_of world.old.core) cpu line (state J.key_of world.new.core)) }
     ensures kept { IsWorld J.key_of J.gives world.new.core }
     ensures rest { IsAtRest (state J.key_of world.new.core) }
 {
@@ -78,6 +85,7 @@ pub fn quiet<J: Job>(world: &mut World<J>, cpu: u64) -> Result<Line, Fault>
 pub fn tick<J: Job>(world: &mut World<J>, cpu: u64, moment: u64) -> Result<Line, Fault>
     requires world { IsWorld J.key_of J.gives world.old.core }
     requires rest { IsAtRest (state J.key_of world.old.core) }
+    ensures line { IfOk result (λ line. IsTick (state J.key_of world.old.core) cpu moment line (state J.key_of world.new.core)) }
     ensures kept { IsWorld J.key_of J.gives world.new.core }
     ensures rest { IsAtRest (state J.key_of world.new.core) }
 {
@@ -96,28 +104,64 @@ pub fn tick<J: Job>(world: &mut World<J>, cpu: u64, moment: u64) -> Result<Line,
 pub fn driver<J: Job>(world: &mut World<J>) -> Result<Line, Fault>
     requires world { IsWorld J.key_of J.gives world.old.core }
     requires rest { IsAtRest (state J.key_of world.old.core) }
+    ensures line { IfOk result (λ line. IsDriver (state J.key_of world.old.core) line (state J.key_of world.new.core)) }
     ensures kept { IsWorld J.key_of J.gives world.new.core }
     ensures rest { IsAtRest (state J.key_of world.new.core) }
 {
     Ok(Line::Driver(world.driver_turn()?))
 }
 
-/// `hand`: no processor is offloadable, so none has a hand.
-pub fn hand<J: Job>(world: &World<J>, cpu: u64) -> Line {
+/// `group`: a group's turn.
+pub fn group<J: Job>(world: &mut World<J>, group: u64) -> Result<Line, Fault>
+    requires world { IsWorld J.key_of J.gives world.old.core }
+    requires rest { IsAtRest (state J.key_of world.old.core) }
+    ensures line { IfOk result (λ line. IsGroup (state J.key_of world.old.core) group line (state J.key_of world.new.core)) }
+    ensures kept { IsWorld J.key_of J.gives world.new.core }
+    ensures rest { IsAtRest (state J.key_of world.new.core) }
+{
+    if !world.has_group(group) {
+        return Ok(no_such(Verb::Group, group));
+    }
+    let turn = world.group_turn(group)?;
+    Ok(Line::Group {
+        group,
+        took: turn.took,
+        gave: turn.gave,
+    })
+}
+
+/// `hand`: a hand's turn.
+#[tactic(auto, using(crate::proofs::Refusals::no_hand))]
+pub fn hand<J: Job>(world: &mut World<J>, cpu: u64) -> Result<Line, Fault>
+    requires world { IsWorld J.key_of J.gives world.old.core }
+    requires rest { IsAtRest (state J.key_of world.old.core) }
+    ensures line { IfOk result (λ line. IsHand (state J.key_of world.old.core) cpu line (state J.key_of world.new.core)) }
+    ensures kept { IsWorld J.key_of J.gives world.new.core }
+    ensures rest { IsAtRest (state J.key_of world.new.core) }
+{
     if cpu >= world.processors() {
-        return no_such(Verb::Hand, cpu);
+        return Ok(no_such(Verb::Hand, cpu));
     }
-    Line::Refused {
+    if !world.has_hand(cpu) {
+        return Ok(Line::Refused {
+            verb: Verb::Hand,
+            place: cpu,
+            refusal: NOT_OFFLOADABLE,
+        });
+    }
+    let turn = world.hand_turn(cpu)?;
+    Ok(Line::Ran {
         verb: Verb::Hand,
-        place: cpu,
-        refusal: NOT_OFFLOADABLE,
-    }
+        cpu,
+        ran: turn.ran,
+    })
 }
 
 /// `offload` and `deoffload`: asks for the switch.
 pub fn switch<J: Job>(world: &mut World<J>, verb: Verb, cpu: u64) -> Line
     requires world { IsWorld J.key_of J.gives world.old.core }
     requires rest { IsAtRest (state J.key_of world.old.core) }
+    ensures line { IsSwitch (state J.key_of world.old.core) verb cpu result (state J.key_of world.new.core) }
     ensures kept { IsWorld J.key_of J.gives world.new.core }
     ensures rest { IsAtRest (state J.key_of world.new.core) }
 {
@@ -136,17 +180,85 @@ pub fn switch<J: Job>(world: &mut World<J>, verb: Verb, cpu: u64) -> Line
     }
 }
 
+/// `barrier`: opens a barrier, in place of the one that was open.
+pub fn barrier<J: Job>(world: &mut World<J>, opened: &mut Option<u64>) -> Result<Line, Fault>
+    requires world { IsWorld J.key_of J.gives world.old.core }
+    requires rest { IsAtRest (state J.key_of world.old.core) }
+    ensures line { IfOk result (λ line. IsBarrier (state J.key_of world.old.core) line (state J.key_of world.new.core) opened.new) }
+    ensures kept { IsWorld J.key_of J.gives world.new.core }
+    ensures rest { IsAtRest (state J.key_of world.new.core) }
+{
+    let Ok(name) = world.barrier(None, &[]) else {
+        // (a barrier without tickets is refused for want of memory alone)
+        return Err(Fault::memory());
+    };
+    *opened = Some(name);
+    Ok(Line::Opened)
+}
+
+/// `poll`: asks whether the barrier that is open has passed. If it has, it is open no longer.
+pub fn poll<J: Job>(world: &mut World<J>, opened: &mut Option<u64>) -> Result<Line, Fault>
+    requires world { IsWorld J.key_of J.gives world.old.core }
+    requires rest { IsAtRest (state J.key_of world.old.core) }
+    ensures line { IfOk result (λ line. IsPoll (state J.key_of world.old.core) opened.old line (state J.key_of world.new.core) opened.new) }
+    ensures kept { IsWorld J.key_of J.gives world.new.core }
+    ensures rest { IsAtRest (state J.key_of world.new.core) }
+{
+    let Some(name) = *opened else {
+        return Ok(Line::NoBarrier);
+    };
+    if world.poll(name)?.is_none() {
+        return Ok(Line::Waits);
+    }
+    *opened = None;
+    Ok(Line::Passed)
+}
+
+/// `shut`: shuts all processors.
+pub fn shut<J: Job>(alloc: Global, world: &mut World<J>) -> Result<Line, Fault>
+    requires world { IsWorld J.key_of J.gives world.old.core }
+    requires rest { IsAtRest (state J.key_of world.old.core) }
+    ensures line { IfOk result (λ line. IsShut (state J.key_of world.old.core) line (state J.key_of world.new.core)) }
+    ensures kept { IsWorld J.key_of J.gives world.new.core }
+    ensures rest { IsAtRest (state J.key_of world.new.core) }
+{
+    let last = world.shut()?;
+    Ok(Line::Shut(counts(alloc, &last)?))
+}
+
+/// The line of a list.
+#[tactic(auto, unfolding(crate::specs::Outcomes::lists_line))]
+fn show_lists<W: Write>(alloc: Global, cpu: u64, lists: &Lists, writer: &mut W) -> Result<(), Fault>
+    ensures { OnOk result (Appends (W.contents writer.old) (W.contents writer.new) (lists_line cpu lists.now)) }
+{
+    let text = line(alloc, cpu, lists)?;
+    write_text(text.as_str(), writer)
+}
+
+/// The lines of one processor.
+fn show_one<J: Job, W: Write>(
+    alloc: Global,
+    world: &World<J>,
+    cpu: u64,
+    writer: &mut W,
+) -> Result<(), Fault>
+    requires { cpu < length (state J.key_of world.now.core).cpus }
+    ensures { OnOk result (Appends (W.contents writer.old) (W.contents writer.new) (shown_one (state J.key_of world.now.core) cpu)) }
+{
+    show_lists(alloc, cpu, &world.lists(cpu), writer)?;
+    match world.group_lists(cpu) {
+        Some(lists) => show_lists(alloc, cpu, &lists, writer),
+        None => Ok(()),
+    }
+}
+
 /// `show`: the lists of each processor, and of its group where it is offloadable.
 pub fn show<J: Job, W: Write>(alloc: Global, world: &World<J>, writer: &mut W) -> Result<(), Fault>
     requires { IsWorld J.key_of J.gives world.now.core }
+    ensures { OnOk result (Appends (W.contents writer.old) (W.contents writer.new) (shown (length (state J.key_of world.now.core).cpus) (state J.key_of world.now.core))) }
 {
     for cpu in 0..world.processors() {
-        let text = line(alloc, cpu, &world.lists(cpu))?;
-        write_text(text.as_str(), writer)?;
-        if let Some(lists) = world.group_lists(cpu) {
-            let text = line(alloc, cpu, &lists)?;
-            write_text(text.as_str(), writer)?;
-        }
+        show_one(alloc, world, cpu, writer)?;
     }
     Ok(())
 }

@@ -40,7 +40,7 @@ impl fmt::Display for Verb {
 }
 
 /// The line of one answer.
-#[derive(Clone, Copy, Debug, PartialEq, Eq)]
+#[derive(Debug, Drop)]
 pub enum Line {
     /// The call on processor `cpu` was accepted as callback `number`.
     Number {
@@ -71,11 +71,27 @@ pub enum Line {
     },
     /// A turn of the driver.
     Driver(DriverTurn),
+    /// The group drew `took` callbacks from its members, and gave `gave` to their hands.
+    Group {
+        group: u64,
+        took: u64,
+        gave: u64,
+    },
     /// The processor is asked to switch.
     Asked {
         verb: Verb,
         cpu: u64,
     },
+    /// A barrier was opened.
+    Opened,
+    /// The barrier that was open has passed.
+    Passed,
+    /// The barrier that is open hasn't passed yet.
+    Waits,
+    /// No barrier is open.
+    NoBarrier,
+    /// All processors are shut, with these final counts: `C0,C1,..`.
+    Shut(String),
 }
 
 /// What a turn of the driver says after the word `driver`.
@@ -100,7 +116,7 @@ impl fmt::Display for Line {
     ghost output = { λ line. Some (line_text line) };
 
     fn fmt<W: fmt::Write>(&self, f: &mut fmt::Formatter<W>) -> fmt::Result {
-        match *self {
+        match self {
             Line::Number { verb, cpu, number } => write!(f, "{verb} {cpu} number {number}"),
             Line::Refused {
                 verb,
@@ -110,11 +126,17 @@ impl fmt::Display for Line {
             Line::Counted { cpu, seq } => write!(f, "quiet {cpu} counted {seq}"),
             Line::Nothing { cpu } => write!(f, "quiet {cpu} nothing"),
             Line::Ran { verb, cpu, ran } => write!(f, "{verb} {cpu} ran {ran}"),
+            Line::Group { group, took, gave } => write!(f, "group {group} took {took} gave {gave}"),
             Line::Asked { verb, cpu } => write!(f, "{verb} {cpu} asked"),
             Line::Driver(turn) => {
-                let turned = Turned(turn);
+                let turned = Turned(*turn);
                 write!(f, "driver {turned}")
             }
+            Line::Opened => write!(f, "barrier opened"),
+            Line::Passed => write!(f, "barrier passed"),
+            Line::Waits => write!(f, "barrier waits"),
+            Line::NoBarrier => write!(f, "barrier none"),
+            Line::Shut(counts) => write!(f, "shut {counts}"),
         }
     }
 }

@@ -1,15 +1,14 @@
 //! What a run is to do: the subcommand that the words name, and the setup that is read.
 
-ghost use Rattle.std.specs.Prelude.{◌≡◌, ◌≢◌, ◌≤◌, ◌∷◌, [], IfOk, IfErr, IfSome, All, OnOk, Ok, Some, codes, true, map, option_map, string_bytes};
+ghost use Rattle.std.specs.Prelude.{◌≡◌, ◌≢◌, ◌≤◌, ◌∷◌, [], IfOk, IfErr, IfSome, Ok, Some, codes, map, option_map, string_bytes};
 ghost use Rattle.clap.specs.Words.{app_of, kind_of};
 ghost use Rattle.rcu_setup.specs.Setup.{setup_of, setup_view};
-ghost use Rattle.rcuo.specs.Calls.{can_run};
 ghost use Rattle.rcuo.specs.Plan.{Names, RefusesWords, TakesAtMost, rcuo, word_of};
 
 use crate::fault::Fault;
 use crate::read::read_text;
 use clap::error::ErrorKind;
-use rcu_setup::{Command, Key, Setup, SetupFault, read_setup};
+use rcu_setup::{Setup, SetupFault, read_setup};
 use std::alloc::{AllocError, AllocFailed, Global};
 use std::io::Read;
 
@@ -104,28 +103,6 @@ fn setup_of<R: Read>(alloc: Global, reader: &mut R) -> Result<Setup, Fault>
     }
 }
 
-/// Whether this version runs the command: the core of local processors has no barriers and no shut yet.
-fn can_run(command: &Command) -> bool
-    ensures { result ≡ can_run command.now }
-{
-    !matches!(command, Command::Barrier | Command::Poll | Command::Shut)
-}
-
-/// What a setup asks for that this version can't run: offloadable processors, or a command that is to come.
-fn unready(setup: &Setup) -> Result<(), SetupFault>
-    ensures { OnOk result (All (λ c. can_run c ≡ true) setup.now.script.items) }
-{
-    if setup.shape.offloadable != 0 {
-        return Err(SetupFault::OutOfRange(Key::Nocbs));
-    }
-    for (i, command) in setup.script.iter().enumerate() {
-        if !can_run(command) {
-            return Err(SetupFault::BadLine(i as u64 + 1));
-        }
-    }
-    Ok(())
-}
-
 /// The subcommand that the words name, and the setup that the reader holds. The words are those after the program's
 /// name; they are looked at before anything is read.
 ///
@@ -137,7 +114,6 @@ pub fn read_plan<R: Read>(alloc: Global, words: &[String], reader: &mut R) -> Re
     ensures taken { (s : Subcommand) → Names (map string_bytes words.now) s → IfErr result (λ e. ¬ RefusesWords e) }
     ensures named { (s : Subcommand) → Names (map string_bytes words.now) s → IfOk result (λ plan. plan.subcommand ≡ s) }
     ensures most { TakesAtMost MOST_READ (R.remaining reader.old) (R.remaining reader.new) }
-    ensures ready { IfOk result (λ plan. All (λ c. can_run c ≡ true) plan.setup.script.items) }
     // The setup is the one of the bytes read.
     ensures exact { IfSome (R.remaining reader.old) (λ bytes. IfOk result (λ plan. setup_of bytes ≡ Ok (setup_view plan.setup))) }
 {
@@ -145,12 +121,8 @@ pub fn read_plan<R: Read>(alloc: Global, words: &[String], reader: &mut R) -> Re
         Ok(subcommand) => subcommand,
         Err(error) => return Err(refused(error)),
     };
-    let setup = match setup_of(alloc, reader) {
-        Ok(setup) => setup,
-        Err(fault) => return Err(Refusal::Fault(fault)),
-    };
-    match unready(&setup) {
-        Ok(()) => Ok(Plan { subcommand, setup }),
-        Err(fault) => Err(Refusal::Fault(Fault::Setup(fault))),
+    match setup_of(alloc, reader) {
+        Ok(setup) => Ok(Plan { subcommand, setup }),
+        Err(fault) => Err(Refusal::Fault(fault)),
     }
 }

@@ -1,16 +1,18 @@
 //! `rcuo replay`: the commands of a script, one call each, and the totals.
 
-ghost use Rattle.std.specs.Prelude.{◌≡◌, ◌<◌, ◌+◌, All, count_by, if◌then◌else◌, true, vec_len};
+ghost use Rattle.std.specs.Prelude.{◌≡◌, ◌<◌, ◌+◌, ℕ, List, IfOk, OnOk, count_by, if◌then◌else◌, true, false, vec_len};
+ghost use Rattle.std.specs.Io.KnownBytes.{Appends};
 ghost use Rattle.std.specs.Option.{is_some};
 ghost use Rattle.std.specs.VecDeque.{deque_len};
-ghost use Rattle.rcuo.specs.Calls.{can_run, is_call};
+ghost use Rattle.rcuo.specs.Calls.{is_barrier, is_call, is_show};
+ghost use Rattle.rcuo.specs.Printed.{IsAnswer, Prints};
 ghost use Rattle.rcu_world.specs.Turns.{IsAtRest};
 ghost use Rattle.rcu_world.specs.Views.{state};
 ghost use Rattle.rcu_world.specs.Worlds.{IsWorld};
 
-use crate::commands::{call, driver, hand, no_such, quiet, show, switch, tick};
+use crate::commands::{barrier, call, driver, group, hand, poll, quiet, show, shut, switch, tick};
 use crate::fault::Fault;
-use crate::lines::{Verb, write_line, write_text};
+use crate::lines::{Line, Verb, write_line, write_text};
 use crate::plan::Plan;
 use crate::versions::route_of;
 use rcu_jobs::Job;
@@ -34,13 +36,13 @@ pub fn replay<J: Job<Receipt = u64>, W: Write>(
     writer: &mut W,
 ) -> Result<(), Fault>
     requires jobs { vec_len jobs ≡ count_by is_call plan.now.setup.script.items }
-    requires ready { All (λ c. can_run c ≡ true) plan.now.setup.script.items }
 {
     let mut world = World::new(alloc, plan.setup.shape)?;
+    let mut opened = None;
     let mut jobs = VecDeque::from_vec(jobs);
     for command in &plan.setup.script {
         let job = job_for(command, &mut jobs);
-        perform(alloc, &mut world, command, job, writer)?;
+        perform(alloc, &mut world, &mut opened, command, job, writer)?;
     }
     let Ok((_, closed)) = world.close() else {
         return Err(Fault::memory());
@@ -65,10 +67,57 @@ fn job_for<J>(command: &Command, jobs: &mut VecDeque<J>) -> Option<J>
     }
 }
 
-/// One command, with its job if it is a call.
+/// The line that answers a command other than `show`, with its job if it is a call. `opened` is the name of the barrier
+/// that is open.
+fn answer<J: Job<Receipt = u64>>(
+    alloc: Global,
+    world: &mut World<J>,
+    opened: &mut Option<u64>,
+    command: &Command,
+    job: Option<J>,
+) -> Result<Line, Fault>
+    requires world { IsWorld J.key_of J.gives world.old.core }
+    requires rest { IsAtRest (state J.key_of world.old.core) }
+    requires job { is_some job ≡ is_call command.now }
+    requires line { is_show command.now ≡ false }
+    ensures line { IfOk result (λ line. IsAnswer J.key_of (state J.key_of world.old.core) opened.old command.now job line (state J.key_of world.new.core) opened.new) }
+    ensures barrier { is_barrier command.now ≡ false → opened.new ≡ opened.old }
+    ensures kept { IsWorld J.key_of J.gives world.new.core }
+    ensures rest { IsAtRest (state J.key_of world.new.core) }
+{
+    match (command, job) {
+        (Command::Call { cpu, moment, .. }, Some(job)) => {
+            Ok(call(world, Verb::Call, *cpu, *moment, job))
+        }
+        (Command::Lazy { cpu, moment, .. }, Some(job)) => {
+            Ok(call(world, Verb::Lazy, *cpu, *moment, job))
+        }
+        (Command::Quiet { cpu }, None) => quiet(world, *cpu),
+        (Command::Tick { cpu, moment }, None) => tick(world, *cpu, *moment),
+        (Command::Driver, None) => driver(world),
+        (Command::Group { group: place }, None) => group(world, *place),
+        (Command::Hand { cpu }, None) => hand(world, *cpu),
+        (Command::Offload { cpu }, None) => Ok(switch(world, Verb::Offload, *cpu)),
+        (Command::Deoffload { cpu }, None) => Ok(switch(world, Verb::Deoffload, *cpu)),
+        (Command::Barrier, None) => barrier(world, opened),
+        (Command::Poll, None) => poll(world, opened),
+        (Command::Shut, None) => shut(alloc, world),
+        _ => unreachable!(),
+    }
+}
+
+/// Whether the command is `show`, which alone prints more than one line.
+fn is_show(command: &Command) -> bool
+    ensures { result ≡ is_show command.now }
+{
+    matches!(command, Command::Show)
+}
+
+/// One command, with its job if it is a call, and what it prints. `opened` is the name of the barrier that is open.
 fn perform<J: Job<Receipt = u64>, W: Write>(
     alloc: Global,
     world: &mut World<J>,
+    opened: &mut Option<u64>,
     command: &Command,
     job: Option<J>,
     writer: &mut W,
@@ -76,29 +125,13 @@ fn perform<J: Job<Receipt = u64>, W: Write>(
     requires world { IsWorld J.key_of J.gives world.old.core }
     requires rest { IsAtRest (state J.key_of world.old.core) }
     requires job { is_some job ≡ is_call command.now }
-    requires ready { can_run command.now ≡ true }
+    ensures prints { OnOk result ((text : List ℕ) × Prints J.key_of (state J.key_of world.old.core) opened.old command.now job text (state J.key_of world.new.core) opened.new × Appends (W.contents writer.old) (W.contents writer.new) text) }
     ensures kept { IsWorld J.key_of J.gives world.new.core }
     ensures rest { IsAtRest (state J.key_of world.new.core) }
 {
-    match (command, job) {
-        (Command::Call { cpu, moment, .. }, Some(job)) => {
-            write_line(call(world, Verb::Call, *cpu, *moment, job), writer)
-        }
-        (Command::Lazy { cpu, moment, .. }, Some(job)) => {
-            write_line(call(world, Verb::Lazy, *cpu, *moment, job), writer)
-        }
-        (Command::Quiet { cpu }, None) => write_line(quiet(world, *cpu)?, writer),
-        (Command::Tick { cpu, moment }, None) => write_line(tick(world, *cpu, *moment)?, writer),
-        (Command::Driver, None) => write_line(driver(world)?, writer),
-        (Command::Group { group }, None) => write_line(no_such(Verb::Group, *group), writer),
-        (Command::Hand { cpu }, None) => write_line(hand(world, *cpu), writer),
-        (Command::Offload { cpu }, None) => {
-            write_line(switch(world, Verb::Offload, *cpu), writer)
-        }
-        (Command::Deoffload { cpu }, None) => {
-            write_line(switch(world, Verb::Deoffload, *cpu), writer)
-        }
-        (Command::Show, None) => show(alloc, world, writer),
-        _ => unreachable!(),
+    if is_show(command) {
+        return show(alloc, world, writer);
     }
+    let line = answer(alloc, world, opened, command, job)?;
+    write_line(line, writer)
 }
