@@ -16,7 +16,7 @@ module _ {J E : Type 0} (key_of : J → ℕ) (old : State) (opened : Option ℕ)
   lists_written shows h =
       let text = shown (length old.cpus) old in
       let prints : Prints key_of old opened c job text old opened =
-          subst (λ t. Where t (PrintsLists key_of old opened text old opened) (PrintsLine key_of old opened c job text old opened)) (sym shows) (refl, refl, refl) in
+      subst (λ t. Where t (PrintsLists key_of old opened text old opened) (PrintsLine key_of old opened c job text old opened)) (sym shows) (refl, refl, refl) in
       on_ok_weaker {Q = (text : List ℕ) × Prints key_of old opened c job text old opened × Appends a b text} result (λ written. (text, prints, written)) h
 
   pub line_written : (new : State) (still : Option ℕ) (l : Line) → is_show c ≡ false → IsAnswer key_of old opened c job l new still → (is_barrier c ≡ false → still ≡ opened)
@@ -24,5 +24,5 @@ module _ {J E : Type 0} (key_of : J → ℕ) (old : State) (opened : Option ℕ)
   line_written new still l other answers keeps h =
       let text = line_text l ++ codes "\n" in
       let prints : Prints key_of old opened c job text new still =
-          subst (λ t. Where t (PrintsLists key_of old opened text new still) (PrintsLine key_of old opened c job text new still)) (sym other) (l, answers, keeps, refl) in
+      subst (λ t. Where t (PrintsLists key_of old opened text new still) (PrintsLine key_of old opened c job text new still)) (sym other) (l, answers, keeps, refl) in
       on_ok_weaker {Q = (text : List ℕ) × Prints key_of old opened c job text new still × Appends a b text} result (λ written. (text, prints, written)) h
