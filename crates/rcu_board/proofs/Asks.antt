@@ -1,6 +1,6 @@
 -- Which words say what is asked of a processor.
-use Rattle.std.proofs.Common.{◌≡◌, ◌≢◌, ℕ, ◌+◌, ◌-◌, ◌*◌, ◌/◌, ◌%◌, ◌<◌, ◌≤◌, Bool, true, false, cond, ◌&&◌, ltb, eqb, lt-ltb, eq-eqb, ne_eqb, ltb-true, eqb-true, ap, sym, ◌∙◌, refl, arith}
-use Rattle.rcu_board.specs.Words.{accepts_word, turns_word, asks_word, urge_word, words_of, is_asks, cpu_of}
+use Rattle.std.proofs.Common.{◌≡◌, ◌≢◌, ℕ, ◌%◌, ◌<◌, Bool, true, false, cond, ◌&&◌, ltb, eqb, lt-ltb, eq-eqb, ne_eqb, ltb-true, eqb-true, ap, refl, arith}
+use Rattle.rcu_board.specs.Words.{accepts_word, turns_word, asks_word, words_of, is_asks, cpu_of}
 
 abbrev value : Bool → ℕ
 value b = cond b 1 0

@@ -2,7 +2,7 @@
 use Rattle.rcu_board.specs.Views.{Every, total, seen_at, sight, count_of, count_fresh, claimed, runs, cpus, is_at, has, leads}
 use Rattle.rcu_board.specs.Laws.{Kept, Neat, IsBoard, OnBoard, Reported}
 use Rattle.rcu_board.specs.Words.{accepts_word, turns_word, asks_word}
-use Rattle.rcu_board.specs.Plays.{Sat, touched, with_stamp, stamp_own, looked, looks, report_own, reported, reports, drives}
+use Rattle.rcu_board.specs.Plays.{Sat, touched, with_stamp, stamp_own, looked, Looking, report_own, reported, Reporting, Driving}
 use Rattle.std.proofs.Common.{◌≡◌, ◌≢◌, ℕ, ◌+◌, ◌*◌, ◌%◌, ◌/◌, ◌<◌, ◌≤◌, Bool, true, cond, eqb, Option, Some, None, List, [], ◌∷◌, map, length, get_or, sym, refl, ap, ◌∙◌, subst, arith, length-set, get_or-set_other, get_or-set_same, length-append}
 use mathlib.Core.Logic.{dite}
 use mathlib.Core.Option.{some, none}
@@ -90,7 +90,7 @@ stamps_kept a b le xs (Some key) h = every_append (λ (t : Accepted). t.stamp �
     (every (λ (t : Accepted). t.stamp ≤ a) (λ (t : Accepted). t.stamp ≤ b) (λ t m. omega arith) xs h) (every_one (λ (t : Accepted). t.stamp ≤ b) (record { key = key; stamp = b }) (omega arith))
 
 module _ (n seats slots id : ℕ) (m : Sat) (live : 0 < m.0.weight) where
-  pub look_allowed : Allows (Kept n seats) slots id m 0 (λ y. y) (looks (step slots 0 0 0 none) m)
+  pub look_allowed : Allows (Kept n seats) slots id m 0 (λ y. y) (Looking (step slots 0 0 0 none) m)
   look_allowed s o _ at _ = let x : ℕ = get_or s.words 0 0 in let v : View = m.0 in let w : View = looked x v in
       let t = o.neat id v at in let b = o.on_board id v at in
       let v' : View = record v { own = map (stamp_own (number_of x)) v.own } in
@@ -114,7 +114,7 @@ module _ (n seats slots id : ℕ) (m : Sat) (live : 0 < m.0.weight) where
         moved n seats s o id v w at 0 x (omega arith) neat
             (beside_touched 0 x v v' refl refl refl refl (cpus-map f (λ u. refl) v.own) (λ _. same_reports) (λ p _. same_counts p) (λ p _ y h. h) (λ p _. ((λ k. refl), refl)))
             (here_board n id s.views x x w o.board mine (λ k u _ _ _ h. h)),
-        (refl, o.board, later, b.leads),
+        record { view = refl; word = o.board; later = later; driver = b.leads },
       )
 
 abbrev cpu_or : List Own → ℕ
@@ -149,7 +149,7 @@ module _ (n seats slots id : ℕ) (m : Sat) (live : 0 < m.0.weight) (o : Own) (o
     small = omega arith;
   }
 
-  pub report_allowed : Allows (Kept n seats) slots id m 0 (λ y. bit_and y (all_but_of o.cpu)) (reports (step slots 0 (all_but_of o.cpu) 0 none) m)
+  pub report_allowed : Allows (Kept n seats) slots id m 0 (λ y. bit_and y (all_but_of o.cpu)) (Reporting (step slots 0 (all_but_of o.cpu) 0 none) m)
   report_allowed s k _ at small = let x : ℕ = get_or s.words 0 0 in let v : View = m.0 in let p : ℕ = o.cpu in let y : ℕ = bit_and x (all_but_of p) in let w : View = reported x v in
       let t = k.neat id v at in let b = k.on_board id v at in
       let v' : View = record v { own = map (report_own x) v.own } in
@@ -187,21 +187,21 @@ module _ (n seats slots id : ℕ) (m : Sat) (live : 0 < m.0.weight) (o : Own) (o
         moved n seats s k id v w at 0 y (omega arith) neat
             (beside_touched 0 x v v' refl refl refl refl (cpus-map f (λ u. refl) v.own) (λ no. absurd (no refl)) (λ q _. same_counts q) (λ q _ z h. h) (λ q _. ((λ j. refl), refl)))
             (here_board n id s.views x y w (clear_board x p small near k.board) mine others),
-        (
-          refl,
-          k.board,
-          later,
-          λ q e owes. let is : p ≡ q.cpu = ap (λ (l : List Own). cpu_or l) (sym only ∙ e) in let same : o.reports ≡ q.reports = ap (λ (l : List Own). reports_or l) (sym only ∙ e) in
+        record {
+          view = refl;
+          word = k.board;
+          later = later;
+          counted = λ q e owes. let is : p ≡ q.cpu = ap (λ (l : List Own). cpu_or l) (sym only ∙ e) in let same : o.reports ≡ q.reports = ap (λ (l : List Own). reports_or l) (sym only ∙ e) in
               let owes' : owes_of x p ≡ 1 = ap (owes_of x) is ∙ owes in let st = k.board.state in let i = k.board.idle in let z = owes-zero x p near in
-              dite (ℕ_discrete (number_of x % 4) 0) (λ (idle : number_of x % 4 ≡ 0). absurd (omega (arith, z (i idle)))) (λ (ne : number_of x % 4 ≢ 0). let busy : number_of x % 4 ≡ 1 = omega arith in omega (arith, was.1 busy)),
-        ),
+              dite (ℕ_discrete (number_of x % 4) 0) (λ (idle : number_of x % 4 ≡ 0). absurd (omega (arith, z (i idle)))) (λ (ne : number_of x % 4 ≢ 0). let busy : number_of x % 4 ≡ 1 = omega arith in omega (arith, was.1 busy));
+        },
       )
 
 -- the driver's exchange, which goes from a word with no bit to another number
 module _ (n seats slots id : ℕ) (m : Sat) (live : 0 < m.0.weight) (drives_it : m.0.drives ≡ true) (seq new : ℕ) (at_seq : sight m.0 ≡ seq) where
   abbrev Sits : State ℕ View → ℕ → ℕ → Type 0
   Sits s old y = (w : View) × (a : Rattle.atomic_table.specs.Table.Act ℕ) × Rattle.atomic_table.specs.Table.Valid s.homes m.1 a × Kept n seats (Rattle.atomic_table.specs.Table.stepped s 0 y id m.1 w a)
-      × drives (step slots 0 old new none) m (get_or s.words 0 0) (w, Rattle.atomic_table.specs.Table.carried_after m.1 a)
+      × Driving (step slots 0 old new none) m (get_or s.words 0 0) (w, Rattle.atomic_table.specs.Table.carried_after m.1 a)
 
   drive_neat : (s : State ℕ View) (k : Kept n seats s) → get_elem? s.views id ≡ some m.0 → (z : ℕ) → sight m.0 ≤ number_of z → Neat n (touched 0 z m.0)
   drive_neat s k at z le = let v : View = m.0 in let t = k.neat id v at in let long : 0 < length v.seen = omega (arith, t.seen_long live) in
@@ -215,7 +215,7 @@ module _ (n seats slots id : ℕ) (m : Sat) (live : 0 < m.0.weight) (drives_it :
   drive_beside z = beside_touched 0 z m.0 m.0 refl refl refl refl refl (λ no. absurd (no refl)) (λ q _ y h. h) (λ q _ y h. h) (λ q _. ((λ j. refl), refl))
 
   pub drive_allowed : seq ≤ number_of new → (IsBoard (packed seq 0) → IsBoard new) → ((q r : ℕ) → q < n → Reported (packed seq 0) q r → Reported new q r)
-      → Allows (Kept n seats) slots id m 0 (λ y. either (eqb y (packed seq 0)) new y) (drives (step slots 0 (packed seq 0) new none) m)
+      → Allows (Kept n seats) slots id m 0 (λ y. either (eqb y (packed seq 0)) new y) (Driving (step slots 0 (packed seq 0) new none) m)
   drive_allowed further is law s k _ at small = let x : ℕ = get_or s.words 0 0 in let v : View = m.0 in let old : ℕ = packed seq 0 in
       let t = k.neat id v at in let b = k.on_board id v at in let lead : sight v ≡ number_of x = b.leads drives_it in
       let long : 0 < length v.seen = omega (arith, t.seen_long live) in
@@ -235,7 +235,7 @@ module _ (n seats slots id : ℕ) (m : Sat) (live : 0 < m.0.weight) (drives_it :
         keeps,
         tt,
         moved n seats s k id v w at 0 new (omega arith) (drive_neat s k at new (omega arith)) (drive_beside new) (here_board n id s.views x new w (is (subst IsBoard hit k.board)) mine others),
-        ((λ _. refl), (λ no. absurd (no hit)), sym lead, idle),
+        record { won = λ _. refl; lost = λ away. absurd (away hit); number = sym lead; idle = idle },
       ))
       (λ miss. let w : View = touched 0 x v in let now : sight w ≡ number_of x = ap number_of (seen_here v 0 x long) in
       let mine : OnBoard x w = record { seen = omega arith; leads = λ _. now; reports = b.reports } in (
@@ -243,7 +243,7 @@ module _ (n seats slots id : ℕ) (m : Sat) (live : 0 < m.0.weight) (drives_it :
         keeps,
         tt,
         moved n seats s k id v w at 0 x (omega arith) (drive_neat s k at x (omega arith)) (drive_beside x) (here_board n id s.views x x w k.board mine (λ j u _ _ _ h. h)),
-        ((λ hit. absurd (miss hit)), (λ _. refl), sym lead, idle),
+        record { won = λ hit. absurd (miss hit); lost = λ _. refl; number = sym lead; idle = idle },
       ))
 
 start_law : (n seq : ℕ) → n ≤ 32 → seq % 4 ≡ 0 → (q r : ℕ) → q < n → Reported (packed seq 0) q r → Reported (packed (seq + 1) (all_of n)) q r
@@ -258,7 +258,7 @@ end_law n seq few busy q r near t = let a = owes-none seq q (omega arith) in
 
 module _ (n seats slots id : ℕ) (m : Sat) (live : 0 < m.0.weight) (drives_it : m.0.drives ≡ true) (few : n ≤ 32) (seq : ℕ) (at_seq : sight m.0 ≡ seq) where
   abbrev Drives : ℕ × ℕ → Type 0
-  Drives t = Allows (Kept n seats) slots id m 0 (λ y. either (eqb y t.0) t.1 y) (drives (step slots 0 t.0 t.1 none) m)
+  Drives t = Allows (Kept n seats) slots id m 0 (λ y. either (eqb y t.0) t.1 y) (Driving (step slots 0 t.0 t.1 none) m)
 
   pub start_allowed : (old new : ℕ) → old ≡ packed seq 0 → new ≡ packed (seq + 1) (all_of n) → seq % 4 ≡ 0 → seq < 2147483644 → Drives (old, new)
   start_allowed old new eo en idle room = let f = all_fits n few in let y : ℕ = packed (seq + 1) (all_of n) in let num : number_of y ≡ seq + 1 = number-packed (seq + 1) (all_of n) f in

@@ -74,9 +74,9 @@ parity : (a b x : ℕ) → (a % 2 ≡ 1 → a ≡ x) → (b % 2 ≡ 1 → b ≡ 
 parity a b x f g p q one = dite (ℕ_discrete (x % 2) 1)
     (λ odd. let e : max a b ≡ x = ⊎_elim (λ t. let h = f (t ∙ odd) in omega arith) (λ t. let h = g (t ∙ odd) in omega arith) one in ap (λ (z : ℕ). z % 2) e)
     (λ even.
-        let c : a % 2 ≡ 0 = dite (ℕ_discrete (a % 2) 1) (λ o. absurd (even (ap (λ (z : ℕ). z % 2) (sym (f o)) ∙ o))) (λ no. omega arith) in
-        let d : b % 2 ≡ 0 = dite (ℕ_discrete (b % 2) 1) (λ o. absurd (even (ap (λ (z : ℕ). z % 2) (sym (g o)) ∙ o))) (λ no. omega arith) in
-        dite (dec_le a b) (λ le. let e : max a b ≡ b = omega arith in ap (λ (z : ℕ). z % 2) e ∙ omega arith) (λ gt. let e : max a b ≡ a = omega arith in ap (λ (z : ℕ). z % 2) e ∙ omega arith))
+    let c : a % 2 ≡ 0 = dite (ℕ_discrete (a % 2) 1) (λ o. absurd (even (ap (λ (z : ℕ). z % 2) (sym (f o)) ∙ o))) (λ no. omega arith) in
+    let d : b % 2 ≡ 0 = dite (ℕ_discrete (b % 2) 1) (λ o. absurd (even (ap (λ (z : ℕ). z % 2) (sym (g o)) ∙ o))) (λ no. omega arith) in
+    dite (dec_le a b) (λ le. let e : max a b ≡ b = omega arith in ap (λ (z : ℕ). z % 2) e ∙ omega arith) (λ gt. let e : max a b ≡ a = omega arith in ap (λ (z : ℕ). z % 2) e ∙ omega arith))
 
 -- what is asked, after a merge
 asks_met : (a b : Bool) (x y z : ℕ) → (a ≡ true → x ≡ z) → (b ≡ true → y ≡ z) → (a || b) ≡ true → cond b y x ≡ z

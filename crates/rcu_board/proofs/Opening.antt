@@ -2,15 +2,15 @@
 use Rattle.rcu_board.specs.Views.{one_if, no_steps, first_word, first_from, Every, total, seen_at, sight, count_of, cpus, is_at, newcomer, newcomers, opening_view, spread, first_own, rest_own, claimed}
 use Rattle.rcu_board.specs.Laws.{OnAsks, Each, Kept, Neat, OnBoard, OnAccepts, OnTurns, Reported}
 use Rattle.rcu_board.specs.Words.{words_of, is_asks, cpu_of, accepts_word, turns_word, asks_word}
-use Rattle.std.proofs.Common.{◌≡◌, ◌≢◌, ℕ, zero, suc, ◌+◌, ◌-◌, ◌*◌, ◌/◌, ◌<◌, ◌≤◌, Bool, true, false, cond, ltb, le-ltb, List, [], ◌∷◌, length, get_or, set, sym, refl, ap, ◌∙◌, subst, arith, replicate, take, get_or-set_other, get_or-set_same, length-set, length-take-le, get_or-take}
+use Rattle.std.proofs.Common.{◌≡◌, ℕ, zero, suc, ◌+◌, ◌-◌, ◌*◌, ◌/◌, ◌<◌, ◌≤◌, Bool, true, false, cond, ltb, le-ltb, List, [], ◌∷◌, length, get_or, set, sym, refl, ap, ◌∙◌, subst, arith, take, get_or-set_other, get_or-set_same, length-set, length-take-le, get_or-take}
 use Rattle.std.proofs.lemmas.List.{length-replicate}
 use mathlib.Core.Option.{some, some-injective, some-ne-none}
-use native.Mathlib.Decide.{dec_le, ℕ_discrete}
+use native.Mathlib.Decide.{ℕ_discrete}
 use mathlib.Core.Logic.{dite}
 use lib.ListN.{get_elem?}
 use Rattle.atomic_table.specs.Table.{opening, Me}
 use Rattle.rcu_board.specs.Plays.{all_seats}
-use Rattle.rcu_board.specs.Roles.{Seated, Making}
+use Rattle.rcu_board.specs.Roles.{Making}
 use Rattle.rcu_board.specs.declared.view.View.{View}
 use Rattle.rcu_board.specs.declared.view.Own.{Own}
 use Rattle.rcu_board.specs.declared.view.Claim.{Claim}

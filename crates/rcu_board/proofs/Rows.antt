@@ -1,9 +1,9 @@
 -- The seats of a new board, in order.
-use Rattle.std.proofs.Common.{◌≡◌, ℕ, zero, suc, ◌+◌, ◌-◌, ◌<◌, ◌/◌, Bool, true, false, cond, eq-eqb, ne_eqb, ◌||◌, ◌&&◌,  List, [], ◌∷◌, ◌++◌, length, ap, sym, ◌∙◌, refl, subst, arith, append_assoc}
+use Rattle.std.proofs.Common.{◌≡◌, ℕ, zero, suc, ◌+◌, ◌-◌, ◌<◌, ◌/◌, Bool, true, false, cond, eq-eqb, ne_eqb, ◌||◌, ◌&&◌, List, [], ◌∷◌, ◌++◌, length, ap, sym, ◌∙◌, refl, subst, arith}
 use Rattle.std.specs.Prelude.{◌==◌, ◌↔◌, IsTrue}
 use Rattle.rcu_numbers.specs.Words.{owes_of}
 use Rattle.rcu_board.proofs.Asks.{no_true}
-use Rattle.rcu_board.specs.Views.{newcomer, newcomers, spread, given_own, with_own, given_plain, new_view}
+use Rattle.rcu_board.specs.Views.{newcomer, spread, given_own, with_own, given_plain, new_view}
 use Rattle.rcu_board.specs.Opened.{InOrder, Rowed, those, is_offloadable, has_offloadable}
 use Rattle.rcu_board.specs.declared.board.Seat.{Seat}
 use Rattle.rcu_board.proofs.Opening.{first_spread, rest_spread}

@@ -5,10 +5,10 @@ use Rattle.rcu_numbers.specs.Words.{number_of, Board, board_of}
 use Rattle.rcu_board.specs.declared.board.Role.{Role}
 use Rattle.rcu_board.specs.declared.board.Role.TheVariants.{Processor, Hand, Group, Driver, Control}
 use Rattle.rcu_board.specs.Words.{bits_of, words_of}
-use Rattle.rcu_board.specs.Roles.{Seated, Sitting, Making, IsDriver, IsControl, IsProcessor, IsPlain, MayClaim, cpu_of_role}
+use Rattle.rcu_board.specs.Roles.{Seated, Sitting, IsDriver, IsControl, IsProcessor, IsPlain, MayClaim, cpu_of_role}
 use Rattle.rcu_board.specs.declared.view.Own.{Own}
 use Rattle.rcu_board.specs.declared.view.View.{View}
-use Rattle.rcu_board.specs.Views.{sight, cpus, with_own, first_own, plain}
+use Rattle.rcu_board.specs.Views.{sight, cpus}
 use Rattle.rcu_board.specs.Plays.{touched}
 
 -- the one processor of a view

@@ -2,8 +2,8 @@
 use Rattle.rcu_board.specs.Views.{one_if, has, commands, Every, total, sight, claimed, runs, spent}
 use Rattle.rcu_board.specs.Laws.{Kept, Neat, OnBoard}
 use Rattle.rcu_board.specs.Words.{accepts_word, turns_word, cpu_of}
-use Rattle.rcu_board.specs.Plays.{Sat, touched, settles, stands, counts, Settled, Counted, all_seats}
-use Rattle.std.proofs.Common.{◌≡◌, ℕ, zero, suc, ◌+◌, ◌%◌, ◌/◌, ◌<◌, ◌≤◌, Bool, true, false, cond, ltb, List, [], ◌∷◌, length, get_or, sym, refl, ap, ◌∙◌, subst, arith}
+use Rattle.rcu_board.specs.Plays.{Sat, touched, LastTurning, LastLooking, LastCounting, Settled, Counted, all_seats}
+use Rattle.std.proofs.Common.{◌≡◌, ℕ, zero, suc, ◌<◌, ◌≤◌, Bool, true, false, List, [], ◌∷◌, length, get_or, sym, refl, ap, ◌∙◌, subst, arith}
 use mathlib.Core.Option.{some, none, some-injective, some-ne-none}
 use lib.ListN.{get_elem?}
 use Rattle.atomic_table.specs.Table.{step, keeps, Allows}
@@ -42,41 +42,41 @@ flagged true e = refl
 flagged false e = absurd (omega (arith, e))
 
 module _ (n slots id : ℕ) (m : Sat) (live : 0 < m.0.weight) where
-  pub last_turn_allowed : (p : ℕ) → p < n → Allows (Kept n all_seats) slots id m (turns_word p) (λ y. y) (settles (step slots (turns_word p) 0 0 none) m)
+  pub last_turn_allowed : (p : ℕ) → p < n → Allows (Kept n all_seats) slots id m (turns_word p) (λ y. y) (LastTurning (step slots (turns_word p) 0 0 none) m)
   last_turn_allowed p low s k _ at _ = let i : ℕ = turns_word p in let x : ℕ = get_or s.words i 0 in let same : p ≡ cpu_of i = omega arith in (
     touched i x m.0,
     keeps,
     tt,
     loaded n all_seats s k id m.0 at live i (λ e. omega arith) (omega arith),
-    (
-      refl,
-      (k.on_turns p low id m.0 at).seen,
-      λ heavy.
+    record {
+      view = refl;
+      later = (k.on_turns p low id m.0 at).seen;
+      settled = λ heavy.
           let idle : Idle s.views = λ j u e. (k.neat j u e).idle in let t = k.turning p low in let w = k.weighs in
           let all : (f : View → ℕ) → f spent ≡ 0 → total f s.views ≡ f m.0 = λ f z. whole f z s.views id m.0 at idle (w ∙ sym heavy) in
-          subst (λ (q : ℕ). Settled q x m.0) same (record { claims = λ j. sym (all (claimed p j) refl) ∙ t.once j; runs = sym (all (runs p) refl) ∙ t.one }),
-    ),
+          subst (λ (q : ℕ). Settled q x m.0) same (record { claims = λ j. sym (all (claimed p j) refl) ∙ t.once j; runs = sym (all (runs p) refl) ∙ t.one });
+    },
   )
 
-  pub last_count_allowed : (p : ℕ) → p < n → Allows (Kept n all_seats) slots id m (accepts_word p) (λ y. y) (counts (step slots (accepts_word p) 0 0 none) m)
+  pub last_count_allowed : (p : ℕ) → p < n → Allows (Kept n all_seats) slots id m (accepts_word p) (λ y. y) (LastCounting (step slots (accepts_word p) 0 0 none) m)
   last_count_allowed p low s k _ at _ = let i : ℕ = accepts_word p in let x : ℕ = get_or s.words i 0 in let same : p ≡ cpu_of i = omega arith in let a = k.on_accepts p low id m.0 at in (
     touched i x m.0,
     keeps,
     tt,
     loaded n all_seats s k id m.0 at live i (λ e. omega arith) (omega arith),
-    (
-      refl,
-      a.seen,
-      λ heavy.
+    record {
+      view = refl;
+      later = a.seen;
+      counted = λ heavy.
           let idle : Idle s.views = λ j u e. (k.neat j u e).idle in let w = k.weighs in
           let all : (f : View → ℕ) → f spent ≡ 0 → total f s.views ≡ f m.0 = λ f z. whole f z s.views id m.0 at idle (w ∙ sym heavy) in
           let commanding : m.0.controls ≡ true = flagged m.0.controls (sym (all commands refl) ∙ k.control) in
-          subst (λ (q : ℕ). Counted q x m.0) same (record { once = sym (all (has p) refl) ∙ k.sole p low; counts = a.counts; shut = a.control commanding; final = a.shut }),
-    ),
+          subst (λ (q : ℕ). Counted q x m.0) same (record { once = sym (all (has p) refl) ∙ k.sole p low; counts = a.counts; shut = a.control commanding; final = a.shut });
+    },
   )
 
 module _ (n seats slots id : ℕ) (m : Sat) (live : 0 < m.0.weight) where
-  pub last_look_allowed : Allows (Kept n seats) slots id m 0 (λ y. y) (stands (step slots 0 0 0 none) m)
+  pub last_look_allowed : Allows (Kept n seats) slots id m 0 (λ y. y) (LastLooking (step slots 0 0 0 none) m)
   last_look_allowed s k _ at _ = let x : ℕ = get_or s.words 0 0 in let v : View = m.0 in let w : View = touched 0 x v in
       let t = k.neat id v at in let b = k.on_board id v at in
       let long : 0 < length v.seen = omega (arith, t.seen_long live) in
@@ -93,15 +93,15 @@ module _ (n seats slots id : ℕ) (m : Sat) (live : 0 < m.0.weight) where
         moved n seats s k id v w at 0 x (omega arith) neat
             (beside_touched 0 x v v refl refl refl refl refl (λ no. absurd (no refl)) (λ p _ y h. h) (λ p _ y h. h) (λ p _. ((λ k. refl), refl)))
             (here_board n id s.views x x w k.board mine (λ k u _ _ _ h. h)),
-        (
-          refl,
-          later,
-          record {
+        record {
+          view = refl;
+          later = later;
+          stands = record {
             board = k.board;
             reports = b.reports;
             stamps = every (λ (u : Own). Every (λ (a : Accepted). a.stamp ≤ sight v) u.accepted) (λ (u : Own). Every (λ (a : Accepted). a.stamp ≤ number_of x) u.accepted)
                 (λ u. every (λ (a : Accepted). a.stamp ≤ sight v) (λ (a : Accepted). a.stamp ≤ number_of x) (λ c h. omega arith) u.accepted) v.own t.stamps;
             sights = every (λ (c : Claim). c.sight ≤ sight v) (λ (c : Claim). c.sight ≤ number_of x) (λ c h. omega arith) v.claims t.sights;
-          },
-        ),
+          };
+        },
       )

@@ -1,8 +1,8 @@
 -- The steps on the other words keep the rule.
 use Rattle.rcu_board.specs.Views.{one_if, Every, total, seen_at, sight, count_of, count_fresh, is_claim, is_of, claimed, runs, cpus, is_at, has, commands}
-use Rattle.rcu_board.specs.Laws.{OnAsks, Kept, Neat, OnAccepts, OnTurns, Turning, Reported}
+use Rattle.rcu_board.specs.Laws.{Kept, Neat, OnAccepts, OnTurns, Turning, Reported}
 use Rattle.rcu_board.specs.Words.{urge_word, accepts_word, turns_word, asks_word, cpu_of}
-use Rattle.rcu_board.specs.Plays.{Sat, touched, touches, switches, needs, accept_own, accepted, accepts, shuts, claim_of, claiming, claims, finished, finishes, urged, urges, hears}
+use Rattle.rcu_board.specs.Plays.{Sat, touched, Touching, Switching, Needing, accept_own, accepted, Accepting, Shutting, claim_of, claiming, Claiming, finished, Finishing, urged, Urging, Hearing}
 use Rattle.std.proofs.Common.{◌≡◌, ◌≢◌, ℕ, zero, suc, ◌+◌, ◌*◌, ◌%◌, ◌/◌, ◌^◌, ◌<◌, ◌≤◌, Bool, true, cond, eqb, ltb, lt-ltb, le-ltb, None, List, [], ◌∷◌, ◌++◌, map, length, get_or, set, sym, refl, ap, ◌∙◌, subst, arith, eq-eqb, ne_eqb, max}
 use mathlib.Core.Logic.{dite}
 use mathlib.Core.Option.{some, none, some-injective}
@@ -76,28 +76,28 @@ module _ (n seats : ℕ) (s : State ℕ View) (k : Kept n seats s) (id : ℕ) (v
 -- ---- loads and stores
 
 module _ (n seats slots id : ℕ) (m : Sat) (live : 0 < m.0.weight) where
-  pub needed_allowed : Allows (Kept n seats) slots id m 1 (λ y. y) (touches (step slots 1 0 0 none) m)
-  needed_allowed s k _ at _ = (touched 1 (get_or s.words 1 0) m.0, keeps, tt, loaded n seats s k id m.0 at live 1 (λ e. omega arith) (omega arith), (refl, k.on_needed id m.0 at))
+  pub needed_allowed : Allows (Kept n seats) slots id m 1 (λ y. y) (Touching (step slots 1 0 0 none) m)
+  needed_allowed s k _ at _ = (touched 1 (get_or s.words 1 0) m.0, keeps, tt, loaded n seats s k id m.0 at live 1 (λ e. omega arith) (omega arith), record { view = refl; later = k.on_needed id m.0 at })
 
-  pub count_allowed : (p : ℕ) → p < n → Allows (Kept n seats) slots id m (accepts_word p) (λ y. y) (touches (step slots (accepts_word p) 0 0 none) m)
-  count_allowed p low s k _ at _ = let i : ℕ = accepts_word p in (touched i (get_or s.words i 0) m.0, keeps, tt, loaded n seats s k id m.0 at live i (λ e. omega arith) (omega arith), (refl, (k.on_accepts p low id m.0 at).seen))
+  pub count_allowed : (p : ℕ) → p < n → Allows (Kept n seats) slots id m (accepts_word p) (λ y. y) (Touching (step slots (accepts_word p) 0 0 none) m)
+  count_allowed p low s k _ at _ = let i : ℕ = accepts_word p in (touched i (get_or s.words i 0) m.0, keeps, tt, loaded n seats s k id m.0 at live i (λ e. omega arith) (omega arith), record { view = refl; later = (k.on_accepts p low id m.0 at).seen })
 
-  pub turn_allowed : (p : ℕ) → p < n → Allows (Kept n seats) slots id m (turns_word p) (λ y. y) (touches (step slots (turns_word p) 0 0 none) m)
-  turn_allowed p low s k _ at _ = let i : ℕ = turns_word p in (touched i (get_or s.words i 0) m.0, keeps, tt, loaded n seats s k id m.0 at live i (λ e. omega arith) (omega arith), (refl, (k.on_turns p low id m.0 at).seen))
+  pub turn_allowed : (p : ℕ) → p < n → Allows (Kept n seats) slots id m (turns_word p) (λ y. y) (Touching (step slots (turns_word p) 0 0 none) m)
+  turn_allowed p low s k _ at _ = let i : ℕ = turns_word p in (touched i (get_or s.words i 0) m.0, keeps, tt, loaded n seats s k id m.0 at live i (λ e. omega arith) (omega arith), record { view = refl; later = (k.on_turns p low id m.0 at).seen })
 
-  pub load_ask_allowed : (p : ℕ) → p < n → Allows (Kept n seats) slots id m (asks_word p) (λ y. y) (switches (step slots (asks_word p) 0 0 none) m)
-  load_ask_allowed p low s k _ at _ = let i : ℕ = asks_word p in (touched i (get_or s.words i 0) m.0, keeps, tt, loaded n seats s k id m.0 at live i (λ e. omega arith) (omega arith), (refl, k.asks p low))
+  pub load_ask_allowed : (p : ℕ) → p < n → Allows (Kept n seats) slots id m (asks_word p) (λ y. y) (Switching (step slots (asks_word p) 0 0 none) m)
+  load_ask_allowed p low s k _ at _ = let i : ℕ = asks_word p in (touched i (get_or s.words i 0) m.0, keeps, tt, loaded n seats s k id m.0 at live i (λ e. omega arith) (omega arith), record { view = refl; small = k.asks p low })
 
-  pub load_halt_allowed : Allows (Kept n seats) slots id m 2 (λ y. y) (switches (step slots 2 0 0 none) m)
-  load_halt_allowed s k _ at _ = (touched 2 (get_or s.words 2 0) m.0, keeps, tt, loaded n seats s k id m.0 at live 2 (λ e. omega arith) (omega arith), (refl, k.halt))
+  pub load_halt_allowed : Allows (Kept n seats) slots id m 2 (λ y. y) (Switching (step slots 2 0 0 none) m)
+  load_halt_allowed s k _ at _ = (touched 2 (get_or s.words 2 0) m.0, keeps, tt, loaded n seats s k id m.0 at live 2 (λ e. omega arith) (omega arith), record { view = refl; small = k.halt })
 
-  pub store_ask_allowed : m.0.controls ≡ true → (p new : ℕ) → p < n → new < 2 → Allows (Kept n seats) slots id m (asks_word p) (λ _. new) (λ _. switches (step slots (asks_word p) new 0 none) m new)
-  store_ask_allowed mine p new low bit s k _ at _ = let i : ℕ = asks_word p in (touched i new m.0, keeps, tt, stored n seats s k id m.0 at live i (λ e. omega arith) (omega arith) mine (λ e. omega arith) (λ q e. omega arith) (λ q e. omega arith) new bit, (refl, bit))
+  pub store_ask_allowed : m.0.controls ≡ true → (p new : ℕ) → p < n → new < 2 → Allows (Kept n seats) slots id m (asks_word p) (λ _. new) (λ _. Switching (step slots (asks_word p) new 0 none) m new)
+  store_ask_allowed mine p new low bit s k _ at _ = let i : ℕ = asks_word p in (touched i new m.0, keeps, tt, stored n seats s k id m.0 at live i (λ e. omega arith) (omega arith) mine (λ e. omega arith) (λ q e. omega arith) (λ q e. omega arith) new bit, record { view = refl; small = bit })
 
-  pub store_halt_allowed : m.0.controls ≡ true → (new : ℕ) → new < 2 → Allows (Kept n seats) slots id m 2 (λ _. new) (λ _. switches (step slots 2 new 0 none) m new)
-  store_halt_allowed mine new bit s k _ at _ = (touched 2 new m.0, keeps, tt, stored n seats s k id m.0 at live 2 (λ e. omega arith) (omega arith) mine (λ e. omega arith) (λ q e. omega arith) (λ q e. omega arith) new bit, (refl, bit))
+  pub store_halt_allowed : m.0.controls ≡ true → (new : ℕ) → new < 2 → Allows (Kept n seats) slots id m 2 (λ _. new) (λ _. Switching (step slots 2 new 0 none) m new)
+  store_halt_allowed mine new bit s k _ at _ = (touched 2 new m.0, keeps, tt, stored n seats s k id m.0 at live 2 (λ e. omega arith) (omega arith) mine (λ e. omega arith) (λ q e. omega arith) (λ q e. omega arith) new bit, record { view = refl; small = bit })
 
-  pub need_allowed : (new : ℕ) → Allows (Kept n seats) slots id m 1 (λ y. max y new) (needs (step slots 1 new 0 none) m)
+  pub need_allowed : (new : ℕ) → Allows (Kept n seats) slots id m 1 (λ y. max y new) (Needing (step slots 1 new 0 none) m)
   need_allowed new s k _ at _ = let x : ℕ = get_or s.words 1 0 in let y : ℕ = max x new in let v : View = m.0 in let w : View = touched 1 y v in let t = k.neat id v at in
       let now : seen_at w 1 ≡ y = now_seen n seats s k id v at live 1 (λ e. omega arith) (omega arith) y v refl in (
         w,
@@ -106,7 +106,7 @@ module _ (n seats slots id : ℕ) (m : Sat) (live : 0 < m.0.weight) where
         moved n seats s k id v w at 1 y (omega arith) (still_neat n seats s k id v at live 1 (λ e. omega arith) (omega arith) y v refl refl refl refl refl t.stamps t.sights t.runs)
             (beside_touched 1 y v v refl refl refl refl refl (λ _ z h. h) (λ p _ z h. h) (λ p _ z h. h) (λ p _. ((λ j. refl), refl)))
             record { board = λ e. absurd (omega arith); needed = λ _. (omega (arith, now), omega arith); accepts = λ p _ e. absurd (omega arith); turns = λ p _ e. absurd (omega arith); asks = λ p _ e. absurd (omega arith); halt = λ e. absurd (omega arith) },
-        (refl, k.on_needed id v at),
+        record { view = refl; later = k.on_needed id v at },
       )
 
 -- ---- accept
@@ -144,7 +144,7 @@ module _ (n seats : ℕ) (s : State ℕ View) (k : Kept n seats s) (id : ℕ) (v
   }
 
 module _ (n seats slots id : ℕ) (m : Sat) (live : 0 < m.0.weight) (p : ℕ) (low : p < n) where
-  pub shut_allowed : m.0.controls ≡ true → Allows (Kept n seats) slots id m (accepts_word p) (λ y. bit_or y 1) (shuts (step slots (accepts_word p) 1 0 none) m)
+  pub shut_allowed : m.0.controls ≡ true → Allows (Kept n seats) slots id m (accepts_word p) (λ y. bit_or y 1) (Shutting (step slots (accepts_word p) 1 0 none) m)
   shut_allowed commanding s k _ at _ = let i : ℕ = accepts_word p in let x : ℕ = get_or s.words i 0 in let y : ℕ = x / 2 * 2 + 1 in let v : View = m.0 in let w : View = touched i y v in
       let t = k.neat id v at in let a = k.on_accepts p low id v at in
       let off : i ≢ 0 = λ e. omega arith in let near : i < 4 + 3 * n = omega arith in
@@ -165,11 +165,11 @@ module _ (n seats slots id : ℕ) (m : Sat) (live : 0 < m.0.weight) (p : ℕ) (l
         subst (λ (z : ℕ). Kept n seats (after s i z id w)) (sym (or_one x)) (moved n seats s k id v w at i y near (still_neat n seats s k id v at live i off near y v refl refl refl refl refl t.stamps t.sights t.runs)
             (beside_touched i y v v refl refl refl refl refl (λ _ z h. h) (λ p _ z h. h) (λ p _ z h. h) (λ p _. ((λ j. refl), refl)))
             (here_accepts n seats s k id v at live p low y w mine others)),
-        (refl, a.seen),
+        record { view = refl; later = a.seen },
       )
 
   pub accept_allowed : (o : Own) (key c : ℕ) → m.0.own ≡ o ∷ [] → o.cpu ≡ p → o.fresh ≡ None → length o.accepted ≡ c
-      → Allows (Kept n seats) slots id m (accepts_word p) (λ y. either (eqb y (2 * c)) (2 * c + 2) y) (accepts (step slots (accepts_word p) (2 * c) (2 * c + 2) (some key)) m)
+      → Allows (Kept n seats) slots id m (accepts_word p) (λ y. either (eqb y (2 * c)) (2 * c + 2) y) (Accepting (step slots (accepts_word p) (2 * c) (2 * c + 2) (some key)) m)
   accept_allowed o key c only is clean counts s k _ at _ = let i : ℕ = accepts_word p in let x : ℕ = get_or s.words i 0 in let y : ℕ = 2 * c + 2 in let v : View = m.0 in
       let t = k.neat id v at in let a = k.on_accepts p low id v at in
       let off : i ≢ 0 = λ e. omega arith in let near : i < 4 + 3 * n = omega arith in
@@ -177,7 +177,7 @@ module _ (n seats slots id : ℕ) (m : Sat) (live : 0 < m.0.weight) (p : ℕ) (l
       let was : x / 2 ≡ count_of o = the_one (λ (u : Own). u.cpu ≡ p → x / 2 ≡ count_of u) o (subst (Every (λ (u : Own). u.cpu ≡ p → x / 2 ≡ count_of u)) only a.counts) is in
       let none_fresh : count_fresh o.fresh ≡ 0 = ap count_fresh clean in
       let half : x / 2 ≡ c = omega arith in
-      exchanged x (2 * c) y (λ z. (w : View) × (b : Act ℕ) × Valid s.homes m.1 b × Kept n seats (stepped s i z id m.1 w b) × accepts (step slots i (2 * c) y (some key)) m x (w, carried_after m.1 b))
+      exchanged x (2 * c) y (λ z. (w : View) × (b : Act ℕ) × Valid s.homes m.1 b × Kept n seats (stepped s i z id m.1 w b) × Accepting (step slots i (2 * c) y (some key)) m x (w, carried_after m.1 b))
       (λ hit. let f : Own → Own = accept_own key in let v' : View = record v { own = map f v.own } in let w : View = accepted i y key v in
       let now : seen_at w i ≡ y = now_seen n seats s k id v at live i off near y v' refl in
       let mine : OnAccepts p y w = record {
@@ -207,9 +207,9 @@ module _ (n seats slots id : ℕ) (m : Sat) (live : 0 < m.0.weight) (p : ℕ) (l
             (every_one (λ (u : Own). u.cpu ≡ q → z / 2 ≡ count_of u) (f o) (λ e. absurd (away (omega arith)))))
             (λ q _ z h. h) (λ q _. ((λ j. refl), refl)))
             (here_accepts n seats s k id v at live p low y w mine others),
-        ((λ key' same _. ap (λ (z : ℕ). (accepted i y z v, m.1)) (some-injective key key' same)), (λ no. absurd (no hit)), a.seen),
+        record { won = λ key' same _. ap (λ (z : ℕ). (accepted i y z v, m.1)) (some-injective key key' same); shut = λ away. absurd (away hit); odd = λ away. absurd (away hit); later = a.seen },
       ))
-      (λ miss. (touched i x v, keeps, tt, loaded n seats s k id v at live i off near, ((λ _ _ hit. absurd (miss hit)), (λ _. (refl, omega arith)), a.seen)))
+      (λ miss. (touched i x v, keeps, tt, loaded n seats s k id v at live i off near, record { won = λ _ _ hit. absurd (miss hit); shut = λ _. refl; odd = λ _. omega arith; later = a.seen }))
 
 -- ---- claims
 
@@ -253,11 +253,11 @@ none_runs p x [] e = tt
 none_runs p x (c ∷ cs) e = ((λ is. absurd (omega (arith, is_of_same p c is))), none_runs p x cs (omega arith))
 
 module _ (n seats slots id : ℕ) (m : Sat) (live : 0 < m.0.weight) (p : ℕ) (low : p < n) where
-  pub claim_allowed : (q : ℕ) → m.0.running ≡ [] → Allows (Kept n seats) slots id m (turns_word p) (λ y. either (eqb y (2 * q)) (2 * q + 1) y) (claims (step slots (turns_word p) (2 * q) (2 * q + 1) none) m)
+  pub claim_allowed : (q : ℕ) → m.0.running ≡ [] → Allows (Kept n seats) slots id m (turns_word p) (λ y. either (eqb y (2 * q)) (2 * q + 1) y) (Claiming (step slots (turns_word p) (2 * q) (2 * q + 1) none) m)
   claim_allowed q rests s k _ at _ = let i : ℕ = turns_word p in let x : ℕ = get_or s.words i 0 in let y : ℕ = 2 * q + 1 in let v : View = m.0 in
       let t = k.neat id v at in let a = k.on_turns p low id v at in let turning = k.turning p low in
       let off : i ≢ 0 = λ e. omega arith in let near : i < 4 + 3 * n = omega arith in
-      exchanged x (2 * q) y (λ z. (w : View) × (b : Act ℕ) × Valid s.homes m.1 b × Kept n seats (stepped s i z id m.1 w b) × claims (step slots i (2 * q) y none) m x (w, carried_after m.1 b))
+      exchanged x (2 * q) y (λ z. (w : View) × (b : Act ℕ) × Valid s.homes m.1 b × Kept n seats (stepped s i z id m.1 w b) × Claiming (step slots i (2 * q) y none) m x (w, carried_after m.1 b))
       (λ hit. let c : Claim = claim_of p q v in let v' : View = record v { claims = v.claims ++ c ∷ []; running = c ∷ [] } in let w : View = claiming i y p q v in
       let now : seen_at w i ≡ y = now_seen n seats s k id v at live i off near y v' refl in
       let mine : OnTurns p y w = record { seen = omega arith; running = every_one (λ (d : Claim). d.cpu ≡ p → y ≡ 2 * d.number + 1) c (λ _. refl) } in
@@ -283,12 +283,12 @@ module _ (n seats slots id : ℕ) (m : Sat) (live : 0 < m.0.weight) (p : ℕ) (l
               (let f : runs r v ≡ 0 = ap (total (is_of r)) rests in let g = is_of_other p r c refl apart in omega arith),
             )))
             (here_turns n seats s k id v at live p low y w mine others next),
-        ((λ _. let e : p ≡ cpu_of i = omega arith in let f : q ≡ 2 * q / 2 = omega arith in λ z. (claiming i y (e z) (f z) v, m.1)), (λ no. absurd (no hit)), a.seen),
+        record { won = λ _. let e : p ≡ cpu_of i = omega arith in let f : q ≡ 2 * q / 2 = omega arith in λ z. (claiming i y (e z) (f z) v, m.1); lost = λ away. absurd (away hit); later = a.seen },
       ))
-      (λ miss. (touched i x v, keeps, tt, loaded n seats s k id v at live i off near, ((λ hit. absurd (miss hit)), (λ _. refl), a.seen)))
+      (λ miss. (touched i x v, keeps, tt, loaded n seats s k id v at live i off near, record { won = λ hit. absurd (miss hit); lost = λ _. refl; later = a.seen }))
 
   pub finish_allowed : (c : Claim) → m.0.running ≡ c ∷ [] → c.cpu ≡ p → c.number < 1000000
-      → Allows (Kept n seats) slots id m (turns_word p) (λ y. (y + 1) % 2 ^ 64) (finishes (step slots (turns_word p) 1 0 none) m)
+      → Allows (Kept n seats) slots id m (turns_word p) (λ y. (y + 1) % 2 ^ 64) (Finishing (step slots (turns_word p) 1 0 none) m)
   finish_allowed c runs_it is small s k _ at _ = let i : ℕ = turns_word p in let x : ℕ = get_or s.words i 0 in let y : ℕ = x + 1 in let v : View = m.0 in
       let t = k.neat id v at in let a = k.on_turns p low id v at in let turning = k.turning p low in
       let off : i ≢ 0 = λ e. omega arith in let near : i < 4 + 3 * n = omega arith in
@@ -313,7 +313,7 @@ module _ (n seats slots id : ℕ) (m : Sat) (live : 0 < m.0.weight) (p : ℕ) (l
             (λ r away z _. every_nil (λ (d : Claim). d.cpu ≡ r → z ≡ 2 * d.number + 1))
             (λ r away. ((λ j. refl), (let f : runs r v ≡ total (is_of r) (c ∷ []) = ap (total (is_of r)) runs_it in let g = is_of_other p r c is (λ e. away (omega arith)) in omega arith))))
             (here_turns n seats s k id v at live p low y w mine others next)),
-        (refl, (λ d e. odd ∙ ap (λ (l : List Claim). 2 * number_or l + 1) (sym runs_it ∙ e)), a.seen),
+        record { view = refl; runs = λ d e. odd ∙ ap (λ (l : List Claim). 2 * number_or l + 1) (sym runs_it ∙ e); later = a.seen },
       )
 
 -- ---- the urged processors
@@ -333,8 +333,8 @@ module _ (n seats slots id : ℕ) (m : Sat) (live : 0 < m.0.weight) (i : ℕ) (i
         halt = λ e. absurd (omega arith);
       }
 
-  pub urge_allowed : (all : ℕ) → Allows (Kept n seats) slots id m i (λ y. bit_or y all) (urges (step slots i all 0 none) m)
+  pub urge_allowed : (all : ℕ) → Allows (Kept n seats) slots id m i (λ y. bit_or y all) (Urging (step slots i all 0 none) m)
   urge_allowed all s k _ at _ = let x : ℕ = get_or s.words i 0 in let y : ℕ = bit_or x all in (urged i x y m.0, keeps, tt, urge_goes s k at y y, refl)
 
-  pub hear_allowed : (others : ℕ) → Allows (Kept n seats) slots id m i (λ y. bit_and y others) (hears (step slots i others 0 none) m)
+  pub hear_allowed : (others : ℕ) → Allows (Kept n seats) slots id m i (λ y. bit_and y others) (Hearing (step slots i others 0 none) m)
   hear_allowed others s k _ at _ = let x : ℕ = get_or s.words i 0 in let y : ℕ = bit_and x others in (urged i x y m.0, keeps, tt, urge_goes s k at y y, refl)

@@ -6,8 +6,6 @@ use Rattle.atomic_table.specs.Table.{State}
 use Rattle.rcu_numbers.specs.Words.{number_of, mask_of, owes_of}
 use Rattle.rcu_board.specs.Words.{words_of, accepts_word, turns_word, asks_word}
 use Rattle.rcu_board.specs.Views.{seen_at, sight, Every, total, cpus, has, leads, commands, count_of, claimed, runs, spent}
-use Rattle.rcu_board.specs.declared.view.Own.{Own}
-use Rattle.rcu_board.specs.declared.view.Claim.{Claim}
 use Rattle.rcu_board.specs.declared.view.View.{View}
 
 -- ---- board law

@@ -1,5 +1,5 @@
 -- A board's seats, before any step.
-use Rattle.std.specs.Prelude.{◌≡◌, ℕ, zero, suc, ◌+◌, ◌-◌, ◌*◌, ◌/◌, ◌==◌, ◌&&◌, ◌||◌, Bool, true, false, cond, List, [], ◌∷◌, ◌++◌, map, length}
+use Rattle.std.specs.Prelude.{◌≡◌, ℕ, zero, suc, ◌+◌, ◌-◌, ◌/◌, ◌==◌, ◌&&◌, ◌||◌, Bool, true, false, cond, List, [], ◌∷◌, length}
 use Rattle.rcu_numbers.specs.Words.{owes_of}
 use Rattle.rcu_numbers.specs.declared.shape.Shape.{Shape}
 use Rattle.rcu_board.specs.declared.board.Role.{Role}
@@ -8,8 +8,7 @@ use Rattle.rcu_board.specs.declared.board.Board.{Board}
 use Rattle.rcu_board.specs.declared.board.Seat.{Seat}
 use Rattle.rcu_board.specs.declared.open.Seats.{Seats}
 use Rattle.rcu_board.specs.declared.view.Own.{Own}
-use Rattle.rcu_board.specs.declared.view.View.{View}
-use Rattle.rcu_board.specs.Views.{Every, newcomer, new_view}
+use Rattle.rcu_board.specs.Views.{newcomer, new_view}
 use Rattle.rcu_board.specs.Plays.{all_seats}
 use Rattle.rcu_board.specs.Seats.{view, AtBoard}
 

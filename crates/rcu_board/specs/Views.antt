@@ -1,5 +1,5 @@
 -- What seats know: docs/specification/definitions.md, "The running parts: views".
-use Rattle.std.specs.Prelude.{◌≡◌, ℕ, zero, suc, ◌+◌, ◌-◌, ◌*◌, ◌<◌, true, false, Bool, cond, ◌==◌, Option, Some, None, List, [], ◌∷◌, ◌++◌, map, length, slice_index, replicate, max, ◌||◌}
+use Rattle.std.specs.Prelude.{ℕ, zero, suc, ◌+◌, ◌-◌, true, false, Bool, cond, ◌==◌, Option, Some, None, List, [], ◌∷◌, ◌++◌, map, length, slice_index, replicate, max, ◌||◌}
 use Rattle.rcu_numbers.specs.Words.{number_of, owes_of}
 use Rattle.rcu_board.specs.Words.{words_of, is_asks, cpu_of}
 use Rattle.rcu_board.specs.declared.view.Own.{Own}

@@ -1,6 +1,6 @@
 -- The words of a board for n processors: docs/specification/tables.md, "Words of the board".
-use Rattle.std.specs.Prelude.{ℕ, ◌+◌, ◌-◌, ◌*◌, ◌/◌, ◌%◌, Bool, cond, ◌==◌, nat_lt, ◌&&◌}
-use Rattle.rcu_numbers.specs.Words.{Board, packed, owes_of}
+use Rattle.std.specs.Prelude.{ℕ, ◌+◌, ◌-◌, ◌*◌, ◌/◌, ◌%◌, Bool, ◌==◌, nat_lt, ◌&&◌}
+use Rattle.rcu_numbers.specs.Words.{Board, packed}
 
 abbrev pub words_of : ℕ → ℕ
 words_of n = 4 + 3 * n

@@ -8,7 +8,7 @@ ghost use Rattle.rcu_board.specs.Seats.{view, AtBoard, NeverFalls, gathered_view
 
 use crate::board::{Board, Gathered, Seat};
 use crate::plays::{Gather, LastCount, LastLook, LastTurn};
-use crate::steps::{FIRST_ACCEPTS, BOARD_WORD, WORDS_EACH, FIRST_TURNS};
+use crate::steps::{BOARD_WORD, FIRST_ACCEPTS, FIRST_TURNS, WORDS_EACH};
 use rcu_numbers::BoardWord;
 
 impl Gathered {
@@ -44,7 +44,12 @@ pub fn last_look(board: &Board, all: &mut Gathered) -> BoardWord
     ensures later { sight (gathered_view all.old) ≤ result.seq }
     ensures stands { Stands (bits_of result) (gathered_view all.old) }
 {
-    BoardWord::from_bits(board.table.shared.load::<LastLook>(&mut all.seat, BOARD_WORD))
+    BoardWord::from_bits(
+        board
+            .table
+            .shared
+            .load::<LastLook>(&mut all.seat, BOARD_WORD),
+    )
 }
 
 /// Loads the turn word of processor `p` once all seats are one: each number below the turn was claimed once, and no

@@ -2,7 +2,7 @@
 
 ghost use Rattle.rcu_board.specs.Laws.{Kept};
 ghost use Rattle.rcu_board.specs.Views.{opening_view, given_plain, plain, given_own, with_own, given_control, with_control, joined, spent};
-ghost use Rattle.rcu_board.specs.Plays.{touches, looks, reports, drives, switches, needs, accepts, shuts, claims, finishes, urges, hears, settles, stands, counts, all_seats};
+ghost use Rattle.rcu_board.specs.Plays.{Touching, Looking, Reporting, Driving, Needing, Accepting, Shutting, Claiming, Finishing, Switching, Urging, Hearing, LastLooking, LastTurning, LastCounting, all_seats};
 
 use crate::board::Frame;
 use crate::view::View;
@@ -20,91 +20,91 @@ impl TableRule<u64, View, Frame> for Rule {
 pub(crate) struct Touch;
 
 impl Play<u64, View> for Touch {
-    ghost then = { touches };
+    ghost then = { Touching };
 }
 
 pub(crate) struct Look;
 
 impl Play<u64, View> for Look {
-    ghost then = { looks };
+    ghost then = { Looking };
 }
 
 pub(crate) struct Report;
 
 impl Play<u64, View> for Report {
-    ghost then = { reports };
+    ghost then = { Reporting };
 }
 
 pub(crate) struct Drive;
 
 impl Play<u64, View> for Drive {
-    ghost then = { drives };
+    ghost then = { Driving };
 }
 
 pub(crate) struct Need;
 
 impl Play<u64, View> for Need {
-    ghost then = { needs };
+    ghost then = { Needing };
 }
 
 pub(crate) struct Accept;
 
 impl Play<u64, View> for Accept {
-    ghost then = { accepts };
+    ghost then = { Accepting };
 }
 
 pub(crate) struct Shut;
 
 impl Play<u64, View> for Shut {
-    ghost then = { shuts };
+    ghost then = { Shutting };
 }
 
 pub(crate) struct Take;
 
 impl Play<u64, View> for Take {
-    ghost then = { claims };
+    ghost then = { Claiming };
 }
 
 pub(crate) struct Finish;
 
 impl Play<u64, View> for Finish {
-    ghost then = { finishes };
+    ghost then = { Finishing };
 }
 
 pub(crate) struct Switch;
 
 impl Play<u64, View> for Switch {
-    ghost then = { switches };
+    ghost then = { Switching };
 }
 
 pub(crate) struct Urge;
 
 impl Play<u64, View> for Urge {
-    ghost then = { urges };
+    ghost then = { Urging };
 }
 
 pub(crate) struct Hear;
 
 impl Play<u64, View> for Hear {
-    ghost then = { hears };
+    ghost then = { Hearing };
 }
 
 pub(crate) struct LastLook;
 
 impl Play<u64, View> for LastLook {
-    ghost then = { stands };
+    ghost then = { LastLooking };
 }
 
 pub(crate) struct LastTurn;
 
 impl Play<u64, View> for LastTurn {
-    ghost then = { settles };
+    ghost then = { LastTurning };
 }
 
 pub(crate) struct LastCount;
 
 impl Play<u64, View> for LastCount {
-    ghost then = { counts };
+    ghost then = { LastCounting };
 }
 
 /// A seat with a processor's lists is split off.

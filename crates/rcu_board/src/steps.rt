@@ -242,10 +242,12 @@ pub fn claim(board: &Board, seat: &mut Seat, number: u64) -> Claimed
 {
     let p = cpu(&seat.role);
     let old = 2 * number;
-    let found = board
-        .table
-        .shared
-        .compare_exchange::<Take>(&mut seat.seat, FIRST_TURNS + WORDS_EACH * p as usize, old, old + 1);
+    let found = board.table.shared.compare_exchange::<Take>(
+        &mut seat.seat,
+        FIRST_TURNS + WORDS_EACH * p as usize,
+        old,
+        old + 1,
+    );
     if found != old {
         return Claimed::Not(found);
     }
@@ -305,10 +307,11 @@ pub fn ask(board: &Board, seat: &mut Seat, p: u64, on: bool)
     ensures view { view seat.new ≡ touched (asks_word p) (from_bool on) (view seat.old) }
     ensures later { NeverFalls board.now.processors (view seat.old) (view seat.new) }
 {
-    board
-        .table
-        .shared
-        .store::<Switch>(&mut seat.seat, FIRST_ASKS + WORDS_EACH * p as usize, u64::from(on));
+    board.table.shared.store::<Switch>(
+        &mut seat.seat,
+        FIRST_ASKS + WORDS_EACH * p as usize,
+        u64::from(on),
+    );
 }
 
 /// Whether the seat's processor was last asked to be offloaded.
@@ -337,7 +340,10 @@ pub fn halt(board: &Board, seat: &mut Seat)
     ensures view { view seat.new ≡ touched 2 1 (view seat.old) }
     ensures later { NeverFalls board.now.processors (view seat.old) (view seat.new) }
 {
-    board.table.shared.store::<Switch>(&mut seat.seat, HALT_WORD, 1);
+    board
+        .table
+        .shared
+        .store::<Switch>(&mut seat.seat, HALT_WORD, 1);
 }
 
 /// Whether the halt word was set.

@@ -1,4 +1,4 @@
-use Rattle.std.proofs.Common.{ℕ, ◌≡◌, arith, ◌+◌, ◌*◌, ◌∙◌, ap, length-take-le}
+use Rattle.std.proofs.Common.{arith, ◌+◌, ◌*◌, ◌∙◌, ap, length-take-le}
 use Rattle.rcu_numbers.specs.Words.{owes_of}
 use Rattle.rcu_numbers.proofs.WordLaws.{owes-lt}
 use Rattle.rcu_board.proofs.Bits.{bit_value}

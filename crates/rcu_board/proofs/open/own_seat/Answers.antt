@@ -1,4 +1,4 @@
-use Rattle.std.proofs.Common.{ℕ, ◌≡◌, arith, ap, refl, ◌∙◌}
+use Rattle.std.proofs.Common.{ℕ, arith, ap, refl, ◌∙◌}
 use Rattle.atomic_table.specs.Table.{Me}
 use Rattle.rcu_board.specs.declared.view.View.{View}
 use Rattle.rcu_board.specs.Views.{cpus, first_own, with_own}

@@ -1,4 +1,4 @@
-use Rattle.std.proofs.Common.{ℕ, ◌≡◌, ◌+◌, ◌-◌, true, arith, rules, sym, ap, subst, ◌∙◌, refl}
+use Rattle.std.proofs.Common.{ℕ, ◌≡◌, ◌+◌, ◌-◌, true, arith, rules, sym, ap, subst, ◌∙◌}
 use Rattle.rcu_board.specs.Views.{newcomers, spread, with_own, given_own, new_view}
 use Rattle.rcu_board.specs.Plays.{all_seats}
 use Rattle.rcu_board.specs.Opened.{IsNewProcessor, InOrder}

@@ -1,11 +1,11 @@
-use Rattle.std.proofs.Common.{ℕ, ◌≡◌, ◌≢◌, ◌+◌, ◌-◌, ◌*◌, ◌/◌, ◌<◌, ◌≤◌, arith, ap, sym, subst, ◌∙◌, refl, max, map, length}
+use Rattle.std.proofs.Common.{ℕ, ◌≡◌, ◌+◌, ◌*◌, arith, ap, sym, subst, ◌∙◌, refl, map, length}
 use Rattle.atomic_table.specs.Table.{Me}
 use Rattle.rcu_board.specs.declared.view.View.{View}
-use Rattle.rcu_board.specs.Words.{words_of, bits_of}
+use Rattle.rcu_board.specs.Words.{words_of}
 use Rattle.rcu_board.specs.Seats.{NeverFalls}
 use mathlib.Core.Logic.{dite}
 use native.Mathlib.Decide.{ℕ_discrete}
-use Rattle.rcu_board.specs.Plays.{accept_own, accepted, touched}
+use Rattle.rcu_board.specs.Plays.{accept_own}
 use Rattle.rcu_board.specs.Seats.{first_accepted, first_fresh}
 use Rattle.rcu_board.proofs.Views.{cpus-map}
 use Rattle.rcu_board.proofs.Sits.{alone, sits_else, alike_same, alike_own}
@@ -21,8 +21,8 @@ compare_exchange_with-found-requires c = let b = c.args.board.now in let w = b.s
 pub invariant_of-seat : goal.invariant_of-seat
 invariant_of-seat c = let m = c.args.seat.now.seat.me in let e = c.compare_exchange_with-found.ensures in let s = c.args.seat.now.sits in let own = map (accept_own c.args.key) m.0.own in let same = ap (λ z. z.words) e.0 in record {
   sits = dite (ℕ_discrete c.compare_exchange_with-found.result (2 * c.args.count))
-      (λ hit. sits_else _ _ m _ _ _ (record m.0 { own = own }) same (e.2.0 c.args.key refl hit) (alike_own m.0 own (cpus-map (accept_own c.args.key) (λ o. refl) m.0.own)) _ s (λ z. omega arith))
-      (λ miss. sits_else _ _ m _ _ _ m.0 same (e.2.1 miss).0 (alike_same m.0) _ s (λ z. omega arith));
+      (λ hit. sits_else _ _ m _ _ _ (record m.0 { own = own }) same (e.2.won c.args.key refl hit) (alike_own m.0 own (cpus-map (accept_own c.args.key) (λ o. refl) m.0.own)) _ s (λ z. omega arith))
+      (λ miss. sits_else _ _ m _ _ _ m.0 same (e.2.shut miss) (alike_same m.0) _ s (λ z. omega arith));
 }
 
 pub returns-clause-same : goal.returns-clause-same
@@ -30,8 +30,8 @@ returns-clause-same c = let e = c.compare_exchange_with-found.ensures in record 
   role = refl;
   table = e.0;
   weight = dite (ℕ_discrete c.compare_exchange_with-found.result (2 * c.args.count))
-      (λ hit. ap (λ (k : Me ℕ View). k.0.weight) (e.2.0 c.args.key refl hit))
-      (λ miss. ap (λ (k : Me ℕ View). k.0.weight) (e.2.1 miss).0);
+      (λ hit. ap (λ (k : Me ℕ View). k.0.weight) (e.2.won c.args.key refl hit))
+      (λ miss. ap (λ (k : Me ℕ View). k.0.weight) (e.2.shut miss));
 }
 
 pub returns-clause-later : goal.returns-clause-later
@@ -39,5 +39,5 @@ returns-clause-later c = let m = c.args.seat.now.seat.me in let e = c.compare_ex
     let own = map (accept_own c.args.key) m.0.own in
     let long : length m.0.seen ≡ words_of n = omega (arith, c.args.seat.now.sits.seated.seen_long, ap (λ z. z.words) c.requires.board, c.args.board.now.sized) in
     dite (ℕ_discrete c.compare_exchange_with-found.result (2 * c.args.count))
-    (λ hit. subst (λ (k : Me ℕ View). NeverFalls n m.0 k.0) (sym (e.2.0 c.args.key refl hit)) (later_accepts n m.0 (record m.0 { own = own }) (3 + 3 * p) (2 * c.args.count + 2) refl long p refl (omega (arith, e.2.2))))
-    (λ miss. subst (λ (k : Me ℕ View). NeverFalls n m.0 k.0) (sym (e.2.1 miss).0) (later_accepts n m.0 m.0 (3 + 3 * p) c.compare_exchange_with-found.result refl long p refl e.2.2))
+    (λ hit. subst (λ (k : Me ℕ View). NeverFalls n m.0 k.0) (sym (e.2.won c.args.key refl hit)) (later_accepts n m.0 (record m.0 { own = own }) (3 + 3 * p) (2 * c.args.count + 2) refl long p refl (omega (arith, e.2.later))))
+    (λ miss. subst (λ (k : Me ℕ View). NeverFalls n m.0 k.0) (sym (e.2.shut miss)) (later_accepts n m.0 m.0 (3 + 3 * p) c.compare_exchange_with-found.result refl long p refl e.2.later))

@@ -1,10 +1,4 @@
-use Rattle.std.proofs.Common.{ℕ, ◌≡◌, ◌≢◌, ◌+◌, ◌-◌, ◌*◌, ◌/◌, ◌<◌, ◌≤◌, arith, ap, sym, subst, ◌∙◌, refl, max, map, length}
-use Rattle.atomic_table.specs.Table.{Me}
-use Rattle.rcu_board.specs.declared.view.View.{View}
-use Rattle.rcu_board.specs.Words.{words_of, bits_of}
-use Rattle.rcu_board.specs.Seats.{NeverFalls}
-use mathlib.Core.Logic.{dite}
-use native.Mathlib.Decide.{ℕ_discrete}
+use Rattle.std.proofs.Common.{arith, ap}
 use Rattle.rcu_board.proofs.Sits.{claims_near}
 use Rattle.rcu_board.proofs.WordSteps.{claim_allowed}
 use Rattle.rcu_board.proofs.steps.claim.Goals as goal

@@ -11,14 +11,3 @@ use Rattle.rcu_board.proofs.steps.halt.Goals as goal
 
 pub store-requires : goal.store-requires
 store-requires c = let b = c.args.board.now in let w = b.sized in let k = b.framed in let s = c.args.seat.now.sits in let m = c.args.seat.now.seat.me in (c.requires.board, omega arith, store_halt_allowed _ _ _ _ m s.seated.live (s.control (is_control _ c.requires.who)) 1 (omega arith))
-
-pub invariant_of-seat : goal.invariant_of-seat
-invariant_of-seat c = let m = c.args.seat.now.seat.me in let e = c.store.ensures in record { sits = sits_else _ _ m _ (2) (1) (m.0) (ap (λ z. z.words) e.0) e.2.0 (alike_same m.0) _ c.args.seat.now.sits (λ z. omega arith) }
-
-pub returns-clause-same : goal.returns-clause-same
-returns-clause-same c = record { role = refl; table = c.store.ensures.0; weight = ap (λ (k : Me ℕ View). k.0.weight) c.store.ensures.2.0 }
-
-pub returns-clause-later : goal.returns-clause-later
-returns-clause-later c = let b = c.args.board.now.sized in let m = c.args.seat.now.seat.me in let e = c.store.ensures in
-    let long : Rattle.std.proofs.Common.length m.0.seen ≡ words_of c.args.board.now.processors = omega (arith, c.args.seat.now.sits.seated.seen_long, ap (λ z. z.words) c.requires.board, c.args.board.now.sized) in 
-    subst (λ (k : Me ℕ View). NeverFalls c.args.board.now.processors m.0 k.0) (sym e.2.0) (later_halt c.args.board.now.processors m.0 (m.0) (2) (1) refl long refl)

@@ -1,8 +1,6 @@
-use Rattle.std.proofs.Common.{ℕ, ◌≡◌, ◌≢◌, ◌+◌, ◌-◌, ◌*◌, ◌/◌, ◌<◌, ◌≤◌, arith, ap, sym, subst, ◌∙◌, refl, max, map, length}
+use Rattle.std.proofs.Common.{ℕ, ◌<◌, arith, ap, sym, ◌∙◌, length}
 use Rattle.atomic_table.specs.Table.{Me}
 use Rattle.rcu_board.specs.declared.view.View.{View}
-use Rattle.rcu_board.specs.Words.{words_of, bits_of}
-use Rattle.rcu_board.specs.Seats.{NeverFalls}
 use Rattle.std.specs.Prelude.{bit_and}
 use Rattle.rcu_numbers.specs.Words.{owes_of}
 use Rattle.rcu_board.specs.Words.{urge_word}

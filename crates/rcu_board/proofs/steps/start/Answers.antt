@@ -1,16 +1,8 @@
-use Rattle.std.proofs.Common.{ℕ, ◌≡◌, ◌≢◌, ◌+◌, ◌-◌, ◌*◌, ◌/◌, ◌<◌, ◌≤◌, arith, ap, sym, subst, ◌∙◌, refl, max, map, length}
-use Rattle.atomic_table.specs.Table.{Me}
-use Rattle.rcu_board.specs.declared.view.View.{View}
-use Rattle.rcu_board.specs.Words.{words_of, bits_of}
-use Rattle.rcu_board.specs.Seats.{NeverFalls}
-use Rattle.rcu_numbers.specs.Words.{number_of, packed, all_of, mask_of}
-use Rattle.rcu_numbers.proofs.WordLaws.{number-packed, all_fits}
-use Rattle.rcu_board.specs.Plays.{touched}
-use Rattle.rcu_board.proofs.Sits.{sits_board, alike_same, is_driver, bits_read}
-use Rattle.rcu_board.proofs.Later.{later_board}
-use mathlib.Core.Logic.{dite}
-use native.Mathlib.Decide.{ℕ_discrete}
-use Rattle.rcu_board.proofs.BoardSteps.{start_allowed, seen_here}
+use Rattle.std.proofs.Common.{ℕ, ◌+◌, arith, ap, sym, ◌∙◌}
+use Rattle.rcu_board.specs.Words.{bits_of}
+use Rattle.rcu_numbers.specs.Words.{packed, all_of}
+use Rattle.rcu_board.proofs.Sits.{is_driver}
+use Rattle.rcu_board.proofs.BoardSteps.{start_allowed}
 use Rattle.rcu_board.proofs.steps.start.Goals as goal
 
 pub compare_exchange-requires : goal.compare_exchange-requires
