@@ -32,6 +32,19 @@ those_more : (b : Bool) (p : ℕ) (more few last : List ℕ) → more ≡ few ++
 those_more true p more few last e = ap (λ (l : List ℕ). p ∷ l) e
 those_more false p more few last e = e
 
+-- the one seat of a list
+pub in_order_one : (P : ℕ → Seat → Type 0) (k : ℕ) (x : Seat) → InOrder P k (x ∷ []) → P k x
+unfolding InOrder
+in_order_one P k x h = h.0
+
+rowed_first : (P : ℕ → Seat → Type 0) (ks : List ℕ) (x : Seat) → Rowed P ks (x ∷ []) → (k : ℕ) × P k x
+unfolding Rowed
+rowed_first P [] x h = absurd h
+rowed_first P (k ∷ ks) x h = (k, h.0)
+
+pub rowed_one : (P : ℕ → Seat → Type 0) (ks : List ℕ) (l : List Seat) (x : Seat) → l ≡ x ∷ [] → Rowed P ks l → (k : ℕ) × P k x
+rowed_one P ks l x e h = rowed_first P ks x (subst (Rowed P ks) e h)
+
 -- one number more
 those_snoc : (test : ℕ → Bool) (p k q : ℕ) → q ≡ p + k → those test p (suc k) ≡ those test p k ++ cond (test q) (q ∷ []) []
 unfolding those
