@@ -1,7 +1,7 @@
 -- What a view is after a step, for whoever steps.
 use Rattle.rcu_board.specs.Views.{cpus, seen_at}
 use Rattle.rcu_board.specs.Plays.{touched, reported, looked, accepted, stamp_own, accept_own, with_stamp}
-use Rattle.rcu_board.specs.Seats.{view, reports_of, first_reports, accepted_of, first_accepted, fresh_of, first_fresh}
+use Rattle.rcu_board.specs.Seats.{NeverFalls, view, reports_of, first_reports, accepted_of, first_accepted, fresh_of, first_fresh}
 use Rattle.std.proofs.Common.{◌≡◌, ◌≢◌, ℕ, ◌+◌, ◌*◌, ◌<◌, List, None, [], ◌∷◌, ◌++◌, map, length, get_or, ap, refl, arith, get_or-set_other, get_or-set_same}
 use Rattle.rcu_numbers.specs.Words.{owes_of, number_of}
 use Rattle.rcu_board.specs.declared.board.Seat.{Seat}
@@ -55,3 +55,17 @@ accepted-kept v r e = kept-stamped v.own (number_of r) e
 
 pub fresh-looked : (v : View) (r : ℕ) → fresh_of (looked r v) ≡ None
 fresh-looked v r = fresh-stamped v.own (number_of r)
+
+-- ---- sights
+
+pub never_falls_same : (n : ℕ) (v : View) → NeverFalls n v v
+never_falls_same n v = record { board = omega arith; needed = omega arith; accepts = λ p low. omega arith; turns = λ p low. omega arith }
+
+-- over two steps
+pub never_falls_again : (n : ℕ) (u v w : View) → NeverFalls n u v → NeverFalls n v w → NeverFalls n u w
+never_falls_again n u v w a b = record {
+  board = let x = a.board in let y = b.board in omega arith;
+  needed = let x = a.needed in let y = b.needed in omega arith;
+  accepts = λ p low. let x = a.accepts p low in let y = b.accepts p low in omega arith;
+  turns = λ p low. let x = a.turns p low in let y = b.turns p low in omega arith;
+}

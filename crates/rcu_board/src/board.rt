@@ -73,8 +73,17 @@ pub enum Role {
 #[derive(Drop)]
 pub struct Seat {
     pub(crate) seat: atomic_table::Seat<u64, View>,
-    pub role: Role,
+    pub(crate) role: Role,
     ghost sits: { Sitting role seat.table_id.words seat.me },
+}
+
+impl Seat {
+    /// Whose seat it is.
+    pub fn role(&self) -> Role
+        ensures { result ≡ self.now.role }
+    {
+        self.role
+    }
 }
 
 /// The first seat of a board, from which all others are split.

@@ -22,12 +22,12 @@ fn seats_of_a_shape(rt: HostRuntime) -> Result<(), Fail> {
     assert_eq!(rt; seats.hands.len(), 3);
     assert_eq!(rt; seats.groups.len(), 2);
     let mut hands = seats.hands.into_iter();
-    assert_eq!(rt; hands.next().map(|seat| seat.role), Some(Role::Hand(1)));
-    assert_eq!(rt; hands.next().map(|seat| seat.role), Some(Role::Hand(4)));
-    assert_eq!(rt; hands.next().map(|seat| seat.role), Some(Role::Hand(5)));
+    assert_eq!(rt; hands.next().map(|seat| seat.role()), Some(Role::Hand(1)));
+    assert_eq!(rt; hands.next().map(|seat| seat.role()), Some(Role::Hand(4)));
+    assert_eq!(rt; hands.next().map(|seat| seat.role()), Some(Role::Hand(5)));
     let mut groups = seats.groups.into_iter();
-    assert_eq!(rt; groups.next().map(|seat| seat.role), Some(Role::Group(0)));
-    assert_eq!(rt; groups.next().map(|seat| seat.role), Some(Role::Group(2)));
+    assert_eq!(rt; groups.next().map(|seat| seat.role()), Some(Role::Group(0)));
+    assert_eq!(rt; groups.next().map(|seat| seat.role()), Some(Role::Group(2)));
     Ok(())
 }
 
