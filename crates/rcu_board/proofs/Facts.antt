@@ -1,0 +1,71 @@
+-- What a view is after a step, for whoever steps.
+use Rattle.rcu_board.specs.Views.{cpus, seen_at}
+use Rattle.rcu_board.specs.Plays.{touched, reported, looked, accepted, stamp_own, accept_own, with_stamp}
+use Rattle.rcu_board.specs.Seats.{NeverFalls, view, reports_of, first_reports, accepted_of, first_accepted, fresh_of, first_fresh}
+use Rattle.std.proofs.Common.{◌≡◌, ◌≢◌, ℕ, ◌+◌, ◌*◌, ◌<◌, List, None, [], ◌∷◌, ◌++◌, map, length, get_or, ap, refl, arith, get_or-set_other, get_or-set_same}
+use Rattle.rcu_numbers.specs.Words.{owes_of, number_of}
+use Rattle.rcu_board.specs.declared.board.Seat.{Seat}
+use Rattle.rcu_board.specs.declared.board.Role.TheVariants.{Processor}
+use Rattle.rcu_board.specs.declared.view.View.{View}
+use Rattle.rcu_board.specs.declared.view.Own.{Own}
+
+-- what the seat last saw of the word that it stepped on
+pub seen-touched : (s : Seat) (i x : ℕ) → i < s.seat.table_id.words → seen_at (touched i x (view s)) i ≡ x
+seen-touched s i x h = get_or-set_same s.seat.me.0.seen i x 0 (omega (arith, s.sits.seated.seen_long))
+
+pub seen-other : (v : View) (i j x : ℕ) → j ≢ i → seen_at (touched i x v) j ≡ seen_at v j
+seen-other v i j x ne = get_or-set_other v.seen i j x 0 ne
+
+pub steps-touched : (s : Seat) (i x : ℕ) → i < s.seat.table_id.words → get_or (touched i x (view s)).steps i 0 ≡ get_or (view s).steps i 0 + 1
+steps-touched s i x h = get_or-set_same s.seat.me.0.steps i (get_or s.seat.me.0.steps i 0 + 1) 0 (omega (arith, s.sits.seated.steps_long))
+
+reports-own : (l : List Own) (p r : ℕ) → cpus l ≡ p ∷ [] → first_reports (map (Rattle.rcu_board.specs.Plays.report_own r) l) ≡ first_reports l + owes_of r p
+reports-own [] p r e = absurd (omega (arith, ap length e))
+reports-own (o ∷ os) p r e = ap (λ (l : List ℕ). o.reports + owes_of r (get_or l 0 0)) e
+
+pub reports-reported : (s : Seat) (p r : ℕ) → s.role ≡ Processor p → reports_of (reported r (view s)) ≡ reports_of (view s) + owes_of r p
+reports-reported s p r is = reports-own s.seat.me.0.own p r (s.sits.own p is)
+
+pub seen-reported : (s : Seat) (r : ℕ) → 0 < s.seat.table_id.words → seen_at (reported r (view s)) 0 ≡ r
+seen-reported s r h = get_or-set_same s.seat.me.0.seen 0 r 0 (omega (arith, s.sits.seated.seen_long))
+
+pub near-processor : (s : Seat) (p : ℕ) → s.role ≡ Processor p → 5 + 3 * p < s.seat.table_id.words
+near-processor s p is = s.sits.processor p is
+
+-- ---- accepted numbers
+
+stamped-accepted : (l : List Own) (p key r : ℕ) → cpus l ≡ p ∷ [] → first_accepted (map (stamp_own r) (map (accept_own key) l)) ≡ first_accepted l ++ record { key = key; stamp = r } ∷ []
+stamped-accepted [] p key r e = absurd (omega (arith, ap length e))
+stamped-accepted (o ∷ os) p key r e = refl
+
+fresh-stamped : (l : List Own) (r : ℕ) → first_fresh (map (stamp_own r) l) ≡ None
+fresh-stamped [] r = refl
+fresh-stamped (o ∷ os) r = refl
+
+kept-stamped : (l : List Own) (r : ℕ) → first_fresh l ≡ None → first_accepted (map (stamp_own r) l) ≡ first_accepted l
+kept-stamped [] r e = refl
+kept-stamped (o ∷ os) r e = ap (with_stamp r o.accepted) e
+
+-- after an accepting step and a look
+pub accepted-looked : (s : Seat) (p i x key r : ℕ) → s.role ≡ Processor p → accepted_of (looked r (accepted i x key (view s))) ≡ accepted_of (view s) ++ record { key = key; stamp = number_of r } ∷ []
+accepted-looked s p i x key r is = stamped-accepted s.seat.me.0.own p key (number_of r) (s.sits.own p is)
+
+pub accepted-kept : (v : View) (r : ℕ) → fresh_of v ≡ None → accepted_of (looked r v) ≡ accepted_of v
+accepted-kept v r e = kept-stamped v.own (number_of r) e
+
+pub fresh-looked : (v : View) (r : ℕ) → fresh_of (looked r v) ≡ None
+fresh-looked v r = fresh-stamped v.own (number_of r)
+
+-- ---- sights
+
+pub never_falls_same : (n : ℕ) (v : View) → NeverFalls n v v
+never_falls_same n v = record { board = omega arith; needed = omega arith; accepts = λ p low. omega arith; turns = λ p low. omega arith }
+
+-- over two steps
+pub never_falls_again : (n : ℕ) (u v w : View) → NeverFalls n u v → NeverFalls n v w → NeverFalls n u w
+never_falls_again n u v w a b = record {
+  board = let x = a.board in let y = b.board in omega arith;
+  needed = let x = a.needed in let y = b.needed in omega arith;
+  accepts = λ p low. let x = a.accepts p low in let y = b.accepts p low in omega arith;
+  turns = λ p low. let x = a.turns p low in let y = b.turns p low in omega arith;
+}

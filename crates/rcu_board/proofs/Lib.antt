@@ -1,0 +1,13 @@
+pub mod Asks
+pub mod Views
+pub mod Moved
+pub mod BoardSteps
+pub mod Sits
+pub mod WordSteps
+pub mod Groups
+pub mod Opening
+pub mod Whole
+pub mod Rows
+pub mod Facts
+pub mod Later
+pub mod Bits

@@ -1,0 +1,12 @@
+use Rattle.std.proofs.Common.{ℕ, ◌≡◌, ◌+◌, ◌-◌, ◌*◌, ◌/◌, ◌<◌, ◌≤◌, arith, ap, sym, subst, ◌∙◌, refl, max, map}
+use Rattle.atomic_table.specs.Table.{Me}
+use Rattle.rcu_board.specs.declared.view.View.{View}
+use Rattle.rcu_board.specs.Words.{words_of}
+use Rattle.rcu_board.specs.Seats.{NeverFalls}
+use Rattle.rcu_board.proofs.Sits.{sits_else, alike_same}
+use Rattle.rcu_board.proofs.Later.{later_accepts}
+use Rattle.rcu_board.proofs.WordSteps.{count_allowed}
+use Rattle.rcu_board.proofs.steps.count_of.Goals as goal
+
+pub load-requires : goal.load-requires
+load-requires c = let b = c.args.board.now in let w = b.sized in let k = b.framed in let s = c.args.seat.now.sits in let m = c.args.seat.now.seat.me in (c.requires.board, omega arith, count_allowed _ _ _ _ m s.seated.live c.args.p (omega arith))

@@ -1,0 +1,12 @@
+use Rattle.std.proofs.Common.{◌≡◌, ◌≤◌, [], length}
+use Rattle.std.specs.Prelude.{None}
+use Rattle.rcu_board.specs.Roles.{MayClaim}
+use Rattle.rcu_board.specs.Seats.{view, AtBoard, SameSeat, accepted_of, fresh_of}
+use Rattle.rcu_board.proofs.tests.be_driver.Given as goal
+
+abbrev pub invariant-loop-n : goal.invariant-loop-n
+invariant-loop-n l = record {
+  board : AtBoard l.board l.seat;
+  same : SameSeat l.fn.seat l.seat;
+  rests : (view l.seat).running ≡ (view l.fn.seat).running;
+}

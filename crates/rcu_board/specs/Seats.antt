@@ -1,0 +1,101 @@
+-- Words for the clauses of steps.
+use Rattle.std.specs.Prelude.{◌≡◌, ℕ, ◌<◌, ◌≤◌, List, [], ◌∷◌, Option, None}
+use Rattle.rcu_numbers.specs.Words.{owes_of}
+use Rattle.rcu_board.specs.Words.{accepts_word, turns_word}
+use Rattle.rcu_board.specs.Views.{seen_at, sight}
+use Rattle.rcu_board.specs.Roles.{IsProcessor, cpu_of_role}
+use Rattle.rcu_board.specs.declared.board.Role.{Role}
+use Rattle.rcu_board.specs.declared.board.Board.{Board}
+use Rattle.rcu_board.specs.declared.board.Seat.{Seat}
+use Rattle.rcu_board.specs.declared.board.Maker.{Maker}
+use Rattle.rcu_board.specs.declared.board.Gathered.{Gathered}
+use Rattle.rcu_board.specs.declared.view.Own.{Own}
+use Rattle.rcu_board.specs.declared.view.Claim.{Claim}
+use Rattle.rcu_board.specs.declared.view.Accepted.{Accepted}
+use Rattle.rcu_board.specs.declared.view.View.{View}
+
+abbrev pub view : Seat → View
+view s = s.seat.me.0
+
+-- the seat is one of this board
+abbrev pub AtBoard : Board → Seat → Type 0
+AtBoard b s = s.seat.table_id ≡ b.table.shared.table_id
+
+-- it is the same seat, whatever it knows
+pub record SameSeat (s t : Seat) : Type 0 where
+  pub role : t.role ≡ s.role
+  pub table : t.seat.table_id ≡ s.seat.table_id
+  pub weight : (view t).weight ≡ (view s).weight
+
+-- no sight is below what it was, on a board for n processors
+pub record NeverFalls (n : ℕ) (v w : View) : Type 0 where
+  pub board : sight v ≤ sight w
+  pub needed : seen_at v 1 ≤ seen_at w 1
+  pub accepts : (p : ℕ) → p < n → seen_at v (accepts_word p) ≤ seen_at w (accepts_word p)
+  pub turns : (p : ℕ) → p < n → seen_at v (turns_word p) ≤ seen_at w (turns_word p)
+
+-- ---- the processor whose seat it is
+
+abbrev pub first_reports : List Own → ℕ
+first_reports [] = 0
+first_reports (o ∷ os) = o.reports
+
+-- the counted reports
+abbrev pub reports_of : View → ℕ
+reports_of v = first_reports v.own
+
+abbrev pub first_accepted : List Own → List Accepted
+first_accepted [] = []
+first_accepted (o ∷ os) = o.accepted
+
+-- the accepted numbers that have a stamp, with their keys
+abbrev pub accepted_of : View → List Accepted
+accepted_of v = first_accepted v.own
+
+abbrev pub first_fresh : List Own → Option ℕ
+first_fresh [] = None
+first_fresh (o ∷ os) = o.fresh
+
+-- the key of the accepted number that has none yet
+abbrev pub fresh_of : View → Option ℕ
+fresh_of v = first_fresh v.own
+
+-- ---- claims
+
+abbrev pub first_number : List Claim → ℕ
+first_number [] = 0
+first_number (c ∷ cs) = c.number
+
+-- the number whose claim runs
+abbrev pub running_number : View → ℕ
+running_number v = first_number v.running
+
+-- one claim runs, on processor p
+pub record IsRunning (p : ℕ) (v : View) : Type 0 where
+  pub claim : Claim
+  pub alone : v.running ≡ claim ∷ []
+  pub cpu : claim.cpu ≡ p
+  pub small : claim.number < 1000000
+
+-- ---- urging
+
+-- a processor that is offloadable
+abbrev pub MayHear : Board → Role → Type 0
+MayHear b r = IsProcessor r × (owes_of b.offloadable (cpu_of_role r) ≡ 1)
+
+-- ---- the seat that makes the others, and the one that takes them in
+
+abbrev pub maker_view : Maker → View
+maker_view s = s.seat.me.0
+
+abbrev pub MakerAt : Board → Maker → Type 0
+MakerAt b s = s.seat.table_id ≡ b.table.shared.table_id
+
+abbrev pub gathered_view : Gathered → View
+gathered_view s = s.seat.me.0
+
+abbrev pub GatheredAt : Board → Gathered → Type 0
+GatheredAt b s = s.seat.table_id ≡ b.table.shared.table_id
+
+abbrev pub SameGathered : Gathered → Gathered → Type 0
+SameGathered s t = t.seat.table_id ≡ s.seat.table_id

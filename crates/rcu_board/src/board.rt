@@ -1,0 +1,101 @@
+//! What the parts share, and what each of them steps with.
+
+ghost use Rattle.std.specs.Prelude.{◌≡◌, ◌+◌, ◌*◌, ◌<◌, ◌≤◌, ◌^◌, ◌↔◌, IsTrue};
+ghost use Rattle.rcu_board.specs.Roles.{Sitting, Making};
+ghost use Rattle.rcu_numbers.specs.Words.{owes_of};
+
+use crate::plays::Rule;
+use crate::view::View;
+use atomic_table::Table;
+use rcu_numbers::BoardWord;
+use std::alloc::Global;
+
+/// What a board was made for: how many processors, and the mask of the offloadable ones.
+#[derive(Clone, Copy)]
+pub struct Frame {
+    pub processors: u64,
+    pub offloadable: u32,
+}
+
+/// The words that all parts share (docs/specification/tables.md, "Words of the board"). Each changes only by the steps
+/// of this crate, and between any two steps of any threads they and the views of all seats keep the board's rule,
+/// `Kept` in specs/Laws. To share a board among threads, put it into an `Arc`.
+#[derive(Drop)]
+pub struct Board {
+    pub(crate) table: Table<u64, View, Frame, Rule, Global>,
+    pub(crate) processors: u64,
+    pub(crate) offloadable: u32,
+    ghost sized: { table.shared.table_id.words ≡ 4 + 3 * processors },
+    ghost framed: { table.shared.key.processors ≡ processors },
+    ghost few: { processors ≤ 32 },
+}
+
+impl Board {
+    /// How many processors there are, 1 to 32.
+    pub fn processors(&self) -> u64
+        ensures same { result ≡ self.now.processors }
+        ensures few { result ≤ 32 }
+    {
+        self.processors
+    }
+
+    /// Whether processor `p` starts Offloaded and may be switched.
+    pub fn is_offloadable(&self, p: u64) -> bool
+        requires { p < 32 }
+        ensures { IsTrue result ↔ (owes_of self.now.offloadable p ≡ 1) }
+    {
+        is_offloadable(self.offloadable, p)
+    }
+}
+
+/// Whether bit `p` stands in the mask.
+pub(crate) fn is_offloadable(mask: u32, p: u64) -> bool
+    requires { p < 32 }
+    ensures { IsTrue result ↔ (owes_of mask p ≡ 1) }
+{
+    BoardWord::pack(0, mask).owes(p)
+}
+
+/// Whose seat it is.
+#[derive(Clone, Copy, Debug, PartialEq, Eq)]
+pub enum Role {
+    /// Of the processor of this number.
+    Processor(u64),
+    /// Of the hand of the processor of this number.
+    Hand(u64),
+    /// Of the group of this number.
+    Group(u64),
+    Driver,
+    Control,
+}
+
+/// What one part steps with. It has no bytes but the role's; what it knows is its view, which exists in proofs alone.
+#[derive(Drop)]
+pub struct Seat {
+    pub(crate) seat: atomic_table::Seat<u64, View>,
+    pub(crate) role: Role,
+    ghost sits: { Sitting role seat.table_id.words seat.me },
+}
+
+impl Seat {
+    /// Whose seat it is.
+    pub fn role(&self) -> Role
+        ensures { result ≡ self.now.role }
+    {
+        self.role
+    }
+}
+
+/// The first seat of a board, from which all others are split.
+#[derive(Drop)]
+pub struct Maker {
+    pub(crate) seat: atomic_table::Seat<u64, View>,
+    ghost makes: { Making seat.table_id.words seat.me },
+}
+
+/// A seat that takes in others, and can make no more steps of any role.
+#[derive(Drop)]
+pub struct Gathered {
+    pub(crate) seat: atomic_table::Seat<u64, View>,
+    ghost live: { 0 < seat.me.0.weight },
+}

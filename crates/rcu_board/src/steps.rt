@@ -1,0 +1,394 @@
+//! The steps of the running seats, each on one word (docs/specification/tables.md, "Kinds of atomic step"). Each asks
+//! that its seat is one of those that the table names.
+
+ghost use Rattle.std.specs.Prelude.{◌≡◌, ◌≢◌, ℕ, ◌+◌, ◌*◌, ◌%◌, ◌<◌, ◌≤◌, ◌↔◌, IsTrue, IfSome, IfNone, IfOk, IfErr, OnOk, None, [], length, max, bit_or, bit_and};
+ghost use Rattle.std.specs.Int.{from_bool};
+ghost use Rattle.rcu_numbers.specs.Numbers.{IsIdle, IsInProgress};
+ghost use Rattle.rcu_numbers.specs.Words.{Owes, packed, all_of, all_but_of, owes_of};
+ghost use Rattle.rcu_board.specs.Words.{accepts_word, turns_word, asks_word, urge_word, bits_of};
+ghost use Rattle.rcu_board.specs.Views.{sight, seen_at};
+ghost use Rattle.rcu_board.specs.Laws.{IsBoard};
+ghost use Rattle.rcu_board.specs.Plays.{touched, looked, reported, accepted, claiming, finished, urged};
+ghost use Rattle.rcu_board.specs.Roles.{IsProcessor, IsDriver, IsControl, MayNeed, MayCount, MayClaim, MayHalt, cpu_of_role};
+ghost use Rattle.rcu_board.specs.Seats.{view, AtBoard, SameSeat, NeverFalls, MayHear, IsRunning, running_number, reports_of, accepted_of, fresh_of};
+ghost use Rattle.rcu_board.specs.Claims.{IfWon, IfNot};
+
+use crate::board::{Board, Role, Seat};
+use crate::plays::{
+    Accept, Drive, Finish, Hear, Look, Need, Report, Shut, Switch, Take, Touch, Urge,
+};
+use rcu_numbers::{BoardWord, all_but, all_processors, ended};
+
+/// The word of the number and the mask.
+pub(crate) const BOARD_WORD: usize = 0;
+
+/// The word of the greatest number asked for.
+pub(crate) const NEEDED_WORD: usize = 1;
+
+/// The word that `halt` sets.
+pub(crate) const HALT_WORD: usize = 2;
+
+/// Where the accept word of processor 0 stands. The urge word stands where that of the next processor would.
+pub(crate) const FIRST_ACCEPTS: usize = 3;
+
+/// Where the turn word of processor 0 stands.
+pub(crate) const FIRST_TURNS: usize = 4;
+
+/// Where the word stands that says what processor 0 is asked to be.
+pub(crate) const FIRST_ASKS: usize = 5;
+
+/// How many words a processor has.
+pub(crate) const WORDS_EACH: usize = 3;
+
+// ---- the board word and `needed`
+
+/// Loads the board word. A number of the seat's own that was accepted and has no stamp gets the number seen.
+pub fn look(board: &Board, seat: &mut Seat) -> BoardWord
+    requires { AtBoard board.now seat.old }
+    ensures same { SameSeat seat.old seat.new }
+    ensures view { view seat.new ≡ looked (bits_of result) (view seat.old) }
+    ensures later { NeverFalls board.now.processors (view seat.old) (view seat.new) }
+    ensures sight { sight (view seat.new) ≡ result.seq }
+    ensures word { IsBoard (bits_of result) }
+    ensures driver { seat.old.role ≡ Role.Driver → result.seq ≡ sight (view seat.old) }
+{
+    BoardWord::from_bits(board.table.shared.load::<Look>(&mut seat.seat, BOARD_WORD))
+}
+
+/// Clears the bit of the seat's processor, and answers the word as it was. The report is counted where the bit was set.
+pub fn report(board: &Board, seat: &mut Seat) -> BoardWord
+    requires board { AtBoard board.now seat.old }
+    requires who { IsProcessor seat.old.role }
+    ensures same { SameSeat seat.old seat.new }
+    ensures view { view seat.new ≡ reported (bits_of result) (view seat.old) }
+    ensures later { NeverFalls board.now.processors (view seat.old) (view seat.new) }
+    ensures word { IsBoard (bits_of result) }
+    ensures counted { Owes result (cpu_of_role seat.old.role) → result.seq ≡ 4 * reports_of (view seat.old) + 1 }
+{
+    let Role::Processor(p) = seat.role else {
+        unreachable!()
+    };
+    let found = board
+        .table
+        .shared
+        .fetch_and::<Report>(&mut seat.seat, BOARD_WORD, all_but(p));
+    BoardWord::from_bits(found)
+}
+
+/// Starts a grace period, where the seat's sight `seq` is idle. It always wins, since the driver's sight is the number.
+pub fn start(board: &Board, seat: &mut Seat, seq: u64)
+    requires board { AtBoard board.now seat.old }
+    requires who { IsDriver seat.old.role }
+    requires seen { sight (view seat.old) ≡ seq }
+    requires idle { IsIdle seq }
+    requires left { seq < 2147483644 }
+    ensures same { SameSeat seat.old seat.new }
+    ensures view { view seat.new ≡ touched 0 (packed (seq + 1) (all_of board.now.processors)) (view seat.old) }
+    ensures later { NeverFalls board.now.processors (view seat.old) (view seat.new) }
+    ensures sight { sight (view seat.new) ≡ seq + 1 }
+{
+    let idle = BoardWord::pack(seq, 0).bits();
+    let begun = BoardWord::pack(seq + 1, all_processors(board.processors)).bits();
+    board
+        .table
+        .shared
+        .compare_exchange::<Drive>(&mut seat.seat, BOARD_WORD, idle, begun);
+}
+
+/// Ends the grace period `seq` that the seat sees in progress.
+///
+/// # Errors
+///
+/// The word as it was, where some processor still owes a report.
+pub fn end(board: &Board, seat: &mut Seat, seq: u64) -> Result<(), BoardWord>
+    requires board { AtBoard board.now seat.old }
+    requires who { IsDriver seat.old.role }
+    requires seen { sight (view seat.old) ≡ seq }
+    requires busy { IsInProgress seq }
+    ensures same { SameSeat seat.old seat.new }
+    ensures later { NeverFalls board.now.processors (view seat.old) (view seat.new) }
+    ensures ended { OnOk result (view seat.new ≡ touched 0 (packed (seq + 3) 0) (view seat.old)) }
+    ensures next { OnOk result (sight (view seat.new) ≡ seq + 3) }
+    ensures waits { IfErr result (λ word. view seat.new ≡ touched 0 (bits_of word) (view seat.old)) }
+    ensures number { IfErr result (λ word. word.seq ≡ seq) }
+    ensures owed { IfErr result (λ word. word.mask ≢ 0) }
+{
+    let clear = BoardWord::pack(seq, 0).bits();
+    let over = BoardWord::pack(ended(seq), 0).bits();
+    let found = board
+        .table
+        .shared
+        .compare_exchange::<Drive>(&mut seat.seat, BOARD_WORD, clear, over);
+    if found == clear {
+        return Ok(());
+    }
+    Err(BoardWord::from_bits(found))
+}
+
+/// Asks for the number `seq`, and answers the greatest number that was asked for before.
+pub fn need(board: &Board, seat: &mut Seat, seq: u64) -> u64
+    requires board { AtBoard board.now seat.old }
+    requires who { MayNeed seat.old.role }
+    ensures same { SameSeat seat.old seat.new }
+    ensures view { view seat.new ≡ touched 1 (max result seq) (view seat.old) }
+    ensures later { NeverFalls board.now.processors (view seat.old) (view seat.new) }
+{
+    board
+        .table
+        .shared
+        .fetch_max::<Need>(&mut seat.seat, NEEDED_WORD, seq)
+}
+
+/// Loads the greatest number asked for.
+pub fn needed(board: &Board, seat: &mut Seat) -> u64
+    requires board { AtBoard board.now seat.old }
+    requires who { IsDriver seat.old.role }
+    ensures same { SameSeat seat.old seat.new }
+    ensures view { view seat.new ≡ touched 1 result (view seat.old) }
+    ensures later { NeverFalls board.now.processors (view seat.old) (view seat.new) }
+{
+    board
+        .table
+        .shared
+        .load::<Touch>(&mut seat.seat, NEEDED_WORD)
+}
+
+// ---- the accept words
+
+/// Accepts one callback more, with this key, and answers its number, which is the old `count`; None where the
+/// processor was shut.
+pub fn accept(board: &Board, seat: &mut Seat, count: u64, key: u64) -> Option<u64>
+    requires board { AtBoard board.now seat.old }
+    requires who { IsProcessor seat.old.role }
+    requires count { length (accepted_of (view seat.old)) ≡ count }
+    requires stamped { fresh_of (view seat.old) ≡ None }
+    requires small { count < 1000000 }
+    ensures same { SameSeat seat.old seat.new }
+    ensures later { NeverFalls board.now.processors (view seat.old) (view seat.new) }
+    ensures number { IfSome result (λ number. number ≡ count) }
+    ensures won { IfSome result (λ number. view seat.new ≡ accepted (accepts_word (cpu_of_role seat.old.role)) (2 * count + 2) key (view seat.old)) }
+    ensures shut { IfNone result (view seat.new ≡ touched (accepts_word (cpu_of_role seat.old.role)) (2 * count + 1) (view seat.old)) }
+{
+    let Role::Processor(p) = seat.role else {
+        unreachable!()
+    };
+    let old = 2 * count;
+    let found = board.table.shared.compare_exchange_with::<Accept>(
+        &mut seat.seat,
+        FIRST_ACCEPTS + WORDS_EACH * p as usize,
+        old,
+        old + 2,
+        &key,
+    );
+    if found != old {
+        return None;
+    }
+    Some(count)
+}
+
+/// Shuts processor `p`, and answers how many callbacks it had accepted.
+pub fn shut_one(board: &Board, seat: &mut Seat, p: u64) -> u64
+    requires board { AtBoard board.now seat.old }
+    requires who { IsControl seat.old.role }
+    requires near { p < board.now.processors }
+    ensures same { SameSeat seat.old seat.new }
+    ensures view { view seat.new ≡ touched (accepts_word p) (2 * result + 1) (view seat.old) }
+    ensures later { NeverFalls board.now.processors (view seat.old) (view seat.new) }
+{
+    let found = board
+        .table
+        .shared
+        .fetch_or::<Shut>(&mut seat.seat, FIRST_ACCEPTS + WORDS_EACH * p as usize, 1);
+    found / 2
+}
+
+/// Loads twice the count of the callbacks that processor `p` accepted, plus 1 once it was shut.
+pub fn count_of(board: &Board, seat: &mut Seat, p: u64) -> u64
+    requires board { AtBoard board.now seat.old }
+    requires who { MayCount seat.old.role }
+    requires near { p < board.now.processors }
+    ensures same { SameSeat seat.old seat.new }
+    ensures view { view seat.new ≡ touched (accepts_word p) result (view seat.old) }
+    ensures later { NeverFalls board.now.processors (view seat.old) (view seat.new) }
+{
+    board
+        .table
+        .shared
+        .load::<Touch>(&mut seat.seat, FIRST_ACCEPTS + WORDS_EACH * p as usize)
+}
+
+// ---- the turn words
+
+/// What a claim met.
+#[derive(Clone, Copy, Debug, PartialEq, Eq)]
+pub enum Claimed {
+    /// The claim runs.
+    Won,
+    /// It was not this number's turn: the turn word as it was found.
+    Not(u64),
+}
+
+/// Claims `number` of the seat's own processor.
+pub fn claim(board: &Board, seat: &mut Seat, number: u64) -> Claimed
+    requires board { AtBoard board.now seat.old }
+    requires who { MayClaim seat.old.role }
+    requires rests { (view seat.old).running ≡ [] }
+    requires small { number < 1000000 }
+    ensures same { SameSeat seat.old seat.new }
+    ensures later { NeverFalls board.now.processors (view seat.old) (view seat.new) }
+    ensures won { let p = cpu_of_role seat.old.role in IfWon result (view seat.new ≡ claiming (turns_word p) (2 * number + 1) p number (view seat.old)) }
+    ensures lost { IfNot result (λ word. view seat.new ≡ touched (turns_word (cpu_of_role seat.old.role)) word (view seat.old)) }
+    ensures other { IfNot result (λ word. word ≢ 2 * number) }
+{
+    let p = cpu(&seat.role);
+    let old = 2 * number;
+    let found = board.table.shared.compare_exchange::<Take>(
+        &mut seat.seat,
+        FIRST_TURNS + WORDS_EACH * p as usize,
+        old,
+        old + 1,
+    );
+    if found != old {
+        return Claimed::Not(found);
+    }
+    Claimed::Won
+}
+
+/// Ends the claim that runs.
+pub fn finish(board: &Board, seat: &mut Seat)
+    requires board { AtBoard board.now seat.old }
+    requires who { MayClaim seat.old.role }
+    requires runs { IsRunning (cpu_of_role seat.old.role) (view seat.old) }
+    ensures same { SameSeat seat.old seat.new }
+    ensures view { view seat.new ≡ finished (turns_word (cpu_of_role seat.old.role)) (2 * running_number (view seat.old) + 2) (view seat.old) }
+    ensures later { NeverFalls board.now.processors (view seat.old) (view seat.new) }
+{
+    let p = cpu(&seat.role);
+    board
+        .table
+        .shared
+        .fetch_add::<Finish>(&mut seat.seat, FIRST_TURNS + WORDS_EACH * p as usize, 1);
+}
+
+/// Loads twice the number of the next callback of processor `p` to run, plus 1 while it runs.
+pub fn turn_of(board: &Board, seat: &mut Seat, p: u64) -> u64
+    requires board { AtBoard board.now seat.old }
+    requires who { MayCount seat.old.role }
+    requires near { p < board.now.processors }
+    ensures same { SameSeat seat.old seat.new }
+    ensures view { view seat.new ≡ touched (turns_word p) result (view seat.old) }
+    ensures later { NeverFalls board.now.processors (view seat.old) (view seat.new) }
+{
+    board
+        .table
+        .shared
+        .load::<Touch>(&mut seat.seat, FIRST_TURNS + WORDS_EACH * p as usize)
+}
+
+/// The processor whose seat or hand it is.
+fn cpu(role: &Role) -> u64
+    requires { MayClaim role.now }
+    ensures { result ≡ cpu_of_role role.now }
+{
+    match role {
+        Role::Processor(p) | Role::Hand(p) => *p,
+        _ => unreachable!(),
+    }
+}
+
+// ---- switches and urging
+
+/// Asks that processor `p` be offloaded (`on`) or local.
+pub fn ask(board: &Board, seat: &mut Seat, p: u64, on: bool)
+    requires board { AtBoard board.now seat.old }
+    requires who { IsControl seat.old.role }
+    requires near { p < board.now.processors }
+    ensures same { SameSeat seat.old seat.new }
+    ensures view { view seat.new ≡ touched (asks_word p) (from_bool on) (view seat.old) }
+    ensures later { NeverFalls board.now.processors (view seat.old) (view seat.new) }
+{
+    board.table.shared.store::<Switch>(
+        &mut seat.seat,
+        FIRST_ASKS + WORDS_EACH * p as usize,
+        u64::from(on),
+    );
+}
+
+/// Whether the seat's processor was last asked to be offloaded.
+pub fn asked(board: &Board, seat: &mut Seat) -> bool
+    requires board { AtBoard board.now seat.old }
+    requires who { IsProcessor seat.old.role }
+    ensures same { SameSeat seat.old seat.new }
+    ensures view { view seat.new ≡ touched (asks_word (cpu_of_role seat.old.role)) (from_bool result) (view seat.old) }
+    ensures later { NeverFalls board.now.processors (view seat.old) (view seat.new) }
+{
+    let Role::Processor(p) = seat.role else {
+        unreachable!()
+    };
+    let found = board
+        .table
+        .shared
+        .load::<Switch>(&mut seat.seat, FIRST_ASKS + WORDS_EACH * p as usize);
+    found == 1
+}
+
+/// Sets the halt word.
+pub fn halt(board: &Board, seat: &mut Seat)
+    requires board { AtBoard board.now seat.old }
+    requires who { IsControl seat.old.role }
+    ensures same { SameSeat seat.old seat.new }
+    ensures view { view seat.new ≡ touched 2 1 (view seat.old) }
+    ensures later { NeverFalls board.now.processors (view seat.old) (view seat.new) }
+{
+    board
+        .table
+        .shared
+        .store::<Switch>(&mut seat.seat, HALT_WORD, 1);
+}
+
+/// Whether the halt word was set.
+pub fn halted(board: &Board, seat: &mut Seat) -> bool
+    requires board { AtBoard board.now seat.old }
+    requires who { MayHalt seat.old.role }
+    ensures same { SameSeat seat.old seat.new }
+    ensures view { view seat.new ≡ touched 2 (from_bool result) (view seat.old) }
+    ensures later { NeverFalls board.now.processors (view seat.old) (view seat.new) }
+{
+    board.table.shared.load::<Switch>(&mut seat.seat, HALT_WORD) == 1
+}
+
+/// Urges every processor to release its bypass list.
+pub fn urge(board: &Board, seat: &mut Seat)
+    requires board { AtBoard board.now seat.old }
+    requires who { MayCount seat.old.role }
+    ensures same { SameSeat seat.old seat.new }
+    ensures view { let i = urge_word board.now.processors in let found = seen_at (view seat.new) i in view seat.new ≡ urged i found (bit_or found (all_of board.now.processors)) (view seat.old) }
+    ensures later { NeverFalls board.now.processors (view seat.old) (view seat.new) }
+{
+    let every = u64::from(all_processors(board.processors));
+    let urge_word = FIRST_ACCEPTS + WORDS_EACH * board.processors as usize;
+    board
+        .table
+        .shared
+        .fetch_or::<Urge>(&mut seat.seat, urge_word, every);
+}
+
+/// Whether the seat's processor was urged since it last asked.
+pub fn heard(board: &Board, seat: &mut Seat) -> bool
+    requires board { AtBoard board.now seat.old }
+    requires who { MayHear board.now seat.old.role }
+    ensures same { SameSeat seat.old seat.new }
+    ensures view { let i = urge_word board.now.processors in let found = seen_at (view seat.new) i in view seat.new ≡ urged i found (bit_and found (all_but_of (cpu_of_role seat.old.role))) (view seat.old) }
+    ensures later { NeverFalls board.now.processors (view seat.old) (view seat.new) }
+    ensures heard { IsTrue result ↔ (owes_of (seen_at (view seat.new) (urge_word board.now.processors)) (cpu_of_role seat.old.role) ≡ 1) }
+{
+    let Role::Processor(p) = seat.role else {
+        unreachable!()
+    };
+    let urge_word = FIRST_ACCEPTS + WORDS_EACH * board.processors as usize;
+    let found = board
+        .table
+        .shared
+        .fetch_and::<Hear>(&mut seat.seat, urge_word, all_but(p));
+    (found >> p) & 1 == 1
+}
