@@ -1,5 +1,5 @@
 -- A cut list as four lists, and how the bounds move.
-use Rattle.std.proofs.Common.{◌≡◌, ℕ, ◌+◌, ◌-◌, ◌<◌, ◌≤◌, List, [], ◌∷◌, ◌++◌, map, length, take, drop, refl, ap, sym, ◌∙◌, subst, arith, append_assoc, length-append, length-drop, Option, Some, None, MatchOption}
+use Rattle.std.proofs.Common.{◌≡◌, ℕ, ◌+◌, ◌-◌, ◌<◌, ◌≤◌, List, [], ◌∷◌, ◌++◌, map, length, take, drop, refl, ap, sym, ◌∙◌, subst, arith, append_assoc, length-append, length-drop, get_or, Option, Some, None, MatchOption}
 use Rattle.std.specs.Option.{option_to_list}
 use Rattle.std.proofs.lemmas.List.{map-append, append-nil, take_at, drop_at, length-take-le, take-append-drop}
 use Rattle.std.proofs.Math.Seq.{take-append-add, drop-append-add}
@@ -117,3 +117,8 @@ module _ {J : Type 0} where
   pub take-front : (n m i j k t : ℕ) (cs : List (Callback J)) → t ≤ i → i + j + k ≤ length cs → cut i j k n m cs ≡ marked Done (take t cs) ++ cut (i - t) j k n m (drop t cs)
   take-front n m i j k t cs p le = let e : i ≡ length (take t cs) + (i - t) = rw (length-take-le t cs (omega arith)) (omega arith) in
       ap (λ z. cut i j k n m z) (sym (take-append-drop t cs)) ∙ ap (λ z. cut z j k n m (take t cs ++ drop t cs)) e ∙ cut-front n m (i - t) j k (take t cs) (drop t cs)
+
+  -- the first one of those that are done
+  pub first-done : (n m i j k : ℕ) (cs : List (Callback J)) (c : Callback J) → 0 < i → i + j + k ≤ length cs → c ≡ get_or cs 0 c → (rest : List (Labelled J)) × (cut i j k n m cs ≡ marked Done (c ∷ []) ++ rest)
+  first-done n m i j k [] c p le e = absurd (omega arith)
+  first-done n m i j k (x ∷ cs) c p le e = (cut (i - 1) j k n m cs, take-front n m i j k 1 (x ∷ cs) (omega arith) le ∙ ap (λ y. marked Done (y ∷ []) ++ cut (i - 1) j k n m cs) (sym e))

@@ -1,6 +1,6 @@
 -- The values of places that are joined.
-use Rattle.std.proofs.Common.{◌≡◌, ◌+◌, List, [], ◌∷◌, ◌++◌, length, Option, Some, None, refl, ap, ◌∙◌, sym, length-append, MatchOption, ◌≤◌, subst, arith, Bool, true, false, not, IsTrue, ◌↔◌, ◌<◌, take, drop, ℕ}
-use Rattle.std.proofs.Math.Seq.{take-add}
+use Rattle.std.proofs.Common.{◌≡◌, ◌+◌, List, [], ◌∷◌, ◌++◌, length, Option, Some, None, refl, ap, ◌∙◌, sym, length-append, MatchOption, ◌≤◌, subst, arith, Bool, true, false, not, IsTrue, ◌↔◌, ◌<◌, take, drop, get_or, suc, ℕ}
+use Rattle.std.proofs.Math.Seq.{drop-cons, take-add}
 use Rattle.std.proofs.lemmas.List.{drop-drop}
 use Rattle.rcu_lists.specs.Release.{is_any}
 use Rattle.rcu_lists.specs.Filled.{filled, AreFilled}
@@ -37,6 +37,19 @@ module _ {T : Type 0} where
 
   pub takes-first : (A : Type 0) (r place : Option T) (rest : List (Option T)) (old new : List T) → AreFilled (place ∷ rest) → r ≡ place → old ≡ filled (place ∷ rest) → new ≡ filled rest → MatchOption r A (λ x. old ≡ x ∷ new)
   takes-first A r place rest old new h e o n = let P : Option T → Type 0 = λ q. MatchOption q A (λ x. old ≡ x ∷ new) in subst P (sym e) (at_place A place rest old new (first-filled place rest h).1 o n)
+
+-- the first place that wasn't taken
+module _ {T : Type 0} where
+  has-first : (place : Option T) (rest places : List (Option T)) → places ≡ place ∷ rest → MatchOption place ⊥ (λ x. filled (place ∷ rest) ≡ x ∷ filled rest)
+      → MatchOption place ⊥ (λ x. (ys : List T) × (filled places ≡ x ∷ ys))
+  has-first None rest places e h = absurd h
+  has-first (Some x) rest places e h = (filled rest, ap filled e ∙ h)
+
+  pub first-at : (i : ℕ) (places : List (Option T)) (place : Option T) → i < length places → place ≡ get_or places i place → AreFilled (drop i places)
+      → MatchOption place ⊥ (λ x. (ys : List T) × (filled (drop i places) ≡ x ∷ ys))
+  first-at i places place lt e h =
+      let f : drop i places ≡ place ∷ drop (suc i) places = drop-cons places i place lt ∙ ap (λ x. x ∷ drop (suc i) places) (sym e) in
+      has-first place (drop (suc i) places) (drop i places) f (first-filled place (drop (suc i) places) (subst AreFilled f h)).1
 
 pub marks : (r : Bool) (P : Type 0) → (IsTrue r ↔ P) → (P → not r ≡ false) × (not r ≡ false → P)
 marks true P h = ((λ _. refl), λ _. h.0 refl)

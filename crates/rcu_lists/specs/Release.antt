@@ -36,26 +36,41 @@ abbrev pub kept_moment : ℕ → Option ℕ → Option ℕ
 kept_moment moment None = Some moment
 kept_moment moment (Some first) = Some first
 
--- Whether a list is released that has this length with the new callback, and the pace afterwards. For a plain one:
--- "new moment", "after a lazy one", "alone", "high mark". For a lazy one: "high mark".
+-- a plain callback is released alone: the list, with it, has this length
+abbrev pub is_alone : Pace → ℕ → Bool
+is_alone pace len = (len == 1) && nat_lt pace.direct most_direct
+
+-- Whether a list is due to be released that has this length with the new callback. For a plain one: "new moment", "after
+-- a lazy one", "alone", "high mark". For a lazy one: "high mark".
+abbrev pub is_due : ℕ → Kind → Pace → ℕ → ℕ → Bool
+is_due moment Plain pace len qhimark = not (is_at moment pace.last) || (is_some pace.lazy || (is_alone pace len || nat_le qhimark len))
+is_due moment Lazy pace len qhimark = nat_le qhimark len
+
+-- the pace once a callback is in the list, whether or not that is due to be released
+abbrev pub held : ℕ → Kind → Pace → ℕ → Pace
+held moment Plain pace len =
+    if not (is_at moment pace.last) then record pace { last = Some moment; direct = 1; plain = true }
+    else if is_some pace.lazy then record pace { plain = true }
+    else if is_alone pace len then record pace { direct = pace.direct + 1; plain = true }
+    else record pace { plain = true }
+held moment Lazy pace len = record pace { lazy = kept_moment moment pace.lazy }
+
+-- whether a list is released at once as it takes a callback on, and the pace afterwards
 abbrev pub placed : ℕ → Kind → Pace → ℕ → ℕ → Bool × Pace
-placed moment Plain pace len qhimark =
-    if not (is_at moment pace.last) then (true, emptied (record pace { last = Some moment; direct = 1 }))
-    else (if is_some pace.lazy then (true, emptied pace)
-    else (if (len == 1) && nat_lt pace.direct most_direct then (true, emptied (record pace { direct = pace.direct + 1 }))
-    else (if nat_le qhimark len then (true, emptied pace)
-    else (false, record pace { plain = true }))))
-placed moment Lazy pace len qhimark =
-    if nat_le qhimark len then (true, emptied pace)
-    else (false, record pace { lazy = kept_moment moment pace.lazy })
+placed moment kind pace len qhimark =
+    if is_due moment kind pace len qhimark then (true, emptied (held moment kind pace len)) else (false, held moment kind pace len)
 
 -- whether a tick releases a list because of its moment
 abbrev pub is_late : ℕ → Pace → Bool
 is_late moment pace = if pace.plain then not (is_at moment pace.last) else is_ripe moment pace.lazy
 
+-- the pace once a tick's moment is the last one
+abbrev pub restarted : ℕ → Pace → Pace
+restarted moment pace = record pace { last = Some moment; direct = 0 }
+
 -- the pace after a tick's test by its moment
 abbrev pub ticked : ℕ → Pace → Pace
-ticked moment pace = if is_late moment pace then record pace { last = Some moment; direct = 0 } else pace
+ticked moment pace = if is_late moment pace then restarted moment pace else pace
 
 abbrev pub is_any : {X : Type 0} → List X → Bool
 is_any [] = false

@@ -1,6 +1,6 @@
 //! A short list of callbacks, as it goes over a lane.
 
-ghost use Rattle.std.specs.Prelude.{◌≡◌, ℕ, ◌+◌, ◌≤◌, ◌↔◌, [], ◌∷◌, ◌++◌, length, take, drop, IsTrue, MatchOption, OnOk, OnErr};
+ghost use Rattle.std.specs.Prelude.{◌≡◌, ℕ, ◌+◌, ◌≤◌, ◌↔◌, [], ◌∷◌, ◌++◌, length, take, drop, IsOk, IsTrue, List, MatchOption, OnOk, OnErr};
 ghost use Rattle.std.specs.VecDeque.{deque_capacity};
 ghost use Rattle.rcu_lists.specs.Filled.{AreFilled};
 
@@ -60,6 +60,7 @@ impl<J: Drop> Batch<J> {
     pub fn reserve(&mut self, more: usize) -> Result<(), AllocError>
         ensures items { batch_items self.new ≡ batch_items self.old }
         ensures found { OnOk result (HasRoom self.new more) }
+        ensures had { HasRoom self.old more → IsOk result }
         ensures room { (k : ℕ) → HasRoom self.old k → HasRoom self.new k }
         ensures refused { OnErr result (self.new ≡ self.old) }
     {
@@ -73,6 +74,19 @@ impl<J: Drop> Batch<J> {
         ensures room { (k : ℕ) → HasRoom self.old (k + 1) → HasRoom self.new k }
     {
         self.slots.push_reserved(Some(callback))
+    }
+
+    /// The first callback.
+    pub fn first(&self) -> Option<&Callback<J>>
+        ensures { MatchOption result (batch_items self.now ≡ []) (λ c. (rest : List (Callback J)) × (batch_items self.now ≡ c.now ∷ rest)) }
+    {
+        let Some(slot) = self.slots.get(self.next) else {
+            return None;
+        };
+        match slot {
+            Some(first) => Some(first),
+            None => unreachable!(),
+        }
     }
 
     /// Takes the first callback.

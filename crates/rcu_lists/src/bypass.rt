@@ -1,6 +1,6 @@
 //! The list in which an offloaded processor holds its callbacks back.
 
-ghost use Rattle.std.specs.Prelude.{◌≡◌, ℕ, ◌+◌, true, false, [], ◌∷◌, ◌++◌, None, OnOk, OnErr, length};
+ghost use Rattle.std.specs.Prelude.{◌≡◌, ◌↔◌, ℕ, ◌+◌, true, false, [], ◌∷◌, ◌++◌, None, IsOk, IsTrue, OnOk, OnErr, length};
 ghost use Rattle.rcu_lists.specs.Batches.{batch_items, HasRoom};
 
 use crate::batch::{Batch, INLINE_PLACES};
@@ -32,7 +32,7 @@ pub enum Placed<J> {
 
 impl<J: Drop> Bypass<J> {
     ghost use Rattle.rcu_lists.specs.Bypasses.{bypass_items, bypass_pace, bypass_qhimark, BypassRoom, BypassUnchanged, out_items, is_out};
-    ghost use Rattle.rcu_lists.specs.Release.{beginning, placed, is_late, ticked, emptied, refilled, joined_plain};
+    ghost use Rattle.rcu_lists.specs.Release.{beginning, is_due, held, placed, is_late, restarted, ticked, emptied, refilled, joined_plain};
 
     /// An empty list that is released at the length `qhimark`.
     pub fn new(alloc: Global, qhimark: u64) -> Bypass<J>
@@ -63,8 +63,32 @@ impl<J: Drop> Bypass<J> {
     pub fn reserve(&mut self) -> Result<(), AllocError>
         ensures same { BypassUnchanged self.old self.new }
         ensures found { OnOk result (BypassRoom self.new 1) }
+        ensures had { BypassRoom self.old 1 → IsOk result }
     {
         self.make_room(1)
+    }
+
+    /// Whether it holds none.
+    pub fn is_empty(&self) -> bool
+        ensures { IsTrue result ↔ (bypass_items self.now ≡ []) }
+    {
+        self.held.is_empty()
+    }
+
+    /// Adds a callback at the end, and answers whether the list is due to be released. Nothing is taken out: the kinds
+    /// and the kept moment are those of the list with this callback in it, until a `flush`.
+    pub fn hold(&mut self, moment: u64, kind: Kind, callback: Callback<J>) -> bool
+        requires { BypassRoom self.old 1 }
+        ensures due { result ≡ is_due moment kind (bypass_pace self.old) (length (bypass_items self.old) + 1) (bypass_qhimark self.old) }
+        ensures items { bypass_items self.new ≡ bypass_items self.old ++ callback ∷ [] }
+        ensures pace { bypass_pace self.new ≡ held moment kind (bypass_pace self.old) (length (bypass_items self.old) + 1) }
+        ensures qhimark { bypass_qhimark self.new ≡ bypass_qhimark self.old }
+        ensures room { (k : ℕ) → BypassRoom self.old (k + 1) → BypassRoom self.new k }
+    {
+        self.held.add(callback);
+        let (due, pace) = self.pace.hold(moment, kind, self.held.len(), self.qhimark);
+        self.pace = pace;
+        due
     }
 
     /// Adds a callback at the end, and releases the list where that is due.
@@ -80,14 +104,30 @@ impl<J: Drop> Bypass<J> {
         ensures kept_room { is_out result ≡ false → (k : ℕ) → BypassRoom self.old (k + 1) → BypassRoom self.new k }
         ensures out_room { is_out result ≡ true → BypassRoom self.new INLINE_PLACES }
     {
-        self.held.add(callback);
-        let (out, pace) = self.pace.place(moment, kind, self.held.len(), self.qhimark);
-        self.pace = pace;
-        if out {
-            Placed::Out(self.held.take_all())
+        if self.hold(moment, kind, callback) {
+            Placed::Out(self.flush())
         } else {
             Placed::Kept
         }
+    }
+
+    /// Whether a tick releases the list because of its moment.
+    pub fn is_late(&self, moment: u64) -> bool
+        ensures late { result ≡ is_late moment (bypass_pace self.now) }
+        ensures empty { bypass_items self.now ≡ [] → result ≡ false }
+    {
+        self.pace.is_late(moment)
+    }
+
+    /// A tick's moment becomes the last one, and the count 0.
+    pub fn restart(&mut self, moment: u64)
+        ensures items { bypass_items self.new ≡ bypass_items self.old }
+        ensures pace { bypass_pace self.new ≡ restarted moment (bypass_pace self.old) }
+        ensures qhimark { bypass_qhimark self.new ≡ bypass_qhimark self.old }
+        ensures room { (k : ℕ) → BypassRoom self.old k → BypassRoom self.new k }
+    {
+        self.pace.last = Some(moment);
+        self.pace.direct = 0;
     }
 
     /// Whether a tick releases the list because of its moment, which then becomes the last one, the count 0.
@@ -99,10 +139,9 @@ impl<J: Drop> Bypass<J> {
         ensures qhimark { bypass_qhimark self.new ≡ bypass_qhimark self.old }
         ensures room { (k : ℕ) → BypassRoom self.old k → BypassRoom self.new k }
     {
-        let late = self.pace.is_late(moment);
+        let late = self.is_late(moment);
         if late {
-            self.pace.last = Some(moment);
-            self.pace.direct = 0;
+            self.restart(moment);
         }
         late
     }
@@ -136,6 +175,7 @@ impl<J: Drop> Bypass<J> {
     pub(crate) fn make_room(&mut self, more: usize) -> Result<(), AllocError>
         ensures same { BypassUnchanged self.old self.new }
         ensures found { OnOk result (BypassRoom self.new more) }
+        ensures had { BypassRoom self.old more → IsOk result }
     {
         self.held.reserve(more)
     }

@@ -31,8 +31,8 @@ pub struct Pace {
 }
 
 impl Pace {
-    ghost use Rattle.rcu_lists.specs.declared.pace.Kind.TheVariants.{Plain, Lazy};
-    ghost use Rattle.rcu_lists.specs.Release.{beginning, placed, is_late, is_at, emptied};
+    ghost use Rattle.rcu_lists.specs.declared.pace.Kind.TheVariants.{Plain};
+    ghost use Rattle.rcu_lists.specs.Release.{beginning, is_due, held, kept_moment, is_late, is_at, emptied};
 
     /// The pace of a list that was never used.
     pub fn new() -> Pace
@@ -46,71 +46,60 @@ impl Pace {
         }
     }
 
-    /// Whether a list that now has the length `len` is released, its newest callback being of this kind, and the pace
-    /// afterwards.
-    pub fn place(self, moment: u64, kind: Kind, len: u64, qhimark: u64) -> (bool, Pace)
-        ensures placed { result ≡ placed moment kind self len qhimark }
+    /// Whether a list that now has the length `len` is due to be released, its newest callback being of this kind, and
+    /// the pace with this callback in it.
+    pub fn hold(self, moment: u64, kind: Kind, len: u64, qhimark: u64) -> (bool, Pace)
+        ensures due { result.0 ≡ is_due moment kind self len qhimark }
+        ensures held { result.1 ≡ held moment kind self len }
 
-        // A released list is empty, and one that keeps the callback is not.
-        ensures out { result.0 ≡ true → (result.1.plain ≡ false) × (result.1.lazy ≡ None) }
-        ensures kept { result.0 ≡ false → result.1.plain ≡ false → result.1.lazy ≡ None → ⊥ }
+        // The list is not empty.
+        ensures some { result.1.plain ≡ false → result.1.lazy ≡ None → ⊥ }
     {
         match kind {
-            Kind::Plain => self.place_plain(moment, len, qhimark),
-            Kind::Lazy => self.place_lazy(moment, len, qhimark),
+            Kind::Plain => self.hold_plain(moment, len, qhimark),
+            Kind::Lazy => (len >= qhimark, self.hold_lazy(moment)),
         }
     }
 
     // The rules "new moment", "after a lazy one", "alone" and "high mark", of which the first that holds decides.
-    fn place_plain(self, moment: u64, len: u64, qhimark: u64) -> (bool, Pace)
-        ensures placed { result ≡ placed moment Plain self len qhimark }
-        ensures out { result.0 ≡ true → (result.1.plain ≡ false) × (result.1.lazy ≡ None) }
-        ensures kept { result.0 ≡ false → result.1.plain ≡ true }
+    fn hold_plain(self, moment: u64, len: u64, qhimark: u64) -> (bool, Pace)
+        ensures due { result.0 ≡ is_due moment Plain self len qhimark }
+        ensures held { result.1 ≡ held moment Plain self len }
+        ensures some { result.1.plain ≡ true }
     {
+        let pace = Pace {
+            plain: true,
+            ..self
+        };
         if !self.is_at(moment) {
             let last = Some(moment);
             let pace = Pace {
                 last,
                 direct: 1,
-                ..self.emptied()
+                ..pace
             };
             return (true, pace);
         }
         if self.lazy.is_some() {
-            return (true, self.emptied());
+            return (true, pace);
         }
         if len == 1 && self.direct < MOST_DIRECT {
             let direct = self.direct + 1;
-            let pace = Pace {
-                direct,
-                ..self.emptied()
-            };
-            return (true, pace);
+            return (true, Pace { direct, ..pace });
         }
-        if len >= qhimark {
-            return (true, self.emptied());
-        }
-        let pace = Pace {
-            plain: true,
-            ..self
-        };
-        (false, pace)
+        (len >= qhimark, pace)
     }
 
-    // The rule "high mark" alone.
-    fn place_lazy(self, moment: u64, len: u64, qhimark: u64) -> (bool, Pace)
-        ensures placed { result ≡ placed moment Lazy self len qhimark }
-        ensures out { result.0 ≡ true → (result.1.plain ≡ false) × (result.1.lazy ≡ None) }
-        ensures kept { result.0 ≡ false → result.1.lazy ≡ None → ⊥ }
+    // The moment of the first lazy callback is kept.
+    fn hold_lazy(self, moment: u64) -> Pace
+        ensures held { result ≡ record self { lazy = kept_moment moment self.lazy } }
+        ensures some { result.lazy ≡ None → ⊥ }
     {
-        if len >= qhimark {
-            return (true, self.emptied());
-        }
         let lazy = match self.lazy {
             Some(first) => Some(first),
             None => Some(moment),
         };
-        (false, Pace { lazy, ..self })
+        Pace { lazy, ..self }
     }
 
     /// Whether a tick releases the list because of its moment.

@@ -1,6 +1,6 @@
 //! A list of callbacks that is cut into segments: docs/specification/rules.md, "Callback lists".
 
-ghost use Rattle.std.specs.Prelude.{◌≡◌, ℕ, ◌+◌, ◌<◌, ◌≤◌, ◌↔◌, [], ◌∷◌, ◌++◌, true, ⊤, IsTrue, length, min, max, option_to_list, All, MatchOption, IfSome, IfOk, OnOk, OnErr};
+ghost use Rattle.std.specs.Prelude.{◌≡◌, ℕ, ◌+◌, ◌<◌, ◌≤◌, ◌↔◌, [], ◌∷◌, ◌++◌, true, ⊤, IsTrue, length, min, max, option_to_list, All, List, MatchOption, IfSome, IfOk, IsOk, OnOk, OnErr};
 ghost use Rattle.rcu_numbers.specs.Numbers.{snap_of};
 ghost use Rattle.rcu_lists.specs.Batches.{batch_items};
 ghost use Rattle.rcu_lists.specs.Bypasses.{bypass_items, bypass_pace, bypass_qhimark, BypassUnchanged};
@@ -71,6 +71,7 @@ impl<J: Drop> Segments<J> {
     pub fn reserve(&mut self, more: usize) -> Result<(), AllocError>
         ensures same { SegmentsUnchanged self.old self.new }
         ensures found { OnOk result (SegmentsRoom self.new more) }
+        ensures had { SegmentsRoom self.old more → IsOk result }
     {
         self.list.reserve(more)
     }
@@ -148,6 +149,30 @@ impl<J: Drop> Segments<J> {
     {
         let greatest = self.wait_number.max(self.ready_number);
         greatest <= seq && is_served(self.newest(), seq)
+    }
+
+    /// The first callback, if it is done.
+    pub fn first_done(&self) -> Option<&Callback<J>>
+        ensures { MatchOption result
+            (count is_done (labelled self.now) ≡ 0)
+            (λ c. (rest : List (Labelled J)) × (labelled self.now ≡ marked Done (c.now ∷ []) ++ rest)) }
+    {
+        if self.done == 0 {
+            return None;
+        }
+        let Some(first) = self.list.front() else {
+            unreachable!()
+        };
+        Some(first)
+    }
+
+    /// How many callbacks are in done.
+    pub fn done_len(&self) -> u64
+        ensures number { result ≡ count is_done (labelled self.now) }
+        ensures labelled { IsLabelledList (labelled self.now) }
+    {
+        let done = self.done;
+        done as u64
     }
 
     /// Takes the first callback, if it is done.

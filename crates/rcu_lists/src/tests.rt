@@ -96,8 +96,11 @@ fn batches_and_pouring(rt: HostRuntime) -> Result<(), Fail> {
     assert_eq!(rt; list.newest(), Some(3));
     assert_eq!(rt; accelerate(&mut list, 12), Some(true));
     list.advance(12);
+    assert_eq!(rt; list.done_len(), 5);
+    assert_eq!(rt; list.first_done().map(|first| first.stamp), Some(0));
     let mut batch = list.take_batch(2)?;
     assert_eq!(rt; batch.len(), 2);
+    assert_eq!(rt; batch.first().map(|first| first.stamp), Some(0));
     assert_eq!(rt; batch.take_first().map(|first| first.stamp), Some(0));
     let mut bypass = Bypass::new(rt.alloc(), 10000);
     assert_eq!(rt; place(&mut bypass, 5, Kind::Lazy), Some(0));
@@ -198,4 +201,23 @@ fn lazy_ones_wait(rt: HostRuntime) {
     assert_eq!(rt; place(&mut bypass, 5, Kind::Plain), Some(1));
     assert_eq!(rt; place(&mut bypass, 5, Kind::Lazy), Some(0));
     assert_eq!(rt; place(&mut bypass, 5, Kind::Plain), Some(2));
+}
+
+// A list that is due keeps its callbacks, their kinds and the kept moment until it is flushed.
+#[test]
+fn held_until_flushed(rt: HostRuntime) -> Result<(), Fail> {
+    let mut bypass = Bypass::new(rt.alloc(), 10000);
+    assert_eq!(rt; place(&mut bypass, 5, Kind::Plain), Some(1));
+    assert_eq!(rt; place(&mut bypass, 5, Kind::Lazy), Some(0));
+    bypass.reserve()?;
+    assert!(rt; bypass.hold(5, Kind::Plain, callback(4, Named)));
+    bypass.reserve()?;
+    assert!(rt; bypass.hold(5, Kind::Plain, callback(4, Named)));
+    assert_eq!(rt; bypass.len(), 3);
+    assert!(rt; bypass.is_late(6));
+    assert_eq!(rt; bypass.flush().len(), 3);
+    assert!(rt; bypass.is_empty());
+    bypass.restart(7);
+    assert_eq!(rt; place(&mut bypass, 7, Kind::Plain), Some(1));
+    Ok(())
 }
