@@ -1,8 +1,11 @@
 -- What a view is after a step, for whoever steps.
-use Rattle.rcu_board.specs.Views.{cpus, seen_at}
+use Rattle.rcu_board.specs.Words.{words_of, is_asks}
+use Rattle.rcu_board.specs.Views.{cpus, seen_at, joined}
+use Rattle.rcu_board.specs.declared.board.Board.{Board}
+use Rattle.rcu_board.proofs.Groups.{met-at, met-greater, met-long}
 use Rattle.rcu_board.specs.Plays.{touched, reported, looked, accepted, stamp_own, accept_own, with_stamp}
-use Rattle.rcu_board.specs.Seats.{NeverFalls, view, reports_of, first_reports, accepted_of, first_accepted, fresh_of, first_fresh}
-use Rattle.std.proofs.Common.{◌≡◌, ◌≢◌, ℕ, ◌+◌, ◌*◌, ◌<◌, List, None, [], ◌∷◌, ◌++◌, map, length, get_or, ap, refl, arith, get_or-set_other, get_or-set_same}
+use Rattle.rcu_board.specs.Seats.{NeverFalls, AtBoard, view, reports_of, first_reports, accepted_of, first_accepted, fresh_of, first_fresh}
+use Rattle.std.proofs.Common.{◌≡◌, ◌≢◌, ℕ, ◌+◌, ◌*◌, ◌<◌, ◌≤◌, max, false, ◌∙◌, List, None, [], ◌∷◌, ◌++◌, map, length, get_or, ap, refl, arith, get_or-set_other, get_or-set_same}
 use Rattle.rcu_numbers.specs.Words.{owes_of, number_of}
 use Rattle.rcu_board.specs.declared.board.Seat.{Seat}
 use Rattle.rcu_board.specs.declared.board.Role.TheVariants.{Processor}
@@ -69,3 +72,25 @@ never_falls_again n u v w a b = record {
   accepts = λ p low. let x = a.accepts p low in let y = b.accepts p low in omega arith;
   turns = λ p low. let x = a.turns p low in let y = b.turns p low in omega arith;
 }
+
+-- the words of a board, as a seat of it counts them
+pub words-at : (b : Board) (s : Seat) → AtBoard b s → s.seat.table_id.words ≡ words_of b.processors
+words-at b s at = ap (λ t. t.words) at ∙ b.sized
+
+pub seen-long : (b : Board) (s : Seat) → AtBoard b s → length (view s).seen ≡ words_of b.processors
+seen-long b s at = s.sits.seated.seen_long ∙ words-at b s at
+
+-- ---- merges
+
+pub joined-long : (v w : View) (n : ℕ) → length v.seen ≡ n → length w.seen ≡ n → length (joined v w).seen ≡ n
+joined-long v w n a b = met-long w.controls 0 v.seen w.seen n a b
+
+module _ (v w : View) (i : ℕ) (same : length v.seen ≡ length w.seen) (near : i < length v.seen) (grows : is_asks i ≡ false) where
+  joined-sight : seen_at (joined v w) i ≡ max (seen_at v i) (seen_at w i)
+  joined-sight = met-at w.controls 0 i i v.seen w.seen same near (omega arith) ∙ met-greater i w.controls (seen_at v i) (seen_at w i) grows
+
+  pub joined-first : seen_at v i ≤ seen_at (joined v w) i
+  joined-first = let e = joined-sight in omega arith
+
+  pub joined-second : seen_at w i ≤ seen_at (joined v w) i
+  joined-second = let e = joined-sight in omega arith

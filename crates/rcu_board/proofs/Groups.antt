@@ -17,19 +17,19 @@ use Rattle.rcu_board.proofs.Asks.{no_true, accepts_not, turns_not, asks_is}
 use Rattle.rcu_board.proofs.Views.{every, every_nil, every_append, total-append, total-set, two_of, each_set}
 
 -- a word of two joined views
-met-at : (second : Bool) (k i j : ℕ) (xs ys : List ℕ) → length xs ≡ length ys → i < length xs → j ≡ k + i → get_or (met_from k second xs ys) i 0 ≡ met j second (get_or xs i 0) (get_or ys i 0)
+pub met-at : (second : Bool) (k i j : ℕ) (xs ys : List ℕ) → length xs ≡ length ys → i < length xs → j ≡ k + i → get_or (met_from k second xs ys) i 0 ≡ met j second (get_or xs i 0) (get_or ys i 0)
 met-at second k i j [] ys e h is = absurd (omega arith)
 met-at second k i j (x ∷ xs) [] e h is = absurd (omega arith)
 met-at second k zero j (x ∷ xs) (y ∷ ys) e h is = let same : k ≡ j = omega arith in ap (λ (z : ℕ). met z second x y) same
 met-at second k (suc i) j (x ∷ xs) (y ∷ ys) e h is = met-at second (suc k) i j xs ys (omega arith) (omega arith) (omega arith)
 
-met-greater : (i : ℕ) (second : Bool) (x y : ℕ) → is_asks i ≡ false → met i second x y ≡ max x y
+pub met-greater : (i : ℕ) (second : Bool) (x y : ℕ) → is_asks i ≡ false → met i second x y ≡ max x y
 met-greater i second x y e = ap (λ (b : Bool). cond b (cond second y x) (max x y)) e
 
 met-asks : (i : ℕ) (second : Bool) (x y : ℕ) → is_asks i ≡ true → met i second x y ≡ cond second y x
 met-asks i second x y e = ap (λ (b : Bool). cond b (cond second y x) (max x y)) e
 
-met-long : (second : Bool) (k : ℕ) (xs ys : List ℕ) (n : ℕ) → length xs ≡ n → length ys ≡ n → length (met_from k second xs ys) ≡ n
+pub met-long : (second : Bool) (k : ℕ) (xs ys : List ℕ) (n : ℕ) → length xs ≡ n → length ys ≡ n → length (met_from k second xs ys) ≡ n
 met-long second k [] ys n a b = a
 met-long second k (x ∷ xs) [] n a b = absurd (omega arith)
 met-long second k (x ∷ xs) (y ∷ ys) zero a b = absurd (omega arith)

@@ -31,19 +31,20 @@ fn make_board(alloc: Global, shape: &Shape) -> Result<(Board, Maker), AllocError
     ensures { IfOk result (λ t. (t.0.processors ≡ shape.now.processors) × (t.0.offloadable ≡ shape.now.offloadable) × MakerAt t.0 t.1 × (maker_view t.1 ≡ opening_view shape.now.processors shape.now.offloadable all_seats)) }
 {
     let n = shape.processors;
+    let offloadable = shape.offloadable;
     let mut words = [0u64; 100];
     for p in 0..n {
-        words[5 + 3 * p as usize] = u64::from(is_offloadable(shape.offloadable, p));
+        words[5 + 3 * p as usize] = u64::from(is_offloadable(offloadable, p));
     }
     let frame = Frame {
         processors: n,
-        offloadable: shape.offloadable,
+        offloadable,
     };
     let (table, seat) = Table::of_words(alloc, &words[..4 + 3 * n as usize], &frame)?;
     let board = Board {
         table,
         processors: n,
-        offloadable: shape.offloadable,
+        offloadable,
     };
     Ok((board, Maker { seat }))
 }

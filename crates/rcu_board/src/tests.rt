@@ -1,5 +1,6 @@
 ghost use Rattle.std.specs.Prelude.{◌≡◌, ◌+◌, ◌<◌, ◌≤◌, None, [], ◌∷◌, length, IfSome, IsTrue, true, false};
 ghost use Rattle.std.specs.Thread.{IsSync};
+ghost use Rattle.rcu_numbers.specs.Words.{owes_of};
 ghost use Rattle.rcu_board.specs.Plays.{all_seats};
 ghost use Rattle.rcu_board.specs.Roles.{IsDriver, IsControl, MayClaim};
 ghost use Rattle.rcu_board.specs.Opened.{AreNew, IsNew, IsNewProcessor};
@@ -382,5 +383,63 @@ fn four_threads_on_one_board(rt: HostRuntime) -> Result<(), Fail> {
     let seq = met.board_word.seq();
     let counted = seq % 4 == 1 && !met.board_word.owes(0);
     assert_eq!(rt; met.reports, seq / 4 + u64::from(counted));
+    Ok(())
+}
+
+/// What was read before and after each step that told something.
+#[derive(Clone, Copy)]
+struct Told {
+    asked: (bool, bool),
+    heard: (bool, bool),
+    halted: (bool, bool),
+    needed: (u64, u64),
+}
+
+/// Makes each step on the words of switches, urging and needs once, with the steps that read it before and after.
+fn tell(board: &Board, five: Five) -> Told
+    requires some { 0 < board.now.processors }
+    requires processor { AtBoard board.now five.processor × (five.processor.role ≡ Role.Processor 0) }
+    requires driver { AtBoard board.now five.driver × (five.driver.role ≡ Role.Driver) }
+    requires control { AtBoard board.now five.control × (five.control.role ≡ Role.Control) }
+    requires hears { owes_of board.now.offloadable 0 ≡ 1 }
+{
+    let Five {
+        mut processor,
+        hand: _,
+        group: _,
+        mut driver,
+        mut control,
+    } = five;
+    let first = asked(board, &mut processor);
+    ask(board, &mut control, 0, false);
+    let asked = (first, asked(board, &mut processor));
+    urge(board, &mut control);
+    let first = heard(board, &mut processor);
+    let heard = (first, heard(board, &mut processor));
+    let first = halted(board, &mut driver);
+    halt(board, &mut control);
+    let halted = (first, halted(board, &mut driver));
+    need(board, &mut processor, 8);
+    let first = needed(board, &mut driver);
+    need(board, &mut processor, 4);
+    Told {
+        asked,
+        heard,
+        halted,
+        needed: (first, needed(board, &mut driver)),
+    }
+}
+
+#[test]
+fn told_and_heard(rt: HostRuntime) -> Result<(), Fail> {
+    let shape = Shape::new(1, 1, 1, 10, 16, 1000).expect(&rt, "within the limits");
+    let (board, seats) = open_board(rt.alloc(), shape)?;
+    let five = take_apart(shape, &board, seats).expect(&rt, "one seat of each kind");
+    assert!(rt; board.is_offloadable(0));
+    let told = tell(&board, five);
+    assert_eq!(rt; told.asked, (true, false));
+    assert_eq!(rt; told.heard, (true, false));
+    assert_eq!(rt; told.halted, (false, true));
+    assert_eq!(rt; told.needed, (8, 8));
     Ok(())
 }

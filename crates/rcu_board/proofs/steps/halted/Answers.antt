@@ -1,10 +1,4 @@
-use Rattle.std.proofs.Common.{ℕ, ◌≡◌, ◌+◌, ◌-◌, ◌*◌, ◌/◌, ◌<◌, ◌≤◌, arith, ap, sym, subst, ◌∙◌, refl, max, map}
-use Rattle.atomic_table.specs.Table.{Me}
-use Rattle.rcu_board.specs.declared.view.View.{View}
-use Rattle.rcu_board.specs.Words.{words_of}
-use Rattle.rcu_board.specs.Seats.{NeverFalls}
-use Rattle.rcu_board.proofs.Sits.{sits_else, alike_same}
-use Rattle.rcu_board.proofs.Later.{later_halt}
+use Rattle.std.proofs.Common.{arith}
 use Rattle.rcu_board.proofs.WordSteps.{load_halt_allowed}
 use Rattle.rcu_board.proofs.steps.halted.Goals as goal
 

@@ -1,7 +1,5 @@
-use Rattle.std.proofs.Common.{◌≡◌, ◌≤◌, [], length}
-use Rattle.std.specs.Prelude.{None}
-use Rattle.rcu_board.specs.Roles.{MayClaim}
-use Rattle.rcu_board.specs.Seats.{view, AtBoard, SameSeat, accepted_of, fresh_of}
+use Rattle.std.proofs.Common.{◌≡◌, ◌≤◌, []}
+use Rattle.rcu_board.specs.Seats.{view, AtBoard, SameSeat}
 use Rattle.rcu_board.proofs.tests.be_hand.Given as goal
 
 abbrev pub invariant-loop-number : goal.invariant-loop-number
