@@ -258,7 +258,7 @@ module _ (held : List Call) (done_lane : List (List Call)) (out : List Call) (jo
     length-append out (map call_of joined ++ (drawn ++ (flattened lane ++ rest))),
     length-append (map call_of joined) (drawn ++ (flattened lane ++ rest)),
     length-append drawn (flattened lane ++ rest),
-    length-map joined call_of
+    length-map joined call_of,
   )
 
 few : (w : State) (p : ℕ) → IsCore w → p < length w.cpus → length (cpu_at w p).out + (length (cpu_at w p).joined + length (cpu_at w p).drawn) ≤ 1000000

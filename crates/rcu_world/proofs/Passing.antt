@@ -53,7 +53,7 @@ passed_counts mid new b n counts k h l e s =
     let o = and_parts (is_open mid b) (all_of (barrier_at mid b).seen) h in
     let m = ltb-true b (length mid.barriers) (and_parts (nat_lt b (length mid.barriers)) (not (barrier_at mid b).passed) o.0).0 in
     let v : barrier_at new b ≡ record (barrier_at mid b) { passed = true } =
-        ap (λ x. barrier_at x b) (leads_after mid new (Pass b) h l) ∙ get_or-set_same mid.barriers b (record (barrier_at mid b) { passed = true }) no_barrier m in
+    ap (λ x. barrier_at x b) (leads_after mid new (Pass b) h l) ∙ get_or-set_same mid.barriers b (record (barrier_at mid b) { passed = true }) no_barrier m in
     let a : all_of (barrier_at new b).seen ≡ true = ap (λ x. all_of x.seen) v ∙ o.1 in
     let i = k.barrier b t in
     record {

@@ -156,7 +156,10 @@ fn a_barrier_passes_once(rt: HostRuntime) -> Result<(), Fail> {
     assert_eq!(rt; world.poll(0)?, None);
     assert_eq!(rt; world.tick(0, 5)?.ran, 1);
     let passed = world.poll(0)?.ok_or("it waits")?;
-    assert_eq!(rt; passed.counts.of_processors().first().ok_or("no count")?, &1);
+    assert_eq!(rt;
+        passed.counts.of_processors().first().ok_or("no count")?,
+        &1
+    );
     assert_eq!(rt; world.poll(0)?, None, "a barrier that has passed");
     Ok(())
 }
@@ -209,7 +212,11 @@ fn turn_word_claims(rt: HostRuntime) -> Result<(), Fail> {
     events.push(Event::LookHand { cpu: 0 })?;
     events.push(Event::Fetch { cpu: 0 })?;
     let made = events.len();
-    for (on_hand, by) in [(true, Side::Hand), (false, Side::Local), (true, Side::Local)] {
+    for (on_hand, by) in [
+        (true, Side::Hand),
+        (false, Side::Local),
+        (true, Side::Local),
+    ] {
         events.push(Event::Claim { cpu: 0, by })?;
         if on_hand {
             continue;
@@ -220,7 +227,10 @@ fn turn_word_claims(rt: HostRuntime) -> Result<(), Fail> {
         })?;
     }
     let answers = world.run(rt.alloc(), events).ok().ok_or("no room")?;
-    let mut won = answers.iter().skip(made).map(|answer| matches!(answer, Answer::Done));
+    let mut won = answers
+        .iter()
+        .skip(made)
+        .map(|answer| matches!(answer, Answer::Done));
     assert!(rt; won.eq([true, false, true, true]));
     let (_marks, closed) = world.close().ok().ok_or("no room")?;
     let ran = closed.ran.first().ok_or("no processor")?;
