@@ -1,0 +1,4 @@
+pub mod Waits
+pub mod Paces
+pub mod Claims
+pub mod Heeding
