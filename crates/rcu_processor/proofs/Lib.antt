@@ -2,3 +2,4 @@ pub mod Waits
 pub mod Paces
 pub mod Claims
 pub mod Heeding
+pub mod Rooms

@@ -4,6 +4,8 @@
 
 mod batches;
 mod bypassing;
+mod calling;
+mod closing;
 mod looking;
 mod moving;
 mod processor;
