@@ -1,0 +1,5 @@
+pub mod Waits
+pub mod Paces
+pub mod Claims
+pub mod Heeding
+pub mod Rooms

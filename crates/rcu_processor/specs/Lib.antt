@@ -1,0 +1,9 @@
+pub mod Waits
+pub mod Batches
+pub mod Views
+pub mod Giving
+pub mod Members
+pub mod Ready
+pub mod Leaving
+pub mod Shown
+pub mod Turns
