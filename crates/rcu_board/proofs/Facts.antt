@@ -2,7 +2,7 @@
 use Rattle.rcu_board.specs.Words.{words_of, is_asks}
 use Rattle.rcu_board.specs.Views.{cpus, seen_at, joined}
 use Rattle.rcu_board.specs.declared.board.Board.{Board}
-use Rattle.rcu_board.proofs.Groups.{met-at, met-greater, met-long}
+use Rattle.rcu_board.proofs.Groups.{joined-word-at, joined-word-greater, joined-words-long}
 use Rattle.rcu_board.specs.Plays.{touched, reported, looked, accepted, stamp_own, accept_own, with_stamp}
 use Rattle.rcu_board.specs.Seats.{NeverFalls, AtBoard, view, reports_of, first_reports, accepted_of, first_accepted, fresh_of, first_fresh}
 use Rattle.std.proofs.Common.{◌≡◌, ◌≢◌, ℕ, ◌+◌, ◌*◌, ◌<◌, ◌≤◌, max, false, ◌∙◌, List, None, [], ◌∷◌, ◌++◌, map, length, get_or, ap, refl, arith, get_or-set_other, get_or-set_same}
@@ -14,26 +14,26 @@ use Rattle.rcu_board.specs.declared.view.Own.{Own}
 
 -- what the seat last saw of the word that it stepped on
 pub seen-touched : (s : Seat) (i x : ℕ) → i < s.seat.table_id.words → seen_at (touched i x (view s)) i ≡ x
-seen-touched s i x h = get_or-set_same s.seat.me.0.seen i x 0 (omega (arith, s.sits.seated.seen_long))
+seen-touched s i x h = get_or-set_same s.seat.me.0.seen i x 0 (omega (arith, s.of_role.can_step.seen_long))
 
 pub seen-other : (v : View) (i j x : ℕ) → j ≢ i → seen_at (touched i x v) j ≡ seen_at v j
 seen-other v i j x ne = get_or-set_other v.seen i j x 0 ne
 
 pub steps-touched : (s : Seat) (i x : ℕ) → i < s.seat.table_id.words → get_or (touched i x (view s)).steps i 0 ≡ get_or (view s).steps i 0 + 1
-steps-touched s i x h = get_or-set_same s.seat.me.0.steps i (get_or s.seat.me.0.steps i 0 + 1) 0 (omega (arith, s.sits.seated.steps_long))
+steps-touched s i x h = get_or-set_same s.seat.me.0.steps i (get_or s.seat.me.0.steps i 0 + 1) 0 (omega (arith, s.of_role.can_step.steps_long))
 
 reports-own : (l : List Own) (p r : ℕ) → cpus l ≡ p ∷ [] → first_reports (map (Rattle.rcu_board.specs.Plays.report_own r) l) ≡ first_reports l + owes_of r p
 reports-own [] p r e = absurd (omega (arith, ap length e))
 reports-own (o ∷ os) p r e = ap (λ (l : List ℕ). o.reports + owes_of r (get_or l 0 0)) e
 
 pub reports-reported : (s : Seat) (p r : ℕ) → s.role ≡ Processor p → reports_of (reported r (view s)) ≡ reports_of (view s) + owes_of r p
-reports-reported s p r is = reports-own s.seat.me.0.own p r (s.sits.own p is)
+reports-reported s p r is = reports-own s.seat.me.0.own p r (s.of_role.own p is)
 
 pub seen-reported : (s : Seat) (r : ℕ) → 0 < s.seat.table_id.words → seen_at (reported r (view s)) 0 ≡ r
-seen-reported s r h = get_or-set_same s.seat.me.0.seen 0 r 0 (omega (arith, s.sits.seated.seen_long))
+seen-reported s r h = get_or-set_same s.seat.me.0.seen 0 r 0 (omega (arith, s.of_role.can_step.seen_long))
 
-pub near-processor : (s : Seat) (p : ℕ) → s.role ≡ Processor p → 5 + 3 * p < s.seat.table_id.words
-near-processor s p is = s.sits.processor p is
+pub words-of-processor : (s : Seat) (p : ℕ) → s.role ≡ Processor p → 5 + 3 * p < s.seat.table_id.words
+words-of-processor s p is = s.of_role.processor p is
 
 -- ---- accepted numbers
 
@@ -51,7 +51,7 @@ kept-stamped (o ∷ os) r e = ap (with_stamp r o.accepted) e
 
 -- after an accepting step and a look
 pub accepted-looked : (s : Seat) (p i x key r : ℕ) → s.role ≡ Processor p → accepted_of (looked r (accepted i x key (view s))) ≡ accepted_of (view s) ++ record { key = key; stamp = number_of r } ∷ []
-accepted-looked s p i x key r is = stamped-accepted s.seat.me.0.own p key (number_of r) (s.sits.own p is)
+accepted-looked s p i x key r is = stamped-accepted s.seat.me.0.own p key (number_of r) (s.of_role.own p is)
 
 pub accepted-kept : (v : View) (r : ℕ) → fresh_of v ≡ None → accepted_of (looked r v) ≡ accepted_of v
 accepted-kept v r e = kept-stamped v.own (number_of r) e
@@ -78,16 +78,16 @@ pub words-at : (b : Board) (s : Seat) → AtBoard b s → s.seat.table_id.words 
 words-at b s at = ap (λ t. t.words) at ∙ b.sized
 
 pub seen-long : (b : Board) (s : Seat) → AtBoard b s → length (view s).seen ≡ words_of b.processors
-seen-long b s at = s.sits.seated.seen_long ∙ words-at b s at
+seen-long b s at = s.of_role.can_step.seen_long ∙ words-at b s at
 
 -- ---- merges
 
 pub joined-long : (v w : View) (n : ℕ) → length v.seen ≡ n → length w.seen ≡ n → length (joined v w).seen ≡ n
-joined-long v w n a b = met-long w.controls 0 v.seen w.seen n a b
+joined-long v w n a b = joined-words-long w.controls 0 v.seen w.seen n a b
 
 module _ (v w : View) (i : ℕ) (same : length v.seen ≡ length w.seen) (near : i < length v.seen) (grows : is_asks i ≡ false) where
   joined-sight : seen_at (joined v w) i ≡ max (seen_at v i) (seen_at w i)
-  joined-sight = met-at w.controls 0 i i v.seen w.seen same near (omega arith) ∙ met-greater i w.controls (seen_at v i) (seen_at w i) grows
+  joined-sight = joined-word-at w.controls 0 i i v.seen w.seen same near (omega arith) ∙ joined-word-greater i w.controls (seen_at v i) (seen_at w i) grows
 
   pub joined-first : seen_at v i ≤ seen_at (joined v w) i
   joined-first = let e = joined-sight in omega arith

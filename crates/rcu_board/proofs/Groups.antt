@@ -1,6 +1,6 @@
 -- Seats that are made and joined keep the rule.
-use Rattle.rcu_board.specs.Views.{one_if, commands, met, met_from, given_control, with_control, Every, total, seen_at, sight, count_of, is_claim, is_of, claimed, runs, cpus, is_at, has, leads, spent, added, joined, given_plain, plain, rest_own, first_own, given_own, with_own}
-use Rattle.rcu_board.specs.Laws.{OnAsks, Each, Kept, Neat, OnBoard, OnAccepts, OnTurns, Reported}
+use Rattle.rcu_board.specs.Views.{one_if, control_count, joined_word, joined_words, given_control, with_control, Every, total, seen_at, sight, accepted_count, one_if_claim, one_if_on, claimed, runs, cpus, one_if_equal, own_count, driver_count, spent, joined_tallies, joined, given_plain, plain, rest_own, first_own, given_own, with_own}
+use Rattle.rcu_board.specs.Laws.{AskLawInView, Each, BoardRule, ViewAlone, BoardLawInView, AcceptLawInView, TurnLawInView, Reported}
 use Rattle.rcu_board.specs.Words.{words_of, is_asks, asks_word, accepts_word, turns_word}
 use Rattle.std.proofs.Common.{◌≡◌, ℕ, zero, suc, ◌+◌, ◌-◌, ◌*◌, ◌%◌, ◌/◌, ◌<◌, ◌≤◌, Bool, true, false, cond, ◌||◌, List, [], ◌∷◌, ◌++◌, length, get_or, set, sym, refl, ap, ◌∙◌, subst, ⊎_elim, ◌⊎◌, inl, inr, arith, max}
 use mathlib.Core.Option.{some}
@@ -14,44 +14,45 @@ use Rattle.rcu_board.specs.declared.view.Own.{Own}
 use Rattle.rcu_board.specs.declared.view.Claim.{Claim}
 use Rattle.rcu_board.specs.declared.view.Accepted.{Accepted}
 use Rattle.rcu_board.proofs.Asks.{no_true, accepts_not, turns_not, asks_is}
+use Rattle.rcu_board.proofs.Turns.{turn_counts, turn_law}
 use Rattle.rcu_board.proofs.Views.{every, every_nil, every_append, total-append, total-set, two_of, each_set}
 
 -- a word of two joined views
-pub met-at : (second : Bool) (k i j : ℕ) (xs ys : List ℕ) → length xs ≡ length ys → i < length xs → j ≡ k + i → get_or (met_from k second xs ys) i 0 ≡ met j second (get_or xs i 0) (get_or ys i 0)
-met-at second k i j [] ys e h is = absurd (omega arith)
-met-at second k i j (x ∷ xs) [] e h is = absurd (omega arith)
-met-at second k zero j (x ∷ xs) (y ∷ ys) e h is = let same : k ≡ j = omega arith in ap (λ (z : ℕ). met z second x y) same
-met-at second k (suc i) j (x ∷ xs) (y ∷ ys) e h is = met-at second (suc k) i j xs ys (omega arith) (omega arith) (omega arith)
+pub joined-word-at : (second : Bool) (k i j : ℕ) (xs ys : List ℕ) → length xs ≡ length ys → i < length xs → j ≡ k + i → get_or (joined_words k second xs ys) i 0 ≡ joined_word j second (get_or xs i 0) (get_or ys i 0)
+joined-word-at second k i j [] ys e h is = absurd (omega arith)
+joined-word-at second k i j (x ∷ xs) [] e h is = absurd (omega arith)
+joined-word-at second k zero j (x ∷ xs) (y ∷ ys) e h is = let same : k ≡ j = omega arith in ap (λ (z : ℕ). joined_word z second x y) same
+joined-word-at second k (suc i) j (x ∷ xs) (y ∷ ys) e h is = joined-word-at second (suc k) i j xs ys (omega arith) (omega arith) (omega arith)
 
-pub met-greater : (i : ℕ) (second : Bool) (x y : ℕ) → is_asks i ≡ false → met i second x y ≡ max x y
-met-greater i second x y e = ap (λ (b : Bool). cond b (cond second y x) (max x y)) e
+pub joined-word-greater : (i : ℕ) (second : Bool) (x y : ℕ) → is_asks i ≡ false → joined_word i second x y ≡ max x y
+joined-word-greater i second x y e = ap (λ (b : Bool). cond b (cond second y x) (max x y)) e
 
-met-asks : (i : ℕ) (second : Bool) (x y : ℕ) → is_asks i ≡ true → met i second x y ≡ cond second y x
-met-asks i second x y e = ap (λ (b : Bool). cond b (cond second y x) (max x y)) e
+joined-word-asks : (i : ℕ) (second : Bool) (x y : ℕ) → is_asks i ≡ true → joined_word i second x y ≡ cond second y x
+joined-word-asks i second x y e = ap (λ (b : Bool). cond b (cond second y x) (max x y)) e
 
-pub met-long : (second : Bool) (k : ℕ) (xs ys : List ℕ) (n : ℕ) → length xs ≡ n → length ys ≡ n → length (met_from k second xs ys) ≡ n
-met-long second k [] ys n a b = a
-met-long second k (x ∷ xs) [] n a b = absurd (omega arith)
-met-long second k (x ∷ xs) (y ∷ ys) zero a b = absurd (omega arith)
-met-long second k (x ∷ xs) (y ∷ ys) (suc n) a b = let r = met-long second (suc k) xs ys n (omega arith) (omega arith) in omega arith
+pub joined-words-long : (second : Bool) (k : ℕ) (xs ys : List ℕ) (n : ℕ) → length xs ≡ n → length ys ≡ n → length (joined_words k second xs ys) ≡ n
+joined-words-long second k [] ys n a b = a
+joined-words-long second k (x ∷ xs) [] n a b = absurd (omega arith)
+joined-words-long second k (x ∷ xs) (y ∷ ys) zero a b = absurd (omega arith)
+joined-words-long second k (x ∷ xs) (y ∷ ys) (suc n) a b = let r = joined-words-long second (suc k) xs ys n (omega arith) (omega arith) in omega arith
 
-added-long : (xs ys : List ℕ) (n : ℕ) → length xs ≡ n → length ys ≡ n → length (added xs ys) ≡ n
-added-long [] ys n a b = b
-added-long (x ∷ xs) [] n a b = a
-added-long (x ∷ xs) (y ∷ ys) zero a b = absurd (omega arith)
-added-long (x ∷ xs) (y ∷ ys) (suc n) a b = let r = added-long xs ys n (omega arith) (omega arith) in omega arith
+joined-tallies-long : (xs ys : List ℕ) (n : ℕ) → length xs ≡ n → length ys ≡ n → length (joined_tallies xs ys) ≡ n
+joined-tallies-long [] ys n a b = b
+joined-tallies-long (x ∷ xs) [] n a b = a
+joined-tallies-long (x ∷ xs) (y ∷ ys) zero a b = absurd (omega arith)
+joined-tallies-long (x ∷ xs) (y ∷ ys) (suc n) a b = let r = joined-tallies-long xs ys n (omega arith) (omega arith) in omega arith
 
 cpus-append : (a b : List Own) → cpus (a ++ b) ≡ cpus a ++ cpus b
 cpus-append [] b = refl
 cpus-append (x ∷ xs) b = λ i. x.cpu ∷ cpus-append xs b i
 
 -- a law that a view keeps, kept by every view where the two that changed keep it
-module _ (n seats : ℕ) (s : State ℕ View) (k : Kept n seats s) (id other : ℕ) (v w : View) (at : get_elem? s.views id ≡ some v) (apart : ¬ (other ≡ id)) (there : get_elem? s.views other ≡ some w) where
+module _ (n seats : ℕ) (s : State ℕ View) (k : BoardRule n seats s) (id other : ℕ) (v w : View) (at : get_elem? s.views id ≡ some v) (apart : ¬ (other ≡ id)) (there : get_elem? s.views other ≡ some w) where
   abbrev Ends : List View
   Ends = set (set s.views id (joined v w)) other spent
 
-  each_join : (P : View → Type 0) → Each s.views (λ _. P) → P (joined v w) → P spent → Each Ends (λ _. P)
-  each_join P all a b = each_set (set s.views id (joined v w)) other spent (λ _. P) (λ _. P) (each_set s.views id (joined v w) (λ _. P) (λ _. P) all (λ _ u _ _ h. h) a) (λ _ u _ _ h. h) b
+  each_join : (P : View → Type 0) → Each s.views P → P (joined v w) → P spent → Each Ends P
+  each_join P all a b = each_set (set s.views id (joined v w)) other spent P P (each_set s.views id (joined v w) P P all (λ _ u _ _ h. h) a) (λ _ u _ _ h. h) b
 
   total_join : (f : View → ℕ) → f (joined v w) ≡ f v + f w → f spent ≡ 0 → total f Ends ≡ total f s.views
   total_join f both none_left = let a = total-set f s.views id v (joined v w) at in
@@ -60,10 +61,10 @@ module _ (n seats : ℕ) (s : State ℕ View) (k : Kept n seats s) (id other : �
 one_of : (a b x : ℕ) → (a % 2 ≡ 1 → a ≡ x) → (b % 2 ≡ 1 → b ≡ x) → a ≤ x → b ≤ x → max a b % 2 ≡ 1 → max a b ≡ x
 one_of a b x f g p q odd = dite (dec_le a b) (λ le. let e : max a b ≡ b = omega arith in e ∙ g (ap (λ (z : ℕ). z % 2) (sym e) ∙ odd)) (λ gt. let e : max a b ≡ a = omega arith in e ∙ f (ap (λ (z : ℕ). z % 2) (sym e) ∙ odd))
 
-leads_or : (a b : Bool) → one_if a + one_if b ≤ 1 → one_if (a || b) ≡ one_if a + one_if b
-leads_or true true h = absurd (omega arith)
-leads_or true false h = refl
-leads_or false b h = omega arith
+count_or : (a b : Bool) → one_if a + one_if b ≤ 1 → one_if (a || b) ≡ one_if a + one_if b
+count_or true true h = absurd (omega arith)
+count_or true false h = refl
+count_or false b h = omega arith
 
 or_split : (a b : Bool) → (a || b) ≡ true → (a ≡ true) ⊎ (b ≡ true)
 or_split true b e = inl refl
@@ -79,21 +80,21 @@ parity a b x f g p q one = dite (ℕ_discrete (x % 2) 1)
     dite (dec_le a b) (λ le. let e : max a b ≡ b = omega arith in ap (λ (z : ℕ). z % 2) e ∙ omega arith) (λ gt. let e : max a b ≡ a = omega arith in ap (λ (z : ℕ). z % 2) e ∙ omega arith))
 
 -- what is asked, after a merge
-asks_met : (a b : Bool) (x y z : ℕ) → (a ≡ true → x ≡ z) → (b ≡ true → y ≡ z) → (a || b) ≡ true → cond b y x ≡ z
-asks_met a true x y z f g e = g refl
-asks_met true false x y z f g e = f refl
-asks_met false false x y z f g e = absurd (no_true e)
+asks_joined : (a b : Bool) (x y z : ℕ) → (a ≡ true → x ≡ z) → (b ≡ true → y ≡ z) → (a || b) ≡ true → cond b y x ≡ z
+asks_joined a true x y z f g e = g refl
+asks_joined true false x y z f g e = f refl
+asks_joined false false x y z f g e = absurd (no_true e)
 
-pub joins : (n seats id other : ℕ) (v w : View) → 0 < v.weight → 0 < w.weight → Joins (Kept n seats) id v other w (joined v w) spent
+pub joins : (n seats id other : ℕ) (v w : View) → 0 < v.weight → 0 < w.weight → Joins (BoardRule n seats) id v other w (joined v w) spent
 joins n seats id other v w live live' s k at apart at' =
     let there : get_elem? s.views other ≡ some w = sym (set_else s.views id other (joined v w) apart) ∙ at' in
     let b : View = joined v w in
-    let one : leads v + leads w ≤ 1 = (let e = two_of leads s.views id other v w (λ z. apart (sym z)) at there in let f = k.driver in omega arith) in
-    let commanding : commands v + commands w ≤ 1 = (let e = two_of commands s.views id other v w (λ z. apart (sym z)) at there in let f = k.control in omega arith) in
-    let tv = k.neat id v at in let tw = k.neat other w there in
+    let one : driver_count v + driver_count w ≤ 1 = (let e = two_of driver_count s.views id other v w (λ z. apart (sym z)) at there in let f = k.seats.driver in omega arith) in
+    let commanding : control_count v + control_count w ≤ 1 = (let e = two_of control_count s.views id other v w (λ z. apart (sym z)) at there in let f = k.seats.control in omega arith) in
+    let tv = k.alone id v at in let tw = k.alone other w there in
     let lv : length v.seen ≡ words_of n = tv.seen_long live in let lw : length w.seen ≡ words_of n = tw.seen_long live' in
-    let m : (i : ℕ) → i < words_of n → seen_at b i ≡ met i w.controls (seen_at v i) (seen_at w i) = λ i near. met-at w.controls 0 i i v.seen w.seen (lv ∙ sym lw) (omega arith) (omega arith) in
-    let g : (i : ℕ) → is_asks i ≡ false → i < words_of n → seen_at b i ≡ max (seen_at v i) (seen_at w i) = λ i away near. m i near ∙ met-greater i w.controls (seen_at v i) (seen_at w i) away in
+    let m : (i : ℕ) → i < words_of n → seen_at b i ≡ joined_word i w.controls (seen_at v i) (seen_at w i) = λ i near. joined-word-at w.controls 0 i i v.seen w.seen (lv ∙ sym lw) (omega arith) (omega arith) in
+    let g : (i : ℕ) → is_asks i ≡ false → i < words_of n → seen_at b i ≡ max (seen_at v i) (seen_at w i) = λ i away near. m i near ∙ joined-word-greater i w.controls (seen_at v i) (seen_at w i) away in
     let sv : sight v ≤ sight b = (let e = g 0 refl (omega arith) in omega arith) in let sw : sight w ≤ sight b = (let e = g 0 refl (omega arith) in omega arith) in
     let stamps : (u : View) → sight u ≤ sight b → (l : List Own) → Every (λ (o : Own). Every (λ (a : Accepted). a.stamp ≤ sight u) o.accepted) l → Every (λ (o : Own). Every (λ (a : Accepted). a.stamp ≤ sight b) o.accepted) l =
     λ u le. every (λ (o : Own). Every (λ (a : Accepted). a.stamp ≤ sight u) o.accepted) (λ (o : Own). Every (λ (a : Accepted). a.stamp ≤ sight b) o.accepted)
@@ -103,56 +104,61 @@ joins n seats id other v w live live' s k at apart at' =
     let each = each_join n seats s k id other v w at apart there in let sum = total_join n seats s k id other v w at apart there in
     record {
       few = k.few;
-      wide = k.wide;
-      sole = λ p low. sum (has p) (ap (total (is_at p)) (cpus-append v.own w.own) ∙ total-append (is_at p) (cpus v.own) (cpus w.own)) refl ∙ k.sole p low;
-      driver = sum leads (leads_or v.drives w.drives one) refl ∙ k.driver;
-      control = sum commands (leads_or v.controls w.controls commanding) refl ∙ k.control;
-      weighs = sum (λ (u : View). u.weight) refl refl ∙ k.weighs;
-      neat = each (Neat n) k.neat record {
-        idle = λ e. absurd (omega arith);
-        seen_long = λ _. met-long w.controls 0 v.seen w.seen (words_of n) lv lw;
-        steps_long = λ _. added-long v.steps w.steps (4 + 3 * n) (tv.steps_long live) (tw.steps_long live');
-        near = subst (Every (λ (q : ℕ). q < n)) (sym (cpus-append v.own w.own)) (every_append (λ (q : ℕ). q < n) (cpus v.own) (cpus w.own) tv.near tw.near);
+      words = k.words;
+      board = record {
+        word = k.board.word;
+        in_views = let x : ℕ = get_or s.words 0 0 in let hv = k.board.in_views id v at in let hw = k.board.in_views other w there in each (BoardLawInView x) k.board.in_views record {
+          sight = let e = g 0 refl (omega arith) in let p = hv.sight in let q = hw.sight in omega arith;
+          driver = λ d. let e = g 0 refl (omega arith) in let p = hv.sight in let q = hw.sight in ⊎_elim (λ t. let f = hv.driver t in omega arith) (λ t. let f = hw.driver t in omega arith) (or_split v.drives w.drives d);
+          reports = every_append (λ (o : Own). Reported x o.cpu o.reports) v.own w.own hv.reports hw.reports;
+        } record { sight = omega arith; driver = λ d. absurd (no_true d); reports = every_nil (λ (o : Own). Reported x o.cpu o.reports) };
+      };
+      needed = let x : ℕ = get_or s.words 1 0 in each (λ u. seen_at u 1 ≤ x) k.needed (let e = g 1 refl (omega arith) in let p = k.needed id v at in let q = k.needed other w there in omega arith) (omega arith);
+      accept = λ p low. let x : ℕ = get_or s.words (accepts_word p) 0 in let hv = k.accept p low id v at in let hw = k.accept p low other w there in let e = g (accepts_word p) (accepts_not p) (omega arith) in each (AcceptLawInView p x) (k.accept p low) record {
+        sight = let a = hv.sight in let c = hw.sight in omega arith;
+        odd_sight = λ odd. e ∙ one_of (seen_at v (accepts_word p)) (seen_at w (accepts_word p)) x hv.odd_sight hw.odd_sight hv.sight hw.sight (ap (λ (z : ℕ). z % 2) (sym e) ∙ odd);
+        count = every_append (λ (o : Own). o.cpu ≡ p → x / 2 ≡ accepted_count o) v.own w.own hv.count hw.count;
+        shut = λ c. ap (λ (z : ℕ). z % 2) e ∙ parity (seen_at v (accepts_word p)) (seen_at w (accepts_word p)) x hv.odd_sight hw.odd_sight hv.sight hw.sight (⊎_elim (λ t. inl (hv.shut t)) (λ t. inr (hw.shut t)) (or_split v.controls w.controls c));
+      } record { sight = omega arith; odd_sight = λ odd. absurd (omega arith); count = every_nil (λ (o : Own). o.cpu ≡ p → x / 2 ≡ accepted_count o); shut = λ d. absurd (no_true d) };
+      turn = λ p low. turn_law _ _ _ (let t = turn_counts _ _ _ (k.turn p low) in record {
+        once = λ j. sum (claimed p j) (total-append (one_if_claim p j) v.claims w.claims) refl ∙ t.once j;
+        one = sum (runs p) (total-append (one_if_on p) v.running w.running) refl ∙ t.one;
+      }) (let x : ℕ = get_or s.words (turns_word p) 0 in let hv = (k.turn p low).in_views id v at in let hw = (k.turn p low).in_views other w there in let e = g (turns_word p) (turns_not p) (omega arith) in each (TurnLawInView p x) ((k.turn p low).in_views) record {
+        sight = let a = hv.sight in let c = hw.sight in omega arith;
+        running = every_append (λ (c : Claim). c.cpu ≡ p → x ≡ 2 * c.number + 1) v.running w.running hv.running hw.running;
+      } record { sight = omega arith; running = every_nil (λ (c : Claim). c.cpu ≡ p → x ≡ 2 * c.number + 1) });
+      ask = λ p low. record {
+        value = (k.ask p low).value;
+        in_views = let x : ℕ = get_or s.words (asks_word p) 0 in each (AskLawInView p x) ((k.ask p low).in_views)
+            (λ c. m (asks_word p) (omega arith) ∙ joined-word-asks (asks_word p) w.controls (seen_at v (asks_word p)) (seen_at w (asks_word p)) (asks_is p)
+            ∙ asks_joined v.controls w.controls (seen_at v (asks_word p)) (seen_at w (asks_word p)) x ((k.ask p low).in_views id v at) ((k.ask p low).in_views other w there) c)
+            (λ d. absurd (no_true d));
+      };
+      halt = k.halt;
+      alone = each (ViewAlone n) k.alone record {
+        no_seat = λ e. absurd (omega arith);
+        seen_long = λ _. joined-words-long w.controls 0 v.seen w.seen (words_of n) lv lw;
+        steps_long = λ _. joined-tallies-long v.steps w.steps (4 + 3 * n) (tv.steps_long live) (tw.steps_long live');
+        processors = subst (Every (λ (q : ℕ). q < n)) (sym (cpus-append v.own w.own)) (every_append (λ (q : ℕ). q < n) (cpus v.own) (cpus w.own) tv.processors tw.processors);
         stamps = every_append (λ (o : Own). Every (λ (a : Accepted). a.stamp ≤ sight b) o.accepted) v.own w.own (stamps v sv v.own tv.stamps) (stamps w sw w.own tw.stamps);
-        runs = every_append (λ (c : Claim). 0 < claimed c.cpu c.number b) v.running w.running (every (λ (c : Claim). 0 < claimed c.cpu c.number v) (λ (c : Claim). 0 < claimed c.cpu c.number b) (λ c h. let e = total-append (is_claim c.cpu c.number) v.claims w.claims in omega arith) v.running tv.runs)
-            (every (λ (c : Claim). 0 < claimed c.cpu c.number w) (λ (c : Claim). 0 < claimed c.cpu c.number b) (λ c h. let e = total-append (is_claim c.cpu c.number) v.claims w.claims in omega arith) w.running tw.runs);
-        sights = every_append (λ (c : Claim). c.sight ≤ sight b) v.claims w.claims (sights v sv tv.sights) (sights w sw tw.sights);
+        running = every_append (λ (c : Claim). 0 < claimed c.cpu c.number b) v.running w.running (every (λ (c : Claim). 0 < claimed c.cpu c.number v) (λ (c : Claim). 0 < claimed c.cpu c.number b) (λ c h. let e = total-append (one_if_claim c.cpu c.number) v.claims w.claims in omega arith) v.running tv.running)
+            (every (λ (c : Claim). 0 < claimed c.cpu c.number w) (λ (c : Claim). 0 < claimed c.cpu c.number b) (λ c h. let e = total-append (one_if_claim c.cpu c.number) v.claims w.claims in omega arith) w.running tw.running);
+        claims = every_append (λ (c : Claim). c.sight ≤ sight b) v.claims w.claims (sights v sv tv.claims) (sights w sw tw.claims);
       } record {
-        idle = λ _. refl;
+        no_seat = λ _. refl;
         seen_long = λ e. absurd (omega arith);
         steps_long = λ e. absurd (omega arith);
-        near = every_nil (λ (q : ℕ). q < n);
+        processors = every_nil (λ (q : ℕ). q < n);
         stamps = every_nil (λ (o : Own). Every (λ (a : Accepted). a.stamp ≤ 0) o.accepted);
-        sights = every_nil (λ (c : Claim). c.sight ≤ 0);
-        runs = every_nil (λ (c : Claim). 0 < claimed c.cpu c.number spent);
+        claims = every_nil (λ (c : Claim). c.sight ≤ 0);
+        running = every_nil (λ (c : Claim). 0 < claimed c.cpu c.number spent);
       };
-      board = k.board;
-      on_board = let x : ℕ = get_or s.words 0 0 in let hv = k.on_board id v at in let hw = k.on_board other w there in each (OnBoard x) k.on_board record {
-        seen = let e = g 0 refl (omega arith) in let p = hv.seen in let q = hw.seen in omega arith;
-        leads = λ d. let e = g 0 refl (omega arith) in let p = hv.seen in let q = hw.seen in ⊎_elim (λ t. let f = hv.leads t in omega arith) (λ t. let f = hw.leads t in omega arith) (or_split v.drives w.drives d);
-        reports = every_append (λ (o : Own). Reported x o.cpu o.reports) v.own w.own hv.reports hw.reports;
-      } record { seen = omega arith; leads = λ d. absurd (no_true d); reports = every_nil (λ (o : Own). Reported x o.cpu o.reports) };
-      on_needed = let x : ℕ = get_or s.words 1 0 in each (λ u. seen_at u 1 ≤ x) k.on_needed (let e = g 1 refl (omega arith) in let p = k.on_needed id v at in let q = k.on_needed other w there in omega arith) (omega arith);
-      on_accepts = λ p low. let x : ℕ = get_or s.words (accepts_word p) 0 in let hv = k.on_accepts p low id v at in let hw = k.on_accepts p low other w there in let e = g (accepts_word p) (accepts_not p) (omega arith) in each (OnAccepts p x) (k.on_accepts p low) record {
-        seen = let a = hv.seen in let c = hw.seen in omega arith;
-        shut = λ odd. e ∙ one_of (seen_at v (accepts_word p)) (seen_at w (accepts_word p)) x hv.shut hw.shut hv.seen hw.seen (ap (λ (z : ℕ). z % 2) (sym e) ∙ odd);
-        counts = every_append (λ (o : Own). o.cpu ≡ p → x / 2 ≡ count_of o) v.own w.own hv.counts hw.counts;
-        control = λ c. ap (λ (z : ℕ). z % 2) e ∙ parity (seen_at v (accepts_word p)) (seen_at w (accepts_word p)) x hv.shut hw.shut hv.seen hw.seen (⊎_elim (λ t. inl (hv.control t)) (λ t. inr (hw.control t)) (or_split v.controls w.controls c));
-      } record { seen = omega arith; shut = λ odd. absurd (omega arith); counts = every_nil (λ (o : Own). o.cpu ≡ p → x / 2 ≡ count_of o); control = λ d. absurd (no_true d) };
-      on_turns = λ p low. let x : ℕ = get_or s.words (turns_word p) 0 in let hv = k.on_turns p low id v at in let hw = k.on_turns p low other w there in let e = g (turns_word p) (turns_not p) (omega arith) in each (OnTurns p x) (k.on_turns p low) record {
-        seen = let a = hv.seen in let c = hw.seen in omega arith;
-        running = every_append (λ (c : Claim). c.cpu ≡ p → x ≡ 2 * c.number + 1) v.running w.running hv.running hw.running;
-      } record { seen = omega arith; running = every_nil (λ (c : Claim). c.cpu ≡ p → x ≡ 2 * c.number + 1) };
-      turning = λ p low. let t = k.turning p low in record {
-        once = λ j. sum (claimed p j) (total-append (is_claim p j) v.claims w.claims) refl ∙ t.once j;
-        one = sum (runs p) (total-append (is_of p) v.running w.running) refl ∙ t.one;
+      seats = record {
+        processor = λ p low. sum (own_count p) (ap (total (one_if_equal p)) (cpus-append v.own w.own) ∙ total-append (one_if_equal p) (cpus v.own) (cpus w.own)) refl ∙ k.seats.processor p low;
+        driver = sum driver_count (count_or v.drives w.drives one) refl ∙ k.seats.driver;
+        control = sum control_count (count_or v.controls w.controls commanding) refl ∙ k.seats.control;
+        weight = sum (λ (u : View). u.weight) refl refl ∙ k.seats.weight;
       };
-      on_asks = λ p low. let x : ℕ = get_or s.words (asks_word p) 0 in each (OnAsks p x) (k.on_asks p low)
-          (λ c. m (asks_word p) (omega arith) ∙ met-asks (asks_word p) w.controls (seen_at v (asks_word p)) (seen_at w (asks_word p)) (asks_is p)
-          ∙ asks_met v.controls w.controls (seen_at v (asks_word p)) (seen_at w (asks_word p)) x (k.on_asks p low id v at) (k.on_asks p low other w there) c)
-          (λ d. absurd (no_true d));
-      asks = k.asks;
-      halt = k.halt;
     }
 
 -- ---- one seat more
@@ -177,73 +183,75 @@ unfolding Every
 every_rest_cpu P [] h = tt
 every_rest_cpu P (o ∷ os) h = h.1
 
-parts_of : (p : ℕ) (l : List Own) → total (is_at p) (cpus (rest_own l)) + total (is_at p) (cpus (first_own l)) ≡ total (is_at p) (cpus l)
+parts_of : (p : ℕ) (l : List Own) → total (one_if_equal p) (cpus (rest_own l)) + total (one_if_equal p) (cpus (first_own l)) ≡ total (one_if_equal p) (cpus l)
 parts_of p [] = refl
 parts_of p (o ∷ os) = omega arith
 
 module _ (n seats id : ℕ) (v : View) (lo ro : List Own) (lc rc : Bool) (big : 1 < v.weight) (lefts : (P : Own → Type 0) → Every P v.own → Every P lo) (rights : (P : Own → Type 0) → Every P v.own → Every P ro)
     (low_left : (P : ℕ → Type 0) → Every P (cpus v.own) → Every P (cpus lo)) (low_right : (P : ℕ → Type 0) → Every P (cpus v.own) → Every P (cpus ro))
-    (flag : one_if lc + one_if rc ≡ commands v) (left_flag : lc ≡ true → v.controls ≡ true) (right_flag : rc ≡ true → v.controls ≡ true)
-    (shared : (p : ℕ) → total (is_at p) (cpus lo) + total (is_at p) (cpus ro) ≡ has p v) where
+    (flag : one_if lc + one_if rc ≡ control_count v) (left_flag : lc ≡ true → v.controls ≡ true) (right_flag : rc ≡ true → v.controls ≡ true)
+    (shared : (p : ℕ) → total (one_if_equal p) (cpus lo) + total (one_if_equal p) (cpus ro) ≡ own_count p v) where
   abbrev Left : View
   Left = record v { weight = v.weight - 1; controls = lc; own = lo }
 
   abbrev Right : View
   Right = record v { weight = 1; drives = false; controls = rc; own = ro; claims = []; running = [] }
 
-  each_split : (views : List View) → get_elem? views id ≡ some v → (P : View → Type 0) → Each views (λ _. P) → P Left → P Right → Each (set views id Left ++ Right ∷ []) (λ _. P)
-  each_split views at P all a b j u e = ⊎_elim (each_set views id Left (λ _. P) (λ _. P) all (λ _ u _ _ h. h) a j u) (λ (t : Right ≡ u). subst P t b) (at_snoc (set views id Left) Right u j e)
+  each_split : (views : List View) → get_elem? views id ≡ some v → (P : View → Type 0) → Each views P → P Left → P Right → Each (set views id Left ++ Right ∷ []) P
+  each_split views at P all a b j u e = ⊎_elim (each_set views id Left P P all (λ _ u _ _ h. h) a j u) (λ (t : Right ≡ u). subst P t b) (at_snoc (set views id Left) Right u j e)
 
   total_split : (views : List View) → get_elem? views id ≡ some v → (f : View → ℕ) → f Left + f Right ≡ f v → total f (set views id Left ++ Right ∷ []) ≡ total f views
   total_split views at f e = let a = total-set f views id v Left at in let b = total-append f (set views id Left) (Right ∷ []) in omega arith
 
-  pub splits : Splits (Kept n seats) id v Left Right
-  splits s k at = let each = each_split s.views at in let sum = total_split s.views at in let t = k.neat id v at in record {
+  pub splits : Splits (BoardRule n seats) id v Left Right
+  splits s k at = let each = each_split s.views at in let sum = total_split s.views at in let t = k.alone id v at in record {
     few = k.few;
-    wide = k.wide;
-    sole = λ p low. sum (has p) (shared p) ∙ k.sole p low;
-    driver = sum leads (omega arith) ∙ k.driver;
-    control = sum commands flag ∙ k.control;
-    weighs = sum (λ (u : View). u.weight) (omega arith) ∙ k.weighs;
-    neat = each (Neat n) k.neat record {
-      idle = λ e. absurd (omega arith);
-      seen_long = λ _. t.seen_long (omega arith);
-      steps_long = λ _. t.steps_long (omega arith);
-      near = low_left (λ (q : ℕ). q < n) t.near;
-      stamps = lefts (λ (o : Own). Every (λ (a : Accepted). a.stamp ≤ sight v) o.accepted) t.stamps;
-      sights = t.sights;
-      runs = t.runs;
-    } record {
-      idle = λ e. absurd (omega arith);
-      seen_long = λ _. t.seen_long (omega arith);
-      steps_long = λ _. t.steps_long (omega arith);
-      near = low_right (λ (q : ℕ). q < n) t.near;
-      stamps = rights (λ (o : Own). Every (λ (a : Accepted). a.stamp ≤ sight v) o.accepted) t.stamps;
-      sights = every_nil (λ (c : Claim). c.sight ≤ sight v);
-      runs = every_nil (λ (c : Claim). 0 < claimed c.cpu c.number Right);
+    words = k.words;
+    board = record {
+      word = k.board.word;
+      in_views = let x : ℕ = get_or s.words 0 0 in let h = k.board.in_views id v at in each (BoardLawInView x) k.board.in_views
+          (record { sight = h.sight; driver = h.driver; reports = lefts (λ (o : Own). Reported x o.cpu o.reports) h.reports })
+          (record { sight = h.sight; driver = λ d. absurd (no_true d); reports = rights (λ (o : Own). Reported x o.cpu o.reports) h.reports });
     };
-    board = k.board;
-    on_board = let x : ℕ = get_or s.words 0 0 in let h = k.on_board id v at in each (OnBoard x) k.on_board
-        (record { seen = h.seen; leads = h.leads; reports = lefts (λ (o : Own). Reported x o.cpu o.reports) h.reports })
-        (record { seen = h.seen; leads = λ d. absurd (no_true d); reports = rights (λ (o : Own). Reported x o.cpu o.reports) h.reports });
-    on_needed = let x : ℕ = get_or s.words 1 0 in let h = k.on_needed id v at in each (λ u. seen_at u 1 ≤ x) k.on_needed h h;
-    on_accepts = λ p low. let x : ℕ = get_or s.words (accepts_word p) 0 in let h = k.on_accepts p low id v at in each (OnAccepts p x) (k.on_accepts p low)
-        (record { seen = h.seen; shut = h.shut; counts = lefts (λ (o : Own). o.cpu ≡ p → x / 2 ≡ count_of o) h.counts; control = λ c. h.control (left_flag c) })
-        (record { seen = h.seen; shut = h.shut; counts = rights (λ (o : Own). o.cpu ≡ p → x / 2 ≡ count_of o) h.counts; control = λ c. h.control (right_flag c) });
-    on_turns = λ p low. let x : ℕ = get_or s.words (turns_word p) 0 in let h = k.on_turns p low id v at in each (OnTurns p x) (k.on_turns p low)
-        (record { seen = h.seen; running = h.running })
-        (record { seen = h.seen; running = every_nil (λ (c : Claim). c.cpu ≡ p → x ≡ 2 * c.number + 1) });
-    turning = λ p low. let h = k.turning p low in record { once = λ j. sum (claimed p j) (omega arith) ∙ h.once j; one = sum (runs p) (omega arith) ∙ h.one };
-    on_asks = λ p low. let x : ℕ = get_or s.words (asks_word p) 0 in let h = k.on_asks p low id v at in each (OnAsks p x) (k.on_asks p low) (λ c. h (left_flag c)) (λ c. h (right_flag c));
-    asks = k.asks;
+    needed = let x : ℕ = get_or s.words 1 0 in let h = k.needed id v at in each (λ u. seen_at u 1 ≤ x) k.needed h h;
+    accept = λ p low. let x : ℕ = get_or s.words (accepts_word p) 0 in let h = k.accept p low id v at in each (AcceptLawInView p x) (k.accept p low)
+        (record { sight = h.sight; odd_sight = h.odd_sight; count = lefts (λ (o : Own). o.cpu ≡ p → x / 2 ≡ accepted_count o) h.count; shut = λ c. h.shut (left_flag c) })
+        (record { sight = h.sight; odd_sight = h.odd_sight; count = rights (λ (o : Own). o.cpu ≡ p → x / 2 ≡ accepted_count o) h.count; shut = λ c. h.shut (right_flag c) });
+    turn = λ p low. turn_law _ _ _ (let h = turn_counts _ _ _ (k.turn p low) in record { once = λ j. sum (claimed p j) (omega arith) ∙ h.once j; one = sum (runs p) (omega arith) ∙ h.one }) (let x : ℕ = get_or s.words (turns_word p) 0 in let h = (k.turn p low).in_views id v at in each (TurnLawInView p x) ((k.turn p low).in_views)
+        (record { sight = h.sight; running = h.running })
+        (record { sight = h.sight; running = every_nil (λ (c : Claim). c.cpu ≡ p → x ≡ 2 * c.number + 1) }));
+    ask = λ p low. record { value = (k.ask p low).value; in_views = let x : ℕ = get_or s.words (asks_word p) 0 in let h = (k.ask p low).in_views id v at in each (AskLawInView p x) ((k.ask p low).in_views) (λ c. h (left_flag c)) (λ c. h (right_flag c)) };
     halt = k.halt;
+    alone = each (ViewAlone n) k.alone record {
+      no_seat = λ e. absurd (omega arith);
+      seen_long = λ _. t.seen_long (omega arith);
+      steps_long = λ _. t.steps_long (omega arith);
+      processors = low_left (λ (q : ℕ). q < n) t.processors;
+      stamps = lefts (λ (o : Own). Every (λ (a : Accepted). a.stamp ≤ sight v) o.accepted) t.stamps;
+      claims = t.claims;
+      running = t.running;
+    } record {
+      no_seat = λ e. absurd (omega arith);
+      seen_long = λ _. t.seen_long (omega arith);
+      steps_long = λ _. t.steps_long (omega arith);
+      processors = low_right (λ (q : ℕ). q < n) t.processors;
+      stamps = rights (λ (o : Own). Every (λ (a : Accepted). a.stamp ≤ sight v) o.accepted) t.stamps;
+      claims = every_nil (λ (c : Claim). c.sight ≤ sight v);
+      running = every_nil (λ (c : Claim). 0 < claimed c.cpu c.number Right);
+    };
+    seats = record {
+      processor = λ p low. sum (own_count p) (shared p) ∙ k.seats.processor p low;
+      driver = sum driver_count (omega arith) ∙ k.seats.driver;
+      control = sum control_count flag ∙ k.seats.control;
+      weight = sum (λ (u : View). u.weight) (omega arith) ∙ k.seats.weight;
+    };
   }
 
-pub splits_plain : (n seats id : ℕ) (v : View) → 1 < v.weight → Splits (Kept n seats) id v (given_plain v) (plain v)
+pub splits_plain : (n seats id : ℕ) (v : View) → 1 < v.weight → Splits (BoardRule n seats) id v (given_plain v) (plain v)
 splits_plain n seats id v big = splits n seats id v v.own [] v.controls false big (λ P h. h) (λ P _. every_nil P) (λ P h. h) (λ P _. every_nil P) (omega arith) (λ c. c) (λ c. absurd (no_true c)) (λ p. omega arith)
 
-pub splits_control : (n seats id : ℕ) (v : View) → 1 < v.weight → Splits (Kept n seats) id v (given_control v) (with_control v)
+pub splits_control : (n seats id : ℕ) (v : View) → 1 < v.weight → Splits (BoardRule n seats) id v (given_control v) (with_control v)
 splits_control n seats id v big = splits n seats id v v.own [] false v.controls big (λ P h. h) (λ P _. every_nil P) (λ P h. h) (λ P _. every_nil P) (omega arith) (λ c. absurd (no_true c)) (λ c. c) (λ p. omega arith)
 
-pub splits_own : (n seats id : ℕ) (v : View) → 1 < v.weight → Splits (Kept n seats) id v (given_own v) (with_own v)
+pub splits_own : (n seats id : ℕ) (v : View) → 1 < v.weight → Splits (BoardRule n seats) id v (given_own v) (with_own v)
 splits_own n seats id v big = splits n seats id v (rest_own v.own) (first_own v.own) v.controls false big (λ P. every_rest P v.own) (λ P. every_first P v.own) (λ P. every_rest_cpu P v.own) (λ P. every_first_cpu P v.own) (omega arith) (λ c. c) (λ c. absurd (no_true c)) (λ p. parts_of p v.own)

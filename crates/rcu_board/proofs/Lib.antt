@@ -1,8 +1,9 @@
 pub mod Asks
 pub mod Views
+pub mod Turns
 pub mod Moved
 pub mod BoardSteps
-pub mod Sits
+pub mod Roles
 pub mod WordSteps
 pub mod Groups
 pub mod Opening

@@ -3,8 +3,8 @@ use Rattle.std.proofs.Common.{◌≡◌, ℕ, zero, suc, ◌+◌, ◌-◌, ◌<�
 use Rattle.std.specs.Prelude.{◌==◌, ◌↔◌, IsTrue}
 use Rattle.rcu_numbers.specs.Words.{owes_of}
 use Rattle.rcu_board.proofs.Asks.{no_true}
-use Rattle.rcu_board.specs.Views.{newcomer, spread, given_own, with_own, given_plain, new_view}
-use Rattle.rcu_board.specs.Opened.{InOrder, Rowed, those, is_offloadable, has_offloadable}
+use Rattle.rcu_board.specs.Views.{new_own, new_owns_between, given_own, with_own, given_plain, new_view}
+use Rattle.rcu_board.specs.Opened.{InOrder, SeatForEach, numbers_where, is_offloadable, has_offloadable}
 use Rattle.rcu_board.specs.declared.board.Seat.{Seat}
 use Rattle.rcu_board.proofs.Opening.{first_spread, rest_spread}
 
@@ -17,53 +17,53 @@ unfolding InOrder
 in_order_snoc P k n [] x h e p = (subst (λ (z : ℕ). P z x) (omega arith) p, tt)
 in_order_snoc P k n (y ∷ ys) x h e p = (h.0, in_order_snoc P (suc k) n ys x h.1 (omega arith) p)
 
-pub rowed_nil : (P : ℕ → Seat → Type 0) → Rowed P [] []
-unfolding Rowed
-rowed_nil P = tt
+pub for_each_nil : (P : ℕ → Seat → Type 0) → SeatForEach P [] []
+unfolding SeatForEach
+for_each_nil P = tt
 
-pub rowed_snoc : (P : ℕ → Seat → Type 0) (ks : List ℕ) (xs : List Seat) (k : ℕ) (x : Seat) → Rowed P ks xs → P k x → Rowed P (ks ++ k ∷ []) (xs ++ x ∷ [])
-unfolding Rowed
-rowed_snoc P [] [] k x h p = (p, tt)
-rowed_snoc P [] (y ∷ ys) k x h p = absurd h
-rowed_snoc P (j ∷ js) [] k x h p = absurd h
-rowed_snoc P (j ∷ js) (y ∷ ys) k x h p = (h.0, rowed_snoc P js ys k x h.1 p)
+pub for_each_snoc : (P : ℕ → Seat → Type 0) (ks : List ℕ) (xs : List Seat) (k : ℕ) (x : Seat) → SeatForEach P ks xs → P k x → SeatForEach P (ks ++ k ∷ []) (xs ++ x ∷ [])
+unfolding SeatForEach
+for_each_snoc P [] [] k x h p = (p, tt)
+for_each_snoc P [] (y ∷ ys) k x h p = absurd h
+for_each_snoc P (j ∷ js) [] k x h p = absurd h
+for_each_snoc P (j ∷ js) (y ∷ ys) k x h p = (h.0, for_each_snoc P js ys k x h.1 p)
 
-those_more : (b : Bool) (p : ℕ) (more few last : List ℕ) → more ≡ few ++ last → cond b (p ∷ more) more ≡ cond b (p ∷ few) few ++ last
-those_more true p more few last e = ap (λ (l : List ℕ). p ∷ l) e
-those_more false p more few last e = e
+where_more : (b : Bool) (p : ℕ) (more few last : List ℕ) → more ≡ few ++ last → cond b (p ∷ more) more ≡ cond b (p ∷ few) few ++ last
+where_more true p more few last e = ap (λ (l : List ℕ). p ∷ l) e
+where_more false p more few last e = e
 
 -- the one seat of a list
 pub in_order_one : (P : ℕ → Seat → Type 0) (k : ℕ) (x : Seat) → InOrder P k (x ∷ []) → P k x
 unfolding InOrder
 in_order_one P k x h = h.0
 
-rowed_first : (P : ℕ → Seat → Type 0) (ks : List ℕ) (x : Seat) → Rowed P ks (x ∷ []) → (k : ℕ) × P k x
-unfolding Rowed
-rowed_first P [] x h = absurd h
-rowed_first P (k ∷ ks) x h = (k, h.0)
+for_each_first : (P : ℕ → Seat → Type 0) (ks : List ℕ) (x : Seat) → SeatForEach P ks (x ∷ []) → (k : ℕ) × P k x
+unfolding SeatForEach
+for_each_first P [] x h = absurd h
+for_each_first P (k ∷ ks) x h = (k, h.0)
 
-pub rowed_one : (P : ℕ → Seat → Type 0) (ks : List ℕ) (l : List Seat) (x : Seat) → l ≡ x ∷ [] → Rowed P ks l → (k : ℕ) × P k x
-rowed_one P ks l x e h = rowed_first P ks x (subst (Rowed P ks) e h)
+pub for_each_one : (P : ℕ → Seat → Type 0) (ks : List ℕ) (l : List Seat) (x : Seat) → l ≡ x ∷ [] → SeatForEach P ks l → (k : ℕ) × P k x
+for_each_one P ks l x e h = for_each_first P ks x (subst (SeatForEach P ks) e h)
 
 -- one number more
-those_snoc : (test : ℕ → Bool) (p k q : ℕ) → q ≡ p + k → those test p (suc k) ≡ those test p k ++ cond (test q) (q ∷ []) []
-unfolding those
-those_snoc test p zero q e = let same : p ≡ q = omega arith in ap (λ (z : ℕ). cond (test z) (z ∷ []) []) same
-those_snoc test p (suc k) q e = those_more (test p) p (those test (suc p) (suc k)) (those test (suc p) k) (cond (test q) (q ∷ []) []) (those_snoc test (suc p) k q (omega arith))
+where_snoc : (test : ℕ → Bool) (p k q : ℕ) → q ≡ p + k → numbers_where test p (suc k) ≡ numbers_where test p k ++ cond (test q) (q ∷ []) []
+unfolding numbers_where
+where_snoc test p zero q e = let same : p ≡ q = omega arith in ap (λ (z : ℕ). cond (test z) (z ∷ []) []) same
+where_snoc test p (suc k) q e = where_more (test p) p (numbers_where test (suc p) (suc k)) (numbers_where test (suc p) k) (cond (test q) (q ∷ []) []) (where_snoc test (suc p) k q (omega arith))
 
-pub those_none : (test : ℕ → Bool) → those test 0 0 ≡ []
-unfolding those
-those_none test = refl
+pub where_none : (test : ℕ → Bool) → numbers_where test 0 0 ≡ []
+unfolding numbers_where
+where_none test = refl
 
-pub those_yes : (test : ℕ → Bool) (k : ℕ) → test k ≡ true → those test 0 (k + 1) ≡ those test 0 k ++ k ∷ []
-those_yes test k e = let n : k + 1 ≡ suc k = omega arith in ap (those test 0) n ∙ those_snoc test 0 k k (omega arith) ∙ ap (λ (b : Bool). those test 0 k ++ cond b (k ∷ []) []) e
+pub where_yes : (test : ℕ → Bool) (k : ℕ) → test k ≡ true → numbers_where test 0 (k + 1) ≡ numbers_where test 0 k ++ k ∷ []
+where_yes test k e = let n : k + 1 ≡ suc k = omega arith in ap (numbers_where test 0) n ∙ where_snoc test 0 k k (omega arith) ∙ ap (λ (b : Bool). numbers_where test 0 k ++ cond b (k ∷ []) []) e
 
 append_none : (l : List ℕ) → l ++ [] ≡ l
 append_none [] = refl
 append_none (x ∷ xs) = ap (λ (l : List ℕ). x ∷ l) (append_none xs)
 
-pub those_no : (test : ℕ → Bool) (k : ℕ) → test k ≡ false → those test 0 (k + 1) ≡ those test 0 k
-those_no test k e = let n : k + 1 ≡ suc k = omega arith in ap (those test 0) n ∙ those_snoc test 0 k k (omega arith) ∙ ap (λ (b : Bool). those test 0 k ++ cond b (k ∷ []) []) e ∙ append_none (those test 0 k)
+pub where_no : (test : ℕ → Bool) (k : ℕ) → test k ≡ false → numbers_where test 0 (k + 1) ≡ numbers_where test 0 k
+where_no test k e = let n : k + 1 ≡ suc k = omega arith in ap (numbers_where test 0) n ∙ where_snoc test 0 k k (omega arith) ∙ ap (λ (b : Bool). numbers_where test 0 k ++ cond b (k ∷ []) []) e ∙ append_none (numbers_where test 0 k)
 
 -- ---- groups with an offloadable member
 
@@ -83,10 +83,10 @@ has_else mask stride p g found member e h m = m ∙ ap (λ (b : Bool). b || (is_
 
 -- ---- what the first seat keeps and gives
 
-pub gives : (n offloadable w p : ℕ) → p < n → given_own (new_view n offloadable w true true (spread p n)) ≡ new_view n offloadable (w - 1) true true (spread (p + 1) n)
-gives n offloadable w p h = let e : suc p ≡ p + 1 = omega arith in ap (new_view n offloadable (w - 1) true true) (rest_spread p n h ∙ ap (λ (z : ℕ). spread z n) e)
+pub gives : (n offloadable w p : ℕ) → p < n → given_own (new_view n offloadable w true true (new_owns_between p n)) ≡ new_view n offloadable (w - 1) true true (new_owns_between (p + 1) n)
+gives n offloadable w p h = let e : suc p ≡ p + 1 = omega arith in ap (new_view n offloadable (w - 1) true true) (rest_spread p n h ∙ ap (λ (z : ℕ). new_owns_between z n) e)
 
-pub gets : (n offloadable w p : ℕ) → p < n → with_own (new_view n offloadable w true true (spread p n)) ≡ new_view n offloadable 1 false false (newcomer p ∷ [])
+pub gets : (n offloadable w p : ℕ) → p < n → with_own (new_view n offloadable w true true (new_owns_between p n)) ≡ new_view n offloadable 1 false false (new_own p ∷ [])
 gets n offloadable w p h = ap (new_view n offloadable 1 false false) (first_spread p n h)
 
 -- ---- tests

@@ -1,5 +1,5 @@
 -- Lists of views, of which one changes.
-use Rattle.rcu_board.specs.Views.{Every, total, cpus, is_at}
+use Rattle.rcu_board.specs.Views.{Every, total, cpus, one_if_equal}
 use Rattle.rcu_board.specs.Laws.{Each}
 use Rattle.std.proofs.Common.{◌≡◌, ◌≢◌, ℕ, zero, suc, ◌+◌, ◌≤◌, cond, eq-eqb, ne_eqb, List, [], ◌∷◌, ◌++◌, map, set, sym, refl, ap, subst, ⊎_elim, arith}
 use mathlib.Core.Option.{some, some-injective, some-ne-none}
@@ -50,20 +50,20 @@ module _ {A : Type 0} where
   total-set f (x ∷ xs) zero v w e = let is : f x ≡ f v = ap f (some-injective x v e) in omega arith
   total-set f (x ∷ xs) (suc i) v w e = let r = total-set f xs i v w e in omega arith
 
-pub each_set : (views : List View) (id : ℕ) (w : View) (P Q : ℕ → View → Type 0) → Each views P
-    → ((k : ℕ) (u : View) → k ≢ id → get_elem? views k ≡ some u → P k u → Q k u) → Q id w → Each (set views id w) Q
+pub each_set : (views : List View) (id : ℕ) (w : View) (P Q : View → Type 0) → Each views P
+    → ((k : ℕ) (u : View) → k ≢ id → get_elem? views k ≡ some u → P u → Q u) → Q w → Each (set views id w) Q
 each_set views id w P Q all others here k u e = ⊎_elim
-    (λ t. subst (λ (j : ℕ). Q j u) (sym t.0) (subst (λ (z : View). Q id z) t.1 here))
+    (λ t. subst Q t.1 here)
     (λ t. others k u t.0 t.1 (all k u t.1)) (at_set views id k w u e)
 
 pub cpus-map : (f : Own → Own) → ((o : Own) → (f o).cpu ≡ o.cpu) → (l : List Own) → cpus (map f l) ≡ cpus l
 cpus-map f same [] = refl
 cpus-map f same (x ∷ xs) = λ i. same x i ∷ cpus-map f same xs i
 
-pub at_same : (p q : ℕ) → q ≡ p → is_at p q ≡ 1
+pub at_same : (p q : ℕ) → q ≡ p → one_if_equal p q ≡ 1
 at_same p q e = ap (λ b. cond b 1 0) (eq-eqb q p e)
 
-pub at_other : (p q : ℕ) → q ≢ p → is_at p q ≡ 0
+pub at_other : (p q : ℕ) → q ≢ p → one_if_equal p q ≡ 0
 at_other p q e = ap (λ b. cond b 1 0) (ne_eqb q p e)
 
 -- what is said of all processors below n, of the view's own
@@ -73,7 +73,7 @@ every_own P Q R f [] h k = tt
 every_own P Q R f (x ∷ xs) h k = (f x h.0 k.0, every_own P Q R f xs h.1 k.1)
 
 -- a processor that the view does not have is not among its own
-pub not_own : (p : ℕ) (l : List Own) → total (is_at p) (cpus l) ≡ 0 → Every (λ (q : ℕ). q ≢ p) (cpus l)
+pub not_own : (p : ℕ) (l : List Own) → total (one_if_equal p) (cpus l) ≡ 0 → Every (λ (q : ℕ). q ≢ p) (cpus l)
 unfolding Every
 not_own p [] e = tt
 not_own p (x ∷ xs) e = ((λ same. omega (arith, at_same p x.cpu same)), not_own p xs (omega arith))

@@ -1,95 +1,121 @@
--- The rule of a board, one law for each word: docs/specification/definitions.md, "The running parts: laws".
-use Rattle.std.specs.Prelude.{◌≡◌, ℕ, ◌+◌, ◌*◌, ◌/◌, ◌%◌, ◌<◌, ◌≤◌, true, cond, nat_lt, List, length, slice_index}
+-- The rule of a board, law by law: docs/specification/definitions.md, "The running parts: laws". A quoted sentence is one of that section.
+use Rattle.std.specs.Prelude.{◌≡◌, ℕ, ◌+◌, ◌*◌, ◌/◌, ◌%◌, ◌<◌, ◌≤◌, true, List, length, slice_index}
 use mathlib.Core.Option.{some}
 use lib.ListN.{get_elem?}
 use Rattle.atomic_table.specs.Table.{State}
 use Rattle.rcu_numbers.specs.Words.{number_of, mask_of, owes_of}
-use Rattle.rcu_board.specs.Words.{words_of, accepts_word, turns_word, asks_word}
-use Rattle.rcu_board.specs.Views.{seen_at, sight, Every, total, cpus, has, leads, commands, count_of, claimed, runs, spent}
+use Rattle.rcu_board.specs.Words.{words_of, board_word, needed_word, halt_word, accepts_word, turns_word, asks_word}
+use Rattle.rcu_board.specs.Views.{seen_at, sight, Every, total, cpus, own_count, driver_count, control_count, accepted_count, claimed, runs, spent}
 use Rattle.rcu_board.specs.declared.view.View.{View}
 
--- ---- board law
+-- said of each view
+abbrev pub Each : List View → (View → Type 0) → Type 0
+Each views P = (id : ℕ) (v : View) → get_elem? views id ≡ some v → P v
 
--- The board word is idle with no bit, or in progress.
+-- ---- board law: x is the board word
+
 pub record IsBoard (x : ℕ) : Type 0 where
+  -- it is idle or in progress
   pub state : number_of x % 4 < 2
+  -- "At number 4j the mask is 0"
   pub idle : number_of x % 4 ≡ 0 → mask_of x ≡ 0
   pub small : number_of x ≤ 2147483644
 
--- At number 4j + 1 a processor has made j counted reports where it owes one, and else j + 1. At number 4j it has made j.
+-- "At number 4j+1, bit q is set exactly where q has made j counted reports; else q has made j+1. At number 4j [..] each processor has made j."
 abbrev pub Reported : ℕ → ℕ → ℕ → Type 0
-Reported x p reports = (number_of x % 4 ≡ 0 → reports ≡ number_of x / 4) × (number_of x % 4 ≡ 1 → reports + owes_of x p ≡ number_of x / 4 + 1)
+Reported x q reports = (number_of x % 4 ≡ 0 → reports ≡ number_of x / 4) × (number_of x % 4 ≡ 1 → reports + owes_of x q ≡ number_of x / 4 + 1)
 
-pub record OnBoard (x : ℕ) (v : View) : Type 0 where
-  -- no board sight is above the number
-  pub seen : sight v ≤ number_of x
-  -- the driver's sight is the number
-  pub leads : v.drives ≡ true → sight v ≡ number_of x
+pub record BoardLawInView (x : ℕ) (v : View) : Type 0 where
   pub reports : Every (λ o. Reported x o.cpu o.reports) v.own
+  -- "The driver's sight is the number."
+  pub driver : v.drives ≡ true → sight v ≡ number_of x
+  -- "no board sight [..] is above the number", and so no stamp and no claim's sight, which are not above the view's own sight (ViewAlone)
+  pub sight : sight v ≤ number_of x
 
--- ---- accept law: A_p is twice the length of p's accepted list, plus 1 once control has shut p
+pub record BoardLaw (x : ℕ) (views : List View) : Type 0 where
+  pub word : IsBoard x
+  pub in_views : Each views (BoardLawInView x)
 
-pub record OnAccepts (p x : ℕ) (v : View) : Type 0 where
-  -- no sight of A_p is above it, and an odd one equals it
-  pub seen : seen_at v (accepts_word p) ≤ x
-  pub shut : seen_at v (accepts_word p) % 2 ≡ 1 → seen_at v (accepts_word p) ≡ x
-  pub counts : Every (λ o. o.cpu ≡ p → x / 2 ≡ count_of o) v.own
-  pub control : v.controls ≡ true → seen_at v (accepts_word p) % 2 ≡ x % 2
+-- "and no sight of `needed` above that word", which is x
+abbrev pub NeededLaw : ℕ → List View → Type 0
+NeededLaw x views = Each views (λ v. seen_at v needed_word ≤ x)
 
--- ---- turn law
+-- ---- accept law: x is A_p
 
--- T_p is 2k or 2k + 1. Each number below the next one is claimed once in all views, and no other is; one claim runs where the word is odd, and none where it is even.
-pub record Turning (p x : ℕ) (views : List View) : Type 0 where
-  pub once : (k : ℕ) → total (claimed p k) views ≡ cond (nat_lt k ((x + 1) / 2)) 1 0
-  pub one : total (runs p) views ≡ x % 2
+pub record AcceptLawInView (p x : ℕ) (v : View) : Type 0 where
+  -- "A_p is twice the length of p's accepted list, plus 1 once shut."
+  pub count : Every (λ o. o.cpu ≡ p → x / 2 ≡ accepted_count o) v.own
+  -- control alone shuts
+  pub shut : v.controls ≡ true → seen_at v (accepts_word p) % 2 ≡ x % 2
+  -- "No sight of A_p is above it, and a sight that is odd equals it."
+  pub sight : seen_at v (accepts_word p) ≤ x
+  pub odd_sight : seen_at v (accepts_word p) % 2 ≡ 1 → seen_at v (accepts_word p) ≡ x
 
-pub record OnTurns (p x : ℕ) (v : View) : Type 0 where
-  -- no sight of T_p is above it
-  pub seen : seen_at v (turns_word p) ≤ x
-  -- what runs is the number that the word names
+abbrev pub AcceptLaw : ℕ → ℕ → List View → Type 0
+AcceptLaw p x views = Each views (AcceptLawInView p x)
+
+-- ---- turn law: x is T_p, "2k or 2k+1", so that k is x / 2
+
+pub record TurnLawInView (p x : ℕ) (v : View) : Type 0 where
+  -- a claim that runs is the one of number k, at 2k + 1; the view has it among its claims (ViewAlone)
   pub running : Every (λ c. c.cpu ≡ p → x ≡ 2 * c.number + 1) v.running
+  -- "No sight of T_p is above it."
+  pub sight : seen_at v (turns_word p) ≤ x
 
--- ---- ask law: S_p is what control's view last read or stored there
+pub record TurnLaw (p x : ℕ) (views : List View) : Type 0 where
+  -- "Each number below k is once in the claims of exactly one view, and no number above k is in any."
+  pub below : (number : ℕ) → number < x / 2 → total (claimed p number) views ≡ 1
+  pub above : (number : ℕ) → x / 2 < number → total (claimed p number) views ≡ 0
+  -- "At 2k+1, k is once in the claims of exactly one view, and that view alone has a running claim on p. At 2k none has, and k is in no claims."
+  pub next : total (claimed p (x / 2)) views ≡ x % 2
+  pub running : total (runs p) views ≡ x % 2
+  pub in_views : Each views (TurnLawInView p x)
 
-abbrev pub OnAsks : ℕ → ℕ → View → Type 0
-OnAsks p x v = v.controls ≡ true → seen_at v (asks_word p) ≡ x
+-- ---- ask law: x is S_p
 
--- ---- what a view says with no word beside it
+-- "S_p is the value that the view of control last read or stored there"
+abbrev pub AskLawInView : ℕ → ℕ → View → Type 0
+AskLawInView p x v = v.controls ≡ true → seen_at v (asks_word p) ≡ x
 
-pub record Neat (n : ℕ) (v : View) : Type 0 where
-  pub idle : v.weight ≡ 0 → v ≡ spent
+pub record AskLaw (p x : ℕ) (views : List View) : Type 0 where
+  pub value : x < 2
+  pub in_views : Each views (AskLawInView p x)
+
+-- ---- what a view says by itself
+
+pub record ViewAlone (n : ℕ) (v : View) : Type 0 where
+  -- after a merge "the other is a fixed spent view", which stands for no seat
+  pub no_seat : v.weight ≡ 0 → v ≡ spent
   pub seen_long : 0 < v.weight → length v.seen ≡ words_of n
   pub steps_long : 0 < v.weight → length v.steps ≡ words_of n
-  pub near : Every (λ q. q < n) (cpus v.own)
+  pub processors : Every (λ q. q < n) (cpus v.own)
   -- no stamp and no claim's sight is above the board sight
   pub stamps : Every (λ o. Every (λ a. a.stamp ≤ sight v) o.accepted) v.own
-  pub sights : Every (λ c. c.sight ≤ sight v) v.claims
+  pub claims : Every (λ c. c.sight ≤ sight v) v.claims
   -- what runs was claimed by the view itself
-  pub runs : Every (λ c. 0 < claimed c.cpu c.number v) v.running
+  pub running : Every (λ c. 0 < claimed c.cpu c.number v) v.running
+
+-- ---- whose the views are
+
+pub record SeatLaw (n all : ℕ) (views : List View) : Type 0 where
+  -- each processor's lists are in one view, once
+  pub processor : (p : ℕ) → p < n → total (own_count p) views ≡ 1
+  pub driver : total driver_count views ≡ 1
+  pub control : total control_count views ≡ 1
+  pub weight : total (λ v. v.weight) views ≡ all
 
 -- ---- the rule
 
-abbrev pub Each : List View → (ℕ → View → Type 0) → Type 0
-Each views P = (id : ℕ) (v : View) → get_elem? views id ≡ some v → P id v
-
--- Between any two steps of any threads: the words and the views of a board for n processors.
-pub record Kept (n seats : ℕ) (s : State ℕ View) : Type 0 where
+-- Between any two steps of any threads: the words and the views of a board for n processors, whose seats weigh `all` together.
+pub record BoardRule (n all : ℕ) (s : State ℕ View) : Type 0 where
   pub few : n ≤ 32
-  pub wide : length s.words ≡ words_of n
-  -- each processor is in one view, once, one view is the driver's, and one is control's
-  pub sole : (p : ℕ) → p < n → total (has p) s.views ≡ 1
-  pub driver : total leads s.views ≡ 1
-  pub control : total commands s.views ≡ 1
-  pub weighs : total (λ v. v.weight) s.views ≡ seats
-  pub neat : Each s.views (λ _. Neat n)
-  pub board : IsBoard (slice_index s.words 0)
-  pub on_board : Each s.views (λ _. OnBoard (slice_index s.words 0))
-  -- no sight of `needed` is above that word
-  pub on_needed : Each s.views (λ _ v. seen_at v 1 ≤ slice_index s.words 1)
-  pub on_accepts : (p : ℕ) → p < n → Each s.views (λ _. OnAccepts p (slice_index s.words (accepts_word p)))
-  pub on_turns : (p : ℕ) → p < n → Each s.views (λ _. OnTurns p (slice_index s.words (turns_word p)))
-  pub turning : (p : ℕ) → p < n → Turning p (slice_index s.words (turns_word p)) s.views
-  pub on_asks : (p : ℕ) → p < n → Each s.views (λ _. OnAsks p (slice_index s.words (asks_word p)))
-  -- S_p and the halt word are 0 or 1
-  pub asks : (p : ℕ) → p < n → slice_index s.words (asks_word p) < 2
-  pub halt : slice_index s.words 2 < 2
+  pub words : length s.words ≡ words_of n
+  pub board : BoardLaw (slice_index s.words board_word) s.views
+  pub needed : NeededLaw (slice_index s.words needed_word) s.views
+  pub accept : (p : ℕ) → p < n → AcceptLaw p (slice_index s.words (accepts_word p)) s.views
+  pub turn : (p : ℕ) → p < n → TurnLaw p (slice_index s.words (turns_word p)) s.views
+  pub ask : (p : ℕ) → p < n → AskLaw p (slice_index s.words (asks_word p)) s.views
+  -- the halt word is 0 or 1
+  pub halt : slice_index s.words halt_word < 2
+  pub alone : Each s.views (ViewAlone n)
+  pub seats : SeatLaw n all s.views

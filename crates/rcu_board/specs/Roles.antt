@@ -7,16 +7,16 @@ use Rattle.rcu_board.specs.declared.board.Role.TheVariants.{Processor, Hand, Gro
 use Rattle.rcu_board.specs.declared.view.View.{View}
 
 -- a seat that can step, on a board of so many words
-pub record Seated (words : ℕ) (m : Me ℕ View) : Type 0 where
-  pub bare : m.1 ≡ []
+pub record CanStep (words : ℕ) (m : Me ℕ View) : Type 0 where
+  pub carries_nothing : m.1 ≡ []
   pub live : 0 < m.0.weight
   pub small : sight m.0 ≤ 2147483644
   pub seen_long : length m.0.seen ≡ words
   pub steps_long : length m.0.steps ≡ words
 
 -- what a seat of this role has besides
-pub record Sitting (role : Role) (words : ℕ) (m : Me ℕ View) : Type 0 where
-  pub seated : Seated words m
+pub record SeatOfRole (role : Role) (words : ℕ) (m : Me ℕ View) : Type 0 where
+  pub can_step : CanStep words m
   pub processor : (p : ℕ) → role ≡ Processor p → 5 + 3 * p < words
   pub hand : (p : ℕ) → role ≡ Hand p → 5 + 3 * p < words
   pub own : (p : ℕ) → role ≡ Processor p → cpus m.0.own ≡ p ∷ []
@@ -24,8 +24,8 @@ pub record Sitting (role : Role) (words : ℕ) (m : Me ℕ View) : Type 0 where
   pub control : role ≡ Control → m.0.controls ≡ true
 
 -- the first seat, before it has given all others
-pub record Making (words : ℕ) (m : Me ℕ View) : Type 0 where
-  pub seated : Seated words m
+pub record FirstSeat (words : ℕ) (m : Me ℕ View) : Type 0 where
+  pub can_step : CanStep words m
   pub driver : m.0.drives ≡ true
 
 abbrev pub IsProcessor : Role → Type 0

@@ -34,56 +34,56 @@ one_if b = cond b 1 0
 abbrev pub cpus : List Own → List ℕ
 cpus os = map (λ (o : Own). o.cpu) os
 
-abbrev pub is_at : ℕ → ℕ → ℕ
-is_at p q = cond (q == p) 1 0
+abbrev pub one_if_equal : ℕ → ℕ → ℕ
+one_if_equal p q = cond (q == p) 1 0
 
 -- how often processor p is the view's own
-abbrev pub has : ℕ → View → ℕ
-has p v = total (is_at p) (cpus v.own)
+abbrev pub own_count : ℕ → View → ℕ
+own_count p v = total (one_if_equal p) (cpus v.own)
 
 -- 1 in the view of the driver
-abbrev pub leads : View → ℕ
-leads v = cond v.drives 1 0
+abbrev pub driver_count : View → ℕ
+driver_count v = cond v.drives 1 0
 
 -- 1 in the view of control
-abbrev pub commands : View → ℕ
-commands v = cond v.controls 1 0
+abbrev pub control_count : View → ℕ
+control_count v = cond v.controls 1 0
 
-abbrev pub count_fresh : Option ℕ → ℕ
-count_fresh (Some key) = 1
-count_fresh None = 0
+abbrev pub fresh_count : Option ℕ → ℕ
+fresh_count (Some key) = 1
+fresh_count None = 0
 
 -- the length of the accepted list, of which the last number may be without a stamp
-abbrev pub count_of : Own → ℕ
-count_of o = length o.accepted + count_fresh o.fresh
+abbrev pub accepted_count : Own → ℕ
+accepted_count o = length o.accepted + fresh_count o.fresh
 
-abbrev pub is_claim : ℕ → ℕ → Claim → ℕ
-is_claim p k c = cond (c.cpu == p) (cond (c.number == k) 1 0) 0
+abbrev pub one_if_claim : ℕ → ℕ → Claim → ℕ
+one_if_claim p k c = cond (c.cpu == p) (cond (c.number == k) 1 0) 0
 
 -- how often the view has claimed number k of processor p
 abbrev pub claimed : ℕ → ℕ → View → ℕ
-claimed p k v = total (is_claim p k) v.claims
+claimed p k v = total (one_if_claim p k) v.claims
 
-abbrev pub is_of : ℕ → Claim → ℕ
-is_of p c = cond (c.cpu == p) 1 0
+abbrev pub one_if_on : ℕ → Claim → ℕ
+one_if_on p c = cond (c.cpu == p) 1 0
 
 -- how many claims on processor p run in the view
 abbrev pub runs : ℕ → View → ℕ
-runs p v = total (is_of p) v.running
+runs p v = total (one_if_on p) v.running
 
 -- ---- the opening
 
-abbrev pub newcomer : ℕ → Own
-newcomer p = record { cpu = p; reports = 0; accepted = []; fresh = None }
+abbrev pub new_own : ℕ → Own
+new_own p = record { cpu = p; reports = 0; accepted = []; fresh = None }
 
 -- n processors from p on
-unfoldable pub newcomers : ℕ → ℕ → List Own
-newcomers p zero = []
-newcomers p (suc n) = newcomer p ∷ newcomers (suc p) n
+unfoldable pub new_owns : ℕ → ℕ → List Own
+new_owns p zero = []
+new_owns p (suc n) = new_own p ∷ new_owns (suc p) n
 
 -- the processors from p up to n
-abbrev pub spread : ℕ → ℕ → List Own
-spread p n = newcomers p (n - p)
+abbrev pub new_owns_between : ℕ → ℕ → List Own
+new_owns_between p n = new_owns p (n - p)
 
 -- word i as a board begins: S_p is 1 where p is offloadable, all else is 0
 abbrev pub first_word : ℕ → ℕ → ℕ
@@ -116,7 +116,7 @@ new_view n offloadable weight drives controls own = record {
 
 -- the one view of a new board, from which all others are split
 abbrev pub opening_view : ℕ → ℕ → ℕ → View
-opening_view n offloadable seats = new_view n offloadable seats true true (newcomers 0 n)
+opening_view n offloadable seats = new_view n offloadable seats true true (new_owns 0 n)
 
 -- ---- seats made: the first seat once it has given one away, and the new one
 
@@ -149,19 +149,19 @@ with_control v = record v { weight = 1; drives = false; own = []; claims = []; r
 -- ---- seats joined
 
 -- of word i: the greater of the two, but of S_p what control's view has, where the second is control's
-abbrev pub met : ℕ → Bool → ℕ → ℕ → ℕ
-met i second x y = cond (is_asks i) (cond second y x) (max x y)
+abbrev pub joined_word : ℕ → Bool → ℕ → ℕ → ℕ
+joined_word i second x y = cond (is_asks i) (cond second y x) (max x y)
 
 -- the same for all words from word i on
-abbrev pub met_from : ℕ → Bool → List ℕ → List ℕ → List ℕ
-met_from i second [] ys = []
-met_from i second (x ∷ xs) [] = []
-met_from i second (x ∷ xs) (y ∷ ys) = met i second x y ∷ met_from (suc i) second xs ys
+abbrev pub joined_words : ℕ → Bool → List ℕ → List ℕ → List ℕ
+joined_words i second [] ys = []
+joined_words i second (x ∷ xs) [] = []
+joined_words i second (x ∷ xs) (y ∷ ys) = joined_word i second x y ∷ joined_words (suc i) second xs ys
 
-abbrev pub added : List ℕ → List ℕ → List ℕ
-added [] ys = ys
-added (x ∷ xs) [] = x ∷ xs
-added (x ∷ xs) (y ∷ ys) = (x + y) ∷ added xs ys
+abbrev pub joined_tallies : List ℕ → List ℕ → List ℕ
+joined_tallies [] ys = ys
+joined_tallies (x ∷ xs) [] = x ∷ xs
+joined_tallies (x ∷ xs) (y ∷ ys) = (x + y) ∷ joined_tallies xs ys
 
 -- what one seat knows that takes in another: the lists joined, the greater sights, the tallies added
 abbrev pub joined : View → View → View
@@ -172,8 +172,8 @@ joined v w = record v {
   own = v.own ++ w.own;
   claims = v.claims ++ w.claims;
   running = v.running ++ w.running;
-  seen = met_from 0 w.controls v.seen w.seen;
-  steps = added v.steps w.steps;
+  seen = joined_words 0 w.controls v.seen w.seen;
+  steps = joined_tallies v.steps w.steps;
 }
 
 -- and what the other is left with

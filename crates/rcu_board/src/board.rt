@@ -1,7 +1,7 @@
 //! What the parts share, and what each of them steps with.
 
 ghost use Rattle.std.specs.Prelude.{◌≡◌, ◌+◌, ◌*◌, ◌<◌, ◌≤◌, ◌^◌, ◌↔◌, IsTrue};
-ghost use Rattle.rcu_board.specs.Roles.{Sitting, Making};
+ghost use Rattle.rcu_board.specs.Roles.{SeatOfRole, FirstSeat};
 ghost use Rattle.rcu_numbers.specs.Words.{owes_of};
 
 use crate::plays::Rule;
@@ -19,7 +19,7 @@ pub struct Frame {
 
 /// The words that all parts share (docs/specification/tables.md, "Words of the board"). Each changes only by the steps
 /// of this crate, and between any two steps of any threads they and the views of all seats keep the board's rule,
-/// `Kept` in specs/Laws. To share a board among threads, put it into an `Arc`.
+/// `BoardRule` in specs/Laws. To share a board among threads, put it into an `Arc`.
 #[derive(Drop)]
 pub struct Board {
     pub(crate) table: Table<u64, View, Frame, Rule, Global>,
@@ -74,7 +74,7 @@ pub enum Role {
 pub struct Seat {
     pub(crate) seat: atomic_table::Seat<u64, View>,
     pub(crate) role: Role,
-    ghost sits: { Sitting role seat.table_id.words seat.me },
+    ghost of_role: { SeatOfRole role seat.table_id.words seat.me },
 }
 
 impl Seat {
@@ -90,7 +90,7 @@ impl Seat {
 #[derive(Drop)]
 pub struct Maker {
     pub(crate) seat: atomic_table::Seat<u64, View>,
-    ghost makes: { Making seat.table_id.words seat.me },
+    ghost first_seat: { FirstSeat seat.table_id.words seat.me },
 }
 
 /// A seat that takes in others, and can make no more steps of any role.

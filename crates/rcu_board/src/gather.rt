@@ -3,7 +3,7 @@
 ghost use Rattle.std.specs.Prelude.{◌≡◌, ℕ, ◌+◌, ◌*◌, ◌<◌, ◌≤◌, []};
 ghost use Rattle.rcu_board.specs.Words.{accepts_word, turns_word, bits_of};
 ghost use Rattle.rcu_board.specs.Views.{seen_at, sight, joined};
-ghost use Rattle.rcu_board.specs.Plays.{touched, all_seats, Stands, Settled, Counted};
+ghost use Rattle.rcu_board.specs.Plays.{touched, all_seats, GatheredBoardLaw, GatheredTurnLaw, GatheredAcceptLaw};
 ghost use Rattle.rcu_board.specs.Seats.{view, AtBoard, NeverFalls, gathered_view, GatheredAt, SameGathered};
 
 use crate::board::{Board, Gathered, Seat};
@@ -42,7 +42,7 @@ pub fn last_look(board: &Board, all: &mut Gathered) -> BoardWord
     ensures same { SameGathered all.old all.new }
     ensures view { gathered_view all.new ≡ touched 0 (bits_of result) (gathered_view all.old) }
     ensures later { sight (gathered_view all.old) ≤ result.seq }
-    ensures stands { Stands (bits_of result) (gathered_view all.old) }
+    ensures stands { GatheredBoardLaw (bits_of result) (gathered_view all.old) }
 {
     BoardWord::from_bits(
         board
@@ -57,11 +57,11 @@ pub fn last_look(board: &Board, all: &mut Gathered) -> BoardWord
 pub fn last_turn_of(board: &Board, all: &mut Gathered, p: u64) -> u64
     requires all { GatheredAt board.now all.old }
     requires whole { (gathered_view all.old).weight ≡ all_seats }
-    requires near { p < board.now.processors }
+    requires processor { p < board.now.processors }
     ensures same { SameGathered all.old all.new }
     ensures view { gathered_view all.new ≡ touched (turns_word p) result (gathered_view all.old) }
     ensures later { seen_at (gathered_view all.old) (turns_word p) ≤ result }
-    ensures settled { Settled p result (gathered_view all.old) }
+    ensures settled { GatheredTurnLaw p result (gathered_view all.old) }
 {
     board
         .table
@@ -74,10 +74,10 @@ pub fn last_turn_of(board: &Board, all: &mut Gathered, p: u64) -> u64
 pub fn last_count_of(board: &Board, all: &mut Gathered, p: u64) -> u64
     requires all { GatheredAt board.now all.old }
     requires whole { (gathered_view all.old).weight ≡ all_seats }
-    requires near { p < board.now.processors }
+    requires processor { p < board.now.processors }
     ensures same { SameGathered all.old all.new }
     ensures view { gathered_view all.new ≡ touched (accepts_word p) result (gathered_view all.old) }
-    ensures counted { Counted p result (gathered_view all.old) }
+    ensures counted { GatheredAcceptLaw p result (gathered_view all.old) }
 {
     board
         .table

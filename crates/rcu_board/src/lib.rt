@@ -1,7 +1,7 @@
 //! The board: the words that all running parts share, and the atomic steps on them.
 //!
 //! Every word changes only by these steps. Between any two steps of any threads the board law, the accept law, the turn
-//! law and the ask law hold (docs/specification/definitions.md, "The running parts: laws"; `Kept` in specs/Laws). The
+//! law and the ask law hold (docs/specification/definitions.md, "The running parts: laws"; `BoardRule` in specs/Laws). The
 //! words and the kinds of step stand in docs/specification/tables.md. No step waits, none is tried twice, and none but
 //! [`open_board`] takes memory.
 #![tactic(auto)]

@@ -1,11 +1,11 @@
 //! A board and all its seats.
 
 ghost use Rattle.std.specs.Prelude.{◌≡◌, ℕ, ◌+◌, ◌-◌, ◌*◌, ◌<◌, ◌≤◌, ◌/◌, ◌==◌, ◌&&◌, [], ◌∷◌, length, vec_len, vec_capacity, IfOk, true, false};
-ghost use Rattle.rcu_board.specs.Views.{newcomer, given_plain, plain, given_own, with_own, given_control, with_control, opening_view, spread, new_view};
+ghost use Rattle.rcu_board.specs.Views.{new_own, given_plain, plain, given_own, with_own, given_control, with_control, opening_view, new_owns_between, new_view};
 ghost use Rattle.rcu_board.specs.Plays.{all_seats};
 ghost use Rattle.rcu_board.specs.Roles.{IsPlain};
 ghost use Rattle.rcu_board.specs.Seats.{view, AtBoard, maker_view, MakerAt};
-ghost use Rattle.rcu_board.specs.Opened.{AreNew, InOrder, Rowed, those, is_offloadable, has_offloadable, IsNewProcessor, IsNewHand, IsNewGroup};
+ghost use Rattle.rcu_board.specs.Opened.{AreNew, InOrder, SeatForEach, numbers_where, is_offloadable, has_offloadable, IsNewProcessor, IsNewHand, IsNewGroup};
 
 use crate::board::{Board, Frame, Maker, Role, Seat, is_offloadable};
 use crate::plays::{Plain, WithControl, WithOwn};
@@ -53,8 +53,8 @@ fn make_board(alloc: Global, shape: &Shape) -> Result<(Board, Maker), AllocError
 fn own_seat(board: &Board, maker: &mut Maker, p: u64) -> Seat
     requires board { MakerAt board.now maker.old }
     requires weight { 1 < (maker_view maker.old).weight }
-    requires near { p < board.now.processors }
-    requires own { (maker_view maker.old).own ≡ spread p board.now.processors }
+    requires processor { p < board.now.processors }
+    requires own { (maker_view maker.old).own ≡ new_owns_between p board.now.processors }
     ensures board { MakerAt board.now maker.new × AtBoard board.now result }
     ensures maker { maker_view maker.new ≡ given_own (maker_view maker.old) }
     ensures seat { (result.role ≡ Role.Processor p) × (view result ≡ with_own (maker_view maker.old)) }
@@ -133,7 +133,7 @@ fn hand_seats(alloc: Global, board: &Board, maker: &mut Maker) -> Result<Vec<Sea
     requires weight { 32 < (maker_view maker.old).weight }
     ensures board { MakerAt board.now maker.new }
     ensures maker { IfOk result (λ v. maker_view maker.new ≡ new_view board.now.processors board.now.offloadable ((maker_view maker.old).weight - length v.items) true true []) }
-    ensures seats { IfOk result (λ v. Rowed (IsNewHand board.now) (those (is_offloadable board.now.offloadable) 0 board.now.processors) v.items) }
+    ensures seats { IfOk result (λ v. SeatForEach (IsNewHand board.now) (numbers_where (is_offloadable board.now.offloadable) 0 board.now.processors) v.items) }
     ensures many { IfOk result (λ v. length v.items ≤ board.now.processors) }
 {
     let mut seats = Vec::with_capacity(alloc, board.processors as usize)?;
@@ -159,7 +159,7 @@ fn group_seats(
     requires stride { 0 < stride }
     ensures board { MakerAt board.now maker.new }
     ensures maker { IfOk result (λ v. maker_view maker.new ≡ new_view board.now.processors board.now.offloadable ((maker_view maker.old).weight - length v.items) true true []) }
-    ensures seats { IfOk result (λ v. Rowed (IsNewGroup board.now) (those (has_offloadable board.now.offloadable stride board.now.processors) 0 board.now.processors) v.items) }
+    ensures seats { IfOk result (λ v. SeatForEach (IsNewGroup board.now) (numbers_where (has_offloadable board.now.offloadable stride board.now.processors) 0 board.now.processors) v.items) }
     ensures many { IfOk result (λ v. length v.items ≤ board.now.processors) }
 {
     let mut seats = Vec::with_capacity(alloc, board.processors as usize)?;

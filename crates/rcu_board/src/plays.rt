@@ -1,8 +1,8 @@
 //! The rule of the table, and the names of its steps. What each says stands in specs/Laws and specs/Plays.
 
-ghost use Rattle.rcu_board.specs.Laws.{Kept};
+ghost use Rattle.rcu_board.specs.Laws.{BoardRule};
 ghost use Rattle.rcu_board.specs.Views.{opening_view, given_plain, plain, given_own, with_own, given_control, with_control, joined, spent};
-ghost use Rattle.rcu_board.specs.Plays.{Touching, Looking, Reporting, Driving, Needing, Accepting, Shutting, Claiming, Finishing, Switching, Urging, Hearing, LastLooking, LastTurning, LastCounting, all_seats};
+ghost use Rattle.rcu_board.specs.Plays.{Loading, Looking, Reporting, Driving, Needing, Accepting, Shutting, Claiming, Finishing, Switching, Urging, Hearing, LastLooking, LastTurning, LastCounting, all_seats};
 
 use crate::board::Frame;
 use crate::view::View;
@@ -12,15 +12,15 @@ use atomic_table::{Join, Play, Split, TableRule};
 pub struct Rule;
 
 impl TableRule<u64, View, Frame> for Rule {
-    ghost holds = { λ frame. Kept frame.processors all_seats };
+    ghost holds = { λ frame. BoardRule frame.processors all_seats };
 
     ghost first = { λ frame. opening_view frame.processors frame.offloadable all_seats };
 }
 
-pub(crate) struct Touch;
+pub(crate) struct Load;
 
-impl Play<u64, View> for Touch {
-    ghost then = { Touching };
+impl Play<u64, View> for Load {
+    ghost then = { Loading };
 }
 
 pub(crate) struct Look;
@@ -59,9 +59,9 @@ impl Play<u64, View> for Shut {
     ghost then = { Shutting };
 }
 
-pub(crate) struct Take;
+pub(crate) struct Claim;
 
-impl Play<u64, View> for Take {
+impl Play<u64, View> for Claim {
     ghost then = { Claiming };
 }
 

@@ -15,7 +15,7 @@ ghost use Rattle.rcu_board.specs.Claims.{IfWon, IfNot};
 
 use crate::board::{Board, Role, Seat};
 use crate::plays::{
-    Accept, Drive, Finish, Hear, Look, Need, Report, Shut, Switch, Take, Touch, Urge,
+    Accept, Claim, Drive, Finish, Hear, Load, Look, Need, Report, Shut, Switch, Urge,
 };
 use rcu_numbers::{BoardWord, all_but, all_processors, ended};
 
@@ -147,10 +147,7 @@ pub fn needed(board: &Board, seat: &mut Seat) -> u64
     ensures view { view seat.new ≡ touched 1 result (view seat.old) }
     ensures later { NeverFalls board.now.processors (view seat.old) (view seat.new) }
 {
-    board
-        .table
-        .shared
-        .load::<Touch>(&mut seat.seat, NEEDED_WORD)
+    board.table.shared.load::<Load>(&mut seat.seat, NEEDED_WORD)
 }
 
 // ---- the accept words
@@ -190,7 +187,7 @@ pub fn accept(board: &Board, seat: &mut Seat, count: u64, key: u64) -> Option<u6
 pub fn shut_one(board: &Board, seat: &mut Seat, p: u64) -> u64
     requires board { AtBoard board.now seat.old }
     requires who { IsControl seat.old.role }
-    requires near { p < board.now.processors }
+    requires processor { p < board.now.processors }
     ensures same { SameSeat seat.old seat.new }
     ensures view { view seat.new ≡ touched (accepts_word p) (2 * result + 1) (view seat.old) }
     ensures later { NeverFalls board.now.processors (view seat.old) (view seat.new) }
@@ -206,7 +203,7 @@ pub fn shut_one(board: &Board, seat: &mut Seat, p: u64) -> u64
 pub fn count_of(board: &Board, seat: &mut Seat, p: u64) -> u64
     requires board { AtBoard board.now seat.old }
     requires who { MayCount seat.old.role }
-    requires near { p < board.now.processors }
+    requires processor { p < board.now.processors }
     ensures same { SameSeat seat.old seat.new }
     ensures view { view seat.new ≡ touched (accepts_word p) result (view seat.old) }
     ensures later { NeverFalls board.now.processors (view seat.old) (view seat.new) }
@@ -214,7 +211,7 @@ pub fn count_of(board: &Board, seat: &mut Seat, p: u64) -> u64
     board
         .table
         .shared
-        .load::<Touch>(&mut seat.seat, FIRST_ACCEPTS + WORDS_EACH * p as usize)
+        .load::<Load>(&mut seat.seat, FIRST_ACCEPTS + WORDS_EACH * p as usize)
 }
 
 // ---- the turn words
@@ -242,7 +239,7 @@ pub fn claim(board: &Board, seat: &mut Seat, number: u64) -> Claimed
 {
     let p = cpu(&seat.role);
     let old = 2 * number;
-    let found = board.table.shared.compare_exchange::<Take>(
+    let found = board.table.shared.compare_exchange::<Claim>(
         &mut seat.seat,
         FIRST_TURNS + WORDS_EACH * p as usize,
         old,
@@ -274,7 +271,7 @@ pub fn finish(board: &Board, seat: &mut Seat)
 pub fn turn_of(board: &Board, seat: &mut Seat, p: u64) -> u64
     requires board { AtBoard board.now seat.old }
     requires who { MayCount seat.old.role }
-    requires near { p < board.now.processors }
+    requires processor { p < board.now.processors }
     ensures same { SameSeat seat.old seat.new }
     ensures view { view seat.new ≡ touched (turns_word p) result (view seat.old) }
     ensures later { NeverFalls board.now.processors (view seat.old) (view seat.new) }
@@ -282,7 +279,7 @@ pub fn turn_of(board: &Board, seat: &mut Seat, p: u64) -> u64
     board
         .table
         .shared
-        .load::<Touch>(&mut seat.seat, FIRST_TURNS + WORDS_EACH * p as usize)
+        .load::<Load>(&mut seat.seat, FIRST_TURNS + WORDS_EACH * p as usize)
 }
 
 /// The processor whose seat or hand it is.
@@ -302,7 +299,7 @@ fn cpu(role: &Role) -> u64
 pub fn ask(board: &Board, seat: &mut Seat, p: u64, on: bool)
     requires board { AtBoard board.now seat.old }
     requires who { IsControl seat.old.role }
-    requires near { p < board.now.processors }
+    requires processor { p < board.now.processors }
     ensures same { SameSeat seat.old seat.new }
     ensures view { view seat.new ≡ touched (asks_word p) (from_bool on) (view seat.old) }
     ensures later { NeverFalls board.now.processors (view seat.old) (view seat.new) }

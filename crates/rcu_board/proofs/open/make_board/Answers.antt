@@ -2,7 +2,7 @@ use Rattle.std.proofs.Common.{arith, ◌+◌, ◌*◌, ◌∙◌, ap, length-tak
 use Rattle.rcu_numbers.specs.Words.{owes_of}
 use Rattle.rcu_numbers.proofs.WordLaws.{owes-lt}
 use Rattle.rcu_board.proofs.Bits.{bit_value}
-use Rattle.rcu_board.proofs.Opening.{opens, laid_none, laid_next, laid_all, makes_new}
+use Rattle.rcu_board.proofs.Opening.{opens, laid_none, laid_next, laid_all, first_seat_new}
 use Rattle.rcu_board.proofs.open.make_board.Goals as goal
 
 pub of_words-requires : goal.of_words-requires
@@ -16,5 +16,5 @@ loop-p-preserved c = let s = c.args.shape.now in let p = c.loop-p.p in let few =
 
 pub invariant_of-result : goal.invariant_of-result
 invariant_of-result c = let s = c.args.shape.now in let few = s.within.some_processors in let e = c.in_ok-table.ensures in record {
-  makes = makes_new s.processors s.offloadable _ _ e.4 (ap (λ z. z.words) e.2 ∙ e.0 ∙ length-take-le (4 + 3 * s.processors) c.loop-p.words (let l = c.loop-p-test.array_long in omega arith));
+  first_seat = first_seat_new s.processors s.offloadable _ _ e.4 (ap (λ z. z.words) e.2 ∙ e.0 ∙ length-take-le (4 + 3 * s.processors) c.loop-p.words (let l = c.loop-p-test.array_long in omega arith));
 }

@@ -8,21 +8,21 @@ use native.Mathlib.Decide.{ℕ_discrete}
 use Rattle.rcu_board.specs.Plays.{accept_own}
 use Rattle.rcu_board.specs.Seats.{first_accepted, first_fresh}
 use Rattle.rcu_board.proofs.Views.{cpus-map}
-use Rattle.rcu_board.proofs.Sits.{alone, sits_else, alike_same, alike_own}
+use Rattle.rcu_board.proofs.Roles.{alone, role_else, alike_same, alike_own}
 use Rattle.rcu_board.proofs.Later.{later_accepts}
 use Rattle.rcu_board.proofs.WordSteps.{accept_allowed}
 use Rattle.rcu_board.proofs.steps.accept.Goals as goal
 
 pub compare_exchange_with-found-requires : goal.compare_exchange_with-found-requires
-compare_exchange_with-found-requires c = let b = c.args.board.now in let w = b.sized in let k = b.framed in let m = c.args.seat.now.seat.me in let s = c.args.seat.now.sits in let p = c.in-Processor.p in let is = c.in-Processor.is in
+compare_exchange_with-found-requires c = let b = c.args.board.now in let w = b.sized in let k = b.framed in let m = c.args.seat.now.seat.me in let s = c.args.seat.now.of_role in let p = c.in-Processor.p in let is = c.in-Processor.is in
     let near = s.processor p is in let a = alone m.0.own p (s.own p is) in let fit = ap (λ z. z.words) c.requires.board in let r = c.requires in
-    (r.board, omega arith, accept_allowed _ _ _ _ m s.seated.live p (omega arith) a.0 c.args.key c.args.count a.1 a.2 (sym (ap first_fresh a.1) ∙ r.stamped) (ap (λ l. length (first_accepted l)) (sym a.1) ∙ r.count))
+    (r.board, omega arith, accept_allowed _ _ _ _ m s.can_step.live p (omega arith) a.0 c.args.key c.args.count a.1 a.2 (sym (ap first_fresh a.1) ∙ r.stamped) (ap (λ l. length (first_accepted l)) (sym a.1) ∙ r.count))
 
 pub invariant_of-seat : goal.invariant_of-seat
-invariant_of-seat c = let m = c.args.seat.now.seat.me in let e = c.compare_exchange_with-found.ensures in let s = c.args.seat.now.sits in let own = map (accept_own c.args.key) m.0.own in let same = ap (λ z. z.words) e.0 in record {
-  sits = dite (ℕ_discrete c.compare_exchange_with-found.result (2 * c.args.count))
-      (λ hit. sits_else _ _ m _ _ _ (record m.0 { own = own }) same (e.2.won c.args.key refl hit) (alike_own m.0 own (cpus-map (accept_own c.args.key) (λ o. refl) m.0.own)) _ s (λ z. omega arith))
-      (λ miss. sits_else _ _ m _ _ _ m.0 same (e.2.shut miss) (alike_same m.0) _ s (λ z. omega arith));
+invariant_of-seat c = let m = c.args.seat.now.seat.me in let e = c.compare_exchange_with-found.ensures in let s = c.args.seat.now.of_role in let own = map (accept_own c.args.key) m.0.own in let same = ap (λ z. z.words) e.0 in record {
+  of_role = dite (ℕ_discrete c.compare_exchange_with-found.result (2 * c.args.count))
+      (λ hit. role_else _ _ m _ _ _ (record m.0 { own = own }) same (e.2.won c.args.key refl hit) (alike_own m.0 own (cpus-map (accept_own c.args.key) (λ o. refl) m.0.own)) _ s (λ z. omega arith))
+      (λ miss. role_else _ _ m _ _ _ m.0 same (e.2.shut miss) (alike_same m.0) _ s (λ z. omega arith));
 }
 
 pub returns-clause-same : goal.returns-clause-same
@@ -37,7 +37,7 @@ returns-clause-same c = let e = c.compare_exchange_with-found.ensures in record 
 pub returns-clause-later : goal.returns-clause-later
 returns-clause-later c = let m = c.args.seat.now.seat.me in let e = c.compare_exchange_with-found.ensures in let n = c.args.board.now.processors in let p = c.in-Processor.p in
     let own = map (accept_own c.args.key) m.0.own in
-    let long : length m.0.seen ≡ words_of n = omega (arith, c.args.seat.now.sits.seated.seen_long, ap (λ z. z.words) c.requires.board, c.args.board.now.sized) in
+    let long : length m.0.seen ≡ words_of n = omega (arith, c.args.seat.now.of_role.can_step.seen_long, ap (λ z. z.words) c.requires.board, c.args.board.now.sized) in
     dite (ℕ_discrete c.compare_exchange_with-found.result (2 * c.args.count))
     (λ hit. subst (λ (k : Me ℕ View). NeverFalls n m.0 k.0) (sym (e.2.won c.args.key refl hit)) (later_accepts n m.0 (record m.0 { own = own }) (3 + 3 * p) (2 * c.args.count + 2) refl long p refl (omega (arith, e.2.later))))
     (λ miss. subst (λ (k : Me ℕ View). NeverFalls n m.0 k.0) (sym (e.2.shut miss)) (later_accepts n m.0 m.0 (3 + 3 * p) c.compare_exchange_with-found.result refl long p refl e.2.later))

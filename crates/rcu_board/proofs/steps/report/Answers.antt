@@ -8,26 +8,26 @@ use Rattle.std.specs.Prelude.{bit_and}
 use Rattle.atomic_table.specs.Table.{step, Allows}
 use Rattle.rcu_numbers.specs.Words.{number_of, owes_of, all_but_of}
 use Rattle.rcu_numbers.proofs.WordLaws.{owes-mask}
-use Rattle.rcu_board.specs.Laws.{Kept, IsBoard}
+use Rattle.rcu_board.specs.Laws.{BoardRule, IsBoard}
 use Rattle.rcu_board.specs.Plays.{report_own, reported, Reporting, all_seats}
 use Rattle.rcu_board.specs.Roles.{cpu_of_role}
 use Rattle.rcu_board.specs.Seats.{first_reports}
 use Rattle.rcu_board.proofs.Views.{cpus-map}
-use Rattle.rcu_board.proofs.Sits.{sits_board, alone, alike_own, bits_read}
+use Rattle.rcu_board.proofs.Roles.{role_board, alone, alike_own, bits_read}
 use Rattle.rcu_board.proofs.Later.{later_board}
 use Rattle.rcu_board.proofs.BoardSteps.{report_allowed}
 use Rattle.rcu_board.proofs.steps.report.Goals as goal
 
 pub all_but-requires : goal.all_but-requires
-all_but-requires c = let b = c.args.board.now in let w = b.sized in let f = b.few in let near = c.args.seat.now.sits.processor c.in-Processor.p c.in-Processor.is in let e = ap (λ z. z.words) c.requires.board in omega arith
+all_but-requires c = let b = c.args.board.now in let w = b.sized in let f = b.few in let near = c.args.seat.now.of_role.processor c.in-Processor.p c.in-Processor.is in let e = ap (λ z. z.words) c.requires.board in omega arith
 
 pub fetch_and-found-requires : goal.fetch_and-found-requires
-fetch_and-found-requires c = let b = c.args.board.now in let s = c.args.seat.now.sits in let words = b.sized in let m = c.args.seat.now.seat.me in
+fetch_and-found-requires c = let b = c.args.board.now in let s = c.args.seat.now.of_role in let words = b.sized in let m = c.args.seat.now.seat.me in
     let a = alone m.0.own c.in-Processor.p (s.own c.in-Processor.p c.in-Processor.is) in (
       c.requires.board,
       omega arith,
-      subst (λ (k : ℕ). Allows (Kept b.table.shared.key.processors all_seats) b.table.shared.table_id.slots c.args.seat.now.seat.id m 0 (λ y. bit_and y k) (Reporting (step b.table.shared.table_id.slots 0 k 0 none) m))
-          (ap all_but_of a.2 ∙ sym c.all_but.ensures) (report_allowed _ _ _ _ m s.seated.live a.0 a.1),
+      subst (λ (k : ℕ). Allows (BoardRule b.table.shared.key.processors all_seats) b.table.shared.table_id.slots c.args.seat.now.seat.id m 0 (λ y. bit_and y k) (Reporting (step b.table.shared.table_id.slots 0 k 0 none) m))
+          (ap all_but_of a.2 ∙ sym c.all_but.ensures) (report_allowed _ _ _ _ m s.can_step.live a.0 a.1),
     )
 
 pub from_bits-requires : goal.from_bits-requires
@@ -35,7 +35,7 @@ from_bits-requires c = let s = c.fetch_and-found.ensures.2.word.small in omega a
 
 pub invariant_of-seat : goal.invariant_of-seat
 invariant_of-seat c = let m = c.args.seat.now.seat.me in let e = c.fetch_and-found.ensures in let x = c.fetch_and-found.result in let b = c.args.board.now.sized in let own = map (report_own x) m.0.own in record {
-  sits = sits_board _ _ m _ 0 x (record m.0 { own = own }) (ap (λ z. z.words) e.0) e.2.view (alike_own m.0 own (cpus-map (report_own x) (λ o. refl) m.0.own)) _ c.args.seat.now.sits refl (omega (arith, ap (λ z. z.words) c.requires.board)) e.2.word.small;
+  of_role = role_board _ _ m _ 0 x (record m.0 { own = own }) (ap (λ z. z.words) e.0) e.2.view (alike_own m.0 own (cpus-map (report_own x) (λ o. refl) m.0.own)) _ c.args.seat.now.of_role refl (omega (arith, ap (λ z. z.words) c.requires.board)) e.2.word.small;
 }
 
 pub returns-clause-same : goal.returns-clause-same
@@ -47,7 +47,7 @@ returns-clause-view c = ap (λ (k : Me ℕ View). k.0) c.fetch_and-found.ensures
 pub returns-clause-later : goal.returns-clause-later
 returns-clause-later c = let b = c.args.board.now.sized in let m = c.args.seat.now.seat.me in let e = c.fetch_and-found.ensures in
     let own = map (report_own c.fetch_and-found.result) m.0.own in
-    let long : length m.0.seen ≡ words_of c.args.board.now.processors = omega (arith, c.args.seat.now.sits.seated.seen_long, ap (λ z. z.words) c.requires.board, c.args.board.now.sized) in
+    let long : length m.0.seen ≡ words_of c.args.board.now.processors = omega (arith, c.args.seat.now.of_role.can_step.seen_long, ap (λ z. z.words) c.requires.board, c.args.board.now.sized) in
     subst (λ (k : Me ℕ View). NeverFalls c.args.board.now.processors m.0 k.0) (sym e.2.view) (later_board c.args.board.now.processors m.0 (record m.0 { own = own }) 0 c.fetch_and-found.result refl long refl e.2.later)
 
 pub returns-clause-word : goal.returns-clause-word
@@ -55,8 +55,8 @@ returns-clause-word c = subst IsBoard (bits_read _ _ c.from_bits.ensures) c.fetc
 
 pub returns-clause-counted : goal.returns-clause-counted
 returns-clause-counted c owes = let m = c.args.seat.now.seat.me in let p = c.in-Processor.p in let is = c.in-Processor.is in let x = c.fetch_and-found.result in
-    let b = c.args.board.now in let w = b.sized in let f = b.few in let near = c.args.seat.now.sits.processor p is in let fit = ap (λ z. z.words) c.requires.board in
-    let a = alone m.0.own p (c.args.seat.now.sits.own p is) in
+    let b = c.args.board.now in let w = b.sized in let f = b.few in let near = c.args.seat.now.of_role.processor p is in let fit = ap (λ z. z.words) c.requires.board in
+    let a = alone m.0.own p (c.args.seat.now.of_role.own p is) in
     let low : p < 32 = omega arith in
     let cpu : cpu_of_role c.args.seat.now.role ≡ p = ap cpu_of_role is in
     let mask : owes_of (Rattle.rcu_numbers.specs.Words.mask_of x) p ≡ 1 = sym (ap (λ z. owes_of z.mask p) c.from_bits.ensures) ∙ ap (λ (q : ℕ). owes_of c.from_bits.result.mask q) (sym cpu) ∙ owes in
