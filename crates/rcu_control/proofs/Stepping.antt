@@ -62,7 +62,7 @@ earlier_stays word_of n p x u differ low = (untouched (word_of n) (word_of p) x 
 
 -- a seat of a board has its words
 pub has_words : (b : Board) (s : Seat) → AtBoard b s → HasWords (words_of b.processors) (view s)
-has_words b s at = record { seen = s.sits.seated.seen_long ∙ words-at b s at; steps = s.sits.seated.steps_long ∙ words-at b s at }
+has_words b s at = record { seen = s.of_role.can_step.seen_long ∙ words-at b s at; steps = s.of_role.can_step.steps_long ∙ words-at b s at }
 
 pub accepts_differ : Differ accepts_word
 accepts_differ p q ne = λ same. absurd (omega (arith, same, ne))
