@@ -1,5 +1,5 @@
 -- Counts that are read, or made final, one after another.
-use Rattle.std.proofs.Common.{◌≡◌, ◌≢◌, ℕ, ◌+◌, ◌*◌, ◌/◌, ◌%◌, ◌<◌, ◌≤◌, length, ap, sym, ◌∙◌, refl, arith, subst, get_or-set_same, get_or-set_other, slice_set}
+use Rattle.std.proofs.Common.{◌≡◌, ℕ, ◌+◌, ◌*◌, ◌/◌, ◌<◌, ◌≤◌, length, ap, sym, ◌∙◌, arith, subst, get_or-set_same, get_or-set_other, slice_set}
 use mathlib.Core.Logic.{dite}
 use native.Mathlib.Decide.{ℕ_discrete}
 use Rattle.rcu_board.specs.Words.{accepts_word, turns_word}
@@ -7,7 +7,6 @@ use Rattle.rcu_board.specs.Views.{seen_at}
 use Rattle.rcu_board.specs.Plays.{touched}
 use Rattle.rcu_board.specs.declared.view.View.{View}
 use Rattle.rcu_jobs.specs.declared.Counts.{Counts}
-use Rattle.rcu_control.specs.Views.{StepsOnEach}
 use Rattle.rcu_control.specs.Barriers.{ReadsCounts, count_at}
 use Rattle.rcu_control.specs.Control.{Shuts}
 use Rattle.rcu_control.proofs.Stepping.{HasWords, seen_here, steps_on_next, steps_on_none, earlier_stays, accepts_differ, turns_differ}
@@ -24,10 +23,10 @@ pub reads_next : (k p x : ℕ) (counts after : Counts) (v u : View) → HasWords
 reads_next k p x counts after v u words low few long set e = record {
   steps = steps_on_next accepts_word k p x v u accepts_differ words low e.steps;
   halves = also_next (λ q. count_at after q ≡ seen_at (touched (accepts_word p) x u) (accepts_word q) / 2) p
-    (λ q lower. ap (λ xs. Rattle.std.specs.Prelude.slice_index xs q) set ∙ (get_or-set_other counts.counts p q (x / 2) 0 (λ same. absurd (omega (arith, same)))
-        ∙ (e.halves q lower ∙ ap (λ (s : ℕ). s / 2) (sym (earlier_stays accepts_word p q x u accepts_differ lower)))))
-    (ap (λ xs. Rattle.std.specs.Prelude.slice_index xs p) set ∙ (get_or-set_same counts.counts p (x / 2) 0 (omega (arith, long))
-        ∙ ap (λ (s : ℕ). s / 2) (sym (seen_here k (accepts_word p) x u words low))));
+      (λ q lower. ap (λ xs. Rattle.std.specs.Prelude.slice_index xs q) set ∙ (get_or-set_other counts.counts p q (x / 2) 0 (λ same. absurd (omega (arith, same)))
+      ∙ (e.halves q lower ∙ ap (λ (s : ℕ). s / 2) (sym (earlier_stays accepts_word p q x u accepts_differ lower)))))
+      (ap (λ xs. Rattle.std.specs.Prelude.slice_index xs p) set ∙ (get_or-set_same counts.counts p (x / 2) 0 (omega (arith, long))
+      ∙ ap (λ (s : ℕ). s / 2) (sym (seen_here k (accepts_word p) x u words low))));
 }
 
 pub shuts_none : (counts : Counts) (v : View) → Shuts 0 counts v v
@@ -38,9 +37,9 @@ pub shuts_next : (k p x : ℕ) (counts after : Counts) (v u : View) → HasWords
 shuts_next k p x counts after v u words low few long set e = record {
   steps = steps_on_next accepts_word k p (2 * x + 1) v u accepts_differ words low e.steps;
   shut = also_next (λ q. seen_at (touched (accepts_word p) (2 * x + 1) u) (accepts_word q) ≡ 2 * count_at after q + 1) p
-    (λ q lower. earlier_stays accepts_word p q (2 * x + 1) u accepts_differ lower ∙ (e.shut q lower
-        ∙ ap (λ (s : ℕ). 2 * s + 1) (sym (ap (λ xs. Rattle.std.specs.Prelude.slice_index xs q) set ∙ get_or-set_other counts.counts p q x 0 (λ same. absurd (omega (arith, same)))))))
-    (seen_here k (accepts_word p) (2 * x + 1) u words low ∙ ap (λ (s : ℕ). 2 * s + 1) (sym (ap (λ xs. Rattle.std.specs.Prelude.slice_index xs p) set ∙ get_or-set_same counts.counts p x 0 (omega (arith, long)))));
+      (λ q lower. earlier_stays accepts_word p q (2 * x + 1) u accepts_differ lower ∙ (e.shut q lower
+      ∙ ap (λ (s : ℕ). 2 * s + 1) (sym (ap (λ xs. Rattle.std.specs.Prelude.slice_index xs q) set ∙ get_or-set_other counts.counts p q x 0 (λ same. absurd (omega (arith, same)))))))
+      (seen_here k (accepts_word p) (2 * x + 1) u words low ∙ ap (λ (s : ℕ). 2 * s + 1) (sym (ap (λ xs. Rattle.std.specs.Prelude.slice_index xs p) set ∙ get_or-set_same counts.counts p x 0 (omega (arith, long)))));
 }
 
 -- the next turn word, where those before it are at least twice their counts

@@ -1,5 +1,5 @@
 -- One step after another on the words of a family.
-use Rattle.std.proofs.Common.{◌≡◌, ◌≢◌, ℕ, ◌+◌, ◌<◌, ◌≤◌, length, ap, sym, ◌∙◌, refl, arith, subst, get_or-set_same, get_or-set_other}
+use Rattle.std.proofs.Common.{◌≡◌, ◌≢◌, ℕ, ◌+◌, ◌<◌, length, ap, sym, ◌∙◌, refl, arith, subst, get_or-set_same, get_or-set_other}
 use mathlib.Core.Logic.{dite}
 use native.Mathlib.Decide.{ℕ_discrete}
 use Rattle.rcu_board.specs.Words.{words_of, accepts_word, turns_word}
@@ -10,7 +10,7 @@ use Rattle.rcu_board.specs.declared.board.Seat.{Seat}
 use Rattle.rcu_board.proofs.Facts.{words-at}
 use Rattle.rcu_board.specs.Plays.{touched}
 use Rattle.rcu_board.specs.declared.view.View.{View}
-use Rattle.rcu_control.specs.Views.{SamePart, KeepsLists, Untouched, IsNoneOf, StepsOnEach}
+use Rattle.rcu_control.specs.Views.{SamePart, Untouched, StepsOnEach}
 
 -- a view with this many words
 pub record HasWords (k : ℕ) (v : View) : Type 0 where
@@ -49,10 +49,10 @@ pub steps_on_next : (word_of : ℕ → ℕ) (k n x : ℕ) (v u : View) → Diffe
 steps_on_next word_of k n x v u differ long low e = record {
   lists = record { own = e.lists.own; claims = e.lists.claims; running = e.lists.running };
   once = λ p few. dite (ℕ_discrete p n)
-    (λ is. let before = e.others (word_of n) (λ q lower. differ n q (λ same. absurd (omega (arith, same)))) in
-        subst (λ (j : ℕ). tally (touched (word_of n) x u) (word_of j) ≡ tally v (word_of j) + 1) (sym is)
-          (tally_here k (word_of n) x u long low ∙ ap (λ (t : ℕ). t + 1) before.steps))
-    (λ not. (untouched (word_of n) (word_of p) x u (differ p n not)).steps ∙ e.once p (omega (arith, not)));
+      (λ is. let before = e.others (word_of n) (λ q lower. differ n q (λ same. absurd (omega (arith, same)))) in
+      subst (λ (j : ℕ). tally (touched (word_of n) x u) (word_of j) ≡ tally v (word_of j) + 1) (sym is)
+      (tally_here k (word_of n) x u long low ∙ ap (λ (t : ℕ). t + 1) before.steps))
+      (λ not. (untouched (word_of n) (word_of p) x u (differ p n not)).steps ∙ e.once p (omega (arith, not)));
   others = λ i none. untouched_again i v u _ (e.others i (λ p lower. none p (omega arith))) (untouched (word_of n) i x u (none n (omega arith)));
 }
 

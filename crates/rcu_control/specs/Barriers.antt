@@ -1,5 +1,5 @@
 -- Barriers: docs/specification/rules.md, "The calls, step by step", `barrier` and `poll`.
-use Rattle.std.specs.Prelude.{◌≡◌, ◌≢◌, ℕ, ◌+◌, ◌*◌, ◌/◌, ◌<◌, ◌≤◌, nat_le, if◌then◌else◌, Option, Some, None, Result, MatchResult, List, [], ◌∷◌, slice_index, bit_or, All}
+use Rattle.std.specs.Prelude.{◌≡◌, ℕ, ◌+◌, ◌*◌, ◌/◌, ◌<◌, ◌≤◌, nat_le, if◌then◌else◌, Option, Some, None, Result, MatchResult, List, [], ◌∷◌, slice_index, bit_or, All}
 use Rattle.rcu_numbers.specs.Words.{all_of}
 use Rattle.rcu_board.specs.Words.{accepts_word, turns_word, urge_word}
 use Rattle.rcu_board.specs.Views.{seen_at}

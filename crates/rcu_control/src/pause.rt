@@ -10,6 +10,7 @@ use std::time::Duration;
 
 /// The first sleep, and the longest one, in microseconds.
 const FIRST_SLEEP: u64 = 50;
+
 const LONGEST_SLEEP: u64 = 1000;
 
 /// The pauses of a part whose turns find nothing to do: it spins, then yields its processor, then sleeps, at first 50

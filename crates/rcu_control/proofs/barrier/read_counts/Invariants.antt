@@ -1,5 +1,5 @@
-use Rattle.std.proofs.Common.{length, ◌≡◌, ◌≤◌}
-use Rattle.rcu_board.specs.Seats.{view, AtBoard, SameSeat}
+use Rattle.std.proofs.Common.{length, ◌≡◌}
+use Rattle.rcu_board.specs.Seats.{view, SameSeat}
 use Rattle.rcu_control.specs.Barriers.{ReadsCounts}
 use Rattle.rcu_control.proofs.barrier.read_counts.Given as goal
 
@@ -8,5 +8,5 @@ invariant-loop-p l = record {
   same : SameSeat l.fn.seat l.seat;
   long : length l.counts.counts ≡ 32;
   many : l.counts.n ≡ l.board.processors;
-  reads : ReadsCounts l.p l.counts (view l.fn.seat) (view l.seat)
+  reads : ReadsCounts l.p l.counts (view l.fn.seat) (view l.seat);
 }

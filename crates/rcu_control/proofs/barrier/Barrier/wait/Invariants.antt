@@ -8,5 +8,5 @@ invariant-loop g l = record {
   next : (goal.iterator-loop g).can_next l.iterator';
   finite : (goal.iterator-loop g).is_finite l.iterator';
   barrier : l.barrier ≡ l.fn.self;
-  same : SamePart (control_board l.fn.by) (control_board l.by) (control_seat l.fn.by) (control_seat l.by)
+  same : SamePart (control_board l.fn.by) (control_board l.by) (control_seat l.fn.by) (control_seat l.by);
 }

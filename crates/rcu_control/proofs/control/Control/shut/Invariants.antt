@@ -1,5 +1,4 @@
 use Rattle.std.proofs.Common.{length, ◌≡◌}
-use Rattle.rcu_board.specs.Seats.{view}
 use Rattle.rcu_control.specs.Control.{Shuts}
 use Rattle.rcu_control.specs.Parts.{control_board, control_seat, control_view}
 use Rattle.rcu_control.specs.Views.{SamePart}
@@ -11,5 +10,5 @@ invariant-loop-p l = record {
   same : SamePart (control_board l.fn.self) (control_board l.self) (control_seat l.fn.self) (control_seat l.self);
   long : length l.counts.counts ≡ 32;
   many : l.counts.n ≡ (control_board l.self).processors;
-  shuts : Shuts l.p l.counts (control_view l.fn.self) (control_view l.self)
+  shuts : Shuts l.p l.counts (control_view l.fn.self) (control_view l.self);
 }
