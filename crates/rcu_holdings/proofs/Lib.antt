@@ -1,0 +1,4 @@
+pub mod Aims
+pub mod Holdings
+pub mod Modes
+pub mod Releases

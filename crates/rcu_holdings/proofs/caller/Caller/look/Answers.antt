@@ -1,0 +1,18 @@
+use Rattle.std.proofs.Common.{ap, sym, ◌∙◌, subst}
+use Rattle.rcu_lists.specs.Labels.{callbacks_of}
+use Rattle.rcu_lists.specs.Segments.{labelled}
+use Rattle.rcu_holdings.specs.Safe.{AreSafe}
+use Rattle.rcu_holdings.proofs.Holdings.{no-callbacks}
+use Rattle.rcu_holdings.proofs.caller.Caller.look.Goals as goal
+
+pub invariant_of-self : goal.invariant_of-self
+invariant_of-self g c =
+    let s = c.args.self.now in
+    record {
+      bypassing = λ e. no-callbacks (labelled c.look_at.new.list) (c.look_at.ensures.callbacks ∙ ap callbacks_of (s.bypassing e));
+      alone = s.alone;
+      safe = s.safe;
+      own_safe = subst AreSafe (sym c.look_at.ensures.callbacks) s.own_safe;
+      aimed = c.look_at.ensures.aimed;
+      before = s.before;
+    }

@@ -1,0 +1,18 @@
+use Rattle.std.proofs.Common.{sym, ap, ◌∙◌, subst}
+use Rattle.std.proofs.lemmas.List.Elements.{All-nil}
+use Rattle.rcu_lists.specs.Segments.{labelled, advanced_by}
+use Rattle.rcu_holdings.specs.Modes.{is_deoffloading}
+use Rattle.rcu_holdings.specs.Safe.{AreSafe, IsSafe}
+use Rattle.rcu_holdings.proofs.Holdings.{all-of-none, aimed-none}
+use Rattle.rcu_holdings.proofs.Modes.{first-stays}
+use Rattle.rcu_holdings.proofs.caller.Caller.new.Goals as goal
+
+pub invariant_of-result : goal.invariant_of-result
+invariant_of-result g c = record {
+  bypassing = λ _. c.new.ensures.list;
+  alone = λ _. c.new-2.ensures.items;
+  safe = subst AreSafe (sym c.new-2.ensures.items) (All-nil IsSafe);
+  own_safe = all-of-none (labelled c.new.result) c.new.ensures.list;
+  aimed = aimed-none (advanced_by c.new.result) (labelled c.new.result) c.new.ensures.list;
+  before = λ e. absurd (first-stays c.args.offloadable (ap is_deoffloading (sym c.first_mode.ensures) ∙ e));
+}

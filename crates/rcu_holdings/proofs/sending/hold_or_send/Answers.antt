@@ -1,0 +1,28 @@
+use Rattle.std.proofs.Common.{refl, sym, subst, rules}
+use Rattle.std.specs.Mem.{FitsInMemory}
+use denote.Param.{param}
+use Rattle.std.proofs.lemmas.List.Elements.{All-push}
+use Rattle.rcu_lists.specs.Bypasses.{bypass_items}
+use Rattle.rcu_lists.specs.contracts.batch.Batch as batch_row
+use Rattle.rcu_lists.specs.contracts.bypass.Bypass as bypass_row
+use Rattle.rcu_holdings.specs.Outgoing.{outgoing, kept, IsReleased}
+use Rattle.rcu_holdings.specs.Safe.{AreSafe, IsSafe}
+use Rattle.rcu_holdings.proofs.Releases.{same_outgoing}
+use Rattle.rcu_holdings.proofs.sending.hold_or_send.Goals as goal
+
+pub send-requires : goal.send-requires
+send-requires g c =
+    let b : FitsInMemory (batch_row.the_row (param 0 g.row.J)) = search rules in
+    let h : FitsInMemory (bypass_row.the_row (param 0 g.row.J)) = search rules in
+    let x = subst AreSafe (sym c.hold.ensures.items) (All-push IsSafe (bypass_items c.args.bypass.now) c.args.callback c.requires.safe c.requires.one) in
+    (b, (h, x))
+
+pub returns-then-hold-clause-releases : goal.returns-then-hold-clause-releases
+returns-then-hold-clause-releases g c = λ _.
+    let o = outgoing c.args.rear.now c.args.bypass.now in
+    subst (λ m. IsReleased m (outgoing c.send.new.rear c.send.new.bypass))
+    (same_outgoing (kept c.args.moment c.args.kind c.args.callback o) (outgoing c.args.rear.now c.hold.new.self) refl refl c.hold.ensures.items c.hold.ensures.pace c.hold.ensures.qhimark)
+    c.send.ensures.released
+
+pub returns-else-hold-clause-safe : goal.returns-else-hold-clause-safe
+returns-else-hold-clause-safe g c = subst AreSafe (sym c.hold.ensures.items) (All-push IsSafe (bypass_items c.args.bypass.now) c.args.callback c.requires.safe c.requires.one)

@@ -1,0 +1,43 @@
+use Rattle.std.proofs.Common.{◌≡◌, Bool, true, false, ◌∙◌, refl, sym, ap, subst, rules}
+use Rattle.std.specs.Mem.{FitsInMemory}
+use denote.Param.{param}
+use Rattle.rcu_lists.specs.Bypasses.{bypass_items, bypass_pace}
+use Rattle.rcu_lists.specs.Release.{is_any}
+use Rattle.rcu_lists.specs.contracts.batch.Batch as batch_row
+use Rattle.rcu_lists.specs.contracts.bypass.Bypass as bypass_row
+use Rattle.rcu_holdings.specs.Outgoing.{outgoing, IsReleased, is_due_in_tick, in_tick}
+use Rattle.rcu_holdings.specs.Safe.{AreSafe}
+use Rattle.rcu_holdings.proofs.Releases.{same_outgoing, some-in, none-in, other, called-due, not-called}
+use Rattle.rcu_holdings.proofs.sending.send_in_tick.Goals as goal
+
+pub send-requires : goal.send-requires
+send-requires g c =
+    let b : FitsInMemory (batch_row.the_row (param 0 g.row.J)) = search rules in
+    let h : FitsInMemory (bypass_row.the_row (param 0 g.row.J)) = search rules in
+    (b, (h, subst AreSafe (sym c.late-late.ensures.items) c.requires))
+
+pub returns-then-is_called-clause-stays : goal.returns-then-is_called-clause-stays
+returns-then-is_called-clause-stays g c =
+    let o = outgoing c.args.rear.now c.args.bypass.now in
+    let d = called-due c.args.moment c.late-late.result c.args.leaving c.args.urged c.is_called.result o (some-in c.is_empty.result (bypass_items c.args.bypass.now) c.is_empty.ensures c.if-is_empty.false) c.late-late.ensures.late c.is_called.ensures in
+    λ e. absurd {A = outgoing c.send.new.rear c.send.new.bypass ≡ o} (other (is_due_in_tick c.args.moment c.args.leaving c.args.urged o) (d ∙ c.if-is_called.true) e)
+
+pub returns-then-is_called-clause-releases : goal.returns-then-is_called-clause-releases
+returns-then-is_called-clause-releases g c = λ _.
+    let o = outgoing c.args.rear.now c.args.bypass.now in
+    subst (λ m. IsReleased m (outgoing c.send.new.rear c.send.new.bypass))
+    (same_outgoing (in_tick c.args.moment o) (outgoing c.args.rear.now c.late-late.new.self) refl refl c.late-late.ensures.items c.late-late.ensures.pace c.late-late.ensures.qhimark) c.send.ensures.released
+
+pub returns-else-is_called-clause-stays : goal.returns-else-is_called-clause-stays
+returns-else-is_called-clause-stays g c = λ _.
+    not-called c.args.moment c.late-late.result c.args.leaving c.args.urged c.is_called.result (outgoing c.args.rear.now c.args.bypass.now) (outgoing c.args.rear.now c.late-late.new.self)
+    c.late-late.ensures.late c.is_called.ensures c.if-is_called.false refl refl c.late-late.ensures.items c.late-late.ensures.pace c.late-late.ensures.qhimark
+
+pub returns-else-is_called-clause-releases : goal.returns-else-is_called-clause-releases
+returns-else-is_called-clause-releases g c =
+    let o = outgoing c.args.rear.now c.args.bypass.now in
+    let d = called-due c.args.moment c.late-late.result c.args.leaving c.args.urged c.is_called.result o (some-in c.is_empty.result (bypass_items c.args.bypass.now) c.is_empty.ensures c.if-is_empty.false) c.late-late.ensures.late c.is_called.ensures in
+    λ e. absurd {A = IsReleased (in_tick c.args.moment o) (outgoing c.args.rear.now c.late-late.new.self)} (other (is_due_in_tick c.args.moment c.args.leaving c.args.urged o) e (d ∙ c.if-is_called.false))
+
+pub returns-else-is_called-clause-safe : goal.returns-else-is_called-clause-safe
+returns-else-is_called-clause-safe g c = subst AreSafe (sym c.late-late.ensures.items) c.requires

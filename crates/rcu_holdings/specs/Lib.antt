@@ -1,0 +1,6 @@
+pub mod Aims
+pub mod Callers
+pub mod Lanes
+pub mod Modes
+pub mod Outgoing
+pub mod Safe

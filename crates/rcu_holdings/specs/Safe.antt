@@ -1,0 +1,17 @@
+-- The bounds of a callback that may go over a lane: docs/specification/rules.md, "Limits".
+use Rattle.std.specs.Prelude.{ℕ, ◌≤◌, ◌<◌, List, All}
+use Rattle.rcu_jobs.specs.declared.callback.Callback.{Callback}
+use Rattle.rcu_numbers.specs.declared.sequence.TheConstants.{GREATEST_NUMBER}
+use Rattle.rcu_numbers.specs.declared.shape.TheConstants.{MOST_CALLBACKS}
+
+module _ {J : Type 0} where
+  -- its stamp is a grace-period number, and its number is within the limit of a processor
+  abbrev pub IsSafe : Callback J → Type 0
+  IsSafe c = (c.stamp ≤ GREATEST_NUMBER) × (c.number < MOST_CALLBACKS)
+
+  abbrev pub AreSafe : List (Callback J) → Type 0
+  AreSafe cs = All IsSafe cs
+
+  -- each is of a number below this one
+  abbrev pub AreBelow : ℕ → List (Callback J) → Type 0
+  AreBelow n cs = All (λ c. c.number < n) cs

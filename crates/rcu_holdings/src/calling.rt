@@ -1,0 +1,60 @@
+// How a processor takes a new callback on: docs/specification/rules.md, "The calls, step by step", call_rcu.
+ghost use Rattle.std.specs.Prelude.{◌≡◌, [], ◌∷◌, ◌++◌, IsOk, OnOk};
+ghost use Rattle.rcu_lanes.specs.Ends.{SameRear};
+ghost use Rattle.rcu_holdings.specs.Callers.{holding, rear_of, passed_on, IsReady, Takes};
+ghost use Rattle.rcu_holdings.specs.Modes.{is_offloaded};
+ghost use Rattle.rcu_holdings.specs.Safe.{IsSafe};
+
+use crate::caller::Caller;
+use crate::sending::hold_or_send;
+use rcu_jobs::{Callback, Mode};
+use rcu_lists::Kind;
+use std::alloc::AllocError;
+
+/// Whether new callbacks go to the bypass list.
+pub(crate) fn in_offloaded(mode: Mode) -> bool
+    ensures { result ≡ is_offloaded mode }
+{
+    match mode {
+        Mode::Offloaded => true,
+        _ => false,
+    }
+}
+
+impl<J: Drop> Caller<J> {
+    /// Finds room for one more callback, in the list that it goes to in this mode.
+    ///
+    /// # Errors
+    ///
+    /// Refusal 2, want of memory.
+    pub fn reserve(&mut self) -> Result<(), AllocError>
+        ensures rear { rear_of self.new ≡ rear_of self.old }
+        ensures same { holding self.new ≡ holding self.old }
+        ensures found { OnOk result (IsReady self.new) }
+        ensures had { IsReady self.old → IsOk result }
+    {
+        if in_offloaded(self.mode) {
+            self.bypass.reserve()
+        } else {
+            self.own.reserve(1)
+        }
+    }
+
+    /// Places an accepted callback, in the room that there is. In Offloaded it goes to the bypass list, and the list is
+    /// released where the rules say so; in every other mode it goes to the processor's own list, whatever its kind.
+    pub fn place(&mut self, moment: u64, kind: Kind, callback: Callback<J>)
+        requires ready { IsReady self.old }
+        requires safe { IsSafe callback }
+        ensures lane { SameRear (rear_of self.old) (rear_of self.new) }
+        ensures takes { Takes moment kind callback (holding self.old) (holding self.new) }
+
+        // It is behind all that went before.
+        ensures places { passed_on (holding self.new) ≡ passed_on (holding self.old) ++ callback ∷ [] }
+    {
+        if in_offloaded(self.mode) {
+            hold_or_send(&mut self.rear, &mut self.bypass, moment, kind, callback);
+        } else {
+            self.own.enqueue(callback);
+        }
+    }
+}

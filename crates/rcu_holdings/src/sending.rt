@@ -1,0 +1,119 @@
+// A bypass list, and the lane that it is released on: docs/specification/rules.md, "Bypass lists".
+ghost use Rattle.std.specs.Prelude.{◌≡◌, ◌||◌, true, false, [], ◌∷◌, ◌++◌};
+ghost use Rattle.rcu_lanes.specs.Ends.{SameRear};
+ghost use Rattle.rcu_lists.specs.Bypasses.{bypass_items, BypassRoom};
+ghost use Rattle.rcu_lists.specs.Labels.{callbacks_of};
+ghost use Rattle.rcu_lists.specs.Segments.{labelled, advanced_by};
+ghost use Rattle.rcu_holdings.specs.Outgoing.{outgoing, IsReleased, IsReleasedIfAny, is_due_with, kept, is_due_in_tick, in_tick, poured};
+ghost use Rattle.rcu_holdings.specs.Safe.{AreSafe, IsSafe};
+
+use crate::safe::Safe;
+use rcu_jobs::Callback;
+use rcu_lanes::Rear;
+use rcu_lists::{Batch, Bypass, Kind, Segments};
+
+/// Puts the whole list on the lane, as one batch. Where the lane finds no room, the batch becomes the list again.
+pub(crate) fn send<J: Drop>(rear: &mut Rear<Batch<J>, Safe>, bypass: &mut Bypass<J>)
+    requires { AreSafe (bypass_items bypass.old) }
+    ensures lane { SameRear rear.old rear.new }
+    ensures released { IsReleased (outgoing rear.old bypass.old) (outgoing rear.new bypass.new) }
+    ensures safe { AreSafe (bypass_items bypass.new) }
+{
+    let batch = bypass.flush();
+    match rear.put(batch) {
+        Ok(()) => {}
+        Err(back) => bypass.refill(back),
+    }
+}
+
+/// Adds a callback, and releases the list where that is due.
+pub(crate) fn hold_or_send<J: Drop>(
+    rear: &mut Rear<Batch<J>, Safe>,
+    bypass: &mut Bypass<J>,
+    moment: u64,
+    kind: Kind,
+    callback: Callback<J>,
+)
+    requires room { BypassRoom bypass.old 1 }
+    requires safe { AreSafe (bypass_items bypass.old) }
+    requires one { IsSafe callback }
+    ensures lane { SameRear rear.old rear.new }
+    ensures waits { is_due_with moment kind (outgoing rear.old bypass.old) ≡ false
+        → outgoing rear.new bypass.new ≡ kept moment kind callback (outgoing rear.old bypass.old) }
+    ensures releases { is_due_with moment kind (outgoing rear.old bypass.old) ≡ true
+        → IsReleased (kept moment kind callback (outgoing rear.old bypass.old)) (outgoing rear.new bypass.new) }
+    ensures safe { AreSafe (bypass_items bypass.new) }
+{
+    if bypass.hold(moment, kind, callback) {
+        send(rear, bypass);
+    }
+}
+
+/// A tick's release, where one of its causes holds.
+pub(crate) fn send_in_tick<J: Drop>(
+    rear: &mut Rear<Batch<J>, Safe>,
+    bypass: &mut Bypass<J>,
+    moment: u64,
+    leaving: bool,
+    urged: bool,
+)
+    requires { AreSafe (bypass_items bypass.old) }
+    ensures lane { SameRear rear.old rear.new }
+    ensures stays { is_due_in_tick moment leaving urged (outgoing rear.old bypass.old) ≡ false
+        → outgoing rear.new bypass.new ≡ outgoing rear.old bypass.old }
+    ensures releases { is_due_in_tick moment leaving urged (outgoing rear.old bypass.old) ≡ true
+        → IsReleased (in_tick moment (outgoing rear.old bypass.old)) (outgoing rear.new bypass.new) }
+    ensures safe { AreSafe (bypass_items bypass.new) }
+{
+    if bypass.is_empty() {
+        return;
+    }
+    let late = bypass.late(moment);
+    if is_called(late, leaving, urged) {
+        send(rear, bypass);
+    }
+}
+
+/// Whether one of the causes of a tick's release holds.
+fn is_called(late: bool, leaving: bool, urged: bool) -> bool
+    ensures { result ≡ (late || (leaving || urged)) }
+{
+    late || leaving || urged
+}
+
+/// Puts the list on the lane where it isn't empty.
+fn send_if_any<J: Drop>(rear: &mut Rear<Batch<J>, Safe>, bypass: &mut Bypass<J>)
+    requires { AreSafe (bypass_items bypass.old) }
+    ensures lane { SameRear rear.old rear.new }
+    ensures released { IsReleasedIfAny (outgoing rear.old bypass.old) (outgoing rear.new bypass.new) }
+    ensures safe { AreSafe (bypass_items bypass.new) }
+{
+    if !bypass.is_empty() {
+        send(rear, bypass);
+    }
+}
+
+/// Pours a processor's own list into its bypass list, and puts that on the lane. Answers false where there is no room to
+/// pour: nothing has moved.
+pub(crate) fn pour_out<J: Drop>(
+    own: &mut Segments<J>,
+    rear: &mut Rear<Batch<J>, Safe>,
+    bypass: &mut Bypass<J>,
+) -> bool
+    requires own { AreSafe (callbacks_of (labelled own.old)) }
+    requires safe { AreSafe (bypass_items bypass.old) }
+    ensures lane { SameRear rear.old rear.new }
+    ensures moved { result ≡ true → labelled own.new ≡ [] }
+    ensures released { result ≡ true → IsReleasedIfAny (poured (callbacks_of (labelled own.old)) (outgoing rear.old bypass.old)) (outgoing rear.new bypass.new) }
+    ensures refused { result ≡ false → (labelled own.new ≡ labelled own.old) × (outgoing rear.new bypass.new ≡ outgoing rear.old bypass.old) }
+    ensures advanced { advanced_by own.new ≡ advanced_by own.old }
+    ensures safe { AreSafe (bypass_items bypass.new) }
+{
+    match own.pour(bypass) {
+        Ok(()) => {
+            send_if_any(rear, bypass);
+            true
+        }
+        Err(_) => false,
+    }
+}
