@@ -1,0 +1,12 @@
+use Rattle.std.proofs.Common.{◌≡◌, ◌∙◌, ap, sym, arith}
+use Rattle.rcu_parts.proofs.Keeping.{kept_by_tells}
+use Rattle.rcu_parts.proofs.processor.Processor.quiescent.Goals as goal
+
+pub invariant_of-state : goal.invariant_of-state
+invariant_of-state g c = let s = c.args.self.now.state in let e = c.tell.ensures in record {
+  here = e.same.table ∙ s.here;
+  role = e.same.role ∙ s.role;
+  there = s.there;
+  small = s.small;
+  lawful = kept_by_tells s.cpu s.accepted _ _ s.ran.items _ e.tells e.later.board s.lawful;
+}

@@ -1,0 +1,55 @@
+-- What the steps of a call change of the view of a processor or a hand, beside sights and tallies:
+-- docs/specification/definitions.md, "The running parts: views".
+use Rattle.std.specs.Prelude.{◌≡◌, ℕ, ◌+◌, List, [], ◌∷◌, ◌++◌, None}
+use Rattle.rcu_board.specs.Views.{sight}
+use Rattle.rcu_board.specs.Seats.{accepted_of, fresh_of, reports_of}
+use Rattle.rcu_board.specs.declared.view.Accepted.{Accepted}
+use Rattle.rcu_board.specs.declared.view.Claim.{Claim}
+use Rattle.rcu_board.specs.declared.view.View.{View}
+
+abbrev pub entry : ℕ → ℕ → Accepted
+entry key stamp = record { key = key; stamp = stamp }
+
+-- no list changed
+pub record Keeps (v w : View) : Type 0 where
+  pub accepted : accepted_of w ≡ accepted_of v
+  pub fresh : fresh_of w ≡ fresh_of v
+  pub reports : reports_of w ≡ reports_of v
+  pub claims : w.claims ≡ v.claims
+  pub running : w.running ≡ v.running
+
+-- one more number was accepted, and has its stamp
+pub record Enters (key stamp : ℕ) (v w : View) : Type 0 where
+  pub accepted : accepted_of w ≡ accepted_of v ++ entry key stamp ∷ []
+  pub fresh : fresh_of w ≡ None
+  pub reports : reports_of w ≡ reports_of v
+  pub claims : w.claims ≡ v.claims
+  pub running : w.running ≡ v.running
+
+abbrev pub claim_at : ℕ → ℕ → View → Claim
+claim_at cpu number v = record { cpu = cpu; number = number; sight = sight v }
+
+-- a claim was won, at the board sight that there is, and runs
+pub record Claims (cpu number : ℕ) (v w : View) : Type 0 where
+  pub accepted : accepted_of w ≡ accepted_of v
+  pub fresh : fresh_of w ≡ fresh_of v
+  pub reports : reports_of w ≡ reports_of v
+  pub claims : w.claims ≡ v.claims ++ claim_at cpu number v ∷ []
+  pub running : w.running ≡ claim_at cpu number v ∷ []
+  pub sights : sight w ≡ sight v
+
+-- the claim that ran has ended
+pub record Finishes (v w : View) : Type 0 where
+  pub accepted : accepted_of w ≡ accepted_of v
+  pub fresh : fresh_of w ≡ fresh_of v
+  pub reports : reports_of w ≡ reports_of v
+  pub claims : w.claims ≡ v.claims
+  pub running : w.running ≡ []
+  pub sights : sight w ≡ sight v
+
+-- a report was made, which changes at most the count of reports
+pub record Tells (v w : View) : Type 0 where
+  pub accepted : accepted_of w ≡ accepted_of v
+  pub fresh : fresh_of w ≡ fresh_of v
+  pub claims : w.claims ≡ v.claims
+  pub running : w.running ≡ v.running

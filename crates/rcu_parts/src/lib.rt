@@ -1,0 +1,13 @@
+//! The running parts that hold callbacks: a processor, the group that waits for it, and the hand that runs for it, each
+//! usable from a thread of its own, with no lock (docs/specification/surface.md, "rcu_parts"). Each call is the list of
+//! steps that docs/specification/rules.md, "The calls, step by step" has for it, and nothing else.
+#![tactic(auto)]
+
+mod calling;
+mod processor;
+mod reporting;
+mod running;
+mod steps;
+
+pub use processor::Processor;
+pub use reporting::Reading;

@@ -1,0 +1,43 @@
+//! A processor's part.
+
+ghost use Rattle.std.specs.Prelude.{◌≡◌, ◌<◌, ◌≤◌};
+ghost use Rattle.std.specs.Arc.{arc_value};
+ghost use Rattle.rcu_board.specs.Seats.{view, AtBoard};
+ghost use Rattle.rcu_board.specs.declared.board.Role.{Role};
+ghost use Rattle.rcu_holdings.specs.Callers.{holding};
+ghost use Rattle.rcu_parts.specs.Lawful.{IsLawful};
+
+use rcu_board::{Board, Role, Seat};
+use rcu_holdings::Caller;
+use rcu_jobs::{Job, Record};
+use std::alloc::Global;
+use std::sync::Arc;
+
+/// What a processor's part has. It keeps the law of places: what it accepted is what it claimed and put on its lane, in
+/// some order, and then what its lists hold.
+#[derive(Drop)]
+pub struct ProcessorState<J, R> {
+    pub(crate) board: Arc<Board, Global>,
+    pub(crate) seat: Seat,
+    pub(crate) cpu: u64,
+    /// How many callbacks it accepts at most.
+    pub(crate) limit: u64,
+    /// How many callbacks a tick runs at most.
+    pub(crate) blimit: u64,
+    /// How many callbacks it accepted.
+    pub(crate) accepted: u64,
+    /// What it ran itself.
+    pub(crate) ran: Vec<Record<R>>,
+    pub(crate) lists: Caller<J>,
+    ghost here: { AtBoard (arc_value board) seat },
+    ghost role: { seat.role ≡ Role.Processor cpu },
+    ghost there: { cpu < (arc_value board).processors },
+    ghost small: { (accepted ≤ limit) × (limit ≤ 1000000) },
+    ghost lawful: { IsLawful cpu accepted (view seat) ran.items (holding lists) },
+}
+
+/// One processor: it accepts callbacks, reports quiescent states, and runs the callbacks of its own list in its tick.
+#[derive(Drop)]
+pub struct Processor<J: Job> {
+    pub(crate) state: ProcessorState<J, J::Receipt>,
+}
