@@ -1,21 +1,21 @@
 -- How the lists of a processor change.
-use Rattle.std.proofs.Common.{◌≡◌, ◌⊎◌, inl, inr, ℕ, ◌+◌, ◌≤◌, Bool, true, false, not, List, [], ◌∷◌, ◌++◌, length, Option, Some, None, refl, sym, ap, ◌∙◌, subst, arith}
-use Rattle.std.specs.Prelude.{All, IsTrue, ◌↔◌, ◌&&◌, ◌||◌, MatchOption, IfSome, OnOk, IsOk, Result, Ok, Err}
+use Rattle.std.proofs.Common.{◌≡◌, inl, inr, ℕ, ◌<◌, ◌≤◌, Bool, true, false, not, List, [], ◌∷◌, ◌++◌, length, Option, Some, None, refl, sym, ap, ◌∙◌, subst, arith}
+use Rattle.std.specs.Prelude.{IsTrue, ◌↔◌, ◌&&◌, ◌||◌, MatchOption, IfSome, OnOk, Result, Ok, Err}
 use Rattle.std.proofs.lemmas.Bool.{cases_Bool}
-use Rattle.std.proofs.lemmas.List.{append-nil, append_assoc}
+use Rattle.std.proofs.lemmas.List.{append-nil, append_assoc, length-append}
 use Rattle.std.proofs.lemmas.List.Elements.{All-head, All-tail, All-nil, All-push}
 use Rattle.rcu_jobs.specs.declared.callback.Callback.{Callback}
-use Rattle.rcu_jobs.specs.declared.turns.Mode.{Mode}
-use Rattle.rcu_jobs.specs.declared.turns.Mode.TheVariants.{Offloading, Deoffloading}
+use Rattle.rcu_jobs.specs.declared.turns.Mode.TheVariants.{Deoffloading}
 use Rattle.rcu_numbers.specs.Numbers.{snap_of}
+use Rattle.rcu_numbers.specs.declared.shape.TheConstants.{MOST_CALLBACKS}
 use Rattle.rcu_lists.specs.Labels.{Done, Bare, Labelled, marked, count, is_done, callbacks_of}
 use Rattle.rcu_lists.specs.Release.{is_any}
 use Rattle.rcu_lists.specs.declared.pace.Kind.{Kind}
 use Rattle.rcu_holdings.specs.Aims.{AreAimed}
-use Rattle.rcu_holdings.specs.Callers.{Holding, held_in, passed_on, put_by, asked_off}
+use Rattle.rcu_holdings.specs.Callers.{Holding, passed_on, asked_off}
 use Rattle.rcu_holdings.specs.Modes.{is_offloaded, is_offloading}
 use Rattle.rcu_holdings.specs.Outgoing.{Outgoing, IsReleased, IsReleasedIfAny, poured, kept, is_due_with, is_due_in_tick, in_tick}
-use Rattle.rcu_holdings.specs.Safe.{IsSafe, AreSafe}
+use Rattle.rcu_holdings.specs.Safe.{IsSafe, AreFew, AreSafe}
 use Rattle.rcu_holdings.proofs.Aims.{callbacks-append, aimed-left}
 use Rattle.rcu_holdings.proofs.Releases.{released-passes, released-any-passes}
 
@@ -126,3 +126,36 @@ module _ {J : Type 0} where
 
   pub same-held : (o n : Outgoing J) (xs ys : List (Labelled J)) → ys ≡ xs → n ≡ o → n.put ++ (n.bypass ++ callbacks_of ys) ≡ o.put ++ (o.bypass ++ callbacks_of xs)
   same-held o n xs ys e f = ap (λ (x : Outgoing J). x.put ++ (x.bypass ++ callbacks_of ys)) f ∙ ap (λ (ws : List (Labelled J)). o.put ++ (o.bypass ++ callbacks_of ws)) e
+
+  -- no more than a processor accepts
+  pub one-more : (xs : List (Callback J)) (c : Callback J) → length xs < MOST_CALLBACKS → AreFew (xs ++ c ∷ [])
+  one-more xs c h = let n = length-append xs (c ∷ []) in omega arith
+
+  pub few-less : (xs ys zs : List (Callback J)) → AreFew (xs ++ (ys ++ zs)) → AreFew (xs ++ ys)
+  few-less xs ys zs h = let a = length-append xs (ys ++ zs) in let b = length-append ys zs in let d = length-append xs ys in omega (arith, h)
+
+  pub hold-few : (put bypass cs : List (Callback J)) (c : Callback J) → length (put ++ (bypass ++ cs)) < MOST_CALLBACKS → AreFew (put ++ (bypass ++ c ∷ []))
+  hold-few put bypass cs c h = let n1 = length-append put (bypass ++ cs) in let n2 = length-append bypass cs in let n3 = length-append put (bypass ++ c ∷ []) in let n4 = length-append bypass (c ∷ []) in omega arith
+
+  pub none-few : (put bypass cs : List (Callback J)) → put ≡ [] → bypass ≡ [] → cs ≡ [] → AreFew (put ++ (bypass ++ cs))
+  none-few put bypass cs p b e = rw (p, b, e) (omega arith)
+
+  pub left-few : (offloaded : Bool) (r : Option (Callback J)) (put bypass : List (Callback J)) (xs ys : List (Labelled J)) → (offloaded ≡ true → xs ≡ []) → (offloaded ≡ false → bypass ≡ []) → Left r xs ys
+      → AreFew (put ++ (bypass ++ callbacks_of xs)) → AreFew (put ++ (bypass ++ callbacks_of ys))
+  left-few offloaded None put bypass xs ys b a h few = subst (λ (ws : List (Labelled J)). AreFew (put ++ (bypass ++ callbacks_of ws))) (sym h.1) few
+  left-few offloaded (Some c) put bypass xs ys b a h few =
+      let e = ap length (taken-places offloaded (Some c) bypass xs ys b a h) in
+      let n1 = length-append put (bypass ++ callbacks_of xs) in let n2 = length-append put (bypass ++ callbacks_of ys) in omega (arith, few)
+
+  -- the first of a batch
+  pub rest-safe : (r : Option (Callback J)) (xs ys : List (Callback J)) → MatchOption r ((xs ≡ []) × (ys ≡ [])) (λ c. xs ≡ c ∷ ys) → AreSafe xs → AreSafe ys
+  rest-safe None xs ys h s = subst AreSafe (sym h.1) (All-nil IsSafe)
+  rest-safe (Some c) xs ys h s = All-tail IsSafe c ys (subst AreSafe h s)
+
+  pub head-safe : (r : Option (Callback J)) (xs ys : List (Callback J)) → MatchOption r ((xs ≡ []) × (ys ≡ [])) (λ c. xs ≡ c ∷ ys) → AreSafe xs → IfSome r IsSafe
+  head-safe None xs ys h s = tt
+  head-safe (Some c) xs ys h s = All-head IsSafe c ys (subst AreSafe h s)
+
+  pub look-safe : {R : Type 0} → (A : Type 0) (f : R → Callback J) (r : Option R) (xs : List (Callback J)) → MatchOption r A (λ c. (rest : List (Callback J)) × (xs ≡ f c ∷ rest)) → AreSafe xs → IfSome r (λ c. IsSafe (f c))
+  look-safe A f None xs h s = tt
+  look-safe A f (Some c) xs h s = All-head IsSafe (f c) h.0 (subst AreSafe h.1 s)

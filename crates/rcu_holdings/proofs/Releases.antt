@@ -1,18 +1,16 @@
 -- How a release changes what goes out.
-use Rattle.std.proofs.Common.{◌≡◌, ◌⊎◌, inl, inr, ℕ, ◌+◌, ◌<◌, ◌≤◌, Bool, true, false, List, [], ◌∷◌, ◌++◌, length, refl, sym, ap, ◌∙◌, subst, arith}
-use Rattle.std.proofs.lemmas.List.{append-nil, append_assoc, length-append}
-use Rattle.std.proofs.lemmas.List.Elements.{All-append, All-nil}
-use Rattle.std.proofs.lemmas.List.Concat.{flat_map-cons}
+use Rattle.std.proofs.Common.{◌≡◌, inl, inr, ℕ, ◌<◌, ◌≤◌, Bool, true, false, List, [], ◌∷◌, ◌++◌, length, refl, sym, ap, ◌∙◌, arith}
+use Rattle.std.proofs.lemmas.List.{append-nil, append_assoc}
 use Rattle.std.specs.List.{flat_map}
 use Rattle.std.specs.Prelude.{nat_lt, IsTrue, ◌↔◌, ◌||◌}
 use Rattle.std.proofs.lemmas.Bool.{cases_Bool, ltb-true, ltb-false}
 use Rattle.rcu_jobs.specs.declared.callback.Callback.{Callback}
 use Rattle.rcu_lanes.specs.declared.ends.TheConstants.{FIRST_SLOTS}
 use Rattle.rcu_lists.specs.Batches.{batch_items}
-use Rattle.rcu_lists.specs.Release.{emptied, refilled, is_any, is_late, ticked}
+use Rattle.rcu_lists.specs.Release.{is_any, is_late, ticked}
 use Rattle.rcu_lists.specs.declared.batch.Batch.{Batch}
 use Rattle.rcu_lists.specs.declared.pace.Pace.{Pace}
-use Rattle.rcu_holdings.specs.Outgoing.{Outgoing, sent, sent_back, IsReleased, IsReleasedIfAny, is_due_in_tick, in_tick}
+use Rattle.rcu_holdings.specs.Outgoing.{Outgoing, IsReleased, IsReleasedIfAny, is_due_in_tick}
 
 -- how much the lane holds for certain
 pub full : (n : ℕ) → (n < FIRST_SLOTS → false ≡ true) → FIRST_SLOTS ≤ n

@@ -1,5 +1,5 @@
 -- What contracts see of the lists of a processor: docs/specification/tables.md, "Places of a callback".
-use Rattle.std.specs.Prelude.{◌≡◌, ℕ, ◌+◌, Bool, true, false, ◌&&◌, ◌||◌, not, if◌then◌else◌, List, [], ◌∷◌, ◌++◌, length}
+use Rattle.std.specs.Prelude.{◌≡◌, ℕ, Bool, true, false, ◌&&◌, ◌||◌, not, if◌then◌else◌, List, [], ◌∷◌, ◌++◌, length}
 use Rattle.std.proofs.Common.{◌⊎◌}
 use Rattle.rcu_jobs.specs.declared.callback.Callback.{Callback}
 use Rattle.rcu_jobs.specs.declared.turns.Lists.{Lists}
@@ -14,7 +14,7 @@ use Rattle.rcu_lists.specs.Segments.{labelled, advanced_by, SegmentsRoom}
 use Rattle.rcu_lists.specs.declared.batch.Batch.{Batch}
 use Rattle.rcu_lists.specs.declared.pace.Kind.{Kind}
 use Rattle.rcu_holdings.specs.Aims.{looked}
-use Rattle.rcu_holdings.specs.Modes.{is_offloaded, is_offloading, is_deoffloading}
+use Rattle.rcu_holdings.specs.Modes.{is_offloaded, is_offloading}
 use Rattle.rcu_holdings.specs.Outgoing.{Outgoing, outgoing, kept, is_due_with, IsReleased, IsReleasedIfAny, is_due_in_tick, in_tick, poured}
 use Rattle.rcu_holdings.specs.declared.caller.Caller.{Caller}
 use Rattle.rcu_holdings.specs.declared.safe.Safe.{Safe}

@@ -1,6 +1,9 @@
 pub mod Aims
 pub mod Callers
+pub mod Ends
+pub mod Helds
 pub mod Lanes
+pub mod Members
 pub mod Modes
 pub mod Outgoing
 pub mod Safe

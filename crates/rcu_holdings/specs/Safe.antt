@@ -1,6 +1,9 @@
 -- The bounds of a callback that may go over a lane: docs/specification/rules.md, "Limits".
-use Rattle.std.specs.Prelude.{ℕ, ◌≤◌, ◌<◌, List, All}
+use Rattle.std.specs.Prelude.{ℕ, ◌≤◌, ◌<◌, List, ◌++◌, All, length}
+use Rattle.std.specs.List.{flat_map}
 use Rattle.rcu_jobs.specs.declared.callback.Callback.{Callback}
+use Rattle.rcu_lists.specs.Batches.{batch_items}
+use Rattle.rcu_lists.specs.declared.batch.Batch.{Batch}
 use Rattle.rcu_numbers.specs.declared.sequence.TheConstants.{GREATEST_NUMBER}
 use Rattle.rcu_numbers.specs.declared.shape.TheConstants.{MOST_CALLBACKS}
 
@@ -15,3 +18,12 @@ module _ {J : Type 0} where
   -- each is of a number below this one
   abbrev pub AreBelow : ℕ → List (Callback J) → Type 0
   AreBelow n cs = All (λ c. c.number < n) cs
+
+  -- no more than a processor accepts
+  abbrev pub AreFew : List (Callback J) → Type 0
+  AreFew cs = length cs ≤ MOST_CALLBACKS
+
+  -- What may be put on a lane after these batches: safe callbacks, no more in all than a processor accepts.
+  pub record IsAllowed (before : List (Batch J)) (batch : Batch J) : Type 0 where
+    pub safe : AreSafe (batch_items batch)
+    pub few : AreFew (flat_map batch_items before ++ batch_items batch)

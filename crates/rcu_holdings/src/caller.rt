@@ -1,6 +1,6 @@
 //! The lists of a processor.
 
-ghost use Rattle.std.specs.Prelude.{◌≡◌, true, false, [], length};
+ghost use Rattle.std.specs.Prelude.{◌≡◌, true, false, [], ◌++◌};
 ghost use Rattle.rcu_lanes.specs.Ends.{items_put};
 ghost use Rattle.rcu_lists.specs.Batches.{batch_items};
 ghost use Rattle.rcu_lists.specs.Bypasses.{bypass_items};
@@ -10,7 +10,7 @@ ghost use Rattle.rcu_lists.specs.Segments.{labelled, advanced_by};
 ghost use Rattle.rcu_holdings.specs.Aims.{AreAimed};
 ghost use Rattle.rcu_holdings.specs.Lanes.{put_calls};
 ghost use Rattle.rcu_holdings.specs.Modes.{first_mode, is_offloaded, is_deoffloading};
-ghost use Rattle.rcu_holdings.specs.Safe.{AreSafe, AreBelow};
+ghost use Rattle.rcu_holdings.specs.Safe.{AreFew, AreSafe, AreBelow};
 
 use crate::safe::Safe;
 use rcu_jobs::{Callback, Lists, Mode};
@@ -35,6 +35,7 @@ pub struct Caller<J> {
     ghost alone: { is_offloaded mode ≡ false → bypass_items bypass ≡ [] },
     ghost safe: { AreSafe (bypass_items bypass) },
     ghost own_safe: { AreSafe (callbacks_of (labelled own)) },
+    ghost few: { AreFew (put_calls rear ++ (bypass_items bypass ++ callbacks_of (labelled own))) },
     ghost aimed: { AreAimed (advanced_by own) (labelled own) },
     // What went over the lane was accepted before the processor left.
     ghost before: { is_deoffloading mode ≡ true → AreBelow left (put_calls rear) },
@@ -61,13 +62,14 @@ impl<J: Drop> Caller<J> {
         offloadable: bool,
         qhimark: u64,
     ) -> Caller<J>
+        requires { items_put rear ≡ [] }
         ensures rear { rear_of result ≡ rear }
         ensures empty { holding result ≡ record {
           mode = first_mode offloadable;
           left = 0;
           own = [];
           advanced = 0;
-          outgoing = record { put = put_calls rear; batches = length (items_put rear); bypass = []; pace = beginning; qhimark = qhimark };
+          outgoing = record { put = []; batches = 0; bypass = []; pace = beginning; qhimark = qhimark };
         } }
     {
         Caller {

@@ -1,5 +1,5 @@
 // How a processor takes a new callback on: docs/specification/rules.md, "The calls, step by step", call_rcu.
-ghost use Rattle.std.specs.Prelude.{◌≡◌, [], ◌∷◌, ◌++◌, IsOk, OnOk};
+ghost use Rattle.std.specs.Prelude.{◌≡◌, ◌<◌, [], ◌∷◌, ◌++◌, length, IsOk, OnOk};
 ghost use Rattle.rcu_lanes.specs.Ends.{SameRear};
 ghost use Rattle.rcu_holdings.specs.Callers.{holding, rear_of, passed_on, IsReady, Takes};
 ghost use Rattle.rcu_holdings.specs.Modes.{is_offloaded};
@@ -9,6 +9,7 @@ use crate::caller::Caller;
 use crate::sending::hold_or_send;
 use rcu_jobs::{Callback, Mode};
 use rcu_lists::Kind;
+use rcu_numbers::MOST_CALLBACKS;
 use std::alloc::AllocError;
 
 /// Whether new callbacks go to the bypass list.
@@ -45,6 +46,7 @@ impl<J: Drop> Caller<J> {
     pub fn place(&mut self, moment: u64, kind: Kind, callback: Callback<J>)
         requires ready { IsReady self.old }
         requires safe { IsSafe callback }
+        requires few { length (passed_on (holding self.old)) < MOST_CALLBACKS }
         ensures lane { SameRear (rear_of self.old) (rear_of self.new) }
         ensures takes { Takes moment kind callback (holding self.old) (holding self.new) }
 

@@ -7,11 +7,17 @@
 
 mod caller;
 mod calling;
+mod hand;
+mod joining;
 mod looking;
+mod member;
+mod relaying;
 mod safe;
 mod sending;
 mod switching;
 mod viewing;
 
 pub use caller::Caller;
+pub use hand::{Fetched, Held};
+pub use member::{MOST_BATCHES, Member};
 pub use safe::Safe;

@@ -4,8 +4,9 @@ ghost use Rattle.rcu_lanes.specs.Ends.{SameRear};
 ghost use Rattle.rcu_lists.specs.Bypasses.{bypass_items, BypassRoom};
 ghost use Rattle.rcu_lists.specs.Labels.{callbacks_of};
 ghost use Rattle.rcu_lists.specs.Segments.{labelled, advanced_by};
+ghost use Rattle.rcu_holdings.specs.Lanes.{put_calls};
 ghost use Rattle.rcu_holdings.specs.Outgoing.{outgoing, IsReleased, IsReleasedIfAny, is_due_with, kept, is_due_in_tick, in_tick, poured};
-ghost use Rattle.rcu_holdings.specs.Safe.{AreSafe, IsSafe};
+ghost use Rattle.rcu_holdings.specs.Safe.{AreFew, AreSafe, IsSafe};
 
 use crate::safe::Safe;
 use rcu_jobs::Callback;
@@ -14,7 +15,8 @@ use rcu_lists::{Batch, Bypass, Kind, Segments};
 
 /// Puts the whole list on the lane, as one batch. Where the lane finds no room, the batch becomes the list again.
 pub(crate) fn send<J: Drop>(rear: &mut Rear<Batch<J>, Safe>, bypass: &mut Bypass<J>)
-    requires { AreSafe (bypass_items bypass.old) }
+    requires safe { AreSafe (bypass_items bypass.old) }
+    requires few { AreFew (put_calls rear.old ++ bypass_items bypass.old) }
     ensures lane { SameRear rear.old rear.new }
     ensures released { IsReleased (outgoing rear.old bypass.old) (outgoing rear.new bypass.new) }
     ensures safe { AreSafe (bypass_items bypass.new) }
@@ -37,6 +39,7 @@ pub(crate) fn hold_or_send<J: Drop>(
     requires room { BypassRoom bypass.old 1 }
     requires safe { AreSafe (bypass_items bypass.old) }
     requires one { IsSafe callback }
+    requires few { AreFew (put_calls rear.old ++ (bypass_items bypass.old ++ callback ∷ [])) }
     ensures lane { SameRear rear.old rear.new }
     ensures waits { is_due_with moment kind (outgoing rear.old bypass.old) ≡ false
         → outgoing rear.new bypass.new ≡ kept moment kind callback (outgoing rear.old bypass.old) }
@@ -57,7 +60,8 @@ pub(crate) fn send_in_tick<J: Drop>(
     leaving: bool,
     urged: bool,
 )
-    requires { AreSafe (bypass_items bypass.old) }
+    requires safe { AreSafe (bypass_items bypass.old) }
+    requires few { AreFew (put_calls rear.old ++ bypass_items bypass.old) }
     ensures lane { SameRear rear.old rear.new }
     ensures stays { is_due_in_tick moment leaving urged (outgoing rear.old bypass.old) ≡ false
         → outgoing rear.new bypass.new ≡ outgoing rear.old bypass.old }
@@ -83,7 +87,8 @@ fn is_called(late: bool, leaving: bool, urged: bool) -> bool
 
 /// Puts the list on the lane where it isn't empty.
 fn send_if_any<J: Drop>(rear: &mut Rear<Batch<J>, Safe>, bypass: &mut Bypass<J>)
-    requires { AreSafe (bypass_items bypass.old) }
+    requires safe { AreSafe (bypass_items bypass.old) }
+    requires few { AreFew (put_calls rear.old ++ bypass_items bypass.old) }
     ensures lane { SameRear rear.old rear.new }
     ensures released { IsReleasedIfAny (outgoing rear.old bypass.old) (outgoing rear.new bypass.new) }
     ensures safe { AreSafe (bypass_items bypass.new) }
@@ -102,6 +107,7 @@ pub(crate) fn pour_out<J: Drop>(
 ) -> bool
     requires own { AreSafe (callbacks_of (labelled own.old)) }
     requires safe { AreSafe (bypass_items bypass.old) }
+    requires few { AreFew (put_calls rear.old ++ (bypass_items bypass.old ++ callbacks_of (labelled own.old))) }
     ensures lane { SameRear rear.old rear.new }
     ensures moved { result ≡ true → labelled own.new ≡ [] }
     ensures released { result ≡ true → IsReleasedIfAny (poured (callbacks_of (labelled own.old)) (outgoing rear.old bypass.old)) (outgoing rear.new bypass.new) }

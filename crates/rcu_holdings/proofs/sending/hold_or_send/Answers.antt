@@ -1,12 +1,13 @@
-use Rattle.std.proofs.Common.{refl, sym, subst, rules}
+use Rattle.std.proofs.Common.{◌++◌, refl, sym, subst, rules}
 use Rattle.std.specs.Mem.{FitsInMemory}
 use denote.Param.{param}
 use Rattle.std.proofs.lemmas.List.Elements.{All-push}
 use Rattle.rcu_lists.specs.Bypasses.{bypass_items}
 use Rattle.rcu_lists.specs.contracts.batch.Batch as batch_row
 use Rattle.rcu_lists.specs.contracts.bypass.Bypass as bypass_row
+use Rattle.rcu_holdings.specs.Lanes.{put_calls}
 use Rattle.rcu_holdings.specs.Outgoing.{outgoing, kept, IsReleased}
-use Rattle.rcu_holdings.specs.Safe.{AreSafe, IsSafe}
+use Rattle.rcu_holdings.specs.Safe.{AreFew, AreSafe, IsSafe}
 use Rattle.rcu_holdings.proofs.Releases.{same_outgoing}
 use Rattle.rcu_holdings.proofs.sending.hold_or_send.Goals as goal
 
@@ -15,7 +16,7 @@ send-requires g c =
     let b : FitsInMemory (batch_row.the_row (param 0 g.row.J)) = search rules in
     let h : FitsInMemory (bypass_row.the_row (param 0 g.row.J)) = search rules in
     let x = subst AreSafe (sym c.hold.ensures.items) (All-push IsSafe (bypass_items c.args.bypass.now) c.args.callback c.requires.safe c.requires.one) in
-    (b, (h, x))
+    (b, (h, (x, subst (λ l. AreFew (put_calls c.args.rear.now ++ l)) (sym c.hold.ensures.items) c.requires.few)))
 
 pub returns-then-hold-clause-releases : goal.returns-then-hold-clause-releases
 returns-then-hold-clause-releases g c = λ _.

@@ -1,20 +1,22 @@
-use Rattle.std.proofs.Common.{inl, inr, refl, sym, ap, ◌∙◌, ◌++◌, ◌+◌, List, length, subst, arith}
+use Rattle.std.proofs.Common.{inl, inr, sym, ap, ◌∙◌, ◌++◌, length, subst}
 use Rattle.std.proofs.lemmas.List.{length-append}
 use Rattle.std.specs.List.{flat_map}
 use Rattle.rcu_lanes.specs.Ends.{items_put}
 use Rattle.rcu_lists.specs.Batches.{batch_items}
-use Rattle.rcu_lists.specs.Bypasses.{bypass_items, bypass_pace}
-use Rattle.rcu_lists.specs.Release.{refilled, emptied}
-use Rattle.rcu_lists.specs.declared.batch.Batch.{Batch}
+use Rattle.rcu_lists.specs.Bypasses.{bypass_pace}
+use Rattle.rcu_lists.specs.Release.{refilled}
 use Rattle.rcu_lists.specs.declared.pace.Pace.{Pace}
 use Rattle.rcu_holdings.specs.Lanes.{put_calls}
 use Rattle.rcu_holdings.specs.Outgoing.{outgoing, sent, sent_back}
-use Rattle.rcu_holdings.specs.Safe.{AreSafe}
+use Rattle.rcu_holdings.specs.Safe.{AreFew, AreSafe}
 use Rattle.rcu_holdings.proofs.Releases.{same_outgoing, flat-snoc, full}
 use Rattle.rcu_holdings.proofs.sending.send.Goals as goal
 
 pub put-requires : goal.put-requires
-put-requires g c = subst AreSafe (sym c.flush-batch.ensures.all) c.requires
+put-requires g c = record {
+  safe = subst AreSafe (sym c.flush-batch.ensures.all) c.requires.safe;
+  few = subst (λ l. AreFew (put_calls c.args.rear.now ++ l)) (sym c.flush-batch.ensures.all) c.requires.few;
+}
 
 pub returns-in-Ok-clause-released : goal.returns-in-Ok-clause-released
 returns-in-Ok-clause-released g c =
@@ -39,4 +41,4 @@ returns-in-Err-clause-released g c =
     )
 
 pub returns-in-Err-clause-safe : goal.returns-in-Err-clause-safe
-returns-in-Err-clause-safe g c = subst AreSafe (sym (c.refill.ensures.items ∙ (ap batch_items c.in-Err.ensures.put.0 ∙ c.flush-batch.ensures.all))) c.requires
+returns-in-Err-clause-safe g c = subst AreSafe (sym (c.refill.ensures.items ∙ (ap batch_items c.in-Err.ensures.put.0 ∙ c.flush-batch.ensures.all))) c.requires.safe

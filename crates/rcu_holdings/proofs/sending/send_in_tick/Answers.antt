@@ -1,20 +1,20 @@
-use Rattle.std.proofs.Common.{◌≡◌, Bool, true, false, ◌∙◌, refl, sym, ap, subst, rules}
+use Rattle.std.proofs.Common.{◌++◌, ◌≡◌, ◌∙◌, refl, sym, subst, rules}
 use Rattle.std.specs.Mem.{FitsInMemory}
 use denote.Param.{param}
-use Rattle.rcu_lists.specs.Bypasses.{bypass_items, bypass_pace}
-use Rattle.rcu_lists.specs.Release.{is_any}
+use Rattle.rcu_lists.specs.Bypasses.{bypass_items}
 use Rattle.rcu_lists.specs.contracts.batch.Batch as batch_row
 use Rattle.rcu_lists.specs.contracts.bypass.Bypass as bypass_row
+use Rattle.rcu_holdings.specs.Lanes.{put_calls}
 use Rattle.rcu_holdings.specs.Outgoing.{outgoing, IsReleased, is_due_in_tick, in_tick}
-use Rattle.rcu_holdings.specs.Safe.{AreSafe}
-use Rattle.rcu_holdings.proofs.Releases.{same_outgoing, some-in, none-in, other, called-due, not-called}
+use Rattle.rcu_holdings.specs.Safe.{AreFew, AreSafe}
+use Rattle.rcu_holdings.proofs.Releases.{same_outgoing, some-in, other, called-due, not-called}
 use Rattle.rcu_holdings.proofs.sending.send_in_tick.Goals as goal
 
 pub send-requires : goal.send-requires
 send-requires g c =
     let b : FitsInMemory (batch_row.the_row (param 0 g.row.J)) = search rules in
     let h : FitsInMemory (bypass_row.the_row (param 0 g.row.J)) = search rules in
-    (b, (h, subst AreSafe (sym c.late-late.ensures.items) c.requires))
+    (b, (h, (subst AreSafe (sym c.late-late.ensures.items) c.requires.safe, subst (λ l. AreFew (put_calls c.args.rear.now ++ l)) (sym c.late-late.ensures.items) c.requires.few)))
 
 pub returns-then-is_called-clause-stays : goal.returns-then-is_called-clause-stays
 returns-then-is_called-clause-stays g c =
@@ -40,4 +40,4 @@ returns-else-is_called-clause-releases g c =
     λ e. absurd {A = IsReleased (in_tick c.args.moment o) (outgoing c.args.rear.now c.late-late.new.self)} (other (is_due_in_tick c.args.moment c.args.leaving c.args.urged o) e (d ∙ c.if-is_called.false))
 
 pub returns-else-is_called-clause-safe : goal.returns-else-is_called-clause-safe
-returns-else-is_called-clause-safe g c = subst AreSafe (sym c.late-late.ensures.items) c.requires
+returns-else-is_called-clause-safe g c = subst AreSafe (sym c.late-late.ensures.items) c.requires.safe

@@ -1,8 +1,6 @@
-use Rattle.std.proofs.Common.{◌≡◌, ◌≤◌, ℕ, ◌∙◌, Bool, true, false, cond, Some, None, refl, ap, sym, subst}
-use Rattle.std.specs.Prelude.{if◌then◌else◌}
-use Rattle.rcu_numbers.specs.Numbers.{snap_of}
+use Rattle.std.proofs.Common.{◌≡◌, ◌≤◌, ◌∙◌, false, cond, Some, None, refl, ap, sym, subst}
 use Rattle.rcu_numbers.specs.declared.sequence.TheConstants.{GREATEST_NUMBER}
-use Rattle.rcu_lists.specs.Labels.{MayAccelerate, callbacks_of, carries, after_advance, after_accelerate, advanced}
+use Rattle.rcu_lists.specs.Labels.{MayAccelerate, callbacks_of, carries, after_advance, advanced}
 use Rattle.rcu_lists.specs.Segments.{labelled, advanced_by}
 use Rattle.rcu_lists.specs.Stamps.{greater, newest_of}
 use Rattle.rcu_holdings.specs.Aims.{AreUpTo, AreAimed, aim, looked, wanted}

@@ -1,7 +1,9 @@
-use Rattle.std.proofs.Common.{ap, sym, ◌∙◌, subst}
+use Rattle.std.proofs.Common.{◌++◌, ap, sym, ◌∙◌, subst}
+use Rattle.rcu_lists.specs.Bypasses.{bypass_items}
 use Rattle.rcu_lists.specs.Labels.{callbacks_of}
 use Rattle.rcu_lists.specs.Segments.{labelled}
-use Rattle.rcu_holdings.specs.Safe.{AreSafe}
+use Rattle.rcu_holdings.specs.Lanes.{put_calls}
+use Rattle.rcu_holdings.specs.Safe.{AreFew, AreSafe}
 use Rattle.rcu_holdings.proofs.Holdings.{no-callbacks}
 use Rattle.rcu_holdings.proofs.caller.Caller.look.Goals as goal
 
@@ -13,6 +15,7 @@ invariant_of-self g c =
       alone = s.alone;
       safe = s.safe;
       own_safe = subst AreSafe (sym c.look_at.ensures.callbacks) s.own_safe;
+      few = subst (λ cs. AreFew (put_calls s.rear ++ (bypass_items s.bypass ++ cs))) (sym c.look_at.ensures.callbacks) s.few;
       aimed = c.look_at.ensures.aimed;
       before = s.before;
     }

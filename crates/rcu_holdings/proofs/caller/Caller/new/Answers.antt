@@ -1,9 +1,14 @@
 use Rattle.std.proofs.Common.{sym, ap, ◌∙◌, subst}
 use Rattle.std.proofs.lemmas.List.Elements.{All-nil}
+use Rattle.std.specs.List.{flat_map}
+use Rattle.rcu_lists.specs.Batches.{batch_items}
+use Rattle.rcu_lists.specs.Bypasses.{bypass_items}
+use Rattle.rcu_lists.specs.Labels.{callbacks_of}
 use Rattle.rcu_lists.specs.Segments.{labelled, advanced_by}
+use Rattle.rcu_holdings.specs.Lanes.{put_calls}
 use Rattle.rcu_holdings.specs.Modes.{is_deoffloading}
 use Rattle.rcu_holdings.specs.Safe.{AreSafe, IsSafe}
-use Rattle.rcu_holdings.proofs.Holdings.{all-of-none, aimed-none}
+use Rattle.rcu_holdings.proofs.Holdings.{all-of-none, aimed-none, none-few}
 use Rattle.rcu_holdings.proofs.Modes.{first-stays}
 use Rattle.rcu_holdings.proofs.caller.Caller.new.Goals as goal
 
@@ -13,6 +18,7 @@ invariant_of-result g c = record {
   alone = λ _. c.new-2.ensures.items;
   safe = subst AreSafe (sym c.new-2.ensures.items) (All-nil IsSafe);
   own_safe = all-of-none (labelled c.new.result) c.new.ensures.list;
+  few = none-few (put_calls c.args.rear) (bypass_items c.new-2.result) (callbacks_of (labelled c.new.result)) (ap (flat_map batch_items) c.requires) c.new-2.ensures.items (ap callbacks_of c.new.ensures.list);
   aimed = aimed-none (advanced_by c.new.result) (labelled c.new.result) c.new.ensures.list;
   before = λ e. absurd (first-stays c.args.offloadable (ap is_deoffloading (sym c.first_mode.ensures) ∙ e));
 }

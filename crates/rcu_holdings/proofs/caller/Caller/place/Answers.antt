@@ -1,16 +1,22 @@
-use Rattle.std.proofs.Common.{◌≡◌, true, false, refl, ap, sym, ◌∙◌, ◌++◌, ◌∷◌, [], List, subst}
+use Rattle.std.proofs.Common.{rules, ◌≡◌, true, false, refl, ap, sym, ◌∙◌, List, subst}
+use Rattle.std.specs.Mem.{FitsInMemory}
+use denote.Param.{param}
+use Rattle.rcu_lists.specs.contracts.batch.Batch as batch_row
+use Rattle.rcu_holdings.specs.contracts.caller.Caller as caller_row
+use Rattle.rcu_holdings.proofs.Sizes.{in_struct, in_third}
+use Rattle.rcu_lists.specs.contracts.bypass.Bypass as bypass_row
 use Rattle.std.proofs.lemmas.List.Elements.{All-push}
 use Rattle.rcu_lists.specs.Bypasses.{bypass_items}
-use Rattle.rcu_lists.specs.Labels.{Bare, Labelled, callbacks_of}
+use Rattle.rcu_lists.specs.Labels.{Labelled, callbacks_of}
 use Rattle.rcu_lists.specs.Segments.{labelled, advanced_by}
 use Rattle.rcu_holdings.specs.Aims.{AreAimed}
-use Rattle.rcu_holdings.specs.Callers.{Holding, holding}
+use Rattle.rcu_holdings.specs.Callers.{holding, passed_on}
 use Rattle.rcu_holdings.specs.Lanes.{put_calls}
 use Rattle.rcu_holdings.specs.Modes.{is_offloaded}
 use Rattle.rcu_holdings.specs.Outgoing.{Outgoing, outgoing}
-use Rattle.rcu_holdings.specs.Safe.{AreSafe, IsSafe}
+use Rattle.rcu_holdings.specs.Safe.{AreFew, AreSafe, IsSafe}
 use Rattle.rcu_holdings.proofs.Aims.{aimed-push}
-use Rattle.rcu_holdings.proofs.Holdings.{hold-passes, placed-out, placed-own, callbacks-pushed}
+use Rattle.rcu_holdings.proofs.Holdings.{hold-few, one-more, hold-passes, placed-out, placed-own, callbacks-pushed}
 use Rattle.rcu_holdings.proofs.Modes.{leaving-bypasses}
 use Rattle.rcu_holdings.proofs.Releases.{other}
 use Rattle.rcu_holdings.proofs.caller.Caller.place.Goals as goal
@@ -18,12 +24,15 @@ use Rattle.rcu_holdings.proofs.caller.Caller.place.Goals as goal
 pub invariant_of-self : goal.invariant_of-self
 invariant_of-self g c =
     let s = c.args.self.now in
+    let o = outgoing s.rear s.bypass in
+    let n = outgoing c.hold_or_send.new.rear c.hold_or_send.new.bypass in
     let on : is_offloaded s.mode ≡ true = sym c.in_offloaded.ensures ∙ c.if-in_offloaded.true in
     record {
       bypassing = s.bypassing;
       alone = λ e. absurd (other (is_offloaded s.mode) on e);
       safe = c.hold_or_send.ensures.safe;
       own_safe = s.own_safe;
+      few = subst AreFew (sym (placed-out o n c.args.callback (labelled s.own) (s.bypassing on) (hold-passes c.args.moment c.args.kind c.args.callback o n c.hold_or_send.ensures.waits c.hold_or_send.ensures.releases))) (one-more (passed_on (holding s)) c.args.callback c.requires.few);
       aimed = s.aimed;
       before = λ e. absurd (other (is_offloaded s.mode) on (leaving-bypasses s.mode e));
     }
@@ -41,6 +50,7 @@ invariant_of-self-else-in_offloaded g c =
       alone = s.alone;
       safe = s.safe;
       own_safe = subst AreSafe (sym (callbacks-pushed xs (labelled c.enqueue.new.self) c.args.callback c.enqueue.ensures.list)) (All-push IsSafe (callbacks_of xs) c.args.callback s.own_safe c.requires.safe);
+      few = subst AreFew (sym (placed-own (put_calls s.rear) (bypass_items s.bypass) (callbacks_of xs) (callbacks_of (labelled c.enqueue.new.self)) c.args.callback (callbacks-pushed xs (labelled c.enqueue.new.self) c.args.callback c.enqueue.ensures.list))) (one-more (passed_on (holding s)) c.args.callback c.requires.few);
       aimed = subst (λ n. AreAimed n (labelled c.enqueue.new.self)) (sym c.enqueue.ensures.advanced) (subst (AreAimed (advanced_by s.own)) (sym c.enqueue.ensures.list) (aimed-push (advanced_by s.own) xs c.args.callback s.aimed));
       before = s.before;
     }
@@ -79,3 +89,11 @@ pub returns-else-in_offloaded-clause-places : goal.returns-else-in_offloaded-cla
 returns-else-in_offloaded-clause-places g c =
     let s = c.args.self.now in
     placed-own (put_calls s.rear) (bypass_items s.bypass) (callbacks_of (labelled s.own)) (callbacks_of (labelled c.enqueue.new.self)) c.args.callback (callbacks-pushed (labelled s.own) (labelled c.enqueue.new.self) c.args.callback c.enqueue.ensures.list)
+
+pub hold_or_send-requires : goal.hold_or_send-requires
+hold_or_send-requires g c =
+    let s = c.args.self.now in
+    let w : FitsInMemory (caller_row.the_row (param 0 g.row.J)) = search rules in
+    let h : FitsInMemory (bypass_row.the_row (param 0 g.row.J)) = in_struct _ _ _ w in
+    let b : FitsInMemory (batch_row.the_row (param 0 g.row.J)) = in_third _ _ _ _ _ _ _ _ h in
+    (b, (h, (c.requires.ready.0 (sym c.in_offloaded.ensures ∙ c.if-in_offloaded.true), (s.safe, (c.requires.safe, hold-few (put_calls s.rear) (bypass_items s.bypass) (callbacks_of (labelled s.own)) c.args.callback c.requires.few)))))

@@ -1,10 +1,11 @@
-use Rattle.std.proofs.Common.{◌≡◌, true, false, ap, sym, ◌∙◌, List, subst}
+use Rattle.std.proofs.Common.{◌++◌, ◌≡◌, true, false, sym, ◌∙◌, List, subst}
 use Rattle.rcu_lists.specs.Bypasses.{bypass_items, BypassRoom}
 use Rattle.rcu_lists.specs.Labels.{Labelled, callbacks_of}
 use Rattle.rcu_lists.specs.Segments.{labelled, advanced_by, SegmentsRoom}
 use Rattle.rcu_holdings.specs.Aims.{AreAimed}
+use Rattle.rcu_holdings.specs.Lanes.{put_calls}
 use Rattle.rcu_holdings.specs.Modes.{is_offloaded}
-use Rattle.rcu_holdings.specs.Safe.{AreSafe}
+use Rattle.rcu_holdings.specs.Safe.{AreFew, AreSafe}
 use Rattle.rcu_holdings.proofs.Holdings.{on-ok}
 use Rattle.rcu_holdings.proofs.Releases.{other}
 use Rattle.rcu_holdings.proofs.caller.Caller.reserve.Goals as goal
@@ -13,7 +14,7 @@ pub invariant_of-self : goal.invariant_of-self
 invariant_of-self g c =
     let s = c.args.self.now in
     let e = c.reserve.ensures.same.items in
-    record { bypassing = s.bypassing; alone = λ f. e ∙ s.alone f; safe = subst AreSafe (sym e) s.safe; own_safe = s.own_safe; aimed = s.aimed; before = s.before }
+    record { bypassing = s.bypassing; alone = λ f. e ∙ s.alone f; safe = subst AreSafe (sym e) s.safe; own_safe = s.own_safe; few = subst (λ l. AreFew (put_calls s.rear ++ (l ++ callbacks_of (labelled s.own)))) (sym e) s.few; aimed = s.aimed; before = s.before }
 
 pub invariant_of-self-else-in_offloaded : goal.invariant_of-self-else-in_offloaded
 invariant_of-self-else-in_offloaded g c =
@@ -25,6 +26,7 @@ invariant_of-self-else-in_offloaded g c =
       alone = s.alone;
       safe = s.safe;
       own_safe = subst (λ (ws : List (Labelled g.row.J.Denot)). AreSafe (callbacks_of ws)) (sym e) s.own_safe;
+      few = subst (λ (ws : List (Labelled g.row.J.Denot)). AreFew (put_calls s.rear ++ (bypass_items s.bypass ++ callbacks_of ws))) (sym e) s.few;
       aimed = subst (λ n. AreAimed n ys) (sym c.reserve-else-in_offloaded.ensures.same.advanced) (subst (AreAimed (advanced_by s.own)) (sym e) s.aimed);
       before = s.before;
     }

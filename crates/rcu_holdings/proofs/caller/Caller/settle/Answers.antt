@@ -15,6 +15,7 @@ invariant_of-self g c =
       alone = λ e. s.alone (sym o ∙ e);
       safe = s.safe;
       own_safe = s.own_safe;
+      few = s.few;
       aimed = s.aimed;
       before = λ e. s.before (settled-leaving s.left c.args.turn s.mode (ap is_deoffloading (sym c.settled-self.ensures) ∙ e));
     }

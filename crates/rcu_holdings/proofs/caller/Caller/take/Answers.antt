@@ -1,10 +1,11 @@
-use Rattle.std.proofs.Common.{ap, sym, ◌∙◌, refl, subst}
+use Rattle.std.proofs.Common.{ap, sym, subst}
 use Rattle.rcu_lists.specs.Bypasses.{bypass_items}
 use Rattle.rcu_lists.specs.Segments.{labelled, advanced_by}
 use Rattle.rcu_holdings.specs.Aims.{AreAimed}
-use Rattle.rcu_holdings.specs.Callers.{Holding, holding}
+use Rattle.rcu_holdings.specs.Callers.{holding}
+use Rattle.rcu_holdings.specs.Lanes.{put_calls}
 use Rattle.rcu_holdings.specs.Modes.{is_offloaded}
-use Rattle.rcu_holdings.proofs.Holdings.{left-none, left-safe, left-aimed, taken-safe, taken-holding, taken-places}
+use Rattle.rcu_holdings.proofs.Holdings.{left-none, left-few, left-safe, left-aimed, taken-safe, taken-holding, taken-places}
 use Rattle.rcu_holdings.proofs.caller.Caller.take.Goals as goal
 
 pub invariant_of-self : goal.invariant_of-self
@@ -17,6 +18,7 @@ invariant_of-self g c =
       alone = s.alone;
       safe = s.safe;
       own_safe = left-safe c.take_done.result xs ys c.take_done.ensures.taken s.own_safe;
+      few = left-few (is_offloaded s.mode) c.take_done.result (put_calls s.rear) (bypass_items s.bypass) xs ys s.bypassing s.alone c.take_done.ensures.taken s.few;
       aimed = subst (λ n. AreAimed n ys) (sym c.take_done.ensures.advanced) (left-aimed (advanced_by s.own) c.take_done.result xs ys c.take_done.ensures.taken c.take_done.ensures.graced s.aimed);
       before = s.before;
     }

@@ -1,4 +1,4 @@
-use Rattle.std.proofs.Common.{◌≡◌, true, false, not, ◌∙◌, ap, sym}
+use Rattle.std.proofs.Common.{◌∙◌, ap, sym}
 use Rattle.std.specs.Prelude.{◌&&◌, ◌||◌}
 use Rattle.rcu_lists.specs.Bypasses.{bypass_items}
 use Rattle.rcu_holdings.specs.Callers.{holding}
@@ -15,6 +15,7 @@ invariant_of-self g c =
       alone = λ _. left-clear s.mode c.is_empty.result (bypass_items s.bypass) s.alone c.is_empty.ensures (sym c.can_leave.ensures ∙ c.if-can_leave.true);
       safe = s.safe;
       own_safe = s.own_safe;
+      few = s.few;
       aimed = s.aimed;
       before = λ _. c.requires;
     }

@@ -1,25 +1,26 @@
-use Rattle.std.proofs.Common.{◌≡◌, true, false, inl, inr, refl, ap, sym, ◌∙◌, ◌++◌, [], List, subst}
-use Rattle.std.proofs.lemmas.List.{append-nil}
+use Rattle.std.proofs.Common.{◌≡◌, false, inl, inr, ap, sym, ◌∙◌, List, subst}
 use Rattle.rcu_jobs.specs.declared.turns.Mode.TheVariants.{Offloading, Offloaded}
 use Rattle.rcu_lists.specs.Labels.{Labelled, callbacks_of}
 use Rattle.rcu_lists.specs.Segments.{labelled, advanced_by}
 use Rattle.rcu_holdings.specs.Aims.{AreAimed}
-use Rattle.rcu_holdings.specs.Callers.{Holding, holding}
+use Rattle.rcu_holdings.specs.Callers.{holding}
 use Rattle.rcu_holdings.specs.Modes.{is_offloaded}
-use Rattle.rcu_holdings.specs.Outgoing.{Outgoing, outgoing, poured}
-use Rattle.rcu_holdings.specs.Safe.{AreSafe}
+use Rattle.rcu_holdings.specs.Outgoing.{Outgoing, outgoing}
+use Rattle.rcu_holdings.specs.Safe.{AreFew, AreSafe}
 use Rattle.rcu_holdings.proofs.Holdings.{all-of-none, aimed-none, poured-passes, same-held}
-use Rattle.rcu_holdings.proofs.Releases.{other, released-any-passes}
+use Rattle.rcu_holdings.proofs.Releases.{other}
 use Rattle.rcu_holdings.proofs.caller.Caller.turn_on.Goals as goal
 
 pub invariant_of-self : goal.invariant_of-self
 invariant_of-self g c =
+    let s = c.args.self.now in
     let e = c.pour_out.ensures.moved c.if-pour_out.true in
     record {
       bypassing = λ _. e;
       alone = λ f. absurd cc;
       safe = c.pour_out.ensures.safe;
       own_safe = all-of-none (labelled c.pour_out.new.own) e;
+      few = subst AreFew (sym (poured-passes (outgoing s.rear s.bypass) (outgoing c.pour_out.new.rear c.pour_out.new.bypass) (labelled s.own) (labelled c.pour_out.new.own) e (c.pour_out.ensures.released c.if-pour_out.true))) s.few;
       aimed = aimed-none (advanced_by c.pour_out.new.own) (labelled c.pour_out.new.own) e;
       before = λ f. absurd cc;
     }
@@ -34,6 +35,7 @@ invariant_of-self-else-pour_out g c =
       alone = λ _. ap (λ (x : Outgoing g.row.J.Denot). x.bypass) e.1 ∙ s.alone off;
       safe = c.pour_out.ensures.safe;
       own_safe = subst (λ (ws : List (Labelled g.row.J.Denot)). AreSafe (callbacks_of ws)) (sym e.0) s.own_safe;
+      few = subst AreFew (sym (same-held (outgoing s.rear s.bypass) (outgoing c.pour_out.new.rear c.pour_out.new.bypass) (labelled s.own) (labelled c.pour_out.new.own) e.0 e.1)) s.few;
       aimed = subst (λ n. AreAimed n (labelled c.pour_out.new.own)) (sym c.pour_out.ensures.advanced) (subst (AreAimed (advanced_by s.own)) (sym e.0) s.aimed);
       before = λ f. absurd cc;
     }

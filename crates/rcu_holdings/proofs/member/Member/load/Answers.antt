@@ -1,0 +1,50 @@
+use Rattle.std.proofs.Common.{◌++◌, inr, ap, sym, ◌∙◌, List, subst}
+use Rattle.rcu_lists.specs.Batches.{batch_items}
+use Rattle.rcu_lists.specs.Labels.{Labelled, callbacks_of}
+use Rattle.rcu_lists.specs.Segments.{labelled, advanced_by}
+use Rattle.rcu_holdings.specs.Aims.{AreAimed}
+use Rattle.rcu_holdings.specs.Lanes.{put_calls, drawn_calls}
+use Rattle.rcu_holdings.specs.Members.{relay}
+use Rattle.rcu_holdings.specs.Safe.{AreSafe}
+use Rattle.rcu_holdings.proofs.Aims.{aimed-left}
+use Rattle.rcu_holdings.proofs.Relays.{callbacks-left, made-out, safe-front, safe-back}
+use Rattle.rcu_holdings.proofs.member.Member.load.Goals as goal
+
+pub invariant_of-self : goal.invariant_of-self
+invariant_of-self g c =
+    let s = c.args.self.now in
+    let b = batch_items c.in-Ok.batch in
+    let ys = labelled c.take_batch.new.self in
+    let cs = ap callbacks_of c.in-Ok.ensures.taken ∙ callbacks-left b ys in
+    record {
+      order = made-out (drawn_calls s.front) (put_calls s.rear) (batch_items s.out) b (callbacks_of (labelled s.list)) (callbacks_of ys) (batch_items s.drawn) (c.is_empty.ensures.0 c.if-not-is_empty.false) cs s.order;
+      drawn_safe = s.drawn_safe;
+      list_safe = safe-back b (callbacks_of ys) (subst AreSafe cs s.list_safe);
+      out_safe = safe-front b (callbacks_of ys) (subst AreSafe cs s.list_safe);
+      few = s.few;
+      aimed = subst (λ n. AreAimed n ys) (sym c.take_batch.ensures.advanced) (aimed-left (advanced_by s.list) b ys c.in-Ok.ensures.graced (subst (AreAimed (advanced_by s.list)) c.in-Ok.ensures.taken s.aimed));
+    }
+
+pub invariant_of-self-in-Err : goal.invariant_of-self-in-Err
+invariant_of-self-in-Err g c =
+    let s = c.args.self.now in
+    let e = c.in-Err.ensures.refused.list in
+    let ys = labelled c.take_batch.new.self in
+    record {
+      order = s.order ∙ ap (λ (ws : List (Labelled g.row.J.Denot)). put_calls s.rear ++ (batch_items s.out ++ (callbacks_of ws ++ batch_items s.drawn))) (sym e);
+      drawn_safe = s.drawn_safe;
+      list_safe = subst (λ (ws : List (Labelled g.row.J.Denot)). AreSafe (callbacks_of ws)) (sym e) s.list_safe;
+      out_safe = s.out_safe;
+      few = s.few;
+      aimed = subst (λ n. AreAimed n ys) (sym c.take_batch.ensures.advanced) (subst (AreAimed (advanced_by s.list)) (sym e) s.aimed);
+    }
+
+pub returns-in-Ok-clause-loads : goal.returns-in-Ok-clause-loads
+returns-in-Ok-clause-loads g c =
+    let r = relay c.args.self.now in
+    inr (record {
+      none_waits = c.is_empty.ensures.0 c.if-not-is_empty.false;
+      front = c.in-Ok.ensures.taken;
+      number = c.in-Ok.ensures.number;
+      others = ap (λ k. record r { list = labelled c.take_batch.new.self; advanced = k; out = batch_items c.in-Ok.batch }) c.take_batch.ensures.advanced;
+    })

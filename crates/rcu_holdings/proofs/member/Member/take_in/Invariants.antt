@@ -1,0 +1,11 @@
+use Rattle.std.proofs.Common.{◌≡◌}
+use Rattle.rcu_lanes.specs.Ends.{SameFront}
+use Rattle.rcu_holdings.specs.Members.{relay, front_of, rear_of, TakesIn}
+use Rattle.rcu_holdings.proofs.member.Member.take_in.Given as goal
+
+abbrev pub invariant-loop-drawing : goal.invariant-loop-drawing
+invariant-loop-drawing g l = record {
+  front : SameFront (front_of l.fn.self) (front_of l.self);
+  rear : rear_of l.self ≡ rear_of l.fn.self;
+  takes : TakesIn l.drawing l.took (relay l.fn.self) (relay l.self);
+}
