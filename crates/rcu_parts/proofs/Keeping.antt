@@ -1,6 +1,7 @@
 -- How a processor's part keeps its law over steps.
 use Rattle.std.proofs.Common.{◌≡◌, ℕ, ◌+◌, ◌≤◌, None, List, [], ◌∷◌, ◌++◌, map, length, length-append, ap, sym, ◌∙◌, refl, subst, arith, append_assoc, true, false, Bool}
-use Rattle.std.proofs.Math.Logic.{∥∥₁_map}
+use Rattle.std.proofs.Math.Logic.{∥∥₁_map, ∥∥₁_elim}
+use Rattle.std.proofs.Props.{props}
 use Rattle.std.proofs.lemmas.List.{map-append, length-map, append_cancel_left}
 use Rattle.rcu_board.specs.Seats.{accepted_of, fresh_of}
 use Rattle.rcu_board.specs.Views.{sight}
@@ -10,7 +11,7 @@ use Rattle.rcu_holdings.specs.Callers.{Holding, held_in, put_by, passed_on}
 use Rattle.rcu_jobs.specs.declared.callback.Callback.{Callback}
 use Rattle.rcu_jobs.specs.declared.callback.Record.{Record}
 use Rattle.rcu_places.specs.Places.{Placed, Numbered, with_number}
-use Rattle.rcu_places.proofs.Moves.{placed_accepts, placed_puts}
+use Rattle.rcu_places.proofs.Moves.{placed_accepts, placed_all, placed_puts}
 use Rattle.rcu_records.specs.Records.{numbered_records}
 use Rattle.rcu_parts.specs.Changes.{Keeps, Tells, Enters, entry}
 use Rattle.rcu_parts.specs.Lawful.{IsLawful}
@@ -67,3 +68,9 @@ module _ {J R : Type 0} where
     ripe = l.ripe;
     looked = let z = l.looked in omega (arith, advanced);
   }
+
+  -- no more was put and is held than was accepted
+  pub few_passed : (cpu n : ℕ) (v : View) (ran : List (Record R)) (h : Holding J) → IsLawful cpu n v ran h → length (passed_on h) ≤ n
+  few_passed cpu n v ran h l = ∥∥₁_elim l.places (hlevel props) (λ p.
+    let all = placed_all (accepted_list v) (numbered_records ran) (numbered_callbacks (put_by h)) (numbered_callbacks (held_in h)) p in
+    omega (arith, all, length-append (put_by h) (held_in h), length-map (accepted_of v) accepted_entry, length-map (put_by h) (numbered_callback {J = J}), length-map (held_in h) (numbered_callback {J = J}), l.counted))

@@ -1,3 +1,4 @@
 pub mod Keeping
 pub mod Sizes
 pub mod Taking
+pub mod Opening

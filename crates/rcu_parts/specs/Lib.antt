@@ -4,3 +4,4 @@ pub mod Lawful
 pub mod Processors
 pub mod Calls
 pub mod Reports
+pub mod Opened

@@ -10,6 +10,7 @@ ghost use Rattle.rcu_parts.specs.Lawful.{IsLawful};
 use rcu_board::{Board, Role, Seat};
 use rcu_holdings::Caller;
 use rcu_jobs::{Job, Record};
+use rcu_numbers::Shape;
 use std::alloc::Global;
 use std::sync::Arc;
 
@@ -40,4 +41,38 @@ pub struct ProcessorState<J, R> {
 #[derive(Drop)]
 pub struct Processor<J: Job> {
     pub(crate) state: ProcessorState<J, J::Receipt>,
+}
+
+impl<J: Job> Processor<J> {
+    ghost use Rattle.std.specs.Prelude.{[], None};
+    ghost use Rattle.rcu_board.specs.Opened.{IsNewProcessor};
+    ghost use Rattle.rcu_parts.specs.Opened.{IsNew, IsEmpty};
+
+    /// The part of processor `cpu` of a shape, from its seat and its empty lists. It has accepted nothing.
+    pub fn new(
+        alloc: Global,
+        shape: &Shape,
+        board: Arc<Board, Global>,
+        seat: Seat,
+        cpu: u64,
+        lists: Caller<J>,
+    ) -> Processor<J>
+        requires seat { IsNewProcessor (arc_value board) cpu seat }
+        requires there { cpu < (arc_value board).processors }
+        requires lists { IsEmpty lists }
+        ensures new { IsNew shape.now (arc_value board) cpu seat lists result.state }
+    {
+        Processor {
+            state: ProcessorState {
+                board,
+                seat,
+                cpu,
+                limit: shape.limit,
+                blimit: shape.blimit,
+                accepted: 0,
+                ran: Vec::new(alloc),
+                lists,
+            },
+        }
+    }
 }

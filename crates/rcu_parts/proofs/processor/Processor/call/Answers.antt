@@ -1,4 +1,4 @@
-use Rattle.std.proofs.Common.{◌≡◌, ℕ, ◌+◌, ◌*◌, ◌<◌, ◌≤◌, List, [], ◌∷◌, ◌++◌, ◌∙◌, ap, sym, subst, refl, rules, arith}
+use Rattle.std.proofs.Common.{◌≡◌, ℕ, ◌+◌, ◌*◌, ◌<◌, ◌≤◌, List, [], ◌∷◌, ◌++◌, length, ◌∙◌, ap, sym, subst, refl, rules, arith}
 use Rattle.std.specs.Mem.{FitsInMemory}
 use denote.Param.{param}
 use Rattle.rcu_board.specs.Plays.{looked, accepted}
@@ -10,9 +10,9 @@ use Rattle.rcu_holdings.specs.Callers.{Holding, holding, Takes, passed_on}
 use Rattle.rcu_jobs.specs.declared.callback.Callback.{Callback}
 use Rattle.rcu_parts.specs.Changes.{Enters}
 use Rattle.rcu_parts.specs.contracts.processor.Processor as row
-use Rattle.rcu_parts.proofs.Keeping.{kept_by_enters, kept_by_keeps}
+use Rattle.rcu_parts.proofs.Keeping.{few_passed, kept_by_enters, kept_by_keeps}
 use Rattle.rcu_parts.proofs.Taking.{takes_more, sound_same, sound_taken}
-use Rattle.rcu_parts.proofs.Sizes.{in_struct}
+use Rattle.rcu_parts.proofs.Sizes.{in_struct, is_safe_call}
 use Rattle.rcu_parts.proofs.processor.Processor.call.Goals as goal
 
 pub reserve-requires : goal.reserve-requires
@@ -21,8 +21,9 @@ reserve-requires g c = let h : FitsInMemory (row.the_row (param 0 g.row.J) (para
 pub place-requires : goal.place-requires
 place-requires g c =
     let h : FitsInMemory (row.the_row (param 0 g.row.J) (param 1 g.row.J-Receipt)) = search rules in
-    let s = c.args.self.now.state in let low = c.if-number-state.false in let small = s.small in let stamp = c.in-Some.ensures.stamp.1 in let seq = c.seq.ensures.same in
-    (in_struct _ _ _ (in_struct _ _ _ h), (c.in-Ok.ensures.found, (omega arith, omega arith)))
+    let s = c.args.self.now.state in
+    (in_struct _ _ _ (in_struct _ _ _ h), (c.in-Ok.ensures.found, is_safe_call c.seq.result c.in-Some.word.seq s.accepted s.limit (length (passed_on (holding c.reserve.new.self))) c.seq.ensures.same c.in-Some.ensures.stamp.1 c.if-number-state.false s.small.1
+        (subst (λ (h : Holding g.row.J.Denot). length (passed_on h) ≤ s.accepted) (sym c.in-Ok.ensures.same) (few_passed s.cpu s.accepted (view s.seat) s.ran.items (holding s.lists) s.lawful))))
 
 pub invariant_of-state-2 : goal.invariant_of-state-2
 invariant_of-state-2 g c =
