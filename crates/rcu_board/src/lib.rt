@@ -25,3 +25,7 @@ pub use view::{Accepted, Claim, Own, View};
 
 #[cfg(test)]
 mod tests;
+#[cfg(test)]
+mod tests_rows;
+#[cfg(test)]
+mod tests_threads;

@@ -36,7 +36,7 @@ fn seats_of_a_shape(rt: HostRuntime) -> Result<(), Fail> {
 const CALLS: u64 = 20_000;
 
 /// Claims a number, and finishes it where the claim is won. Answers how many were.
-fn run_one(board: &Board, seat: &mut Seat, number: u64) -> u64
+pub(crate) fn run_one(board: &Board, seat: &mut Seat, number: u64) -> u64
     requires board { AtBoard board.now seat.old }
     requires who { MayClaim seat.old.role }
     requires rests { (view seat.old).running ≡ [] }
@@ -53,10 +53,10 @@ fn run_one(board: &Board, seat: &mut Seat, number: u64) -> u64
     1
 }
 
-/// Has callback `count` accepted, and looks, which stamps it. Answers whether it was accepted.
-fn accept_one(board: &Board, seat: &mut Seat, count: u64) -> bool
+/// Has callback `count` of processor `p` accepted, and looks, which stamps it. Answers whether it was accepted.
+pub(crate) fn accept_one(board: &Board, seat: &mut Seat, p: u64, count: u64) -> bool
     requires board { AtBoard board.now seat.old }
-    requires who { seat.old.role ≡ Role.Processor 0 }
+    requires who { seat.old.role ≡ Role.Processor p }
     requires count { length (accepted_of (view seat.old)) ≡ count }
     requires stamped { fresh_of (view seat.old) ≡ None }
     requires rests { (view seat.old).running ≡ [] }
@@ -66,11 +66,11 @@ fn accept_one(board: &Board, seat: &mut Seat, count: u64) -> bool
     ensures stamped { fresh_of (view seat.new) ≡ None }
     ensures more { IsTrue result → length (accepted_of (view seat.new)) ≡ count + 1 }
 {
-    let Some(_number) = accept(board, seat, count, count) else {
+    let Some(number) = accept(board, seat, count, count) else {
         return false;
     };
     look(board, seat);
-    true
+    number == count
 }
 
 /// Reports, and answers how many reports that counted.
@@ -105,7 +105,7 @@ fn be_processor(board: &Board, mut seat: Seat) -> Done
     let mut reports = 0;
     let mut won = 0;
     for count in 0..CALLS {
-        if !accept_one(board, &mut seat, count) {
+        if !accept_one(board, &mut seat, 0, count) {
             return Done {
                 seat,
                 accepted: count,
@@ -124,23 +124,25 @@ fn be_processor(board: &Board, mut seat: Seat) -> Done
     }
 }
 
-fn be_hand(board: &Board, mut seat: Seat) -> (Seat, u64)
+/// Claims and finishes the numbers below `count`, each once. Answers how many of these claims were won.
+pub(crate) fn run_all(board: &Board, mut seat: Seat, count: u64) -> (Seat, u64)
     requires board { AtBoard board.now seat }
     requires who { MayClaim seat.role }
     requires rests { (view seat).running ≡ [] }
+    requires small { count ≤ CALLS }
     ensures same { SameSeat seat result.0 }
     ensures rests { (view result.0).running ≡ [] }
-    ensures few { result.1 ≤ CALLS }
+    ensures few { result.1 ≤ count }
 {
     let mut won = 0;
-    for number in 0..CALLS {
+    for number in 0..count {
         won += run_one(board, &mut seat, number);
     }
     (seat, won)
 }
 
-/// Starts or ends a grace period, where one can be.
-fn drive(board: &Board, seat: &mut Seat)
+/// Starts or ends a grace period, where one can be. Answers whether it did.
+pub(crate) fn drive(board: &Board, seat: &mut Seat) -> bool
     requires board { AtBoard board.now seat.old }
     requires who { seat.old.role ≡ Role.Driver }
     ensures same { SameSeat seat.old seat.new }
@@ -148,12 +150,13 @@ fn drive(board: &Board, seat: &mut Seat)
 {
     let seq = look(board, seat).seq();
     if seq % 4 == 1 {
-        let _waits = end(board, seat, seq);
-        return;
+        return end(board, seat, seq).is_ok();
     }
-    if seq < GREATEST_NUMBER {
-        start(board, seat, seq);
+    if seq == GREATEST_NUMBER {
+        return false;
     }
+    start(board, seat, seq);
+    true
 }
 
 fn be_driver(board: &Board, mut seat: Seat) -> Seat
@@ -163,7 +166,7 @@ fn be_driver(board: &Board, mut seat: Seat) -> Seat
     ensures rests { (view result).running ≡ (view seat).running }
 {
     for _n in 0..CALLS {
-        drive(board, &mut seat);
+        let _moved = drive(board, &mut seat);
     }
     seat
 }
@@ -196,7 +199,7 @@ fn only(mut seats: Vec<Seat>) -> Option<Seat>
 
 /// What the threads did, and what the last look at each word said.
 #[derive(Drop)]
-struct Met {
+struct Outcome {
     accepted: u64,
     shut: u64,
     reports: u64,
@@ -230,7 +233,7 @@ fn run_both<R: Threads + Sync>(
         move || -> (Seat, u64)
             requires { AtBoard board.now hand × MayClaim hand.role × ((view hand).running ≡ []) }
             ensures { SameSeat hand result.0 × ((view result.0).running ≡ []) × (result.1 ≤ CALLS) }
-        { be_hand(board, hand) },
+        { run_all(board, hand, CALLS) },
     )
 }
 
@@ -287,21 +290,21 @@ fn settle(
 
 /// The seats of a board for one processor, which is offloadable.
 #[derive(Drop)]
-struct Five {
-    processor: Seat,
-    hand: Seat,
-    group: Seat,
-    driver: Seat,
-    control: Seat,
+pub(crate) struct OneOfEach {
+    pub(crate) processor: Seat,
+    pub(crate) hand: Seat,
+    pub(crate) group: Seat,
+    pub(crate) driver: Seat,
+    pub(crate) control: Seat,
 }
 
-fn take_apart(shape: Shape, board: &Board, seats: Seats) -> Option<Five>
+pub(crate) fn take_apart(shape: Shape, board: &Board, seats: Seats) -> Option<OneOfEach>
     requires { AreNew shape board.now seats }
-    ensures processor { IfSome result (λ five. IsNewProcessor board.now 0 five.processor) }
-    ensures hand { IfSome result (λ five. AtBoard board.now five.hand × MayClaim five.hand.role × ((view five.hand).running ≡ []) × ((view five.hand).weight ≡ 1)) }
-    ensures group { IfSome result (λ five. AtBoard board.now five.group × ((view five.group).running ≡ []) × ((view five.group).weight ≡ 1)) }
-    ensures driver { IfSome result (λ five. IsNew board.now Role.Driver 124 true false [] five.driver) }
-    ensures control { IfSome result (λ five. IsNew board.now Role.Control 1 false true [] five.control) }
+    ensures processor { IfSome result (λ parts. IsNewProcessor board.now 0 parts.processor) }
+    ensures hand { IfSome result (λ parts. AtBoard board.now parts.hand × MayClaim parts.hand.role × ((view parts.hand).running ≡ []) × ((view parts.hand).weight ≡ 1)) }
+    ensures group { IfSome result (λ parts. AtBoard board.now parts.group × ((view parts.group).running ≡ []) × ((view parts.group).weight ≡ 1)) }
+    ensures driver { IfSome result (λ parts. IsNew board.now Role.Driver 124 true false [] parts.driver) }
+    ensures control { IfSome result (λ parts. IsNew board.now Role.Control 1 false true [] parts.control) }
 {
     let Seats {
         processors,
@@ -310,7 +313,7 @@ fn take_apart(shape: Shape, board: &Board, seats: Seats) -> Option<Five>
         driver,
         control,
     } = seats;
-    Some(Five {
+    Some(OneOfEach {
         processor: only(processors)?,
         hand: only(hands)?,
         group: only(groups)?,
@@ -319,22 +322,73 @@ fn take_apart(shape: Shape, board: &Board, seats: Seats) -> Option<Five>
     })
 }
 
-/// Runs each seat but the group's in a thread of its own, makes all one, and looks.
-fn meet<R: Threads + Sync>(rt: &R, board: &Board, five: Five) -> Met
-    requires some { 0 < board.now.processors }
-    requires processor { IsNewProcessor board.now 0 five.processor }
-    requires hand { AtBoard board.now five.hand × MayClaim five.hand.role × ((view five.hand).running ≡ []) × ((view five.hand).weight ≡ 1) }
-    requires group { AtBoard board.now five.group × ((view five.group).running ≡ []) × ((view five.group).weight ≡ 1) }
-    requires driver { IsNew board.now Role.Driver 124 true false [] five.driver }
-    requires control { IsNew board.now Role.Control 1 false true [] five.control }
+/// The seats, but those of groups, of a board for two processors, which are both offloadable.
+#[derive(Drop)]
+pub(crate) struct TwoOfEach {
+    pub(crate) first: Seat,
+    pub(crate) second: Seat,
+    pub(crate) first_hand: Seat,
+    pub(crate) second_hand: Seat,
+    pub(crate) driver: Seat,
+    pub(crate) control: Seat,
+}
+
+/// The two seats of a list.
+fn both(mut seats: Vec<Seat>) -> Option<(Seat, Seat)>
+    ensures { IfSome result (λ pair. seats.items ≡ pair.0 ∷ pair.1 ∷ []) }
 {
-    let Five {
+    if seats.len() != 2 {
+        return None;
+    }
+    let second = seats.pop()?;
+    let first = seats.pop()?;
+    Some((first, second))
+}
+
+pub(crate) fn take_two_apart(shape: Shape, board: &Board, seats: Seats) -> Option<TwoOfEach>
+    requires { AreNew shape board.now seats }
+    ensures first { IfSome result (λ two. IsNewProcessor board.now 0 two.first) }
+    ensures second { IfSome result (λ two. IsNewProcessor board.now 1 two.second) }
+    ensures first_hand { IfSome result (λ two. AtBoard board.now two.first_hand × MayClaim two.first_hand.role × ((view two.first_hand).running ≡ [])) }
+    ensures second_hand { IfSome result (λ two. AtBoard board.now two.second_hand × MayClaim two.second_hand.role × ((view two.second_hand).running ≡ [])) }
+    ensures driver { IfSome result (λ two. AtBoard board.now two.driver × (two.driver.role ≡ Role.Driver)) }
+    ensures control { IfSome result (λ two. AtBoard board.now two.control × (two.control.role ≡ Role.Control)) }
+{
+    let Seats {
+        processors,
+        hands,
+        groups: _,
+        driver,
+        control,
+    } = seats;
+    let (first, second) = both(processors)?;
+    let (first_hand, second_hand) = both(hands)?;
+    Some(TwoOfEach {
+        first,
+        second,
+        first_hand,
+        second_hand,
+        driver,
+        control,
+    })
+}
+
+/// Runs each seat but the group's in a thread of its own, makes all one, and looks.
+fn run_parts<R: Threads + Sync>(rt: &R, board: &Board, parts: OneOfEach) -> Outcome
+    requires some { 0 < board.now.processors }
+    requires processor { IsNewProcessor board.now 0 parts.processor }
+    requires hand { AtBoard board.now parts.hand × MayClaim parts.hand.role × ((view parts.hand).running ≡ []) × ((view parts.hand).weight ≡ 1) }
+    requires group { AtBoard board.now parts.group × ((view parts.group).running ≡ []) × ((view parts.group).weight ≡ 1) }
+    requires driver { IsNew board.now Role.Driver 124 true false [] parts.driver }
+    requires control { IsNew board.now Role.Control 1 false true [] parts.control }
+{
+    let OneOfEach {
         processor,
         hand,
         group,
         driver,
         control,
-    } = five;
+    } = parts;
     let (first, second) = thread::join(
         rt,
         move || -> (Done, (Seat, u64))
@@ -357,7 +411,7 @@ fn meet<R: Threads + Sync>(rt: &R, board: &Board, five: Five) -> Met
     let (accepts_word, turns_word, board_word) = settle(
         board, control, driver, group, hand, processor,
     );
-    Met {
+    Outcome {
         accepted,
         shut,
         reports,
@@ -372,23 +426,26 @@ fn meet<R: Threads + Sync>(rt: &R, board: &Board, five: Five) -> Met
 fn four_threads_on_one_board(rt: HostRuntime) -> Result<(), Fail> {
     let shape = Shape::new(1, 1, 1, 10, 16, 1000).expect(&rt, "within the limits");
     let (board, seats) = open_board(rt.alloc(), shape)?;
-    let five = take_apart(shape, &board, seats).expect(&rt, "one seat of each kind");
-    let met = meet(&rt, &board, five);
-    assert_eq!(rt; met.shut, met.accepted);
+    let parts = take_apart(shape, &board, seats).expect(&rt, "one seat of each kind");
+    let outcome = run_parts(&rt, &board, parts);
+    assert_eq!(rt; outcome.shut, outcome.accepted);
     assert_eq!(rt;
-        (met.accepts_word / 2, met.accepts_word % 2),
-        (met.accepted, 1)
+        (outcome.accepts_word / 2, outcome.accepts_word % 2),
+        (outcome.accepted, 1)
     );
-    assert_eq!(rt; (met.turns_word / 2, met.turns_word % 2), (met.won, 0));
-    let seq = met.board_word.seq();
-    let counted = seq % 4 == 1 && !met.board_word.owes(0);
-    assert_eq!(rt; met.reports, seq / 4 + u64::from(counted));
+    assert_eq!(rt;
+        (outcome.turns_word / 2, outcome.turns_word % 2),
+        (outcome.won, 0)
+    );
+    let seq = outcome.board_word.seq();
+    let counted = seq % 4 == 1 && !outcome.board_word.owes(0);
+    assert_eq!(rt; outcome.reports, seq / 4 + u64::from(counted));
     Ok(())
 }
 
-/// What was read before and after each step that told something.
+/// What was read before and after each step that another seat reads.
 #[derive(Clone, Copy)]
-struct Told {
+struct Answers {
     asked: (bool, bool),
     heard: (bool, bool),
     halted: (bool, bool),
@@ -396,20 +453,20 @@ struct Told {
 }
 
 /// Makes each step on the words of switches, urging and needs once, with the steps that read it before and after.
-fn tell(board: &Board, five: Five) -> Told
+fn make_each_step(board: &Board, parts: OneOfEach) -> Answers
     requires some { 0 < board.now.processors }
-    requires processor { AtBoard board.now five.processor × (five.processor.role ≡ Role.Processor 0) }
-    requires driver { AtBoard board.now five.driver × (five.driver.role ≡ Role.Driver) }
-    requires control { AtBoard board.now five.control × (five.control.role ≡ Role.Control) }
+    requires processor { AtBoard board.now parts.processor × (parts.processor.role ≡ Role.Processor 0) }
+    requires driver { AtBoard board.now parts.driver × (parts.driver.role ≡ Role.Driver) }
+    requires control { AtBoard board.now parts.control × (parts.control.role ≡ Role.Control) }
     requires hears { owes_of board.now.offloadable 0 ≡ 1 }
 {
-    let Five {
+    let OneOfEach {
         mut processor,
         hand: _,
         group: _,
         mut driver,
         mut control,
-    } = five;
+    } = parts;
     let first = asked(board, &mut processor);
     ask(board, &mut control, 0, false);
     let asked = (first, asked(board, &mut processor));
@@ -422,7 +479,7 @@ fn tell(board: &Board, five: Five) -> Told
     need(board, &mut processor, 8);
     let first = needed(board, &mut driver);
     need(board, &mut processor, 4);
-    Told {
+    Answers {
         asked,
         heard,
         halted,
@@ -434,12 +491,12 @@ fn tell(board: &Board, five: Five) -> Told
 fn told_and_heard(rt: HostRuntime) -> Result<(), Fail> {
     let shape = Shape::new(1, 1, 1, 10, 16, 1000).expect(&rt, "within the limits");
     let (board, seats) = open_board(rt.alloc(), shape)?;
-    let five = take_apart(shape, &board, seats).expect(&rt, "one seat of each kind");
+    let parts = take_apart(shape, &board, seats).expect(&rt, "one seat of each kind");
     assert!(rt; board.is_offloadable(0));
-    let told = tell(&board, five);
-    assert_eq!(rt; told.asked, (true, false));
-    assert_eq!(rt; told.heard, (true, false));
-    assert_eq!(rt; told.halted, (false, true));
-    assert_eq!(rt; told.needed, (8, 8));
+    let answers = make_each_step(&board, parts);
+    assert_eq!(rt; answers.asked, (true, false));
+    assert_eq!(rt; answers.heard, (true, false));
+    assert_eq!(rt; answers.halted, (false, true));
+    assert_eq!(rt; answers.needed, (8, 8));
     Ok(())
 }

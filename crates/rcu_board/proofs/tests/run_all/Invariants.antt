@@ -1,6 +1,6 @@
 use Rattle.std.proofs.Common.{◌≡◌, ◌≤◌, []}
 use Rattle.rcu_board.specs.Seats.{view, AtBoard, SameSeat}
-use Rattle.rcu_board.proofs.tests.be_hand.Given as goal
+use Rattle.rcu_board.proofs.tests.run_all.Given as goal
 
 abbrev pub invariant-loop-number : goal.invariant-loop-number
 invariant-loop-number l = record {
