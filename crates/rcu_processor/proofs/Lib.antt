@@ -3,3 +3,5 @@ pub mod Paces
 pub mod Claims
 pub mod Heeding
 pub mod Rooms
+pub mod Taking
+pub mod Amounts

@@ -1,12 +1,12 @@
-//! Shutting a processor, and how much is left of it at the end.
+//! Shutting a processor, and what is left of it at the end.
 
 ghost use Rattle.std.specs.Prelude.{◌≡◌, ℕ, true, not, length};
 ghost use Rattle.rcu_law.specs.Places.{remaining_callbacks};
 ghost use Rattle.rcu_processor.specs.Leaving.{IsCounted};
-ghost use Rattle.rcu_processor.specs.Views.{seen, AreGiven};
+ghost use Rattle.rcu_processor.specs.Views.{seen, records_of, AreGiven};
 
 use crate::processor::Processor;
-use rcu_jobs::Job;
+use rcu_jobs::{Job, Record};
 
 impl<J: Job> Processor<J, J::Receipt> {
     /// Whether it isn't shut.
@@ -30,5 +30,13 @@ impl<J: Job> Processor<J, J::Receipt> {
         ensures { result ≡ length (remaining_callbacks (seen J.key_of self.now)) }
     {
         self.count - (self.turn / 2 + self.turn % 2)
+    }
+
+    /// What ran.
+    pub fn into_records(self) -> Vec<Record<J::Receipt>>
+        ensures { result ≡ records_of self }
+    {
+        let Processor { records, .. } = self;
+        records
     }
 }

@@ -6,6 +6,8 @@ mod batches;
 mod bypassing;
 mod calling;
 mod closing;
+mod counting;
+mod emptying;
 mod looking;
 mod moving;
 mod processor;

@@ -1,0 +1,12 @@
+use Rattle.std.proofs.Common.{◌≡◌, ◌∙◌, min, ap, sym, rules}
+use Rattle.rcu_processor.specs.Views.{seen}
+use Rattle.rcu_processor.proofs.Amounts.{given_done, given_out}
+use Rattle.rcu_processor.proofs.counting.Processor+J+J+Receipt.given_len.Goals as goal
+
+pub returns-then-is_spent : goal.returns-then-is_spent
+returns-then-is_spent g c = let o = seen g.J.Job.key_of c.args.self.now in
+    let m : c.min.result ≡ min c.args.blimit c.count_done.result = search rules in
+    m ∙ ap (min c.args.blimit) c.count_done.ensures ∙ sym (given_done c.args.blimit o (sym c.is_spent.ensures ∙ c.if-is_spent.true))
+
+pub returns : goal.returns
+returns g c = let o = seen g.J.Job.key_of c.args.self.now in c.batch_len.ensures ∙ sym (given_out c.args.blimit o (sym c.is_spent.ensures ∙ c.if-is_spent.false))
