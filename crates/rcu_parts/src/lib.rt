@@ -11,3 +11,6 @@ mod steps;
 
 pub use processor::Processor;
 pub use reporting::Reading;
+
+#[cfg(test)]
+mod tests;
