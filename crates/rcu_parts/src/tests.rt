@@ -40,10 +40,16 @@ fn first_seat(shape: Shape, board: &Board, seats: Seats) -> Option<Seat>
 /// The processor of a board for one, which accepts two callbacks at most.
 fn one_processor(alloc: Global, offloadable: bool) -> Option<Processor<BoxedJob<0>>> {
     let shape = Shape::new(1, u32::from(offloadable), 1, 10, 16, 2)?;
-    let (board, seats) = open_board(alloc, shape).ok()?;
+    let Ok((board, seats)) = open_board(alloc, shape) else {
+        return None;
+    };
     let seat = first_seat(shape, &board, seats)?;
-    let board = Arc::new(alloc, board).ok()?;
-    let (_front, rear) = ruled_lane(alloc).ok()?;
+    let Ok(board) = Arc::new(alloc, board) else {
+        return None;
+    };
+    let Ok((_front, rear)) = ruled_lane(alloc) else {
+        return None;
+    };
     let lists = Caller::new(alloc, rear, offloadable, shape.qhimark);
     Some(Processor::new(alloc, &shape, board, seat, 0, lists))
 }

@@ -1,0 +1,8 @@
+use Rattle.std.proofs.Common.{List, subst}
+use Rattle.rcu_board.specs.declared.board.Seat.{Seat}
+use Rattle.rcu_board.specs.Opened.{InOrder, IsNewProcessor}
+use Rattle.rcu_board.proofs.Rows.{in_order_one}
+use Rattle.rcu_parts.proofs.tests.first_seat.Goals as goal
+
+pub returns : goal.returns
+returns c = ?
