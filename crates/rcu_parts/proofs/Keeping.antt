@@ -1,9 +1,9 @@
 -- How a processor's part keeps its law over steps.
-use Rattle.std.proofs.Common.{◌≡◌, ℕ, ◌+◌, ◌≤◌, None, List, [], ◌∷◌, ◌++◌, map, length, length-append, ap, sym, ◌∙◌, refl, subst, arith, append_assoc, true, false, Bool}
+use Rattle.std.proofs.Common.{◌≡◌, ℕ, ◌+◌, ◌≤◌, List, [], ◌∷◌, ◌++◌, map, length, length-append, ap, sym, ◌∙◌, subst, arith, append_assoc}
 use Rattle.std.proofs.Math.Logic.{∥∥₁_map, ∥∥₁_elim}
 use Rattle.std.proofs.Props.{props}
 use Rattle.std.proofs.lemmas.List.{map-append, length-map, append_cancel_left}
-use Rattle.rcu_board.specs.Seats.{accepted_of, fresh_of}
+use Rattle.rcu_board.specs.Seats.{accepted_of}
 use Rattle.rcu_board.specs.Views.{sight}
 use Rattle.rcu_board.specs.declared.view.Accepted.{Accepted as Entry}
 use Rattle.rcu_board.specs.declared.view.View.{View}
@@ -15,7 +15,7 @@ use Rattle.rcu_places.proofs.Moves.{placed_accepts, placed_all, placed_puts}
 use Rattle.rcu_records.specs.Records.{numbered_records}
 use Rattle.rcu_parts.specs.Changes.{Keeps, Tells, Enters, entry}
 use Rattle.rcu_parts.specs.Lawful.{IsLawful}
-use Rattle.rcu_parts.specs.Places.{numbered_callback, numbered_callbacks, accepted_entry, accepted_list, claim_of}
+use Rattle.rcu_parts.specs.Places.{numbered_callback, numbered_callbacks, accepted_entry, accepted_list}
 
 module _ {J : Type 0} where
   -- the callbacks that are put and held, once one more was accepted and some were put
@@ -72,5 +72,5 @@ module _ {J R : Type 0} where
   -- no more was put and is held than was accepted
   pub few_passed : (cpu n : ℕ) (v : View) (ran : List (Record R)) (h : Holding J) → IsLawful cpu n v ran h → length (passed_on h) ≤ n
   few_passed cpu n v ran h l = ∥∥₁_elim l.places (hlevel props) (λ p.
-    let all = placed_all (accepted_list v) (numbered_records ran) (numbered_callbacks (put_by h)) (numbered_callbacks (held_in h)) p in
-    omega (arith, all, length-append (put_by h) (held_in h), length-map (accepted_of v) accepted_entry, length-map (put_by h) (numbered_callback {J = J}), length-map (held_in h) (numbered_callback {J = J}), l.counted))
+      let all = placed_all (accepted_list v) (numbered_records ran) (numbered_callbacks (put_by h)) (numbered_callbacks (held_in h)) p in
+      omega (arith, all, length-append (put_by h) (held_in h), length-map (accepted_of v) accepted_entry, length-map (put_by h) (numbered_callback {J = J}), length-map (held_in h) (numbered_callback {J = J}), l.counted))

@@ -1,9 +1,8 @@
 -- A processor's part before any step keeps its law.
-use Rattle.std.proofs.Common.{◌≡◌, ℕ, ◌≤◌, Bool, true, false, List, [], ◌∷◌, map, length, ap, sym, ◌∙◌, refl, subst, arith}
+use Rattle.std.proofs.Common.{◌≡◌, ℕ, false, List, [], ◌∷◌, map, length, ap, sym, ◌∙◌, subst, arith}
 use Rattle.rcu_board.specs.Seats.{accepted_of, fresh_of}
-use Rattle.rcu_board.specs.Views.{new_view, new_own, sight}
+use Rattle.rcu_board.specs.Views.{new_view, new_own}
 use Rattle.rcu_board.specs.declared.board.Board.{Board}
-use Rattle.rcu_board.specs.declared.view.Claim.{Claim}
 use Rattle.rcu_board.specs.declared.view.View.{View}
 use Rattle.rcu_holdings.specs.Callers.{Holding, held_in, put_by}
 use Rattle.rcu_jobs.specs.declared.callback.Callback.{Callback}
@@ -25,8 +24,8 @@ first_law {J} {R} b cpu v ran h first none put held advanced = record {
   rests = ap (λ (w : View). w.running) first;
   places = ∣ subst (λ (w : View). Placed (accepted_list w) (numbered_records ran) (numbered_callbacks (put_by h)) (numbered_callbacks (held_in h))) (sym first)
       (subst (λ (rs : List (Record R)). Placed [] (numbered_records rs) (numbered_callbacks (put_by h)) (numbered_callbacks (held_in h))) (sym none)
-        (subst (λ (ps : List (Callback J)). Placed [] [] (numbered_callbacks ps) (numbered_callbacks (held_in h))) (sym put)
-          (subst (λ (hs : List (Callback J)). Placed [] [] [] (numbered_callbacks hs)) (sym held) placed_none))) ∣₁;
+      (subst (λ (ps : List (Callback J)). Placed [] [] (numbered_callbacks ps) (numbered_callbacks (held_in h))) (sym put)
+      (subst (λ (hs : List (Callback J)). Placed [] [] [] (numbered_callbacks hs)) (sym held) placed_none))) ∣₁;
   claims = ap (λ (w : View). w.claims) first ∙ sym (ap (λ (rs : List (Record R)). map (claim_of cpu) rs) none);
   ripe = subst (λ (rs : List (Record R)). AreRipe rs) (sym none) none_ripe;
   looked = omega (arith, advanced);

@@ -1,9 +1,9 @@
 -- What a processor's lists become as they take a callback on.
-use Rattle.std.proofs.Common.{◌≡◌, ℕ, zero, suc, arith, Bool, true, false, List, [], ◌∷◌, ◌++◌, append-nil, append_assoc, ap, sym, ◌∙◌, refl, subst, ⊎_elim}
+use Rattle.std.proofs.Common.{◌≡◌, ℕ, zero, suc, arith, Bool, true, false, List, [], ◌∷◌, ◌++◌, append-nil, ap, sym, ◌∙◌, refl, subst, ⊎_elim}
 use Rattle.std.proofs.lemmas.List.Elements.{All-append}
 use Rattle.rcu_holdings.specs.Callers.{Holding, put_by, passed_on, Takes}
 use Rattle.rcu_holdings.specs.Modes.{is_offloaded}
-use Rattle.rcu_holdings.specs.Outgoing.{Outgoing, is_due_with, kept}
+use Rattle.rcu_holdings.specs.Outgoing.{Outgoing, is_due_with}
 use Rattle.rcu_jobs.specs.declared.callback.Callback.{Callback}
 use Rattle.rcu_lists.specs.declared.pace.Kind.{Kind}
 use Rattle.rcu_jobs.specs.Records.{Given}

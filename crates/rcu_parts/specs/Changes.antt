@@ -1,6 +1,6 @@
 -- What the steps of a call change of the view of a processor or a hand, beside sights and tallies:
 -- docs/specification/definitions.md, "The running parts: views".
-use Rattle.std.specs.Prelude.{◌≡◌, ℕ, ◌+◌, List, [], ◌∷◌, ◌++◌, None}
+use Rattle.std.specs.Prelude.{◌≡◌, ℕ, [], ◌∷◌, ◌++◌, None}
 use Rattle.rcu_board.specs.Views.{sight}
 use Rattle.rcu_board.specs.Seats.{accepted_of, fresh_of, reports_of}
 use Rattle.rcu_board.specs.declared.view.Accepted.{Accepted}

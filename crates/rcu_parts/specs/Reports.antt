@@ -1,6 +1,6 @@
 -- What `quiescent` does: docs/specification/rules.md, "Quiescent reports".
 use Rattle.std.specs.Prelude.{◌≡◌, ◌≢◌, ℕ, ◌+◌, ◌*◌, Option, Some, None}
-use Rattle.rcu_numbers.specs.Words.{number_of, owes_of}
+use Rattle.rcu_numbers.specs.Words.{owes_of}
 use Rattle.rcu_board.specs.Plays.{reported}
 use Rattle.rcu_board.specs.Seats.{reports_of}
 use Rattle.rcu_board.specs.declared.view.View.{View}

@@ -6,7 +6,6 @@
 mod calling;
 mod processor;
 mod reporting;
-mod running;
 mod steps;
 
 pub use processor::Processor;

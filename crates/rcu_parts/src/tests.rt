@@ -34,7 +34,8 @@ fn first_seat(shape: Shape, board: &Board, seats: Seats) -> Option<Seat>
         driver: _,
         control: _,
     } = seats;
-    only(processors)
+    let seat = only(processors)?;
+    Some(seat)
 }
 
 /// The processor of a board for one, which accepts two callbacks at most.

@@ -1,9 +1,7 @@
-use Rattle.std.proofs.Common.{◌≡◌, ℕ, ◌+◌, true, false, ap, sym, ◌∙◌, arith}
-use mathlib.Core.Logic.{dite}
-use native.Mathlib.Decide.{ℕ_discrete}
+use Rattle.std.proofs.Common.{◌≡◌, ℕ, true, false, ap, sym, ◌∙◌, arith}
 use Rattle.rcu_board.specs.Roles.{cpu_of_role}
 use Rattle.rcu_board.specs.Words.{bits_of}
-use Rattle.rcu_board.specs.Seats.{view, reports_of}
+use Rattle.rcu_board.specs.Seats.{reports_of}
 use Rattle.rcu_board.proofs.Facts.{reports-reported}
 use Rattle.rcu_numbers.specs.Words.{owes_of}
 use Rattle.rcu_numbers.proofs.WordLaws.{owes-lt, owes-packed}

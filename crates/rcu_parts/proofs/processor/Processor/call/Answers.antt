@@ -1,11 +1,10 @@
-use Rattle.std.proofs.Common.{◌≡◌, ℕ, ◌+◌, ◌*◌, ◌<◌, ◌≤◌, List, [], ◌∷◌, ◌++◌, length, ◌∙◌, ap, sym, subst, refl, rules, arith}
+use Rattle.std.proofs.Common.{◌≡◌, ℕ, ◌+◌, ◌*◌, ◌≤◌, [], ◌∷◌, ◌++◌, length, ◌∙◌, ap, sym, subst, refl, rules, arith}
 use Rattle.std.specs.Mem.{FitsInMemory}
 use denote.Param.{param}
 use Rattle.rcu_board.specs.Plays.{looked, accepted}
 use Rattle.rcu_board.specs.Seats.{view}
 use Rattle.rcu_board.specs.Words.{accepts_word, bits_of}
 use Rattle.rcu_parts.specs.Lawful.{IsLawful}
-use Rattle.rcu_board.specs.declared.view.View.{View}
 use Rattle.rcu_holdings.specs.Callers.{Holding, holding, Takes, passed_on}
 use Rattle.rcu_jobs.specs.declared.callback.Callback.{Callback}
 use Rattle.rcu_parts.specs.Changes.{Enters}
@@ -21,9 +20,14 @@ reserve-requires g c = let h : FitsInMemory (row.the_row (param 0 g.row.J) (para
 pub place-requires : goal.place-requires
 place-requires g c =
     let h : FitsInMemory (row.the_row (param 0 g.row.J) (param 1 g.row.J-Receipt)) = search rules in
-    let s = c.args.self.now.state in
-    (in_struct _ _ _ (in_struct _ _ _ h), (c.in-Ok.ensures.found, is_safe_call c.seq.result c.in-Some.word.seq s.accepted s.limit (length (passed_on (holding c.reserve.new.self))) c.seq.ensures.same c.in-Some.ensures.stamp.1 c.if-number-state.false s.small.1
-        (subst (λ (h : Holding g.row.J.Denot). length (passed_on h) ≤ s.accepted) (sym c.in-Ok.ensures.same) (few_passed s.cpu s.accepted (view s.seat) s.ran.items (holding s.lists) s.lawful))))
+    let s = c.args.self.now.state in (
+      in_struct _ _ _ (in_struct _ _ _ h),
+      (
+        c.in-Ok.ensures.found,
+        is_safe_call c.seq.result c.in-Some.word.seq s.accepted s.limit (length (passed_on (holding c.reserve.new.self))) c.seq.ensures.same c.in-Some.ensures.stamp.1 c.if-number-state.false s.small.1
+            (subst (λ (h : Holding g.row.J.Denot). length (passed_on h) ≤ s.accepted) (sym c.in-Ok.ensures.same) (few_passed s.cpu s.accepted (view s.seat) s.ran.items (holding s.lists) s.lawful)),
+      ),
+    )
 
 pub invariant_of-state-2 : goal.invariant_of-state-2
 invariant_of-state-2 g c =

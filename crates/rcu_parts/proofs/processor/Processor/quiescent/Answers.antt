@@ -1,4 +1,4 @@
-use Rattle.std.proofs.Common.{◌≡◌, ◌∙◌, ap, sym, arith}
+use Rattle.std.proofs.Common.{◌∙◌}
 use Rattle.rcu_parts.proofs.Keeping.{kept_by_tells}
 use Rattle.rcu_parts.proofs.processor.Processor.quiescent.Goals as goal
 
