@@ -5,3 +5,5 @@ pub mod Processors
 pub mod Calls
 pub mod Reports
 pub mod Opened
+pub mod HandLaw
+pub mod Hands

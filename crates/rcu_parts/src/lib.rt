@@ -4,10 +4,14 @@
 #![tactic(auto)]
 
 mod calling;
+mod hand;
+mod handling;
 mod processor;
 mod reporting;
+mod running;
 mod steps;
 
+pub use hand::Hand;
 pub use processor::Processor;
 pub use reporting::Reading;
 

@@ -11,7 +11,7 @@ ghost use Rattle.rcu_numbers.specs.declared.sequence.TheConstants.{GREATEST_NUMB
 ghost use Rattle.rcu_parts.specs.Changes.{Keeps, Enters, Claims, Finishes, Tells};
 ghost use Rattle.rcu_parts.specs.Reports.{Reports};
 
-use rcu_board::{Board, Seat, accept, look, report};
+use rcu_board::{Board, Claimed, Seat, accept, claim, finish, look, report};
 use rcu_numbers::BoardWord;
 
 /// Accepts one callback more, and then looks, which gives its stamp. None where the processor was shut.
@@ -55,4 +55,47 @@ pub(crate) fn tell(board: &Board, seat: &mut Seat, cpu: u64) -> Option<u64>
     } else {
         None
     }
+}
+
+/// Looks at the number, by a seat that has no processor's lists.
+pub(crate) fn watch(board: &Board, seat: &mut Seat) -> BoardWord
+    requires board { AtBoard board.now seat.old }
+    ensures same { SameSeat seat.old seat.new }
+    ensures view { view seat.new ≡ looked (bits_of result) (view seat.old) }
+    ensures claims { ((view seat.new).claims ≡ (view seat.old).claims) × ((view seat.new).running ≡ (view seat.old).running) }
+    ensures later { NeverFalls board.now.processors (view seat.old) (view seat.new) }
+    ensures sight { (result.seq ≡ sight (view seat.new)) × (result.seq ≤ GREATEST_NUMBER) }
+{
+    look(board, seat)
+}
+
+/// A processor's or a hand's claim: whether it was won, at the board sight that there is.
+pub(crate) fn take(board: &Board, seat: &mut Seat, cpu: u64, number: u64) -> bool
+    requires board { AtBoard board.now seat.old }
+    requires who { MayClaim seat.old.role }
+    requires cpu { cpu_of_role seat.old.role ≡ cpu }
+    requires rests { (view seat.old).running ≡ [] }
+    requires small { number < 1000000 }
+    ensures same { SameSeat seat.old seat.new }
+    ensures won { result ≡ true → Claims cpu number (view seat.old) (view seat.new) }
+    ensures lost { result ≡ false → Keeps (view seat.old) (view seat.new) × (sight (view seat.new) ≡ sight (view seat.old)) × (seen_at (view seat.new) (turns_word cpu) ≢ 2 * number) }
+    ensures stepped { tally (view seat.new) (turns_word cpu) ≡ tally (view seat.old) (turns_word cpu) + 1 }
+    ensures later { NeverFalls board.now.processors (view seat.old) (view seat.new) }
+{
+    match claim(board, seat, number) {
+        Claimed::Won => true,
+        Claimed::Not(_) => false,
+    }
+}
+
+/// Ends the claim that runs.
+pub(crate) fn end_claim(board: &Board, seat: &mut Seat)
+    requires board { AtBoard board.now seat.old }
+    requires who { MayClaim seat.old.role }
+    requires runs { IsRunning (cpu_of_role seat.old.role) (view seat.old) }
+    ensures same { SameSeat seat.old seat.new }
+    ensures ends { Finishes (view seat.old) (view seat.new) }
+    ensures later { NeverFalls board.now.processors (view seat.old) (view seat.new) }
+{
+    finish(board, seat)
 }

@@ -1,0 +1,22 @@
+use Rattle.std.proofs.Common.{◌∙◌, ap, refl}
+use Rattle.rcu_board.specs.Views.{sight}
+use Rattle.rcu_board.specs.declared.view.View.{View}
+use Rattle.rcu_parts.proofs.HandRuns.{ran_none}
+use Rattle.rcu_parts.proofs.hand.Hand.turn.Goals as goal
+
+pub returns-in-Some-clause-turn : goal.returns-in-Some-clause-turn
+returns-in-Some-clause-turn g c = let a = c.look-seen.ensures in let b = c.load.ensures in let q = c.load.new.self.state in record {
+  seen = c.look-seen.result;
+  first = c.look-seen.new.self.state;
+  second = q;
+  looks = a.looks;
+  loads = b.loads;
+  ran = ran_none c.look-seen.result q q refl refl refl (ap (λ (v : View). sight v) b.loads.view ∙ a.looks.sight);
+  stop = c.in-Some.ensures.none 0 c.look-seen.result;
+}
+
+pub returns-in-Some-clause-sound : goal.returns-in-Some-clause-sound
+returns-in-Some-clause-sound g c = λ sound. c.load.ensures.sound (c.look-seen.ensures.sound sound)
+
+pub returns-clause-sound : goal.returns-clause-sound
+returns-clause-sound g c = λ sound. c.run_held.ensures.sound (c.load.ensures.sound (c.look-seen.ensures.sound sound))
