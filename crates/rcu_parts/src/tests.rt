@@ -1,11 +1,16 @@
 ghost use Rattle.std.specs.Prelude.{◌≡◌, [], ◌∷◌, IfOk, IfSome};
 ghost use Rattle.std.specs.Arc.{arc_value};
-ghost use Rattle.rcu_board.specs.Opened.{AreNew, IsNewProcessor};
+ghost use Rattle.rcu_board.specs.Opened.{AreNew, IsNewHand, IsNewProcessor};
+ghost use Rattle.rcu_board.specs.Roles.{MayNeed, cpu_of_role};
+ghost use Rattle.rcu_board.specs.Seats.{view, AtBoard};
+ghost use Rattle.rcu_board.specs.declared.board.Role.{Role};
+ghost use Rattle.rcu_control.specs.Views.{IsBare};
 
 use super::*;
-use rcu_board::{Board, Seat, Seats, open_board};
-use rcu_holdings::Caller;
-use rcu_jobs::{BoxedJob, Lists, Mode, Refused, Ticket};
+use rcu_board::{Board, Role, Seat, Seats, need, open_board};
+use rcu_control::Driver;
+use rcu_holdings::{Caller, Held};
+use rcu_jobs::{BoxedJob, HandTurn, Lists, Mode, Refused, Stop, Ticket};
 use rcu_lanes::ruled_lane;
 use rcu_numbers::Shape;
 use std::alloc::{AllocError, Global};
@@ -20,6 +25,37 @@ fn only(mut seats: Vec<Seat>) -> Option<Seat>
         return None;
     }
     seats.pop()
+}
+
+/// Seats of a board for one offloadable processor.
+#[derive(Drop)]
+struct OneOfEach {
+    processor: Seat,
+    hand: Seat,
+    group: Seat,
+    driver: Seat,
+}
+
+fn take_apart(shape: Shape, board: &Board, seats: Seats) -> Option<OneOfEach>
+    requires { AreNew shape board.now seats }
+    ensures processor { IfSome result (λ parts. IsNewProcessor board.now 0 parts.processor) }
+    ensures hand { IfSome result (λ parts. IsNewHand board.now (cpu_of_role parts.hand.role) parts.hand) }
+    ensures group { IfSome result (λ parts. AtBoard board.now parts.group × MayNeed parts.group.role) }
+    ensures driver { IfSome result (λ parts. AtBoard board.now parts.driver × (parts.driver.role ≡ Role.Driver) × IsBare (view parts.driver)) }
+{
+    let Seats {
+        processors,
+        hands,
+        groups,
+        driver,
+        control: _,
+    } = seats;
+    Some(OneOfEach {
+        processor: only(processors)?,
+        hand: only(hands)?,
+        group: only(groups)?,
+        driver,
+    })
 }
 
 /// The seat of the only processor of a board.
@@ -97,5 +133,63 @@ fn offloaded_processor_holds_a_lazy_call_back(rt: HostRuntime) -> Result<(), Fai
         numbers: [0, 0],
     };
     assert_eq!(rt; processor.lists(), shown);
+    Ok(())
+}
+
+/// A grace period of one processor, whose hand draws from the processor's own lane: what its turns answered, before a
+/// call, after it, and after the grace period.
+fn run_by_hand(alloc: Global) -> Option<[HandTurn; 3]> {
+    let shape = Shape::new(1, 1, 1, 10, 16, 2)?;
+    let Ok((board, seats)) = open_board(alloc, shape) else {
+        return None;
+    };
+    let parts = take_apart(shape, &board, seats)?;
+    let OneOfEach {
+        processor,
+        hand,
+        mut group,
+        driver,
+    } = parts;
+    let Role::Hand(cpu) = hand.role() else {
+        return None;
+    };
+    need(&board, &mut group, 4);
+    let Ok(board) = Arc::new(alloc, board) else {
+        return None;
+    };
+    let Ok((front, rear)) = ruled_lane(alloc) else {
+        return None;
+    };
+    let held = Held::new(alloc, front);
+    let lists = Caller::new(alloc, rear, true, shape.qhimark);
+    let mut driver = Driver::new(Arc::try_clone(&board).ok()?, driver);
+    let mut hand: Hand<BoxedJob<0>> =
+        Hand::new(alloc, &shape, Arc::try_clone(&board).ok()?, hand, cpu, held);
+    let mut processor = Processor::new(alloc, &shape, board, processor, 0, lists);
+    let before = hand.turn();
+    processor.call_rcu(1, job(alloc, 7).ok()?).ok()?;
+    let early = hand.turn();
+    driver.turn();
+    processor.quiescent();
+    driver.turn();
+    Some([before, early, hand.turn()])
+}
+
+#[test]
+fn hand_runs_after_the_grace_period(rt: HostRuntime) -> Result<(), Fail> {
+    let turns = run_by_hand(rt.alloc()).expect(&rt, "three turns");
+    let empty = HandTurn {
+        ran: 0,
+        stop: Stop::Empty,
+    };
+    let early = HandTurn {
+        ran: 0,
+        stop: Stop::Turn,
+    };
+    let ran = HandTurn {
+        ran: 1,
+        stop: Stop::Empty,
+    };
+    assert_eq!(rt; turns, [empty, early, ran]);
     Ok(())
 }
