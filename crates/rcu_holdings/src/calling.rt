@@ -48,6 +48,7 @@ impl<J: Drop> Caller<J> {
         requires safe { IsSafe callback }
         requires few { length (passed_on (holding self.old)) < MOST_CALLBACKS }
         ensures lane { SameRear (rear_of self.old) (rear_of self.new) }
+        ensures advanced { (holding self.new).advanced ≡ (holding self.old).advanced }
         ensures takes { Takes moment kind callback (holding self.old) (holding self.new) }
 
         // It is behind all that went before.

@@ -20,6 +20,7 @@ impl<J: Drop> Member<J> {
     /// joins first; where there is no room for it, nothing is drawn. Answers how many callbacks were drawn.
     pub fn take_in(&mut self) -> u64
         ensures lanes { SameFront (front_of self.old) (front_of self.new) × (rear_of self.new ≡ rear_of self.old) }
+        ensures advanced { (relay self.new).advanced ≡ (relay self.old).advanced }
         ensures takes { TakesIn MOST_BATCHES result (relay self.old) (relay self.new) }
     {
         let mut took = 0;
@@ -39,6 +40,7 @@ impl<J: Drop> Member<J> {
     // The batch that waits joins the list, where room is found. Answers whether none waits.
     fn join_one(&mut self) -> bool
         ensures ends { (front_of self.new ≡ front_of self.old) × (rear_of self.new ≡ rear_of self.old) }
+        ensures advanced { (relay self.new).advanced ≡ (relay self.old).advanced }
         ensures joins { result ≡ true → relay self.new ≡ joined (relay self.old) }
         ensures waits { result ≡ false → relay self.new ≡ relay self.old }
     {
@@ -49,6 +51,7 @@ impl<J: Drop> Member<J> {
     fn draw_one(&mut self) -> bool
         requires { (relay self.old).drawn ≡ [] }
         ensures lanes { SameFront (front_of self.old) (front_of self.new) × (rear_of self.new ≡ rear_of self.old) }
+        ensures advanced { (relay self.new).advanced ≡ (relay self.old).advanced }
         ensures draws { result ≡ true → Draws (relay self.old) (relay self.new) }
         ensures none { result ≡ false → relay self.new ≡ relay self.old }
     {
@@ -66,6 +69,7 @@ impl<J: Drop> Member<J> {
     /// batch. Answers how many callbacks were put.
     pub fn give(&mut self, blimit: u64) -> u64
         ensures lanes { (front_of self.new ≡ front_of self.old) × SameRear (rear_of self.old) (rear_of self.new) }
+        ensures advanced { (relay self.new).advanced ≡ (relay self.old).advanced }
         ensures gives { Gives blimit result (relay self.old) (relay self.new) }
     {
         self.load(blimit);
@@ -75,6 +79,7 @@ impl<J: Drop> Member<J> {
     // Makes the first done callbacks a batch, where none waits and there is memory for it.
     fn load(&mut self, blimit: u64)
         ensures ends { (front_of self.new ≡ front_of self.old) × (rear_of self.new ≡ rear_of self.old) }
+        ensures advanced { (relay self.new).advanced ≡ (relay self.old).advanced }
         ensures loads { (relay self.new ≡ relay self.old) ⊎ Loads blimit (relay self.old) (relay self.new) }
     {
         if !self.out.is_empty() {
@@ -89,6 +94,7 @@ impl<J: Drop> Member<J> {
     // Puts the batch that waits on the done lane. Answers how many callbacks were put.
     fn hand_on(&mut self) -> u64
         ensures lanes { (front_of self.new ≡ front_of self.old) × SameRear (rear_of self.old) (rear_of self.new) }
+        ensures advanced { (relay self.new).advanced ≡ (relay self.old).advanced }
         ensures hands { Hands result (relay self.old) (relay self.new) }
     {
         if self.out.is_empty() {

@@ -36,6 +36,7 @@ impl<J: Drop> Caller<J> {
     /// offloading, or where it was urged by a barrier. Outside Offloaded the list is empty, and nothing is released.
     pub fn release(&mut self, moment: u64, leaving: bool, urged: bool)
         ensures lane { SameRear (rear_of self.old) (rear_of self.new) }
+        ensures advanced { (holding self.new).advanced ≡ (holding self.old).advanced }
         ensures releases { Releases moment leaving urged (holding self.old) (holding self.new) }
         ensures places { passed_on (holding self.new) ≡ passed_on (holding self.old) }
     {
@@ -46,6 +47,7 @@ impl<J: Drop> Caller<J> {
     pub fn switch(&mut self, on: bool, accepted: u64)
         requires { AreBelow accepted (put_by (holding self.old)) }
         ensures lane { SameRear (rear_of self.old) (rear_of self.new) }
+        ensures advanced { (holding self.new).advanced ≡ (holding self.old).advanced }
         ensures off { on ≡ false → holding self.new ≡ asked_off accepted (holding self.old) }
         ensures on { on ≡ true → AskedOn (holding self.old) (holding self.new) }
         ensures places { passed_on (holding self.new) ≡ passed_on (holding self.old) }
@@ -60,6 +62,7 @@ impl<J: Drop> Caller<J> {
     // Asked on. Where there is no room to pour, the next tick tries again.
     fn turn_on(&mut self)
         ensures lane { SameRear (rear_of self.old) (rear_of self.new) }
+        ensures advanced { (holding self.new).advanced ≡ (holding self.old).advanced }
         ensures on { AskedOn (holding self.old) (holding self.new) }
         ensures places { passed_on (holding self.new) ≡ passed_on (holding self.old) }
     {
@@ -77,6 +80,7 @@ impl<J: Drop> Caller<J> {
     fn turn_off(&mut self, accepted: u64)
         requires { AreBelow accepted (put_by (holding self.old)) }
         ensures rear { rear_of self.new ≡ rear_of self.old }
+        ensures advanced { (holding self.new).advanced ≡ (holding self.old).advanced }
         ensures off { holding self.new ≡ asked_off accepted (holding self.old) }
     {
         if can_leave(self.mode, self.bypass.is_empty()) {

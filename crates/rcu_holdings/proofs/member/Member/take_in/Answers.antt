@@ -9,7 +9,7 @@ use Rattle.rcu_holdings.proofs.Relays.{taken-none, taken-more, taken-join, taken
 use Rattle.rcu_holdings.proofs.member.Member.take_in.Goals as goal
 
 pub loop-drawing-init : goal.loop-drawing-init
-loop-drawing-init g c = record { front = refl; rear = refl; takes = taken-none (relay c.args.self.now) }
+loop-drawing-init g c = record { front = refl; rear = refl; advanced = refl; takes = taken-none (relay c.args.self.now) }
 
 pub returns-then-not-join_one-clause-takes : goal.returns-then-not-join_one-clause-takes
 returns-then-not-join_one-clause-takes g c =
@@ -55,6 +55,7 @@ loop-drawing-preserved g c =
     record {
       front = c.draw_one.ensures.lanes.0 ∙ subst (SameFront (front_of c.args.self.now)) (sym c.join_one.ensures.ends.0) c.loop-drawing.invariant.front;
       rear = c.draw_one.ensures.lanes.1 ∙ (c.join_one.ensures.ends.1 ∙ c.loop-drawing.invariant.rear);
+      advanced = c.draw_one.ensures.advanced ∙ (c.join_one.ensures.advanced ∙ c.loop-drawing.invariant.advanced);
       takes = subst (λ z. TakesIn (c.loop-drawing.drawing + 1) (c.loop-drawing.took + z) o m) (sym c.len-took.ensures) d;
     }
 

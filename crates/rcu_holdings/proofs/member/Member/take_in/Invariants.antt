@@ -7,5 +7,6 @@ abbrev pub invariant-loop-drawing : goal.invariant-loop-drawing
 invariant-loop-drawing g l = record {
   front : SameFront (front_of l.fn.self) (front_of l.self);
   rear : rear_of l.self ≡ rear_of l.fn.self;
+  advanced : (relay l.self).advanced ≡ (relay l.fn.self).advanced;
   takes : TakesIn l.drawing l.took (relay l.fn.self) (relay l.self);
 }
