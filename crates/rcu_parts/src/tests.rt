@@ -163,8 +163,14 @@ fn run_by_hand(alloc: Global) -> Option<[HandTurn; 3]> {
     let held = Held::new(alloc, front);
     let lists = Caller::new(alloc, rear, true, shape.qhimark);
     let mut driver = Driver::new(Arc::try_clone(&board).ok()?, driver);
-    let mut hand: Hand<BoxedJob<0>> =
-        Hand::new(alloc, &shape, Arc::try_clone(&board).ok()?, hand, cpu, held);
+    let mut hand: Hand<BoxedJob<0>> = Hand::new(
+        alloc,
+        &shape,
+        Arc::try_clone(&board).ok()?,
+        hand,
+        cpu,
+        held,
+    );
     let mut processor = Processor::new(alloc, &shape, board, processor, 0, lists);
     let before = hand.turn();
     processor.call_rcu(1, job(alloc, 7).ok()?).ok()?;
