@@ -1,5 +1,5 @@
 pub mod Keeping
-pub mod Sizes
+pub mod Bounds
 pub mod Taking
 pub mod Opening
 pub mod HandRuns

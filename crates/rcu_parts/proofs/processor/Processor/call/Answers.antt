@@ -11,7 +11,8 @@ use Rattle.rcu_parts.specs.Changes.{Enters}
 use Rattle.rcu_parts.specs.contracts.processor.Processor as row
 use Rattle.rcu_parts.proofs.Keeping.{few_passed, kept_by_enters, kept_by_keeps}
 use Rattle.rcu_parts.proofs.Taking.{takes_more, sound_same, sound_taken}
-use Rattle.rcu_parts.proofs.Sizes.{in_struct, is_safe_call}
+use Rattle.rcu_holdings.proofs.Sizes.{in_struct}
+use Rattle.rcu_parts.proofs.Bounds.{is_safe_call}
 use Rattle.rcu_parts.proofs.processor.Processor.call.Goals as goal
 
 pub reserve-requires : goal.reserve-requires
