@@ -15,7 +15,9 @@ use Rattle.rcu_jobs.specs.declared.callback.Record.{Record}
 use Rattle.rcu_numbers.specs.Numbers.{snap_of}
 use Rattle.rcu_places.specs.Places.{Numbered}
 use Rattle.rcu_records.specs.Records.{numbered_record, AreRipe}
-use Rattle.rcu_parts.specs.Changes.{Keeps, Claims, Finishes, claim_at}
+use Rattle.rcu_parts.specs.Changes.{Keeps, Claims, Finishes, StepsOnly, claim_at}
+use Rattle.rcu_board.specs.Words.{turns_word}
+use Rattle.rcu_parts.proofs.Turning.{steps_more}
 use Rattle.rcu_parts.specs.HandLaw.{IsLawfulHand}
 use Rattle.rcu_parts.specs.Hands.{Ran, SameHand, hand_held, hand_drawn, hand_records, hand_view}
 use Rattle.rcu_parts.specs.Places.{AreKeyed, numbered_callback, claim_of}
@@ -73,8 +75,8 @@ module _ {J R : Type 0} where
         claim_with p k s = record { cpu = p; number = k; sight = s }
 
   -- nothing was run
-  pub ran_none : (seen : ℕ) (p q : HandState J R) → hand_held q ≡ hand_held p → hand_drawn q ≡ hand_drawn p → hand_records q ≡ hand_records p → sight (hand_view q) ≡ seen → Ran 0 seen p q
-  ran_none seen p q held drawn records at = record {
+  pub ran_none : (tried seen : ℕ) (p q : HandState J R) → hand_held q ≡ hand_held p → hand_drawn q ≡ hand_drawn p → hand_records q ≡ hand_records p → sight (hand_view q) ≡ seen → StepsOnly (turns_word p.cpu) tried (hand_view p) (hand_view q) → Ran 0 tried seen p q
+  ran_none tried seen p q held drawn records at steps = record {
     calls = [];
     records = [];
     many = refl;
@@ -84,12 +86,13 @@ module _ {J R : Type 0} where
     same = refl;
     ready = none_of (λ (r : Record R). r.ready ≡ seen);
     sight = at;
+    steps = subst (λ (k : ℕ). StepsOnly (turns_word p.cpu) k (hand_view p) (hand_view q)) (omega arith) steps;
   }
 
   -- one was
   pub ran_one : (seen : ℕ) (p q : HandState J R) (c : Callback J) (r : Record R) → hand_held p ≡ c ∷ hand_held q → hand_drawn q ≡ hand_drawn p → hand_records q ≡ hand_records p ++ r ∷ []
-      → numbered_record r ≡ numbered_callback c → r.ready ≡ seen → sight (hand_view q) ≡ seen → Ran 1 seen p q
-  ran_one seen p q c r held drawn more same ready at = record {
+      → numbered_record r ≡ numbered_callback c → r.ready ≡ seen → sight (hand_view q) ≡ seen → StepsOnly (turns_word p.cpu) 2 (hand_view p) (hand_view q) → Ran 1 1 seen p q
+  ran_one seen p q c r held drawn more same ready at steps = record {
     calls = c ∷ [];
     records = r ∷ [];
     many = refl;
@@ -99,20 +102,23 @@ module _ {J R : Type 0} where
     same = ap (λ (x : Numbered). x ∷ []) (sym same);
     ready = all_one (λ (x : Record R). x.ready ≡ seen) r ready;
     sight = at;
+    steps = steps;
   }
 
   -- some, and then others
-  pub ran_more : (m n seen : ℕ) (o p q : HandState J R) → Ran m seen o p → Ran n seen p q → Ran (m + n) seen o q
-  ran_more m n seen o p q a b = record {
+  pub ran_more : (m n x y seen : ℕ) (o p q : HandState J R) → p.cpu ≡ o.cpu → Ran m x seen o p → Ran n y seen p q → Ran (m + n) (x + y) seen o q
+  ran_more m n x y seen o p q cpu a b = record {
     calls = a.calls ++ b.calls;
     records = a.records ++ b.records;
-    many = length-append a.records b.records ∙ (let x = a.many in let y = b.many in omega arith);
+    many = length-append a.records b.records ∙ (let s = a.many in let t = b.many in omega arith);
     held = a.held ∙ (ap (λ l. a.calls ++ l) b.held ∙ sym (append_assoc a.calls b.calls (hand_held q)));
     drawn = b.drawn ∙ a.drawn;
     more = b.more ∙ (ap (λ l. l ++ b.records) a.more ∙ append_assoc (hand_records o) a.records b.records);
     same = map-append numbered_callback a.calls b.calls ∙ (ap (λ l. l ++ map numbered_callback b.calls) a.same ∙ (ap (λ l. map numbered_record a.records ++ l) b.same ∙ sym (map-append numbered_record a.records b.records)));
     ready = All-append (λ (r : Record R). r.ready ≡ seen) a.records b.records a.ready b.ready;
     sight = b.sight;
+    steps = subst (λ (k : ℕ). StepsOnly (turns_word o.cpu) k (hand_view o) (hand_view q)) (omega arith)
+        (steps_more (turns_word o.cpu) (x + m) (y + n) (hand_view o) (hand_view p) (hand_view q) a.steps (subst (λ (c : ℕ). StepsOnly (turns_word c) (y + n) (hand_view p) (hand_view q)) cpu b.steps));
   }
 
   -- what a hand knows of jobs, where nothing was run

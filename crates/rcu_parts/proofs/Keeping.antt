@@ -3,11 +3,14 @@ use Rattle.std.proofs.Common.{◌≡◌, ℕ, ◌+◌, ◌≤◌, List, [], ◌�
 use Rattle.std.proofs.Math.Logic.{∥∥₁_map, ∥∥₁_elim}
 use Rattle.std.proofs.Props.{props}
 use Rattle.std.proofs.lemmas.List.{map-append, length-map, append_cancel_left}
-use Rattle.rcu_board.specs.Seats.{accepted_of}
-use Rattle.rcu_board.specs.Views.{sight}
+use Rattle.rcu_board.specs.Seats.{NeverFalls, accepted_of}
+use Rattle.rcu_board.specs.Views.{seen_at}
+use Rattle.rcu_board.specs.Words.{needed_word}
 use Rattle.rcu_board.specs.declared.view.Accepted.{Accepted as Entry}
 use Rattle.rcu_board.specs.declared.view.View.{View}
+use Rattle.rcu_holdings.specs.Aims.{AreUpTo}
 use Rattle.rcu_holdings.specs.Callers.{Holding, held_in, put_by, passed_on}
+use Rattle.rcu_holdings.proofs.Aims.{up-raised}
 use Rattle.rcu_jobs.specs.declared.callback.Callback.{Callback}
 use Rattle.rcu_jobs.specs.declared.callback.Record.{Record}
 use Rattle.rcu_places.specs.Places.{Placed, Numbered, with_number}
@@ -39,25 +42,26 @@ module _ {J : Type 0} where
 
 module _ {J R : Type 0} where
   -- steps that change no accepted number and no claim
-  pub kept_by_tells : (cpu n : ℕ) (v w : View) (ran : List (Record R)) (h : Holding J) → Tells v w → sight v ≤ sight w → IsLawful cpu n v ran h → IsLawful cpu n w ran h
-  kept_by_tells cpu n v w ran h k later l = record {
+  pub kept_by_tells : (cpu n m : ℕ) (v w : View) (ran : List (Record R)) (h : Holding J) → Tells v w → NeverFalls m v w → IsLawful cpu n v ran h → IsLawful cpu n w ran h
+  kept_by_tells cpu n m v w ran h k later l = record {
     counted = ap length k.accepted ∙ l.counted;
     stamped = k.fresh ∙ l.stamped;
     rests = k.running ∙ l.rests;
     places = subst (λ (as' : List Entry). ∥ Placed (map accepted_entry as') (numbered_records ran) (numbered_callbacks (put_by h)) (numbered_callbacks (held_in h)) ∥₁) (sym k.accepted) l.places;
     claims = k.claims ∙ l.claims;
     ripe = l.ripe;
-    looked = let z = l.looked in omega arith;
+    looked = let z = l.looked in let y = later.board in omega arith;
+    needed = up-raised (seen_at v needed_word) (seen_at w needed_word) h.own later.needed l.needed;
   }
 
-  pub kept_by_keeps : (cpu n : ℕ) (v w : View) (ran : List (Record R)) (h : Holding J) → Keeps v w → sight v ≤ sight w → IsLawful cpu n v ran h → IsLawful cpu n w ran h
-  kept_by_keeps cpu n v w ran h k later l = kept_by_tells cpu n v w ran h (record { accepted = k.accepted; fresh = k.fresh; claims = k.claims; running = k.running }) later l
+  pub kept_by_keeps : (cpu n m : ℕ) (v w : View) (ran : List (Record R)) (h : Holding J) → Keeps v w → NeverFalls m v w → IsLawful cpu n v ran h → IsLawful cpu n w ran h
+  kept_by_keeps cpu n m v w ran h k later l = kept_by_tells cpu n m v w ran h (record { accepted = k.accepted; fresh = k.fresh; claims = k.claims; running = k.running }) later l
 
   -- one more was accepted, and placed
-  pub kept_by_enters : (cpu n : ℕ) (v w : View) (ran : List (Record R)) (h h' : Holding J) (batch : List (Callback J)) (c : Callback J)
-      → c.number ≡ n → Enters c.key c.stamp v w → sight v ≤ sight w → put_by h' ≡ put_by h ++ batch → passed_on h' ≡ passed_on h ++ c ∷ [] → h'.advanced ≡ h.advanced
+  pub kept_by_enters : (cpu n m : ℕ) (v w : View) (ran : List (Record R)) (h h' : Holding J) (batch : List (Callback J)) (c : Callback J)
+      → c.number ≡ n → Enters c.key c.stamp v w → NeverFalls m v w → put_by h' ≡ put_by h ++ batch → passed_on h' ≡ passed_on h ++ c ∷ [] → h'.advanced ≡ h.advanced → ((s : ℕ) → AreUpTo s h.own → AreUpTo s h'.own)
       → IsLawful cpu n v ran h → IsLawful cpu (n + 1) w ran h'
-  kept_by_enters cpu n v w ran h h' batch c number e later more all advanced l = record {
+  kept_by_enters cpu n m v w ran h h' batch c number e later more all advanced up l = record {
     counted = ap length e.accepted ∙ (length-append (accepted_of v) (entry c.key c.stamp ∷ []) ∙ ap (λ (j : ℕ). j + 1) l.counted);
     stamped = e.fresh;
     rests = e.running ∙ l.rests;
@@ -66,7 +70,8 @@ module _ {J R : Type 0} where
         (placed_after (accepted_of v) (numbered_records ran) (put_by h) (held_in h) (put_by h') (held_in h') batch c (number ∙ sym l.counted) more all p));
     claims = e.claims ∙ l.claims;
     ripe = l.ripe;
-    looked = let z = l.looked in omega (arith, advanced);
+    looked = let z = l.looked in let y = later.board in omega (arith, advanced);
+    needed = up (seen_at w needed_word) (up-raised (seen_at v needed_word) (seen_at w needed_word) h.own later.needed l.needed);
   }
 
   -- no more was put and is held than was accepted

@@ -3,3 +3,10 @@ pub mod Bounds
 pub mod Taking
 pub mod Opening
 pub mod HandRuns
+pub mod Turning
+pub mod Moving
+pub mod Telling
+pub mod Heeding
+pub mod TickRuns
+pub mod TickLaws
+pub mod CatchingUp

@@ -1,10 +1,15 @@
 -- A processor's part before any step keeps its law.
-use Rattle.std.proofs.Common.{◌≡◌, ℕ, false, List, [], ◌∷◌, map, length, ap, sym, ◌∙◌, subst, arith}
+use Rattle.std.proofs.Common.{◌≡◌, ℕ, false, List, [], ◌∷◌, ◌++◌, map, length, ap, sym, ◌∙◌, subst, arith}
+use Rattle.std.proofs.lemmas.List.Elements.{All-nil}
+use Rattle.std.specs.Prelude.{IsTrue}
 use Rattle.rcu_board.specs.Seats.{accepted_of, fresh_of}
-use Rattle.rcu_board.specs.Views.{new_view, new_own}
+use Rattle.rcu_board.specs.Views.{new_view, new_own, seen_at}
+use Rattle.rcu_board.specs.Words.{needed_word}
 use Rattle.rcu_board.specs.declared.board.Board.{Board}
 use Rattle.rcu_board.specs.declared.view.View.{View}
+use Rattle.rcu_holdings.specs.Aims.{AreUpTo, is_up_to}
 use Rattle.rcu_holdings.specs.Callers.{Holding, held_in, put_by}
+use Rattle.rcu_lists.specs.Labels.{Labelled, callbacks_of}
 use Rattle.rcu_jobs.specs.declared.callback.Callback.{Callback}
 use Rattle.rcu_jobs.specs.declared.callback.Record.{Record}
 use Rattle.rcu_places.specs.Places.{Placed}
@@ -17,8 +22,8 @@ none_ripe : {R : Type 0} → AreRipe {R = R} []
 none_ripe k d low = absurd (omega (arith, low))
 
 pub first_law : {J R : Type 0} → (b : Board) (cpu : ℕ) (v : View) (ran : List (Record R)) (h : Holding J) → v ≡ new_view b.processors b.offloadable 1 false false (new_own cpu ∷ []) → ran ≡ []
-    → put_by h ≡ [] → held_in h ≡ [] → h.advanced ≡ 0 → IsLawful cpu 0 v ran h
-first_law {J} {R} b cpu v ran h first none put held advanced = record {
+    → put_by h ≡ [] → h.outgoing.bypass ≡ [] → h.own ≡ [] → h.advanced ≡ 0 → IsLawful cpu 0 v ran h
+first_law {J} {R} b cpu v ran h first none put bypass own advanced = let held : held_in h ≡ [] = ap (λ (cs : List (Callback J)). cs ++ callbacks_of h.own) bypass ∙ ap (λ (xs : List (Labelled J)). callbacks_of xs) own in record {
   counted = ap (λ (w : View). length (accepted_of w)) first;
   stamped = ap fresh_of first;
   rests = ap (λ (w : View). w.running) first;
@@ -29,4 +34,5 @@ first_law {J} {R} b cpu v ran h first none put held advanced = record {
   claims = ap (λ (w : View). w.claims) first ∙ sym (ap (λ (rs : List (Record R)). map (claim_of cpu) rs) none);
   ripe = subst (λ (rs : List (Record R)). AreRipe rs) (sym none) none_ripe;
   looked = omega (arith, advanced);
+  needed = subst (AreUpTo (seen_at v needed_word)) (sym own) (All-nil (λ (x : Labelled J). IsTrue (is_up_to (seen_at v needed_word) x.label)));
 }

@@ -1,11 +1,12 @@
 -- What the steps of a call change of the view of a processor or a hand, beside sights and tallies:
 -- docs/specification/definitions.md, "The running parts: views".
-use Rattle.std.specs.Prelude.{◌≡◌, ℕ, [], ◌∷◌, ◌++◌, None}
-use Rattle.rcu_board.specs.Views.{sight}
+use Rattle.std.specs.Prelude.{◌≡◌, ◌≢◌, ℕ, ◌+◌, [], ◌∷◌, ◌++◌, None}
+use Rattle.rcu_board.specs.Views.{sight, tally}
 use Rattle.rcu_board.specs.Seats.{accepted_of, fresh_of, reports_of}
 use Rattle.rcu_board.specs.declared.view.Accepted.{Accepted}
 use Rattle.rcu_board.specs.declared.view.Claim.{Claim}
 use Rattle.rcu_board.specs.declared.view.View.{View}
+use Rattle.rcu_control.specs.Views.{Untouched}
 
 abbrev pub entry : ℕ → ℕ → Accepted
 entry key stamp = record { key = key; stamp = stamp }
@@ -53,3 +54,9 @@ pub record Tells (v w : View) : Type 0 where
   pub fresh : fresh_of w ≡ fresh_of v
   pub claims : w.claims ≡ v.claims
   pub running : w.running ≡ v.running
+
+-- So many steps were made on word i and none on another, and no processor's accepted list or count of reports changed.
+pub record StepsOnly (i many : ℕ) (v w : View) : Type 0 where
+  pub own : w.own ≡ v.own
+  pub steps : tally w i ≡ tally v i + many
+  pub others : (j : ℕ) → j ≢ i → Untouched j v w

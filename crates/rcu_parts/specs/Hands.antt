@@ -1,5 +1,5 @@
 -- What contracts see of a hand's part, and what its turn does: docs/specification/rules.md, "The calls, step by step", `Hand::turn`.
-use Rattle.std.specs.Prelude.{◌≡◌, ◌≢◌, ℕ, ◌*◌, ◌<◌, List, [], ◌∷◌, ◌++◌, length, All}
+use Rattle.std.specs.Prelude.{◌≡◌, ◌≢◌, ℕ, ◌+◌, ◌*◌, ◌<◌, List, [], ◌∷◌, ◌++◌, length, All}
 use Rattle.std.proofs.Common.{◌⊎◌}
 use Rattle.std.specs.Arc.{arc_value}
 use Rattle.rcu_board.specs.Seats.{view}
@@ -23,6 +23,7 @@ use Rattle.rcu_jobs.specs.declared.callback.Record.{Record}
 use Rattle.rcu_lanes.specs.Ends.{SameFront}
 use Rattle.rcu_numbers.specs.Numbers.{snap_of}
 use Rattle.rcu_records.specs.Records.{numbered_records}
+use Rattle.rcu_parts.specs.Changes.{StepsOnly}
 use Rattle.rcu_parts.specs.Places.{AreKeyed, numbered_callbacks}
 use Rattle.rcu_parts.specs.declared.hand.HandState.{HandState}
 
@@ -54,8 +55,9 @@ module _ {J R : Type 0} where
   abbrev pub IsSoundHand : (J → ℕ) → (ℕ → R → Type 0) → HandState J R → Type 0
   IsSoundHand key_of gives h = AreKeyed key_of (hand_drawn h) → Given gives (hand_records h)
 
-  -- The first n of what it held were run, each under a claim that was won at the board sight `seen`, and left a record each.
-  pub record Ran (n seen : ℕ) (p q : HandState J R) : Type 0 where
+  -- The first n of what it held were run, each under a claim that was won at the board sight `seen`, and left a record
+  -- each; so many claims were tried.
+  pub record Ran (n tried seen : ℕ) (p q : HandState J R) : Type 0 where
     pub calls : List (Callback J)
     pub records : List (Record R)
     pub many : length records ≡ n
@@ -65,18 +67,21 @@ module _ {J R : Type 0} where
     pub same : numbered_callbacks calls ≡ numbered_records records
     pub ready : All (λ r. r.ready ≡ seen) records
     pub sight : sight (hand_view q) ≡ seen
+    pub steps : StepsOnly (turns_word p.cpu) (tried + n) (hand_view p) (hand_view q)
 
-  -- why the first of what it holds doesn't run: its wait isn't over at the number seen, or its turn word is another
-  abbrev pub IsNotItsTurn : ℕ → HandState J R → Type 0
-  IsNotItsTurn seen h = (c : Callback J) × (rest : List (Callback J)) × (hand_held h ≡ c ∷ rest) × ((seen < snap_of c.stamp) ⊎ (seen_at (hand_view h) (turns_word h.cpu) ≢ 2 * c.number))
+  -- why the first of what it holds doesn't run: its wait isn't over at the number seen, or its claim was lost, as its turn
+  -- word is another
+  abbrev pub IsNotItsTurn : ℕ → ℕ → ℕ → HandState J R → Type 0
+  IsNotItsTurn ran tried seen h = (c : Callback J) × (rest : List (Callback J)) × (hand_held h ≡ c ∷ rest)
+      × (((seen < snap_of c.stamp) × (tried ≡ ran)) ⊎ ((seen_at (hand_view h) (turns_word h.cpu) ≢ 2 * c.number) × (tried ≡ ran + 1)))
 
-  -- why no more were run, once `ran` were
-  abbrev pub StopsAt : Stop → ℕ → ℕ → HandState J R → Type 0
-  StopsAt Limit ran seen h = ran ≡ h.blimit
-  StopsAt Again ran seen h = hand_held h ≡ []
-  StopsAt Empty ran seen h = hand_held h ≡ []
-  StopsAt Turn ran seen h = IsNotItsTurn seen h
-  StopsAt Memory ran seen h = hand_held h ≢ []
+  -- why no more were run, once `ran` were and so many claims were tried
+  abbrev pub StopsAt : Stop → ℕ → ℕ → ℕ → HandState J R → Type 0
+  StopsAt Limit ran tried seen h = (ran ≡ h.blimit) × (tried ≡ ran)
+  StopsAt Again ran tried seen h = (hand_held h ≡ []) × (tried ≡ ran)
+  StopsAt Empty ran tried seen h = (hand_held h ≡ []) × (tried ≡ ran)
+  StopsAt Turn ran tried seen h = IsNotItsTurn ran tried seen h
+  StopsAt Memory ran tried seen h = (hand_held h ≢ []) × (tried ≡ ran)
 
   -- one look, which found the number `seen`
   pub record Looks (seen : ℕ) (p q : HandState J R) : Type 0 where
@@ -100,12 +105,13 @@ module _ {J R : Type 0} where
   -- A turn: a look, a draw at most, and then the first ones of what is held run.
   pub record TurnsBy (answer : HandTurn) (p q : HandState J R) : Type 0 where
     pub seen : ℕ
+    pub tried : ℕ
     pub first : HandState J R
     pub second : HandState J R
     pub looks : Looks seen p first
     pub loads : Loads first second
-    pub ran : Ran answer.ran seen second q
-    pub stop : StopsAt answer.stop answer.ran seen q
+    pub ran : Ran answer.ran tried seen second q
+    pub stop : StopsAt answer.stop answer.ran tried seen q
 
   -- the hand of processor cpu of a board, with its seat and what it holds: it ran nothing
   pub record IsNewHandOf (shape : Shape) (b : Table) (cpu : ℕ) (s : Seat) (held : Held J) (h : HandState J R) : Type 0 where

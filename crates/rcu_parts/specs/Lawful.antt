@@ -1,10 +1,13 @@
 -- What a processor's part keeps between its calls: docs/specification/definitions.md, "Places", over whole histories.
-use Rattle.std.specs.Prelude.{◌≡◌, ℕ, ◌≤◌, None, List, [], map, length}
+use Rattle.std.specs.Prelude.{◌≡◌, ℕ, ◌≤◌, Bool, false, None, List, [], map, length}
 use Rattle.rcu_board.specs.Seats.{accepted_of, fresh_of}
-use Rattle.rcu_board.specs.Views.{sight}
+use Rattle.rcu_board.specs.Views.{seen_at, sight}
+use Rattle.rcu_board.specs.Words.{needed_word}
 use Rattle.rcu_board.specs.declared.view.View.{View}
+use Rattle.rcu_holdings.specs.Aims.{AreUpTo}
 use Rattle.rcu_holdings.specs.Callers.{Holding, held_in, put_by}
 use Rattle.rcu_jobs.specs.declared.callback.Record.{Record}
+use Rattle.rcu_jobs.specs.declared.turns.Mode.TheVariants.{Local}
 use Rattle.rcu_places.specs.Places.{Placed}
 use Rattle.rcu_records.specs.Records.{numbered_records, AreRipe}
 use Rattle.rcu_parts.specs.Places.{numbered_callbacks, accepted_list, claim_of}
@@ -23,3 +26,9 @@ pub record IsLawful {J R : Type 0} (cpu accepted : ℕ) (v : View) (ran : List (
   pub ripe : AreRipe ran
   -- no look is later than the sight
   pub looked : h.advanced ≤ sight v
+  -- each number that its own list waits for was asked for
+  pub needed : AreUpTo (seen_at v needed_word) h.own
+
+-- A processor that isn't offloadable is Local, and put nothing on a lane.
+abbrev pub StaysLocal : {J : Type 0} → Bool → Holding J → Type 0
+StaysLocal offloadable h = offloadable ≡ false → (h.mode ≡ Local) × (put_by h ≡ [])

@@ -7,3 +7,4 @@ pub mod Reports
 pub mod Opened
 pub mod HandLaw
 pub mod Hands
+pub mod Ticks

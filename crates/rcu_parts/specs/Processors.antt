@@ -29,11 +29,12 @@ module _ {J R : Type 0} where
   abbrev pub records_of : ProcessorState J R → List (Record R)
   records_of p = p.ran.items
 
-  -- the same part of the same open: its seat, its lane, its number and its limits
+  -- the same part of the same open: its seat, its lane, its number, its kind and its limits
   pub record SameProcessor (p q : ProcessorState J R) : Type 0 where
     pub part : SamePart (board_of p) (board_of q) p.seat q.seat
     pub lane : SameRear (rear_of p.lists) (rear_of q.lists)
     pub cpu : q.cpu ≡ p.cpu
+    pub offloadable : q.offloadable ≡ p.offloadable
     pub limit : q.limit ≡ p.limit
     pub blimit : q.blimit ≡ p.blimit
 

@@ -1,6 +1,6 @@
 //! The turn of a hand.
 
-ghost use Rattle.std.specs.Prelude.{◌≡◌, ◌<◌, ◌≤◌, ℕ, IfNone, IfSome};
+ghost use Rattle.std.specs.Prelude.{◌≡◌, ◌+◌, ◌≤◌, ℕ, IfNone, IfSome};
 ghost use Rattle.rcu_board.specs.Views.{sight};
 ghost use Rattle.rcu_numbers.specs.declared.sequence.TheConstants.{GREATEST_NUMBER};
 ghost use Rattle.rcu_parts.specs.Hands.{SameHand, IsSoundHand, Looks, Loads, Ran, StopsAt, TurnsBy, hand_view};
@@ -18,8 +18,8 @@ impl<J: Job> Hand<J> {
         requires seen { sight (hand_view self.old.state) ≡ seen }
         requires small { seen ≤ GREATEST_NUMBER }
         ensures same { SameHand self.old.state self.new.state }
-        ensures ran { IfNone result (Ran 1 seen self.old.state self.new.state) }
-        ensures not { IfSome result (λ stop. Ran 0 seen self.old.state self.new.state × ((n : ℕ) → StopsAt stop n seen self.new.state)) }
+        ensures ran { IfNone result (Ran 1 1 seen self.old.state self.new.state) }
+        ensures not { IfSome result (λ stop. (tried : ℕ) × Ran 0 tried seen self.old.state self.new.state × ((n : ℕ) → StopsAt stop n (n + tried) seen self.new.state)) }
         ensures sound { IsSoundHand J.key_of J.gives self.old.state → IsSoundHand J.key_of J.gives self.new.state }
     {
         let state = &mut self.state;
@@ -49,9 +49,8 @@ impl<J: Job> Hand<J> {
         requires seen { sight (hand_view self.old.state) ≡ seen }
         requires small { seen ≤ GREATEST_NUMBER }
         ensures same { SameHand self.old.state self.new.state }
-        ensures ran { Ran result.ran seen self.old.state self.new.state }
+        ensures ran { (tried : ℕ) × Ran result.ran tried seen self.old.state self.new.state × StopsAt result.stop result.ran tried seen self.new.state }
         ensures few { result.ran ≤ self.old.state.blimit }
-        ensures stop { StopsAt result.stop result.ran seen self.new.state }
         ensures sound { IsSoundHand J.key_of J.gives self.old.state → IsSoundHand J.key_of J.gives self.new.state }
     {
         let blimit = self.state.blimit;
@@ -81,7 +80,7 @@ impl<J: Job> Hand<J> {
     fn load(&mut self) -> Option<Stop>
         ensures same { SameHand self.old.state self.new.state }
         ensures loads { Loads self.old.state self.new.state }
-        ensures none { IfSome result (λ stop. (n seen : ℕ) → StopsAt stop n seen self.new.state) }
+        ensures none { IfSome result (λ stop. (n seen : ℕ) → StopsAt stop n n seen self.new.state) }
         ensures sound { IsSoundHand J.key_of J.gives self.old.state → IsSoundHand J.key_of J.gives self.new.state }
     {
         match self.state.held.fetch() {

@@ -10,6 +10,7 @@ mod processor;
 mod reporting;
 mod running;
 mod steps;
+mod ticking;
 
 pub use hand::Hand;
 pub use processor::Processor;

@@ -1,11 +1,12 @@
 //! A processor's part.
 
-ghost use Rattle.std.specs.Prelude.{◌≡◌, ◌<◌, ◌≤◌};
+ghost use Rattle.std.specs.Prelude.{◌≡◌, ◌<◌, ◌≤◌, true};
 ghost use Rattle.std.specs.Arc.{arc_value};
 ghost use Rattle.rcu_board.specs.Seats.{view, AtBoard};
 ghost use Rattle.rcu_board.specs.declared.board.Role.{Role};
 ghost use Rattle.rcu_holdings.specs.Callers.{holding};
-ghost use Rattle.rcu_parts.specs.Lawful.{IsLawful};
+ghost use Rattle.rcu_numbers.specs.Words.{owes_of};
+ghost use Rattle.rcu_parts.specs.Lawful.{IsLawful, StaysLocal};
 
 use rcu_board::{Board, Role, Seat};
 use rcu_holdings::Caller;
@@ -21,6 +22,8 @@ pub struct ProcessorState<J, R> {
     pub(crate) board: Arc<Board, Global>,
     pub(crate) seat: Seat,
     pub(crate) cpu: u64,
+    /// Whether it starts Offloaded and may be switched.
+    pub(crate) offloadable: bool,
     /// How many callbacks it accepts at most.
     pub(crate) limit: u64,
     /// How many callbacks a tick runs at most.
@@ -33,6 +36,8 @@ pub struct ProcessorState<J, R> {
     ghost here: { AtBoard (arc_value board) seat },
     ghost role: { seat.role ≡ Role.Processor cpu },
     ghost there: { cpu < (arc_value board).processors },
+    ghost bit: { offloadable ≡ true → owes_of (arc_value board).offloadable cpu ≡ 1 },
+    ghost local: { StaysLocal offloadable (holding lists) },
     ghost small: { (accepted ≤ limit) × (limit ≤ 1000000) },
     ghost lawful: { IsLawful cpu accepted (view seat) ran.items (holding lists) },
 }
@@ -45,7 +50,7 @@ pub struct Processor<J: Job> {
 
 impl<J: Job> Processor<J> {
     ghost use Rattle.std.specs.Prelude.{[], None};
-    ghost use Rattle.rcu_board.specs.Opened.{IsNewProcessor};
+    ghost use Rattle.rcu_board.specs.Opened.{IsNewProcessor, is_offloadable};
     ghost use Rattle.rcu_parts.specs.Opened.{IsNew, IsEmpty};
 
     /// The part of processor `cpu` of a shape, from its seat and its empty lists. It has accepted nothing.
@@ -59,14 +64,16 @@ impl<J: Job> Processor<J> {
     ) -> Processor<J>
         requires seat { IsNewProcessor (arc_value board) cpu seat }
         requires there { cpu < (arc_value board).processors }
-        requires lists { IsEmpty lists }
+        requires lists { IsEmpty (is_offloadable (arc_value board).offloadable cpu) lists }
         ensures new { IsNew shape.now (arc_value board) cpu seat lists result.state }
     {
+        let offloadable = board.is_offloadable(cpu);
         Processor {
             state: ProcessorState {
                 board,
                 seat,
                 cpu,
+                offloadable,
                 limit: shape.limit,
                 blimit: shape.blimit,
                 accepted: 0,

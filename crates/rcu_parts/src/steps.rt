@@ -4,11 +4,11 @@ ghost use Rattle.std.specs.Prelude.{◌≡◌, ◌≢◌, ℕ, ◌+◌, ◌*◌,
 ghost use Rattle.rcu_board.specs.Plays.{looked, touched, accepted};
 ghost use Rattle.rcu_board.specs.Roles.{MayClaim, cpu_of_role};
 ghost use Rattle.rcu_board.specs.Seats.{view, AtBoard, SameSeat, NeverFalls, IsRunning, accepted_of, fresh_of};
-ghost use Rattle.rcu_board.specs.Views.{seen_at, sight, tally};
+ghost use Rattle.rcu_board.specs.Views.{seen_at, sight};
 ghost use Rattle.rcu_board.specs.Words.{accepts_word, bits_of, turns_word};
 ghost use Rattle.rcu_board.specs.declared.board.Role.{Role};
 ghost use Rattle.rcu_numbers.specs.declared.sequence.TheConstants.{GREATEST_NUMBER};
-ghost use Rattle.rcu_parts.specs.Changes.{Keeps, Enters, Claims, Finishes, Tells};
+ghost use Rattle.rcu_parts.specs.Changes.{Keeps, Enters, Claims, Finishes, Tells, StepsOnly};
 ghost use Rattle.rcu_parts.specs.Reports.{Reports};
 
 use rcu_board::{Board, Claimed, Seat, accept, claim, finish, look, report};
@@ -79,7 +79,7 @@ pub(crate) fn take(board: &Board, seat: &mut Seat, cpu: u64, number: u64) -> boo
     ensures same { SameSeat seat.old seat.new }
     ensures won { result ≡ true → Claims cpu number (view seat.old) (view seat.new) }
     ensures lost { result ≡ false → Keeps (view seat.old) (view seat.new) × (sight (view seat.new) ≡ sight (view seat.old)) × (seen_at (view seat.new) (turns_word cpu) ≢ 2 * number) }
-    ensures stepped { tally (view seat.new) (turns_word cpu) ≡ tally (view seat.old) (turns_word cpu) + 1 }
+    ensures only { StepsOnly (turns_word cpu) 1 (view seat.old) (view seat.new) }
     ensures later { NeverFalls board.now.processors (view seat.old) (view seat.new) }
 {
     match claim(board, seat, number) {
@@ -95,6 +95,7 @@ pub(crate) fn end_claim(board: &Board, seat: &mut Seat)
     requires runs { IsRunning (cpu_of_role seat.old.role) (view seat.old) }
     ensures same { SameSeat seat.old seat.new }
     ensures ends { Finishes (view seat.old) (view seat.new) }
+    ensures only { StepsOnly (turns_word (cpu_of_role seat.old.role)) 1 (view seat.old) (view seat.new) }
     ensures later { NeverFalls board.now.processors (view seat.old) (view seat.new) }
 {
     finish(board, seat)

@@ -25,7 +25,7 @@ returns-in-Empty-clause-sound g c = let s = c.args.self.now.state in let e = c.f
     hand_sound_drawn g.J.Job.key_of g.J.Job.gives (drawn_by s.held) (drawn_by c.fetch.new.self) f.0 s.ran.items f.1
 
 pub returns-in-Empty-clause-none : goal.returns-in-Empty-clause-none
-returns-in-Empty-clause-none g c n seen = (c.fetch.ensures.none (λ e. (let f : Empty ≡ Got = sym c.in-Empty.is ∙ e in cc))).1
+returns-in-Empty-clause-none g c n seen = ((c.fetch.ensures.none (λ e. (let f : Empty ≡ Got = sym c.in-Empty.is ∙ e in cc))).1, refl)
 
 pub returns-in-Again-clause-loads : goal.returns-in-Again-clause-loads
 returns-in-Again-clause-loads g c = let s = c.args.self.now.state in let e = c.fetch.ensures in
@@ -38,4 +38,4 @@ returns-in-Again-clause-sound g c = let s = c.args.self.now.state in let e = c.f
     hand_sound_drawn g.J.Job.key_of g.J.Job.gives (drawn_by s.held) (drawn_by c.fetch.new.self) f.0 s.ran.items f.1
 
 pub returns-in-Again-clause-none : goal.returns-in-Again-clause-none
-returns-in-Again-clause-none g c n seen = (c.fetch.ensures.none (λ e. (let f : Again ≡ Got = sym c.in-Again.is ∙ e in cc))).1
+returns-in-Again-clause-none g c n seen = ((c.fetch.ensures.none (λ e. (let f : Again ≡ Got = sym c.in-Again.is ∙ e in cc))).1, refl)

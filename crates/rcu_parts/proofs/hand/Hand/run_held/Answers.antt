@@ -1,17 +1,15 @@
 use Rattle.std.proofs.Common.{◌≡◌, ℕ, ◌+◌, subst, refl, arith}
 use Rattle.rcu_parts.specs.Hands.{Ran}
 use Rattle.rcu_parts.proofs.HandRuns.{ran_none, ran_more, same_hand, same_hand_again}
+use Rattle.rcu_parts.proofs.Turning.{steps_none}
 use Rattle.rcu_parts.proofs.hand.Hand.run_held.Goals as goal
 
 pub loop-ran-init : goal.loop-ran-init
-loop-ran-init g c = let s = c.args.self.now.state in record { same = same_hand s; ran = ran_none c.args.seen s s refl refl refl c.requires.seen; sound = λ sound. sound }
+loop-ran-init g c = let s = c.args.self.now.state in record { same = same_hand s; ran = ran_none 0 c.args.seen s s refl refl refl c.requires.seen (steps_none _ _ _ refl); sound = λ sound. sound }
 
 pub returns-in-Some-clause-ran : goal.returns-in-Some-clause-ran
-returns-in-Some-clause-ran g c = let i = c.loop-ran.invariant in let k = c.loop-ran.ran in let same : k + 0 ≡ k = omega arith in
-    subst (λ (n : ℕ). Ran n c.args.seen c.args.self.now.state c.run_one.new.self.state) same (ran_more k 0 c.args.seen c.args.self.now.state c.loop-ran.self.state c.run_one.new.self.state i.ran c.in-Some.ensures.not.0)
-
-pub returns-in-Some-clause-stop : goal.returns-in-Some-clause-stop
-returns-in-Some-clause-stop g c = c.in-Some.ensures.not.1 c.loop-ran.ran
+returns-in-Some-clause-ran g c = let i = c.loop-ran.invariant in let k = c.loop-ran.ran in let n = c.in-Some.ensures.not in let same : k + 0 ≡ k = omega arith in
+    (k + n.0, subst (λ (m : ℕ). Ran m (k + n.0) c.args.seen c.args.self.now.state c.run_one.new.self.state) same (ran_more k 0 k n.0 c.args.seen c.args.self.now.state c.loop-ran.self.state c.run_one.new.self.state i.same.cpu i.ran n.1), n.2 k)
 
 pub returns-in-Some-clause-sound : goal.returns-in-Some-clause-sound
 returns-in-Some-clause-sound g c = λ sound. c.run_one.ensures.sound (c.loop-ran.invariant.sound sound)
@@ -19,6 +17,6 @@ returns-in-Some-clause-sound g c = λ sound. c.run_one.ensures.sound (c.loop-ran
 pub loop-ran-preserved : goal.loop-ran-preserved
 loop-ran-preserved g c = let i = c.loop-ran.invariant in let e = c.run_one.ensures in record {
   same = same_hand_again c.args.self.now.state c.loop-ran.self.state c.run_one.new.self.state i.same e.same;
-  ran = ran_more c.loop-ran.ran 1 c.args.seen c.args.self.now.state c.loop-ran.self.state c.run_one.new.self.state i.ran c.in_default.ensures.ran;
+  ran = ran_more c.loop-ran.ran 1 c.loop-ran.ran 1 c.args.seen c.args.self.now.state c.loop-ran.self.state c.run_one.new.self.state i.same.cpu i.ran c.in_default.ensures.ran;
   sound = λ sound. e.sound (i.sound sound);
 }

@@ -7,20 +7,22 @@ use Rattle.rcu_holdings.specs.Helds.{drawn_by, held_by, taken_by}
 use Rattle.rcu_holdings.specs.Lanes.{drawn_calls}
 use Rattle.rcu_jobs.specs.declared.callback.Callback.{Callback}
 use Rattle.rcu_numbers.specs.Numbers.{snap_of}
-use Rattle.rcu_parts.specs.Changes.{Claims}
+use Rattle.rcu_board.specs.Words.{turns_word}
+use Rattle.rcu_parts.specs.Changes.{Claims, StepsOnly}
+use Rattle.rcu_parts.proofs.Turning.{steps_more, steps_none}
 use Rattle.rcu_parts.proofs.HandRuns.{hand_kept, hand_ran, hand_sound_kept, hand_sound_ran, ran_none, ran_one, same_first, not_none}
 use Rattle.rcu_parts.proofs.hand.Hand.run_one.Goals as goal
 
 pub returns-in_default-clause-not : goal.returns-in_default-clause-not
-returns-in_default-clause-not g c = (ran_none c.args.seen c.args.self.now.state _ refl refl refl c.requires.seen, λ n. c.in_default.ensures.first)
+returns-in_default-clause-not g c = (0, ran_none 0 c.args.seen c.args.self.now.state _ refl refl refl c.requires.seen (steps_none _ _ _ refl), λ n. (c.in_default.ensures.first, omega arith))
 
 pub returns-then-snap-seen-clause-not : goal.returns-then-snap-seen-clause-not
 returns-then-snap-seen-clause-not g c = let f = c.in-Some.ensures.first in
-    (ran_none c.args.seen c.args.self.now.state _ refl refl refl c.requires.seen, λ n. (c.in-Some.first.now, f.0, f.1, inl (omega (arith, c.if-snap-seen.true, c.snap.ensures.value))))
+    (0, ran_none 0 c.args.seen c.args.self.now.state _ refl refl refl c.requires.seen (steps_none _ _ _ refl), λ n. (c.in-Some.first.now, f.0, f.1, inl (omega (arith, c.if-snap-seen.true, c.snap.ensures.value), omega arith)))
 
 pub returns-in_default-reserve-clause-not : goal.returns-in_default-reserve-clause-not
 returns-in_default-reserve-clause-not g c = let f = c.in-Some.ensures.first in
-    (ran_none c.args.seen c.args.self.now.state _ refl refl c.reserve.ensures.items c.requires.seen, λ n. not_none c.in-Some.first.now f.0 (held_by c.args.self.now.state.held) f.1)
+    (0, ran_none 0 c.args.seen c.args.self.now.state _ refl refl c.reserve.ensures.items c.requires.seen (steps_none _ _ _ refl), λ n. (not_none c.in-Some.first.now f.0 (held_by c.args.self.now.state.held) f.1, omega arith))
 
 pub returns-in_default-reserve-clause-sound : goal.returns-in_default-reserve-clause-sound
 returns-in_default-reserve-clause-sound g c = hand_sound_kept g.J.Job.key_of g.J.Job.gives (drawn_by c.args.self.now.state.held) (drawn_by c.args.self.now.state.held) c.args.self.now.state.ran.items c.reserve.new.self.items refl c.reserve.ensures.items
@@ -34,7 +36,7 @@ invariant_of-state-then-not-take g c = let s = c.args.self.now.state in let e = 
 
 pub returns-then-not-take-clause-not : goal.returns-then-not-take-clause-not
 returns-then-not-take-clause-not g c = let f = c.in-Some.ensures.first in let l = c.if-not-take.ensures.lost refl in
-    (ran_none c.args.seen c.args.self.now.state _ refl refl c.reserve.ensures.items (l.1 ∙ c.requires.seen), λ n. (c.in-Some.first.now, f.0, f.1, inr l.2))
+    (1, ran_none 1 c.args.seen c.args.self.now.state _ refl refl c.reserve.ensures.items (l.1 ∙ c.requires.seen) c.if-not-take.ensures.only, λ n. (c.in-Some.first.now, f.0, f.1, inr (l.2, refl)))
 
 pub returns-then-not-take-clause-sound : goal.returns-then-not-take-clause-sound
 returns-then-not-take-clause-sound g c = hand_sound_kept g.J.Job.key_of g.J.Job.gives (drawn_by c.args.self.now.state.held) (drawn_by c.args.self.now.state.held) c.args.self.now.state.ran.items c.reserve.new.self.items refl c.reserve.ensures.items
@@ -67,6 +69,8 @@ returns-clause-ran g c = let s = c.args.self.now.state in let e = c.if-not-take.
     let drawn : drawn_by c.take-2.new.self ≡ drawn_by s.held = ap (λ f. drawn_calls f) c.in-Some-take.ensures.front in
     ran_one c.args.seen s _ c.in-Some-take.callback c.run_claimed-record.result c.in-Some-take.ensures.first drawn (c.push_reserved.ensures.items ∙ ap (λ rs. rs ++ c.run_claimed-record.result ∷ []) c.reserve.ensures.items) r.record r.ready
     (r.ends.sights ∙ (w.sights ∙ c.requires.seen))
+    (steps_more (turns_word s.cpu) 1 1 (view s.seat) (view c.take.new.seat) (view c.run_claimed-record.new.seat) e.only
+    (subst (λ (p : ℕ). StepsOnly (turns_word p) 1 (view c.take.new.seat) (view c.run_claimed-record.new.seat)) (ap cpu_of_role (e.same.role ∙ s.role)) r.only))
 
 pub returns-clause-sound : goal.returns-clause-sound
 returns-clause-sound g c = let s = c.args.self.now.state in

@@ -2,16 +2,18 @@ use Rattle.std.proofs.Common.{◌∙◌, ap, refl}
 use Rattle.rcu_board.specs.Views.{sight}
 use Rattle.rcu_board.specs.declared.view.View.{View}
 use Rattle.rcu_parts.proofs.HandRuns.{ran_none}
+use Rattle.rcu_parts.proofs.Turning.{steps_none}
 use Rattle.rcu_parts.proofs.hand.Hand.turn.Goals as goal
 
 pub returns-in-Some-clause-turn : goal.returns-in-Some-clause-turn
 returns-in-Some-clause-turn g c = let a = c.look-seen.ensures in let b = c.load.ensures in let q = c.load.new.self.state in record {
   seen = c.look-seen.result;
+  tried = 0;
   first = c.look-seen.new.self.state;
   second = q;
   looks = a.looks;
   loads = b.loads;
-  ran = ran_none c.look-seen.result q q refl refl refl (ap (λ (v : View). sight v) b.loads.view ∙ a.looks.sight);
+  ran = ran_none 0 c.look-seen.result q q refl refl refl (ap (λ (v : View). sight v) b.loads.view ∙ a.looks.sight) (steps_none _ _ _ refl);
   stop = c.in-Some.ensures.none 0 c.look-seen.result;
 }
 

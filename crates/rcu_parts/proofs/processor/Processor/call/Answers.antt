@@ -4,13 +4,13 @@ use denote.Param.{param}
 use Rattle.rcu_board.specs.Plays.{looked, accepted}
 use Rattle.rcu_board.specs.Seats.{view}
 use Rattle.rcu_board.specs.Words.{accepts_word, bits_of}
-use Rattle.rcu_parts.specs.Lawful.{IsLawful}
+use Rattle.rcu_parts.specs.Lawful.{IsLawful, StaysLocal}
 use Rattle.rcu_holdings.specs.Callers.{Holding, holding, Takes, passed_on}
 use Rattle.rcu_jobs.specs.declared.callback.Callback.{Callback}
 use Rattle.rcu_parts.specs.Changes.{Enters}
 use Rattle.rcu_parts.specs.contracts.processor.Processor as row
 use Rattle.rcu_parts.proofs.Keeping.{few_passed, kept_by_enters, kept_by_keeps}
-use Rattle.rcu_parts.proofs.Taking.{takes_more, sound_same, sound_taken}
+use Rattle.rcu_parts.proofs.Taking.{takes_local, takes_more, takes_up, sound_same, sound_taken}
 use Rattle.rcu_holdings.proofs.Sizes.{in_struct}
 use Rattle.rcu_parts.proofs.Bounds.{is_safe_call}
 use Rattle.rcu_parts.proofs.processor.Processor.call.Goals as goal
@@ -42,8 +42,10 @@ invariant_of-state-2 g c =
       here = e.same.table ∙ s.here;
       role = e.same.role ∙ s.role;
       there = s.there;
+      bit = s.bit;
+      local = takes_local c.args.moment c.args.kind x h h' s.offloadable takes s.local;
       small = (omega arith, small.1);
-      lawful = kept_by_enters s.cpu s.accepted (view s.seat) (view c.enter.new.seat) s.ran.items h h' more.0 x refl enters e.later.board more.1 all more.2 s.lawful;
+      lawful = kept_by_enters s.cpu s.accepted _ (view s.seat) (view c.enter.new.seat) s.ran.items h h' more.0 x refl enters e.later more.1 all more.2 (λ n. takes_up c.args.moment c.args.kind x h h' n takes) s.lawful;
     }
 
 pub returns-clause-sound : goal.returns-clause-sound
@@ -75,9 +77,11 @@ invariant_of-state-in_default-enter g c = let s = c.args.self.now.state in let e
   here = e.same.table ∙ s.here;
   role = e.same.role ∙ s.role;
   there = s.there;
+  bit = s.bit;
+  local = subst (λ (h : Holding g.row.J.Denot). StaysLocal s.offloadable h) (sym c.in-Ok.ensures.same) s.local;
   small = s.small;
   lawful = subst (λ (h : Holding g.row.J.Denot). IsLawful s.cpu s.accepted (view c.enter.new.seat) s.ran.items h) (sym c.in-Ok.ensures.same)
-      (kept_by_keeps s.cpu s.accepted (view s.seat) (view c.enter.new.seat) s.ran.items (holding s.lists) e.keeps e.later.board s.lawful);
+      (kept_by_keeps s.cpu s.accepted _ (view s.seat) (view c.enter.new.seat) s.ran.items (holding s.lists) e.keeps e.later s.lawful);
 }
 
 pub returns-in_default-enter-clause-sound : goal.returns-in_default-enter-clause-sound

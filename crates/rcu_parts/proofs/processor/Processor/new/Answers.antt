@@ -11,5 +11,5 @@ invariant_of-result g c = let q = c.requires.seat in let e = c.requires.lists in
   role = q.who;
   there = c.requires.there;
   small = (omega arith, within.accepted.1);
-  lawful = first_law (arc_value c.args.board) c.args.cpu (view c.args.seat) c.new.result.items (holding c.args.lists) q.first_view c.new.ensures.items e.put e.held e.looked;
+  lawful = first_law (arc_value c.args.board) c.args.cpu (view c.args.seat) c.new.result.items (holding c.args.lists) q.first_view c.new.ensures.items e.put e.bypass e.own e.looked;
 }

@@ -7,6 +7,8 @@ invariant_of-state g c = let s = c.args.self.now.state in let e = c.tell.ensures
   here = e.same.table ∙ s.here;
   role = e.same.role ∙ s.role;
   there = s.there;
+  bit = s.bit;
+  local = s.local;
   small = s.small;
-  lawful = kept_by_tells s.cpu s.accepted _ _ s.ran.items _ e.tells e.later.board s.lawful;
+  lawful = kept_by_tells s.cpu s.accepted _ _ _ s.ran.items _ e.tells e.later s.lawful;
 }
