@@ -8,8 +8,6 @@ use Rattle.rcu_board.specs.declared.board.Board.{Board}
 use Rattle.rcu_board.specs.declared.board.Seat.{Seat}
 use Rattle.rcu_board.specs.declared.view.View.{View}
 use Rattle.rcu_board.proofs.Facts.{seen-touched, words-at}
-use Rattle.rcu_control.proofs.Stepping.{untouched}
-use Rattle.rcu_numbers.specs.Words.{number_of}
 use Rattle.rcu_holdings.specs.Aims.{AreUpTo}
 use Rattle.rcu_holdings.specs.Callers.{Holding, after_look, held_in, passed_on, put_by}
 use Rattle.rcu_jobs.specs.declared.callback.Callback.{Callback}
@@ -24,10 +22,6 @@ pub asked_for : (b : Board) (s : Seat) (found number : ℕ) (w : View) → AtBoa
 asked_for b s found number w at e =
     let i = words-at b s at in
     omega (arith, ap (λ (v : View). seen_at v needed_word) e, seen-touched s needed_word (max found number) (omega (arith, i)))
-
--- the ask leaves the board sight
-pub sight_asked : (x : ℕ) (v w : View) → w ≡ touched needed_word x v → sight w ≡ sight v
-sight_asked x v w e = ap sight e ∙ ap number_of (untouched needed_word 0 x v (λ z. absurd (omega (arith, z)))).seen
 
 pub asks_none : (o : Option ℕ) (v w : View) → o ≡ None → w ≡ v → Asks o v w
 asks_none o v w none e = record { found = 0; some = λ s some. (let f : ◌≡◌ {A = Option ℕ} None (Some s) = sym none ∙ some in cc); none = λ _. e }

@@ -1,6 +1,6 @@
 -- What a tick's release and a switch come to: what is put is put behind what was put, the own list stays or is poured whole,
 -- and no processor becomes Local.
-use Rattle.std.proofs.Common.{◌≡◌, ℕ, Bool, true, false, not, inl, inr, ◌⊎◌, List, [], ◌∷◌, ◌++◌, append-nil, append_assoc, ap, sym, ◌∙◌, refl, subst, ⊎_elim}
+use Rattle.std.proofs.Common.{◌≡◌, ℕ, Bool, true, false, not, inl, inr, ◌⊎◌, ◌≤◌, arith, List, [], ◌∷◌, ◌++◌, append-nil, append_assoc, ap, sym, ◌∙◌, refl, subst, ⊎_elim}
 use Rattle.std.specs.Prelude.{IsTrue, ◌&&◌, ◌||◌, if◌then◌else◌}
 use Rattle.std.proofs.lemmas.Bool.{cases_Bool}
 use Rattle.std.proofs.lemmas.List.Elements.{All-nil}
@@ -12,7 +12,20 @@ use Rattle.rcu_jobs.specs.declared.callback.Callback.{Callback}
 use Rattle.rcu_jobs.specs.declared.turns.Mode.TheVariants.{Deoffloading, Offloading}
 use Rattle.rcu_lists.specs.Labels.{Labelled, callbacks_of}
 use Rattle.rcu_lists.specs.Release.{is_any}
+use Rattle.rcu_board.specs.Seats.{NeverFalls}
+use Rattle.rcu_board.specs.Views.{seen_at, sight}
+use Rattle.rcu_board.specs.Words.{needed_word}
+use Rattle.rcu_board.specs.declared.view.View.{View}
+use Rattle.rcu_holdings.specs.Callers.{passed_on}
+use Rattle.rcu_holdings.specs.Safe.{AreBelow}
+use Rattle.rcu_holdings.proofs.Aims.{up-raised}
+use Rattle.rcu_jobs.specs.declared.callback.Record.{Record}
+use Rattle.rcu_jobs.specs.declared.turns.Mode.{Mode}
+use Rattle.rcu_parts.specs.Changes.{Tells}
+use Rattle.rcu_parts.specs.Lawful.{IsLawful}
+use Rattle.rcu_parts.proofs.Moving.{kept_by_moves, lawful_below}
 use Rattle.rcu_parts.proofs.Taking.{PutsMore}
+use Rattle.rcu_parts.proofs.Telling.{tells_none}
 
 module _ {J : Type 0} where
   pub record Shifts (h n : Holding J) : Type 0 where
@@ -80,3 +93,26 @@ module _ {J : Type 0} where
   -- an empty own list stays empty
   pub shifts_empty : (h n : Holding J) → Shifts h n → h.own ≡ [] → n.own ≡ []
   shifts_empty h n k none = ⊎_elim (λ e. e ∙ none) (λ e. e) k.own
+
+  -- a release, and then what is asked
+  pub heeding : (moment : ℕ) (on urges : Bool) (accepted : ℕ) (h i j : Holding J) → Releases moment (not on) urges h i → (on ≡ false → j ≡ asked_off accepted i) → (on ≡ true → AskedOn i j) → Shifts h j
+  heeding moment on urges accepted h i j r off asked = shifts_again h i j (shifts_release moment (not on) urges h i r) (elim (cases_Bool on) [
+    | inl e ↦ shifts_on i j (asked e)
+    | inr e ↦ shifts_off accepted i j (off e)
+  ])
+
+module _ {J R : Type 0} where
+  -- the law is kept as the lists shift
+  pub shifts_law : (cpu n m : ℕ) (v w : View) (ran : List (Record R)) (h h' : Holding J) → Tells v w → NeverFalls m v w → Shifts h h' → passed_on h' ≡ passed_on h → IsLawful cpu n v ran h → IsLawful cpu n w ran h'
+  shifts_law cpu n m v w ran h h' tells later k passed l = kept_by_moves cpu n v w ran h h' k.puts.0 tells k.puts.1 passed (let a = k.puts.2 in let b = later.board in let z = l.looked in omega arith)
+      (shifts_up (seen_at w needed_word) h h' k (up-raised (seen_at v needed_word) (seen_at w needed_word) h.own later.needed l.needed)) l
+
+  -- what was put is below the count, once the bypass list was released
+  pub shifts_below : (cpu n : ℕ) (v : View) (ran : List (Record R)) (h h' : Holding J) → Shifts h h' → passed_on h' ≡ passed_on h → IsLawful cpu n v ran h → AreBelow n (put_by h')
+  shifts_below cpu n v ran h h' k passed l = lawful_below cpu n v ran h' (kept_by_moves cpu n v v ran h h' k.puts.0 (tells_none v v refl) k.puts.1 passed (let a = k.puts.2 in let z = l.looked in omega arith)
+      (shifts_up (seen_at v needed_word) h h' k l.needed) l)
+
+  -- the law is kept as the mode settles
+  pub settled_law : (cpu n m : ℕ) (v w : View) (ran : List (Record R)) (h h' : Holding J) (mode : Mode) → Tells v w → NeverFalls m v w → h' ≡ record h { mode = mode } → IsLawful cpu n v ran h → IsLawful cpu n w ran h'
+  settled_law cpu n m v w ran h h' mode tells later e l = kept_by_moves cpu n v w ran h h' [] tells (ap put_by e ∙ sym (append-nil (put_by h))) (ap passed_on e) (let b = later.board in let z = l.looked in omega (arith, ap (λ (x : Holding J). x.advanced) e))
+      (subst (AreUpTo (seen_at w needed_word)) (sym (ap (λ (x : Holding J). x.own) e)) (up-raised (seen_at v needed_word) (seen_at w needed_word) h.own later.needed l.needed)) l

@@ -31,7 +31,7 @@ use Rattle.rcu_parts.specs.Places.{numbered_callback}
 use Rattle.rcu_parts.specs.Processors.{SameProcessor, board_of, lists_of, records_of, view_of}
 use Rattle.rcu_parts.specs.Ticks.{Asks, CatchesUp, Heeds, Settles, RanDone, IsFresh, IsLocalOnceRun, RunsNoneOffloaded, TicksBy}
 use Rattle.rcu_parts.specs.declared.processor.ProcessorState.{ProcessorState}
-use Rattle.rcu_parts.proofs.Heeding.{Shifts, shifts_again, shifts_empty, shifts_off, shifts_on, shifts_release}
+use Rattle.rcu_parts.proofs.Heeding.{Shifts, heeding, shifts_empty}
 
 -- a step on word i leaves word j alone
 untouched_by : (i j x : ℕ) (v w : View) → j ≢ i → w ≡ touched i x v → Untouched j v w
@@ -90,10 +90,7 @@ module _ {J R : Type 0} where
 
   -- the release and the switch
   heeded : (moment : ℕ) (p q : ProcessorState J R) → Heeds moment p q → Shifts (lists_of p) (lists_of q)
-  heeded moment p q h = shifts_again (lists_of p) h.released (lists_of q) (shifts_release moment (not h.on) h.urges (lists_of p) h.released h.releases) (elim (cases_Bool h.on) [
-    | inl on ↦ shifts_on h.released (lists_of q) (h.asked_on on)
-    | inr off ↦ shifts_off p.accepted h.released (lists_of q) (h.asked_off off)
-  ])
+  heeded moment p q h = heeding moment h.on h.urges p.accepted (lists_of p) h.released (lists_of q) h.releases h.asked_off h.asked_on
 
   heeds_step : (moment : ℕ) (p q : ProcessorState J R) (h : Heeds moment p q) (a u : ℕ) → asks_word p.cpu ≡ a → urge_word (board_of p).processors ≡ u
       → view_of q ≡ urged u h.found (bit_and h.found (all_but_of p.cpu)) (touched a (from_bool h.on) (view_of p))

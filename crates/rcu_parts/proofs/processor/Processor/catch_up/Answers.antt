@@ -14,9 +14,9 @@ use Rattle.rcu_holdings.proofs.Sizes.{in_struct}
 use Rattle.rcu_parts.specs.Lawful.{IsLawful, StaysLocal}
 use Rattle.rcu_parts.specs.Ticks.{Asks}
 use Rattle.rcu_parts.specs.contracts.processor.Processor as row
-use Rattle.rcu_parts.proofs.CatchingUp.{asked_for, asks_none, asks_one, caught_law, caught_local, caught_passes, sight_asked}
+use Rattle.rcu_parts.proofs.CatchingUp.{asked_for, asks_none, asks_one, caught_law, caught_local, caught_passes}
 use Rattle.rcu_parts.proofs.Taking.{sound_moved}
-use Rattle.rcu_parts.proofs.Telling.{tells_again, tells_looked, tells_touched}
+use Rattle.rcu_parts.proofs.Telling.{sight_touched, tells_again, tells_looked, tells_touched}
 use Rattle.rcu_parts.proofs.processor.Processor.catch_up.Goals as goal
 
 pub look-requires : goal.look-requires
@@ -67,7 +67,7 @@ returns-in-Some-clause-catches_up g c = let s = c.args.self.now.state in let e =
 
 pub returns-in-Some-clause-sight : goal.returns-in-Some-clause-sight
 returns-in-Some-clause-sight g c = let s = c.args.self.now.state in let e = c.watch.ensures in let n = c.need.ensures in
-    (sight_asked (max c.need.result c.in-Some.number) (view c.watch.new.seat) (view c.need.new.seat) n.view ∙ (sym e.sight.0 ∙ sym c.seq-seen.ensures.same), ap (λ (h : Holding g.row.J.Denot). h.advanced) c.in-Some.ensures.list)
+    (sight_touched needed_word (max c.need.result c.in-Some.number) (view c.watch.new.seat) (view c.need.new.seat) (λ z. absurd (omega (arith, z))) n.view ∙ (sym e.sight.0 ∙ sym c.seq-seen.ensures.same), ap (λ (h : Holding g.row.J.Denot). h.advanced) c.in-Some.ensures.list)
 
 pub returns-in-Some-clause-sound : goal.returns-in-Some-clause-sound
 returns-in-Some-clause-sound g c = let s = c.args.self.now.state in let l = c.in-Some.ensures in
