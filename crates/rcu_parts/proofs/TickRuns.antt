@@ -1,8 +1,9 @@
 -- What the runs of a tick come to.
-use Rattle.std.proofs.Common.{◌≡◌, ℕ, ◌+◌, ◌≤◌, List, [], ◌∷◌, ◌++◌, map, length, length-append, append-nil, append_assoc, ap, sym, ◌∙◌, refl, subst, arith}
+use Rattle.std.proofs.Common.{◌≡◌, ◌≢◌, ℕ, ◌+◌, ◌≤◌, cond, get_or, List, [], ◌∷◌, ◌++◌, map, length, length-append, append-nil, append_assoc, ap, sym, ◌∙◌, refl, subst, arith}
 use Rattle.std.proofs.lemmas.List.{map-append}
 use Rattle.std.proofs.lemmas.List.Elements.{All-append, All-cons, All-head, All-nil, All-tail}
 use Rattle.std.specs.List.{All}
+use Rattle.std.proofs.lemmas.List.Sums.{sum_by-cons}
 use Rattle.rcu_board.specs.Views.{seen_at}
 use Rattle.rcu_board.specs.Words.{turns_word}
 use Rattle.rcu_board.specs.declared.view.View.{View}
@@ -11,7 +12,7 @@ use Rattle.rcu_holdings.specs.Callers.{Holding, passed_on, put_by}
 use Rattle.rcu_jobs.specs.Records.{Given}
 use Rattle.rcu_jobs.specs.declared.callback.Callback.{Callback}
 use Rattle.rcu_jobs.specs.declared.callback.Record.{Record}
-use Rattle.rcu_lists.specs.Labels.{Done, Labelled, marked}
+use Rattle.rcu_lists.specs.Labels.{Done, Labelled, marked, count, is_done}
 use Rattle.rcu_places.specs.Places.{Numbered}
 use Rattle.rcu_records.specs.Records.{numbered_record}
 use Rattle.rcu_parts.specs.Changes.{StepsOnly}
@@ -20,6 +21,15 @@ use Rattle.rcu_parts.specs.Processors.{IsSound, SameProcessor, lists_of, records
 use Rattle.rcu_parts.specs.Ticks.{RanDone}
 use Rattle.rcu_parts.specs.declared.processor.ProcessorState.{ProcessorState}
 use Rattle.rcu_parts.proofs.Turning.{steps_more}
+
+module _ {J : Type 0} where
+  -- a list whose first callback is done
+  pub done_some : (c : Callback J) (rest own : List (Labelled J)) → own ≡ marked Done (c ∷ []) ++ rest → count is_done own ≢ 0
+  done_some c rest own e none = omega (arith, sum_by-cons (λ (x : Labelled J). cond (is_done x.label) 1 0) (record { label = Done; callback = c }) rest, ap (count is_done) e, none)
+
+  -- is the same, however the list is written
+  pub same_done : (c d : Callback J) (xs ys : List (Labelled J)) → marked Done (c ∷ []) ++ xs ≡ marked Done (d ∷ []) ++ ys → c ≡ d
+  same_done c d xs ys e = ap (λ (l : List (Labelled J)). (get_or l 0 (record { label = Done; callback = c })).callback) e
 
 module _ {J R : Type 0} where
   pub same_processor : (p : ProcessorState J R) → SameProcessor p p

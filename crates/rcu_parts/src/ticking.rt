@@ -137,10 +137,11 @@ impl<J: Job> Processor<J> {
         ensures sound { IsSound J.key_of J.gives self.old.state → IsSound J.key_of J.gives self.new.state }
     {
         let seen = self.catch_up();
-        if self.state.offloadable {
-            self.heed(moment);
-            self.settle();
+        if !self.state.offloadable {
+            return self.run_done(seen);
         }
+        self.heed(moment);
+        self.settle();
         self.run_done(seen)
     }
 }

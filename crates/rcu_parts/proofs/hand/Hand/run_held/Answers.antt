@@ -1,4 +1,4 @@
-use Rattle.std.proofs.Common.{◌≡◌, ℕ, ◌+◌, subst, refl, arith}
+use Rattle.std.proofs.Common.{◌≡◌, ℕ, ◌+◌, subst, sym, refl, arith}
 use Rattle.rcu_parts.specs.Hands.{Ran}
 use Rattle.rcu_parts.proofs.HandRuns.{ran_none, ran_more, same_hand, same_hand_again}
 use Rattle.rcu_parts.proofs.Turning.{steps_none}
@@ -20,3 +20,7 @@ loop-ran-preserved g c = let i = c.loop-ran.invariant in let e = c.run_one.ensur
   ran = ran_more c.loop-ran.ran 1 c.loop-ran.ran 1 c.args.seen c.args.self.now.state c.loop-ran.self.state c.run_one.new.self.state i.same.cpu i.ran c.in_default.ensures.ran;
   sound = λ sound. e.sound (i.sound sound);
 }
+
+pub returns-clause-ran : goal.returns-clause-ran
+returns-clause-ran g c = let i = c.loop-ran.invariant in let b = c.args.self.now.state.blimit in let same : c.loop-ran.ran ≡ b = omega (arith, c.loop-ran-test.false, c.loop-ran.auto.ran-end) in
+    (b, subst (λ (m : ℕ). Ran m m c.args.seen c.args.self.now.state c.loop-ran.self.state) same i.ran, (sym i.same.blimit, refl))
