@@ -1,5 +1,5 @@
 -- What the steps of a tick come to together.
-use Rattle.std.proofs.Common.{◌≡◌, ◌≢◌, ℕ, zero, suc, ◌+◌, ◌*◌, ◌/◌, ◌<◌, ◌≤◌, Bool, true, false, not, inl, inr, Option, Some, None, List, [], ◌∷◌, ◌++◌, map, length, length-append, ap, sym, ◌∙◌, refl, subst, ⊎_elim, arith, get_or-set_same}
+use Rattle.std.proofs.Common.{◌≡◌, ◌≢◌, ℕ, zero, suc, ◌+◌, ◌*◌, ◌/◌, ◌<◌, ◌≤◌, Bool, true, false, not, inl, inr, Option, Some, None, List, [], ◌∷◌, ◌++◌, map, length, length-append, ap, sym, ◌∙◌, refl, subst, ⊎_elim, arith, get_or-set_same, length-set}
 use Rattle.std.specs.Prelude.{bit_and, max, if◌then◌else◌}
 use Rattle.std.specs.Int.{from_bool}
 use Rattle.std.proofs.lemmas.Bool.{cases_Bool}
@@ -62,10 +62,7 @@ module _ (k a u x r y : ℕ) (v w : View) (long : HasWords k v) (step : w ≡ ur
 
   heeds_urges : u < k → tally w u ≡ tally v u + 1
   heeds_urges low = let o = untouched a u x v (λ e. differ (sym e)) in ap (λ (z : View). tally z u) step
-      ∙ (get_or-set_same (touched a x v).steps u (tally (touched a x v) u + 1) 0 (omega (arith, long.steps, touched_long v.steps)) ∙ ap (λ (t : ℕ). t + 1) o.steps)
-    where
-      touched_long : (xs : List ℕ) → length (touched a x (record v { steps = xs })).steps ≡ length xs
-      touched_long xs = search rules
+      ∙ (get_or-set_same (touched a x v).steps u (tally (touched a x v) u + 1) 0 (omega (arith, long.steps, length-set v.steps a (tally v a + 1))) ∙ ap (λ (t : ℕ). t + 1) o.steps)
 
 module _ {J R : Type 0} where
   -- what a tick's steps before its runs come to
@@ -101,14 +98,14 @@ module _ {J R : Type 0} where
   -- the turn word, if it was read
   settles_leave : (p q : ProcessorState J R) → Settles p q → (j : ℕ) → j ≢ turns_word p.cpu → Untouched j (view_of p) (view_of q)
   settles_leave p q s j ne = elim (cases_Bool (is_deoffloading (lists_of p).mode)) [
-    | inl yes ↦ untouched_by (turns_word p.cpu) j (seen_at (view_of q) (turns_word p.cpu)) (view_of p) (view_of q) ne (s.leaving yes).0
-    | inr no ↦ same_there j (view_of p) (view_of q) (s.others no).0
+    | inl e ↦ untouched_by (turns_word p.cpu) j (seen_at (view_of q) (turns_word p.cpu)) (view_of p) (view_of q) ne (s.leaving e).0
+    | inr e ↦ same_there j (view_of p) (view_of q) (s.others e).0
   ]
 
   settles_empty : (p q : ProcessorState J R) → Settles p q → (lists_of p).own ≡ [] → (lists_of q).own ≡ []
   settles_empty p q s none = elim (cases_Bool (is_deoffloading (lists_of p).mode)) [
-    | inl yes ↦ ap (λ (h : Holding J). h.own) (s.leaving yes).1 ∙ none
-    | inr no ↦ ap (λ (h : Holding J). h.own) (s.others no).1 ∙ none
+    | inl e ↦ ap (λ (h : Holding J). h.own) (s.leaving e).1 ∙ none
+    | inr e ↦ ap (λ (h : Holding J). h.own) (s.others e).1 ∙ none
   ]
 
   -- a processor that isn't offloadable only catches up
