@@ -107,5 +107,6 @@ module _ {J R : Type 0} where
       } where
         claim_with : ℕ → ℕ → ℕ → Claim
         claim_with p k s = record { cpu = p; number = k; sight = s }
+
         records : numbered_records ran ++ numbered_callback c ∷ [] ≡ numbered_records ran'
         records = ap (λ (x : Numbered). numbered_records ran ++ x ∷ []) (sym same) ∙ (sym (map-append numbered_record ran (r ∷ [])) ∙ ap (map numbered_record) (sym more))

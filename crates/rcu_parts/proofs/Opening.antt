@@ -1,7 +1,10 @@
 -- A processor's part before any step keeps its law.
-use Rattle.std.proofs.Common.{◌≡◌, ℕ, false, List, [], ◌∷◌, ◌++◌, map, length, ap, sym, ◌∙◌, subst, arith}
+use Rattle.std.proofs.Common.{◌≡◌, ℕ, Bool, true, false, inl, inr, refl, List, [], ◌∷◌, ◌++◌, map, length, ap, sym, ◌∙◌, subst, arith}
 use Rattle.std.proofs.lemmas.List.Elements.{All-nil}
-use Rattle.std.specs.Prelude.{IsTrue}
+use Rattle.std.specs.Prelude.{IsTrue, ◌↔◌}
+use Rattle.std.proofs.lemmas.Bool.{cases_Bool, eq-eqb, eqb-true}
+use Rattle.rcu_numbers.specs.Words.{owes_of}
+use Rattle.rcu_board.specs.Opened.{is_offloadable}
 use Rattle.rcu_board.specs.Seats.{accepted_of, fresh_of}
 use Rattle.rcu_board.specs.Views.{new_view, new_own, seen_at}
 use Rattle.rcu_board.specs.Words.{needed_word}
@@ -17,6 +20,17 @@ use Rattle.rcu_places.proofs.Moves.{placed_none}
 use Rattle.rcu_records.specs.Records.{numbered_records, AreRipe}
 use Rattle.rcu_parts.specs.Lawful.{IsLawful}
 use Rattle.rcu_parts.specs.Places.{numbered_callbacks, accepted_list, claim_of}
+
+-- a test of a processor's bit, as its board has it
+offloads_as : (r : Bool) (mask p : ℕ) → IsTrue r ↔ (owes_of mask p ≡ 1) → r ≡ is_offloadable mask p
+offloads_as true mask p i = sym (eq-eqb (owes_of mask p) 1 (i.0 refl))
+offloads_as false mask p i = elim (cases_Bool (is_offloadable mask p)) [
+  | inl e ↦ (let f : true ≡ false = sym (i.1 (eqb-true (owes_of mask p) 1 e)) in cc)
+  | inr e ↦ sym e
+]
+
+pub offloads_at : (b t : Board) → t ≡ b → (r : Bool) (p : ℕ) → IsTrue r ↔ (owes_of t.offloadable p ≡ 1) → r ≡ is_offloadable b.offloadable p
+offloads_at b t e r p i = offloads_as r b.offloadable p (subst (λ (x : Board). IsTrue r ↔ (owes_of x.offloadable p ≡ 1)) e i)
 
 none_ripe : {R : Type 0} → AreRipe {R = R} []
 none_ripe k d low = absurd (omega (arith, low))

@@ -107,9 +107,11 @@ module _ {J R : Type 0} where
       } where
         keyed : Callback J → Type 0
         keyed x = key_of x.job ≡ x.key
+
         keyed_at : (xs : List (Callback J)) → AreKeyed key_of (xs ++ c ∷ after) → key_of c.job ≡ c.key
         keyed_at [] k = All-head keyed c after k
         keyed_at (x ∷ xs) k = keyed_at xs (All-tail keyed x (xs ++ c ∷ after) k)
+
         keyed_without : (xs : List (Callback J)) → AreKeyed key_of (xs ++ c ∷ after) → AreKeyed key_of (xs ++ after)
         keyed_without [] k = All-tail keyed c after k
         keyed_without (x ∷ xs) k = All-cons keyed x (xs ++ after) (All-head keyed x (xs ++ c ∷ after) k) (keyed_without xs (All-tail keyed x (xs ++ c ∷ after) k))

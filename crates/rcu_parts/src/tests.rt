@@ -1,17 +1,20 @@
 ghost use Rattle.std.specs.Prelude.{◌≡◌, [], ◌∷◌, IfOk, IfSome};
 ghost use Rattle.std.specs.Arc.{arc_value};
-ghost use Rattle.rcu_board.specs.Opened.{AreNew, IsNewHand, IsNewProcessor};
+ghost use Rattle.rcu_board.specs.Opened.{AreNew, IsNewHand, IsNewProcessor, is_offloadable};
 ghost use Rattle.rcu_board.specs.Roles.{MayNeed, cpu_of_role};
 ghost use Rattle.rcu_board.specs.Seats.{view, AtBoard};
 ghost use Rattle.rcu_board.specs.declared.board.Role.{Role};
 ghost use Rattle.rcu_control.specs.Views.{IsBare};
+ghost use Rattle.rcu_lanes.specs.Ends.{items_put};
+ghost use Rattle.rcu_parts.specs.Opened.{IsEmpty};
 
 use super::*;
-use rcu_board::{Board, Role, Seat, Seats, need, open_board};
+use rcu_board::{Board, Role, Seat, Seats, ask, need, open_board};
 use rcu_control::Driver;
-use rcu_holdings::{Caller, Held};
-use rcu_jobs::{BoxedJob, HandTurn, Lists, Mode, Refused, Stop, Ticket};
-use rcu_lanes::ruled_lane;
+use rcu_holdings::{Caller, Held, Safe};
+use rcu_jobs::{BoxedJob, HandTurn, Lists, Mode, Refused, Stop, Ticked, Ticket};
+use rcu_lanes::{Rear, ruled_lane};
+use rcu_lists::Batch;
 use rcu_numbers::Shape;
 use std::alloc::{AllocError, Global};
 use std::sync::Arc;
@@ -74,6 +77,51 @@ fn first_seat(shape: Shape, board: &Board, seats: Seats) -> Option<Seat>
     Some(seat)
 }
 
+/// The seats of the only processor and of the driver.
+fn processor_and_driver(shape: Shape, board: &Board, seats: Seats) -> Option<(Seat, Seat)>
+    requires { AreNew shape board.now seats }
+    ensures processor { IfSome result (λ parts. IsNewProcessor board.now 0 parts.0) }
+    ensures driver { IfSome result (λ parts. AtBoard board.now parts.1 × (parts.1.role ≡ Role.Driver) × IsBare (view parts.1)) }
+{
+    let Seats {
+        processors,
+        hands: _,
+        groups: _,
+        driver,
+        control: _,
+    } = seats;
+    Some((only(processors)?, driver))
+}
+
+/// The seats of the only processor and of control.
+fn processor_and_control(shape: Shape, board: &Board, seats: Seats) -> Option<(Seat, Seat)>
+    requires { AreNew shape board.now seats }
+    ensures processor { IfSome result (λ parts. IsNewProcessor board.now 0 parts.0) }
+    ensures control { IfSome result (λ parts. AtBoard board.now parts.1 × (parts.1.role ≡ Role.Control)) }
+{
+    let Seats {
+        processors,
+        hands: _,
+        groups: _,
+        driver: _,
+        control,
+    } = seats;
+    Some((only(processors)?, control))
+}
+
+/// The lists of processor 0, which has accepted nothing.
+fn no_lists(
+    alloc: Global,
+    board: &Board,
+    rear: Rear<Batch<BoxedJob<0>>, Safe>,
+    qhimark: u64,
+) -> Caller<BoxedJob<0>>
+    requires { items_put rear ≡ [] }
+    ensures { IsEmpty (is_offloadable board.now.offloadable 0) result }
+{
+    Caller::new(alloc, rear, board.is_offloadable(0), qhimark)
+}
+
 /// The processor of a board for one, which accepts two callbacks at most.
 fn one_processor(alloc: Global, offloadable: bool) -> Option<Processor<BoxedJob<0>>> {
     let shape = Shape::new(1, u32::from(offloadable), 1, 10, 16, 2)?;
@@ -87,7 +135,7 @@ fn one_processor(alloc: Global, offloadable: bool) -> Option<Processor<BoxedJob<
     let Ok((_front, rear)) = ruled_lane(alloc) else {
         return None;
     };
-    let lists = Caller::new(alloc, rear, offloadable, shape.qhimark);
+    let lists = no_lists(alloc, &board, rear, shape.qhimark);
     Some(Processor::new(alloc, &shape, board, seat, 0, lists))
 }
 
@@ -161,7 +209,7 @@ fn run_by_hand(alloc: Global) -> Option<[HandTurn; 3]> {
         return None;
     };
     let held = Held::new(alloc, front);
-    let lists = Caller::new(alloc, rear, true, shape.qhimark);
+    let lists = no_lists(alloc, &board, rear, shape.qhimark);
     let mut driver = Driver::new(Arc::try_clone(&board).ok()?, driver);
     let mut hand: Hand<BoxedJob<0>> = Hand::new(
         alloc,
@@ -197,5 +245,96 @@ fn hand_runs_after_the_grace_period(rt: HostRuntime) -> Result<(), Fail> {
         stop: Stop::Empty,
     };
     assert_eq!(rt; turns, [empty, early, ran]);
+    Ok(())
+}
+
+/// A Local processor's tick before and after a grace period: it runs what it accepted, in order, at most `blimit`.
+fn tick_by_hand(alloc: Global) -> Option<[Ticked; 4]> {
+    let shape = Shape::new(1, 0, 1, 2, 16, 3)?;
+    let Ok((board, seats)) = open_board(alloc, shape) else {
+        return None;
+    };
+    let (seat, driver) = processor_and_driver(shape, &board, seats)?;
+    let Ok(board) = Arc::new(alloc, board) else {
+        return None;
+    };
+    let Ok((_front, rear)) = ruled_lane(alloc) else {
+        return None;
+    };
+    let lists = no_lists(alloc, &board, rear, shape.qhimark);
+    let mut driver = Driver::new(Arc::try_clone(&board).ok()?, driver);
+    let mut processor = Processor::new(alloc, &shape, board, seat, 0, lists);
+    processor.call_rcu(1, job(alloc, 7).ok()?).ok()?;
+    processor.call_rcu(1, job(alloc, 8).ok()?).ok()?;
+    processor.call_rcu(1, job(alloc, 9).ok()?).ok()?;
+    let early = processor.tick(1);
+    driver.turn();
+    processor.quiescent();
+    driver.turn();
+    let first = processor.tick(2);
+    let second = processor.tick(3);
+    Some([early, first, second, processor.tick(4)])
+}
+
+#[test]
+fn local_processor_runs_in_its_tick(rt: HostRuntime) -> Result<(), Fail> {
+    let ticks = tick_by_hand(rt.alloc()).expect(&rt, "four ticks");
+    let none = Ticked {
+        ran: 0,
+        stop: Stop::Empty,
+    };
+    let full = Ticked {
+        ran: 2,
+        stop: Stop::Limit,
+    };
+    let last = Ticked {
+        ran: 1,
+        stop: Stop::Empty,
+    };
+    assert_eq!(rt; ticks, [none, full, last, none]);
+    Ok(())
+}
+
+/// An offloaded processor with a lazy call is asked off: it releases its bypass list in the tick, and the mode is
+/// Deoffloading until the hand has run what went over the lane.
+fn leave_by_hand(alloc: Global) -> Option<[Lists; 3]> {
+    let shape = Shape::new(1, 1, 1, 10, 16, 3)?;
+    let Ok((board, seats)) = open_board(alloc, shape) else {
+        return None;
+    };
+    let (seat, mut control) = processor_and_control(shape, &board, seats)?;
+    let Ok(board) = Arc::new(alloc, board) else {
+        return None;
+    };
+    let Ok((_front, rear)) = ruled_lane(alloc) else {
+        return None;
+    };
+    let lists = no_lists(alloc, &board, rear, shape.qhimark);
+    let asking = Arc::try_clone(&board).ok()?;
+    let mut processor = Processor::new(alloc, &shape, board, seat, 0, lists);
+    processor.call_rcu_lazy(1, job(alloc, 7).ok()?).ok()?;
+    processor.tick(1);
+    let held = processor.lists();
+    ask(&asking, &mut control, 0, false);
+    processor.tick(1);
+    let left = processor.lists();
+    ask(&asking, &mut control, 0, true);
+    processor.tick(1);
+    Some([held, left, processor.lists()])
+}
+
+#[test]
+fn processor_leaves_as_it_is_asked(rt: HostRuntime) -> Result<(), Fail> {
+    let shown = leave_by_hand(rt.alloc()).expect(&rt, "three answers");
+    let lists = |mode, bypass| Lists::Cpu {
+        mode,
+        accepted: 1,
+        bypass,
+        lengths: [0, 0, 0, 0],
+        numbers: [0, 0],
+    };
+    assert_eq!(rt; shown[0], lists(Mode::Offloaded, 1));
+    assert_eq!(rt; shown[1], lists(Mode::Deoffloading, 0));
+    assert_eq!(rt; shown[2], lists(Mode::Offloaded, 0));
     Ok(())
 }

@@ -86,3 +86,14 @@ invariant_of-state-in_default-enter g c = let s = c.args.self.now.state in let e
 
 pub returns-in_default-enter-clause-sound : goal.returns-in_default-enter-clause-sound
 returns-in_default-enter-clause-sound g c = sound_same g.J.Job.key_of g.J.Job.gives c.args.self.now.state _ c.in-Ok.ensures.same refl
+
+pub invariant_of-state : goal.invariant_of-state
+invariant_of-state g c = let s = c.args.self.now.state in let same = c.reserve.ensures.same in record {
+  here = s.here;
+  role = s.role;
+  there = s.there;
+  bit = s.bit;
+  local = subst (λ (h : Holding g.row.J.Denot). StaysLocal s.offloadable h) (sym same) s.local;
+  small = s.small;
+  lawful = subst (λ (h : Holding g.row.J.Denot). IsLawful s.cpu s.accepted (view s.seat) s.ran.items h) (sym same) s.lawful;
+}

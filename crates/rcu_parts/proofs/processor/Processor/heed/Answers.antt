@@ -31,9 +31,11 @@ pub release-requires : goal.release-requires
 release-requires g c = let h : FitsInMemory (row.the_row (param 0 g.row.J) (param 1 g.row.J-Receipt)) = search rules in in_struct _ _ _ (in_struct _ _ _ h)
 
 pub switch-requires : goal.switch-requires
-switch-requires g c = let h : FitsInMemory (row.the_row (param 0 g.row.J) (param 1 g.row.J-Receipt)) = search rules in let s = c.args.self.now.state in let r = c.release.ensures in
-    (in_struct _ _ _ (in_struct _ _ _ h), shifts_below s.cpu s.accepted (view s.seat) s.ran.items (holding s.lists) (holding c.release.new.self)
-    (shifts_release c.args.moment (not c.asked-on.result) c.heard-urged.result (holding s.lists) (holding c.release.new.self) r.releases) r.places s.lawful)
+switch-requires g c = let h : FitsInMemory (row.the_row (param 0 g.row.J) (param 1 g.row.J-Receipt)) = search rules in let s = c.args.self.now.state in let r = c.release.ensures in (
+  in_struct _ _ _ (in_struct _ _ _ h),
+  shifts_below s.cpu s.accepted (view s.seat) s.ran.items (holding s.lists) (holding c.release.new.self)
+      (shifts_release c.args.moment (not c.asked-on.result) c.heard-urged.result (holding s.lists) (holding c.release.new.self) r.releases) r.places s.lawful,
+)
 
 pub invariant_of-state : goal.invariant_of-state
 invariant_of-state g c = let s = c.args.self.now.state in let a = c.asked-on.ensures in let b = c.heard-urged.ensures in let r = c.release.ensures in let k = c.switch.ensures in
@@ -78,10 +80,11 @@ pub returns-clause-sight : goal.returns-clause-sight
 returns-clause-sight g c = let s = c.args.self.now.state in let a = c.asked-on.ensures in let b = c.heard-urged.ensures in
     let n = (arc_value s.board).processors in let i = urge_word n in let found = seen_at (view c.heard-urged.new.seat) i in
     let u = view c.asked-on.new.seat in let w = view c.heard-urged.new.seat in
-    let step = urges (arc_value s.board) c.deref-2.result.now c.deref-2.ensures (cpu_of_role c.asked-on.new.seat.role) u w b.view in
-    (sight_urged i found (bit_and found (all_but_of (cpu_of_role c.asked-on.new.seat.role))) u w (λ z. absurd (omega (arith, z))) step
-    ∙ sight_touched (asks_word (cpu_of_role s.seat.role)) (from_bool c.asked-on.result) (view s.seat) (view c.asked-on.new.seat) (λ z. absurd (omega (arith, z))) a.view,
-    c.switch.ensures.advanced ∙ c.release.ensures.advanced)
+    let step = urges (arc_value s.board) c.deref-2.result.now c.deref-2.ensures (cpu_of_role c.asked-on.new.seat.role) u w b.view in (
+      sight_urged i found (bit_and found (all_but_of (cpu_of_role c.asked-on.new.seat.role))) u w (λ z. absurd (omega (arith, z))) step
+          ∙ sight_touched (asks_word (cpu_of_role s.seat.role)) (from_bool c.asked-on.result) (view s.seat) (view c.asked-on.new.seat) (λ z. absurd (omega (arith, z))) a.view,
+      c.switch.ensures.advanced ∙ c.release.ensures.advanced,
+    )
 
 pub returns-clause-sound : goal.returns-clause-sound
 returns-clause-sound g c = sound_moved g.J.Job.key_of g.J.Job.gives c.args.self.now.state _ (c.switch.ensures.places ∙ c.release.ensures.places) refl

@@ -69,9 +69,11 @@ invariant_of-state-then-not-take g c = let s = c.args.self.now.state in let e = 
 }
 
 pub returns-then-not-take-clause-not : goal.returns-then-not-take-clause-not
-returns-then-not-take-clause-not g c = let s = c.args.self.now.state in let f = c.in-Some.ensures.first in let e = c.if-not-take.ensures in let l = e.lost refl in
-    (1, done_none 1 c.args.seen s _ refl c.reserve.ensures.items e.only (subst (λ (b : Board). s.cpu < b.processors → seen_at (view s.seat) (turns_word s.cpu) ≤ seen_at (view c.take.new.seat) (turns_word s.cpu)) c.deref.ensures (e.later.turns s.cpu) s.there),
-    λ n. (refl, (c.in-Some.first.now, f.0, f.1, l.2)))
+returns-then-not-take-clause-not g c = let s = c.args.self.now.state in let f = c.in-Some.ensures.first in let e = c.if-not-take.ensures in let l = e.lost refl in (
+  1,
+  done_none 1 c.args.seen s _ refl c.reserve.ensures.items e.only (subst (λ (b : Board). s.cpu < b.processors → seen_at (view s.seat) (turns_word s.cpu) ≤ seen_at (view c.take.new.seat) (turns_word s.cpu)) c.deref.ensures (e.later.turns s.cpu) s.there),
+  λ n. (refl, (c.in-Some.first.now, f.0, f.1, l.2)),
+)
 
 pub returns-then-not-take-clause-sight : goal.returns-then-not-take-clause-sight
 returns-then-not-take-clause-sight g c = ((c.if-not-take.ensures.lost refl).1 ∙ c.requires.seen.0, c.requires.seen.1)
