@@ -1,5 +1,5 @@
 -- What a tick's look and its ask come to.
-use Rattle.std.proofs.Common.{◌≡◌, ℕ, ◌<◌, ◌≤◌, Bool, Option, Some, None, List, [], ◌++◌, append-nil, max, ap, sym, ◌∙◌, refl, arith}
+use Rattle.std.proofs.Common.{◌≡◌, ℕ, ◌≤◌, Bool, Option, Some, None, List, [], ◌++◌, append-nil, max, ap, sym, ◌∙◌, arith}
 use Rattle.rcu_board.specs.Plays.{touched}
 use Rattle.rcu_board.specs.Seats.{view, AtBoard}
 use Rattle.rcu_board.specs.Views.{seen_at, sight}

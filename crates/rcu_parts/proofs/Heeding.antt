@@ -1,6 +1,6 @@
 -- What a tick's release and a switch come to: what is put is put behind what was put, the own list stays or is poured whole,
 -- and no processor becomes Local.
-use Rattle.std.proofs.Common.{◌≡◌, ℕ, Bool, true, false, not, inl, inr, ◌⊎◌, ◌≤◌, arith, List, [], ◌∷◌, ◌++◌, append-nil, append_assoc, ap, sym, ◌∙◌, refl, subst, ⊎_elim}
+use Rattle.std.proofs.Common.{◌≡◌, ℕ, Bool, true, false, not, inl, inr, ◌⊎◌, arith, List, [], ◌++◌, append-nil, append_assoc, ap, sym, ◌∙◌, refl, subst, ⊎_elim}
 use Rattle.std.specs.Prelude.{IsTrue, ◌&&◌, ◌||◌, if◌then◌else◌}
 use Rattle.std.proofs.lemmas.Bool.{cases_Bool}
 use Rattle.std.proofs.lemmas.List.Elements.{All-nil}
@@ -13,7 +13,7 @@ use Rattle.rcu_jobs.specs.declared.turns.Mode.TheVariants.{Deoffloading, Offload
 use Rattle.rcu_lists.specs.Labels.{Labelled, callbacks_of}
 use Rattle.rcu_lists.specs.Release.{is_any}
 use Rattle.rcu_board.specs.Seats.{NeverFalls}
-use Rattle.rcu_board.specs.Views.{seen_at, sight}
+use Rattle.rcu_board.specs.Views.{seen_at}
 use Rattle.rcu_board.specs.Words.{needed_word}
 use Rattle.rcu_board.specs.declared.view.View.{View}
 use Rattle.rcu_holdings.specs.Callers.{passed_on}

@@ -10,3 +10,4 @@ pub mod Heeding
 pub mod TickRuns
 pub mod TickLaws
 pub mod CatchingUp
+pub mod Barring

@@ -1,5 +1,5 @@
 -- Steps that change neither an accepted number nor a claim.
-use Rattle.std.proofs.Common.{◌≡◌, ◌≢◌, ℕ, None, List, [], ◌∷◌, map, ap, sym, ◌∙◌, refl, subst}
+use Rattle.std.proofs.Common.{◌≡◌, ◌≢◌, ℕ, None, ap, sym, ◌∙◌, subst}
 use Rattle.rcu_board.specs.Plays.{looked, touched, urged}
 use Rattle.rcu_board.specs.Seats.{accepted_of, fresh_of}
 use Rattle.std.specs.Prelude.{bit_and}

@@ -1,5 +1,5 @@
 -- What the steps of a tick come to together.
-use Rattle.std.proofs.Common.{◌≡◌, ◌≢◌, ℕ, zero, suc, ◌+◌, ◌*◌, ◌/◌, ◌<◌, ◌≤◌, Bool, true, false, not, inl, inr, Option, Some, None, List, [], ◌∷◌, ◌++◌, map, length, length-append, ap, sym, ◌∙◌, refl, subst, ⊎_elim, arith, get_or-set_same, length-set}
+use Rattle.std.proofs.Common.{◌≡◌, ◌≢◌, ℕ, ◌+◌, ◌/◌, ◌<◌, ◌≤◌, Bool, true, false, inl, inr, Option, Some, None, List, [], map, length, length-append, ap, sym, ◌∙◌, refl, subst, arith, get_or-set_same, length-set}
 use Rattle.std.specs.Prelude.{bit_and, max, if◌then◌else◌}
 use Rattle.std.specs.Int.{from_bool}
 use Rattle.std.proofs.lemmas.Bool.{cases_Bool}
@@ -7,29 +7,23 @@ use Rattle.std.proofs.lemmas.List.{length-map}
 use Rattle.std.proofs.lemmas.List.Elements.{All-weaker}
 use Rattle.rcu_numbers.specs.Words.{all_but_of}
 use Rattle.rcu_board.specs.Plays.{looked, touched, urged}
-use Rattle.rcu_board.specs.Seats.{NeverFalls}
 use Rattle.rcu_board.specs.Views.{seen_at, tally}
 use Rattle.rcu_board.specs.Words.{asks_word, bits_of, board_word, needed_word, turns_word, urge_word, words_of}
 use Rattle.rcu_board.specs.declared.view.View.{View}
 use Rattle.rcu_control.specs.Views.{Untouched}
 use Rattle.rcu_control.proofs.Stepping.{HasWords, has_words, untouched, untouched_again}
 use Rattle.rcu_holdings.specs.Aims.{wanted, looked as after_looked}
-use Rattle.rcu_holdings.specs.Callers.{Holding, put_by, asked_off, after_look}
+use Rattle.rcu_holdings.specs.Callers.{Holding, put_by}
 use Rattle.rcu_holdings.specs.Modes.{is_deoffloading, is_local, is_offloaded}
 use Rattle.rcu_holdings.specs.Safe.{AreBelow}
 use Rattle.rcu_holdings.proofs.Aims.{callbacks-looked}
 use Rattle.rcu_holdings.proofs.Holdings.{no-callbacks}
-use Rattle.rcu_jobs.specs.declared.Ticked.{Ticked}
 use Rattle.rcu_jobs.specs.declared.callback.Callback.{Callback}
-use Rattle.rcu_jobs.specs.declared.callback.Record.{Record}
 use Rattle.rcu_lists.specs.Labels.{Done, Labelled, marked}
-use Rattle.rcu_places.specs.Places.{Numbered}
 use Rattle.rcu_records.specs.Records.{numbered_record}
-use Rattle.rcu_parts.specs.Changes.{StepsOnly}
-use Rattle.rcu_parts.specs.Lawful.{StaysLocal}
 use Rattle.rcu_parts.specs.Places.{numbered_callback}
-use Rattle.rcu_parts.specs.Processors.{SameProcessor, board_of, lists_of, records_of, view_of}
-use Rattle.rcu_parts.specs.Ticks.{Asks, CatchesUp, Heeds, Settles, RanDone, IsFresh, IsLocalOnceRun, RunsNoneOffloaded, TicksBy}
+use Rattle.rcu_parts.specs.Processors.{SameProcessor, board_of, lists_of, view_of}
+use Rattle.rcu_parts.specs.Ticks.{Asks, CatchesUp, Heeds, Settles, RanDone, IsFresh, IsLocalOnceRun, RunsNoneOffloaded}
 use Rattle.rcu_parts.specs.declared.processor.ProcessorState.{ProcessorState}
 use Rattle.rcu_parts.proofs.Heeding.{Shifts, heeding, shifts_empty}
 

@@ -1,9 +1,9 @@
 -- What a tick does: docs/specification/rules.md, "The calls, step by step", `tick`.
-use Rattle.std.specs.Prelude.{◌≡◌, ◌≢◌, ℕ, ◌+◌, ◌*◌, ◌/◌, ◌≤◌, Bool, true, false, not, IsTrue, ◌↔◌, if◌then◌else◌, List, [], ◌∷◌, ◌++◌, length, map, All, Option, Some, None, bit_and, max}
+use Rattle.std.specs.Prelude.{◌≡◌, ◌≢◌, ℕ, ◌+◌, ◌*◌, ◌/◌, ◌≤◌, Bool, true, false, not, IsTrue, ◌↔◌, if◌then◌else◌, List, [], ◌∷◌, ◌++◌, length, All, Option, Some, None, bit_and, max}
 use Rattle.std.specs.Int.{from_bool}
 use Rattle.rcu_numbers.specs.Words.{Board, owes_of, all_but_of}
 use Rattle.rcu_board.specs.Plays.{looked, touched, urged}
-use Rattle.rcu_board.specs.Views.{seen_at, sight, tally}
+use Rattle.rcu_board.specs.Views.{seen_at, tally}
 use Rattle.rcu_board.specs.Words.{asks_word, bits_of, board_word, needed_word, turns_word, urge_word}
 use Rattle.rcu_board.specs.declared.view.View.{View}
 use Rattle.rcu_holdings.specs.Aims.{wanted}

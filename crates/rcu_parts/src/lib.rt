@@ -3,11 +3,13 @@
 //! steps that docs/specification/rules.md, "The calls, step by step" has for it, and nothing else.
 #![tactic(auto)]
 
+mod barrier;
 mod calling;
 mod hand;
 mod handling;
 mod processor;
 mod reporting;
+mod run;
 mod running;
 mod steps;
 mod ticking;

@@ -9,8 +9,8 @@ ghost use Rattle.rcu_lanes.specs.Ends.{items_put};
 ghost use Rattle.rcu_parts.specs.Opened.{IsEmpty};
 
 use super::*;
-use rcu_board::{Board, Role, Seat, Seats, ask, need, open_board};
-use rcu_control::Driver;
+use rcu_board::{Board, Role, Seat, Seats, need, open_board};
+use rcu_control::{Control, Driver};
 use rcu_holdings::{Caller, Held, Safe};
 use rcu_jobs::{BoxedJob, HandTurn, Lists, Mode, Refused, Stop, Ticked, Ticket};
 use rcu_lanes::{Rear, ruled_lane};
@@ -97,7 +97,7 @@ fn processor_and_driver(shape: Shape, board: &Board, seats: Seats) -> Option<(Se
 fn processor_and_control(shape: Shape, board: &Board, seats: Seats) -> Option<(Seat, Seat)>
     requires { AreNew shape board.now seats }
     ensures processor { IfSome result (λ parts. IsNewProcessor board.now 0 parts.0) }
-    ensures control { IfSome result (λ parts. AtBoard board.now parts.1 × (parts.1.role ≡ Role.Control)) }
+    ensures control { IfSome result (λ parts. AtBoard board.now parts.1 × (parts.1.role ≡ Role.Control) × IsBare (view parts.1)) }
 {
     let Seats {
         processors,
@@ -302,7 +302,7 @@ fn leave_by_hand(alloc: Global) -> Option<[Lists; 3]> {
     let Ok((board, seats)) = open_board(alloc, shape) else {
         return None;
     };
-    let (seat, mut control) = processor_and_control(shape, &board, seats)?;
+    let (seat, control) = processor_and_control(shape, &board, seats)?;
     let Ok(board) = Arc::new(alloc, board) else {
         return None;
     };
@@ -310,15 +310,15 @@ fn leave_by_hand(alloc: Global) -> Option<[Lists; 3]> {
         return None;
     };
     let lists = no_lists(alloc, &board, rear, shape.qhimark);
-    let asking = Arc::try_clone(&board).ok()?;
+    let mut control = Control::new(Arc::try_clone(&board).ok()?, control);
     let mut processor = Processor::new(alloc, &shape, board, seat, 0, lists);
     processor.call_rcu_lazy(1, job(alloc, 7).ok()?).ok()?;
     processor.tick(1);
     let held = processor.lists();
-    ask(&asking, &mut control, 0, false);
+    control.deoffload(0).ok()?;
     processor.tick(1);
     let left = processor.lists();
-    ask(&asking, &mut control, 0, true);
+    control.offload(0).ok()?;
     processor.tick(1);
     Some([held, left, processor.lists()])
 }

@@ -1,18 +1,16 @@
-use Rattle.std.proofs.Common.{◌≡◌, ℕ, ◌≤◌, Option, Some, None, List, [], ◌++◌, append-nil, max, ap, sym, ◌∙◌, refl, subst, rules, arith}
+use Rattle.std.proofs.Common.{max, ap, sym, ◌∙◌, refl, rules, arith}
 use Rattle.std.specs.Arc.{arc_value}
 use Rattle.std.specs.Mem.{FitsInMemory}
 use denote.Param.{param}
 use Rattle.rcu_board.specs.Plays.{looked, touched}
 use Rattle.rcu_board.specs.Seats.{view}
-use Rattle.rcu_board.specs.Views.{seen_at, sight}
+use Rattle.rcu_board.specs.Views.{seen_at}
 use Rattle.rcu_board.specs.Words.{bits_of, needed_word}
 use Rattle.rcu_board.specs.declared.view.View.{View}
-use Rattle.rcu_holdings.specs.Aims.{AreUpTo, wanted}
-use Rattle.rcu_holdings.specs.Callers.{Holding, after_look, held_in, holding, passed_on, put_by}
+use Rattle.rcu_holdings.specs.Aims.{wanted}
+use Rattle.rcu_holdings.specs.Callers.{Holding, holding}
 use Rattle.rcu_holdings.proofs.Aims.{up-raised}
 use Rattle.rcu_holdings.proofs.Sizes.{in_struct}
-use Rattle.rcu_parts.specs.Lawful.{IsLawful, StaysLocal}
-use Rattle.rcu_parts.specs.Ticks.{Asks}
 use Rattle.rcu_parts.specs.contracts.processor.Processor as row
 use Rattle.rcu_parts.proofs.CatchingUp.{asked_for, asks_none, asks_one, caught_law, caught_local, caught_passes}
 use Rattle.rcu_parts.proofs.Taking.{sound_moved}

@@ -1,4 +1,4 @@
-use Rattle.std.proofs.Common.{◌≡◌, ℕ, ◌≤◌, Bool, true, false, not, List, ap, sym, ◌∙◌, refl, subst, rules, arith}
+use Rattle.std.proofs.Common.{◌≡◌, ℕ, true, false, not, ap, sym, ◌∙◌, refl, subst, rules, arith}
 use Rattle.std.specs.Arc.{arc_value}
 use Rattle.std.specs.Int.{from_bool}
 use Rattle.std.specs.Prelude.{bit_and, IsTrue, ◌↔◌}
@@ -14,7 +14,7 @@ use Rattle.rcu_board.specs.Words.{asks_word, urge_word}
 use Rattle.rcu_board.specs.declared.board.Role.{Role}
 use Rattle.rcu_board.specs.declared.view.View.{View}
 use Rattle.rcu_board.proofs.Facts.{never_falls_again}
-use Rattle.rcu_holdings.specs.Callers.{Holding, holding}
+use Rattle.rcu_holdings.specs.Callers.{holding}
 use Rattle.rcu_holdings.proofs.Sizes.{in_struct}
 use Rattle.rcu_parts.specs.contracts.processor.Processor as row
 use Rattle.rcu_parts.proofs.Heeding.{heeding, shifts_below, shifts_law, shifts_release}

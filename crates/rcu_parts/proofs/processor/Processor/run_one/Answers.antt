@@ -1,4 +1,4 @@
-use Rattle.std.proofs.Common.{◌≡◌, ℕ, ◌+◌, ◌<◌, ◌≤◌, List, [], ◌∷◌, ◌++◌, ◌∙◌, ap, sym, subst, refl, rules, arith}
+use Rattle.std.proofs.Common.{ℕ, ◌<◌, ◌≤◌, List, [], ◌∷◌, ◌++◌, ◌∙◌, ap, sym, subst, refl, rules, arith}
 use Rattle.std.specs.Mem.{FitsInMemory}
 use Rattle.std.specs.Prelude.{IsTrue}
 use Rattle.std.proofs.lemmas.List.Elements.{All-rest}
@@ -9,18 +9,17 @@ use Rattle.rcu_board.specs.Views.{seen_at, sight}
 use Rattle.rcu_board.specs.Words.{turns_word}
 use Rattle.rcu_board.specs.declared.board.Board.{Board}
 use Rattle.rcu_board.specs.declared.view.Claim.{Claim}
-use Rattle.rcu_board.specs.declared.view.View.{View}
 use Rattle.rcu_board.proofs.Facts.{never_falls_again}
 use Rattle.std.specs.Arc.{arc_value}
 use Rattle.rcu_holdings.specs.Aims.{AreUpTo, is_up_to}
-use Rattle.rcu_holdings.specs.Callers.{Holding, held_in, holding, passed_on, put_by}
+use Rattle.rcu_holdings.specs.Callers.{Holding, held_in, holding, put_by}
 use Rattle.rcu_holdings.proofs.Sizes.{in_struct}
 use Rattle.rcu_jobs.specs.declared.callback.Callback.{Callback}
 use Rattle.rcu_jobs.specs.declared.callback.Record.{Record}
-use Rattle.rcu_lists.specs.Labels.{Done, Labelled, marked}
+use Rattle.rcu_lists.specs.Labels.{Done, Labelled}
 use Rattle.rcu_numbers.specs.Numbers.{snap_of}
 use Rattle.rcu_parts.specs.Changes.{Claims, StepsOnly}
-use Rattle.rcu_parts.specs.Lawful.{IsLawful, StaysLocal}
+use Rattle.rcu_parts.specs.Lawful.{IsLawful}
 use Rattle.rcu_parts.specs.contracts.processor.Processor as row
 use Rattle.rcu_parts.proofs.Keeping.{kept_by_keeps}
 use Rattle.rcu_parts.proofs.Moving.{kept_by_runs}

@@ -8,7 +8,7 @@ use Rattle.rcu_board.specs.Words.{turns_word}
 use Rattle.rcu_board.specs.declared.view.View.{View}
 use Rattle.rcu_board.proofs.Facts.{seen-touched, words-of-processor}
 use Rattle.rcu_holdings.specs.Callers.{Holding, holding, passed_on, put_by}
-use Rattle.rcu_holdings.specs.Modes.{is_deoffloading, is_local, settled}
+use Rattle.rcu_holdings.specs.Modes.{is_deoffloading, settled}
 use Rattle.rcu_holdings.specs.Safe.{AreBelow}
 use Rattle.rcu_holdings.proofs.Sizes.{in_struct}
 use Rattle.rcu_parts.specs.contracts.processor.Processor as row

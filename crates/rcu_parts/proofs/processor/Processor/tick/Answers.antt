@@ -1,5 +1,4 @@
 use Rattle.std.proofs.Common.{◌≡◌, ◌∙◌, true, false, sym, refl}
-use Rattle.rcu_parts.specs.Ticks.{Heeds, Settles}
 use Rattle.rcu_parts.proofs.TickLaws.{before_local, before_offloadable, tick_fresh, tick_local, tick_none}
 use Rattle.rcu_parts.proofs.processor.Processor.tick.Goals as goal
 

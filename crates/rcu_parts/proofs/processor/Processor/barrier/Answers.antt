@@ -1,0 +1,16 @@
+use Rattle.std.proofs.Common.{◌∙◌}
+use Rattle.rcu_board.specs.Seats.{view}
+use Rattle.rcu_holdings.specs.Callers.{holding}
+use Rattle.rcu_parts.proofs.Barring.{opens_law}
+use Rattle.rcu_parts.proofs.processor.Processor.barrier.Goals as goal
+
+pub invariant_of-state : goal.invariant_of-state
+invariant_of-state g c = let s = c.args.self.now.state in let e = c.open_barrier.ensures in record {
+  here = e.same.table ∙ s.here;
+  role = e.same.role ∙ s.role;
+  there = s.there;
+  bit = s.bit;
+  local = s.local;
+  small = s.small;
+  lawful = opens_law s.cpu s.accepted _ c.open_barrier.result (view s.seat) (view c.open_barrier.new.seat) s.ran.items (holding s.lists) e.opens s.lawful;
+}
