@@ -3,3 +3,5 @@ pub mod Bounds
 pub mod Taking
 pub mod Opening
 pub mod HandRuns
+pub mod GroupLists
+pub mod GroupTurns

@@ -7,3 +7,6 @@ pub mod Reports
 pub mod Opened
 pub mod HandLaw
 pub mod Hands
+pub mod Each
+pub mod GroupLaw
+pub mod Groups

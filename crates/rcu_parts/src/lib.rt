@@ -4,6 +4,9 @@
 #![tactic(auto)]
 
 mod calling;
+mod folk;
+mod group;
+mod grouping;
 mod hand;
 mod handling;
 mod processor;
@@ -11,9 +14,13 @@ mod reporting;
 mod running;
 mod steps;
 
+pub use folk::{Folk, Members};
+pub use group::Group;
 pub use hand::Hand;
 pub use processor::Processor;
 pub use reporting::Reading;
 
 #[cfg(test)]
 mod tests;
+#[cfg(test)]
+mod tests_group;
