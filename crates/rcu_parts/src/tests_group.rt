@@ -12,7 +12,7 @@ use std::test::Fail;
 
 /// All parts of a board for one processor but control.
 #[derive(Drop)]
-struct Round {
+struct AllParts {
     processor: Processor<BoxedJob<0>>,
     group: Group<BoxedJob<0>>,
     hand: Hand<BoxedJob<0>>,
@@ -20,7 +20,7 @@ struct Round {
 }
 
 /// Processor 0 with its group and its hand, of which a turn gives and runs one callback at most.
-fn round(alloc: Global) -> Option<Round> {
+fn all_parts(alloc: Global) -> Option<AllParts> {
     let shape = Shape::new(1, 1, 1, 1, 16, 20)?;
     let Ok((board, seats)) = open_board(alloc, shape) else {
         return None;
@@ -53,7 +53,7 @@ fn round(alloc: Global) -> Option<Round> {
     let hand_board = Arc::try_clone(&board).ok()?;
     let driver_board = Arc::try_clone(&board).ok()?;
     let held = Held::new(alloc, done_front);
-    Some(Round {
+    Some(AllParts {
         processor: Processor::new(alloc, &shape, board, processor, 0, lists),
         group: Group::new(&shape, group_board, group, number, members),
         hand: Hand::new(alloc, &shape, hand_board, hand, cpu, held),
@@ -63,38 +63,38 @@ fn round(alloc: Global) -> Option<Round> {
 
 #[test]
 fn group_with_nothing_to_do(rt: HostRuntime) -> Result<(), Fail> {
-    let mut round = round(rt.alloc()).expect(&rt, "all parts");
+    let mut parts = all_parts(rt.alloc()).expect(&rt, "all parts");
     let none = GroupTurn {
         took: 0,
         gave: 0,
         held: 0,
     };
-    assert_eq!(rt; round.group.turn(), none);
-    assert_eq!(rt; round.driver.turn(), DriverTurn::Idle);
-    assert_eq!(rt; round.group.lists(1), None);
+    assert_eq!(rt; parts.group.turn(), none);
+    assert_eq!(rt; parts.driver.turn(), DriverTurn::Idle);
+    assert_eq!(rt; parts.group.lists(1), None);
     Ok(())
 }
 
 #[test]
 fn group_hands_on_what_a_processor_released(rt: HostRuntime) -> Result<(), Fail> {
     let alloc = rt.alloc();
-    let mut round = round(alloc).expect(&rt, "all parts");
-    assert!(rt; round.processor.call_rcu(1, job(alloc, 7)?).is_ok());
-    assert!(rt; round.processor.call_rcu(2, job(alloc, 8)?).is_ok());
+    let mut parts = all_parts(alloc).expect(&rt, "all parts");
+    assert!(rt; parts.processor.call_rcu(1, job(alloc, 7)?).is_ok());
+    assert!(rt; parts.processor.call_rcu(2, job(alloc, 8)?).is_ok());
     let drawn = GroupTurn {
         took: 2,
         gave: 0,
         held: 0,
     };
-    assert_eq!(rt; round.group.turn(), drawn);
+    assert_eq!(rt; parts.group.turn(), drawn);
     let waiting = Lists::Folk {
         lengths: [0, 2, 0, 0],
         numbers: [4, 0],
     };
-    assert_eq!(rt; round.group.lists(0), Some(waiting));
-    assert_eq!(rt; round.driver.turn(), DriverTurn::Started(1));
-    assert_eq!(rt; round.processor.quiescent(), Some(1));
-    assert_eq!(rt; round.driver.turn(), DriverTurn::Ended(4));
+    assert_eq!(rt; parts.group.lists(0), Some(waiting));
+    assert_eq!(rt; parts.driver.turn(), DriverTurn::Started(1));
+    assert_eq!(rt; parts.processor.quiescent(), Some(1));
+    assert_eq!(rt; parts.driver.turn(), DriverTurn::Ended(4));
     let gave = GroupTurn {
         took: 0,
         gave: 1,
@@ -104,19 +104,19 @@ fn group_hands_on_what_a_processor_released(rt: HostRuntime) -> Result<(), Fail>
         ran: 1,
         stop: Stop::Limit,
     };
-    assert_eq!(rt; round.group.turn(), gave);
-    assert_eq!(rt; round.hand.turn(), ran);
+    assert_eq!(rt; parts.group.turn(), gave);
+    assert_eq!(rt; parts.hand.turn(), ran);
     let left = Lists::Folk {
         lengths: [1, 0, 0, 0],
         numbers: [0, 0],
     };
-    assert_eq!(rt; round.group.lists(0), Some(left));
-    assert_eq!(rt; round.group.turn(), gave);
-    assert_eq!(rt; round.hand.turn(), ran);
+    assert_eq!(rt; parts.group.lists(0), Some(left));
+    assert_eq!(rt; parts.group.turn(), gave);
+    assert_eq!(rt; parts.hand.turn(), ran);
     let empty = HandTurn {
         ran: 0,
         stop: Stop::Empty,
     };
-    assert_eq!(rt; round.hand.turn(), empty);
+    assert_eq!(rt; parts.hand.turn(), empty);
     Ok(())
 }
