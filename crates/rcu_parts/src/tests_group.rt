@@ -1,14 +1,41 @@
+ghost use Rattle.std.specs.Prelude.{◌≡◌, ℕ, []};
+ghost use Rattle.std.specs.Arc.{arc_value};
+ghost use Rattle.rcu_board.specs.Opened.{IsNewGroup};
+ghost use Rattle.rcu_lanes.specs.Ends.{items_drawn, items_put};
+
 use super::*;
 use crate::tests::{OneOfEach, job, take_apart};
-use rcu_board::{Role, open_board};
+use rcu_board::{Board, Role, Seat, open_board};
 use rcu_control::Driver;
-use rcu_holdings::{Caller, Held, Member};
-use rcu_jobs::{BoxedJob, DriverTurn, GroupTurn, HandTurn, Lists, Stop};
-use rcu_lanes::ruled_lane;
+use rcu_holdings::{Caller, Held, Member, Safe};
+use rcu_jobs::{BoxedJob, GroupTurn, HandTurn, Lists, Stop};
+use rcu_lanes::{Front, Rear, ruled_lane};
+use rcu_lists::Batch;
 use rcu_numbers::Shape;
 use std::alloc::Global;
 use std::sync::Arc;
 use std::test::Fail;
+
+/// The group of one member, between the ends of its two lanes.
+fn one_member(
+    alloc: Global,
+    shape: &Shape,
+    board: Arc<Board, Global>,
+    seat: Seat,
+    front: Front<Batch<BoxedJob<0>>, Safe>,
+    rear: Rear<Batch<BoxedJob<0>>, Safe>,
+) -> Option<Group<BoxedJob<0>>>
+    requires seat { (number : ℕ) × IsNewGroup (arc_value board) number seat }
+    requires front { items_drawn front ≡ [] }
+    requires rear { items_put rear ≡ [] }
+{
+    let Role::Group(number) = seat.role() else {
+        return None;
+    };
+    let member = Member::new(alloc, front, rear);
+    let members = Members::new(alloc, Folk { cpu: 0, member });
+    Some(Group::new(shape, board, seat, number, members))
+}
 
 /// All parts of a board for one processor but control.
 #[derive(Drop)]
@@ -25,16 +52,8 @@ fn all_parts(alloc: Global) -> Option<AllParts> {
     let Ok((board, seats)) = open_board(alloc, shape) else {
         return None;
     };
-    let OneOfEach {
-        processor,
-        hand,
-        group,
-        driver,
-    } = take_apart(shape, &board, seats)?;
-    let Role::Hand(cpu) = hand.role() else {
-        return None;
-    };
-    let Role::Group(number) = group.role() else {
+    let seats = take_apart(shape, &board, seats)?;
+    let Role::Hand(cpu) = seats.hand.role() else {
         return None;
     };
     let Ok(board) = Arc::new(alloc, board) else {
@@ -46,77 +65,92 @@ fn all_parts(alloc: Global) -> Option<AllParts> {
     let Ok((done_front, done_rear)) = ruled_lane(alloc) else {
         return None;
     };
-    let member = Member::new(alloc, front, done_rear);
-    let members = Members::new(alloc, Folk { cpu, member });
-    let lists = Caller::new(alloc, rear, true, shape.qhimark);
-    let group_board = Arc::try_clone(&board).ok()?;
-    let hand_board = Arc::try_clone(&board).ok()?;
-    let driver_board = Arc::try_clone(&board).ok()?;
+    let OneOfEach {
+        processor,
+        hand,
+        group,
+        driver,
+    } = seats;
+    let at_group = Arc::try_clone(&board).ok()?;
+    let group = one_member(alloc, &shape, at_group, group, front, done_rear)?;
+    let at_hand = Arc::try_clone(&board).ok()?;
     let held = Held::new(alloc, done_front);
+    let hand = Hand::new(alloc, &shape, at_hand, hand, cpu, held);
+    let driver = Driver::new(Arc::try_clone(&board).ok()?, driver);
+    let lists = Caller::new(alloc, rear, true, shape.qhimark);
+    let processor = Processor::new(alloc, &shape, board, processor, 0, lists);
     Some(AllParts {
-        processor: Processor::new(alloc, &shape, board, processor, 0, lists),
-        group: Group::new(&shape, group_board, group, number, members),
-        hand: Hand::new(alloc, &shape, hand_board, hand, cpu, held),
-        driver: Driver::new(driver_board, driver),
+        processor,
+        group,
+        hand,
+        driver,
     })
 }
+
+/// Two calls, each released at once, and a turn of the group.
+fn call_twice(alloc: Global, parts: &mut AllParts) -> Option<GroupTurn> {
+    parts.processor.call_rcu(1, job(alloc, 7).ok()?).ok()?;
+    parts.processor.call_rcu(2, job(alloc, 8).ok()?).ok()?;
+    Some(parts.group.turn())
+}
+
+/// A grace period.
+fn grace(parts: &mut AllParts) {
+    parts.driver.turn();
+    parts.processor.quiescent();
+    parts.driver.turn();
+}
+
+const NOTHING: GroupTurn = GroupTurn {
+    took: 0,
+    gave: 0,
+    held: 0,
+};
 
 #[test]
 fn group_with_nothing_to_do(rt: HostRuntime) -> Result<(), Fail> {
     let mut parts = all_parts(rt.alloc()).expect(&rt, "all parts");
-    let none = GroupTurn {
-        took: 0,
-        gave: 0,
-        held: 0,
-    };
-    assert_eq!(rt; parts.group.turn(), none);
-    assert_eq!(rt; parts.driver.turn(), DriverTurn::Idle);
+    assert_eq!(rt; parts.group.turn(), NOTHING);
     assert_eq!(rt; parts.group.lists(1), None);
     Ok(())
 }
 
 #[test]
-fn group_hands_on_what_a_processor_released(rt: HostRuntime) -> Result<(), Fail> {
-    let alloc = rt.alloc();
-    let mut parts = all_parts(alloc).expect(&rt, "all parts");
-    assert!(rt; parts.processor.call_rcu(1, job(alloc, 7)?).is_ok());
-    assert!(rt; parts.processor.call_rcu(2, job(alloc, 8)?).is_ok());
-    let drawn = GroupTurn {
+fn group_shows_what_waits(rt: HostRuntime) -> Result<(), Fail> {
+    let mut parts = all_parts(rt.alloc()).expect(&rt, "all parts");
+    let drawn = call_twice(rt.alloc(), &mut parts).expect(&rt, "two calls");
+    let two = GroupTurn {
         took: 2,
         gave: 0,
         held: 0,
     };
-    assert_eq!(rt; parts.group.turn(), drawn);
+    assert_eq!(rt; drawn, two);
     let waiting = Lists::Folk {
         lengths: [0, 2, 0, 0],
         numbers: [4, 0],
     };
     assert_eq!(rt; parts.group.lists(0), Some(waiting));
-    assert_eq!(rt; parts.driver.turn(), DriverTurn::Started(1));
-    assert_eq!(rt; parts.processor.quiescent(), Some(1));
-    assert_eq!(rt; parts.driver.turn(), DriverTurn::Ended(4));
+    Ok(())
+}
+
+#[test]
+fn group_gives_one_in_each_turn(rt: HostRuntime) -> Result<(), Fail> {
+    let mut parts = all_parts(rt.alloc()).expect(&rt, "all parts");
+    let _drawn = call_twice(rt.alloc(), &mut parts).expect(&rt, "two calls");
+    grace(&mut parts);
     let gave = GroupTurn {
         took: 0,
         gave: 1,
         held: 0,
     };
+    assert_eq!(rt; parts.group.turn(), gave);
+    assert_eq!(rt; parts.group.turn(), gave);
+    assert_eq!(rt; parts.group.turn(), NOTHING);
     let ran = HandTurn {
         ran: 1,
         stop: Stop::Limit,
     };
-    assert_eq!(rt; parts.group.turn(), gave);
     assert_eq!(rt; parts.hand.turn(), ran);
-    let left = Lists::Folk {
-        lengths: [1, 0, 0, 0],
-        numbers: [0, 0],
-    };
-    assert_eq!(rt; parts.group.lists(0), Some(left));
-    assert_eq!(rt; parts.group.turn(), gave);
     assert_eq!(rt; parts.hand.turn(), ran);
-    let empty = HandTurn {
-        ran: 0,
-        stop: Stop::Empty,
-    };
-    assert_eq!(rt; parts.hand.turn(), empty);
     Ok(())
 }
