@@ -11,3 +11,5 @@ pub mod TickRuns
 pub mod TickLaws
 pub mod CatchingUp
 pub mod Barring
+pub mod GroupLists
+pub mod GroupTurns

@@ -8,3 +8,6 @@ pub mod Opened
 pub mod HandLaw
 pub mod Hands
 pub mod Ticks
+pub mod Each
+pub mod GroupLaw
+pub mod Groups

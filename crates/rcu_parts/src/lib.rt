@@ -5,6 +5,9 @@
 
 mod barrier;
 mod calling;
+mod folk;
+mod group;
+mod grouping;
 mod hand;
 mod handling;
 mod processor;
@@ -14,9 +17,13 @@ mod running;
 mod steps;
 mod ticking;
 
+pub use folk::{Folk, Members};
+pub use group::Group;
 pub use hand::Hand;
 pub use processor::Processor;
 pub use reporting::Reading;
 
 #[cfg(test)]
 mod tests;
+#[cfg(test)]
+mod tests_group;

@@ -1,6 +1,6 @@
-ghost use Rattle.std.specs.Prelude.{◌≡◌, [], ◌∷◌, IfOk, IfSome};
+ghost use Rattle.std.specs.Prelude.{◌≡◌, ℕ, [], ◌∷◌, IfOk, IfSome};
 ghost use Rattle.std.specs.Arc.{arc_value};
-ghost use Rattle.rcu_board.specs.Opened.{AreNew, IsNewHand, IsNewProcessor, is_offloadable};
+ghost use Rattle.rcu_board.specs.Opened.{AreNew, IsNewGroup, IsNewHand, IsNewProcessor, is_offloadable};
 ghost use Rattle.rcu_board.specs.Roles.{MayNeed, cpu_of_role};
 ghost use Rattle.rcu_board.specs.Seats.{view, AtBoard};
 ghost use Rattle.rcu_board.specs.declared.board.Role.{Role};
@@ -32,18 +32,19 @@ fn only(mut seats: Vec<Seat>) -> Option<Seat>
 
 /// Seats of a board for one offloadable processor.
 #[derive(Drop)]
-struct OneOfEach {
-    processor: Seat,
-    hand: Seat,
-    group: Seat,
-    driver: Seat,
+pub(crate) struct OneOfEach {
+    pub(crate) processor: Seat,
+    pub(crate) hand: Seat,
+    pub(crate) group: Seat,
+    pub(crate) driver: Seat,
 }
 
-fn take_apart(shape: Shape, board: &Board, seats: Seats) -> Option<OneOfEach>
+pub(crate) fn take_apart(shape: Shape, board: &Board, seats: Seats) -> Option<OneOfEach>
     requires { AreNew shape board.now seats }
     ensures processor { IfSome result (λ parts. IsNewProcessor board.now 0 parts.processor) }
     ensures hand { IfSome result (λ parts. IsNewHand board.now (cpu_of_role parts.hand.role) parts.hand) }
     ensures group { IfSome result (λ parts. AtBoard board.now parts.group × MayNeed parts.group.role) }
+    ensures new_group { IfSome result (λ parts. (number : ℕ) × IsNewGroup board.now number parts.group) }
     ensures driver { IfSome result (λ parts. AtBoard board.now parts.driver × (parts.driver.role ≡ Role.Driver) × IsBare (view parts.driver)) }
 {
     let Seats {
@@ -110,7 +111,7 @@ fn processor_and_control(shape: Shape, board: &Board, seats: Seats) -> Option<(S
 }
 
 /// The lists of processor 0, which has accepted nothing.
-fn no_lists(
+pub(crate) fn no_lists(
     alloc: Global,
     board: &Board,
     rear: Rear<Batch<BoxedJob<0>>, Safe>,
@@ -139,7 +140,7 @@ fn one_processor(alloc: Global, offloadable: bool) -> Option<Processor<BoxedJob<
     Some(Processor::new(alloc, &shape, board, seat, 0, lists))
 }
 
-fn job(alloc: Global, key: u64) -> Result<BoxedJob<0>, AllocError> {
+pub(crate) fn job(alloc: Global, key: u64) -> Result<BoxedJob<0>, AllocError> {
     Ok(BoxedJob::new(key, Box::new(alloc, move || key)?))
 }
 

@@ -17,3 +17,8 @@ pub returns-clause-group : goal.returns-clause-group
 returns-clause-group c = let b = c.args.board.now in let s = c.args.shape in
     let t = for_each_one (IsNewGroup b) (numbers_where (has_offloadable s.offloadable s.stride s.processors) 0 s.processors) _ c.in_ok-only-3.field-0 c.in_ok-only-3.ensures c.requires.groups in
     (t.1.board, subst MayNeed (sym t.1.who) tt)
+
+pub returns-clause-new_group : goal.returns-clause-new_group
+returns-clause-new_group c = let b = c.args.board.now in let s = c.args.shape in
+    let t = for_each_one (IsNewGroup b) (numbers_where (has_offloadable s.offloadable s.stride s.processors) 0 s.processors) _ c.in_ok-only-3.field-0 c.in_ok-only-3.ensures c.requires.groups in
+    (t.0, t.1)
