@@ -86,6 +86,11 @@ module _ {X : Type 0} where
   zip_map S f step (w ∷ olds) [] e = absurd e
   zip_map {Y} S f step (w ∷ olds) (z ∷ news) e = ap (λ (y : Y). y ∷ map f news) (step w z e.0) ∙ ap (λ (ys : List Y). f w ∷ ys) (zip_map S f step olds news e.1)
 
+  -- where nothing was done
+  pub zip_same : (S : X → X → Type 0) → ((x : X) → S x x) → (xs : List X) → AllZip S xs xs
+  zip_same S same [] = tt
+  zip_same S same (x ∷ xs) = (same x, zip_same S same xs)
+
   -- over two lists of steps
   pub zip_again : (S : X → X → Type 0) → ((x y z : X) → S x y → S y z → S x z) → (xs ys zs : List X) → AllZip S xs ys → AllZip S ys zs → AllZip S xs zs
   zip_again S step [] [] [] e f = tt

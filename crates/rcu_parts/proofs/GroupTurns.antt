@@ -1,9 +1,10 @@
 -- How a group keeps its law, and what its turn comes to.
-use Rattle.std.proofs.Common.{◌≡◌, ◌⊎◌, inl, inr, ℕ, ◌+◌, ◌<◌, ◌≤◌, Bool, true, false, IsTrue, cond, List, [], ◌∷◌, ◌++◌, map, length, length-append, append-nil, append_assoc, Option, Some, None, IfSome, ap, sym, ◌∙◌, refl, subst, arith}
+use Rattle.std.proofs.Common.{◌≡◌, ◌⊎◌, inl, inr, ℕ, ◌<◌, ◌≤◌, Bool, true, false, IsTrue, cond, List, [], ◌∷◌, ◌++◌, map, length, length-append, append-nil, append_assoc, Option, Some, None, IfSome, ap, sym, ◌∙◌, refl, subst, arith}
 use Rattle.std.specs.List.{All, AllPairs, AllZip}
 use Rattle.std.proofs.lemmas.List.{append_cancel_left}
 use Rattle.std.proofs.lemmas.List.Elements.{All-nil, All-cons, All-tail, All-append, All-weaker, length_all_zip}
-use Rattle.rcu_board.specs.Plays.{looked, stamp_own}
+use Rattle.rcu_board.specs.Plays.{looked, stamp_own, touched}
+use Rattle.rcu_board.specs.Seats.{NeverFalls}
 use Rattle.rcu_board.specs.Views.{seen_at, sight}
 use Rattle.rcu_board.specs.Words.{needed_word}
 use Rattle.rcu_board.specs.declared.view.View.{View}
@@ -22,7 +23,7 @@ use Rattle.rcu_parts.specs.GroupLaw.{AreMembers, IsLawfulGroup, relay_of}
 use Rattle.rcu_parts.specs.Groups.{GivesTo, IsEmptyFolk, LooksAt, LooksAtAll, PassesOn, SameFolk, SameGroup, TakesFrom, held_of, members_of}
 use Rattle.rcu_parts.specs.declared.folk.Folk.{Folk}
 use Rattle.rcu_parts.specs.declared.group.GroupState.{GroupState}
-use Rattle.rcu_parts.proofs.GroupLists.{each_all, each_zip, greatest_upto, zip_map, zip_again}
+use Rattle.rcu_parts.proofs.GroupLists.{each_all, each_zip, greatest_upto, zip_map, zip_again, zip_same}
 
 -- what holds of each
 always : {A : Type 0} (xs : List A) → All (λ (x : A). Unit {0}) xs
@@ -156,7 +157,26 @@ module _ {J : Type 0} where
     members = same_folks_again (members_of p) (members_of q) (members_of r) a.members b.members;
   }
 
+  pub folks_same : (ms : List (Folk J)) → AllZip SameFolk ms ms
+  folks_same ms = zip_same SameFolk (λ m. record { cpu = refl; front = refl; rear = refl }) ms
+
+  pub places_same : (ms : List (Folk J)) → AllZip PassesOn ms ms
+  places_same ms = zip_same PassesOn (λ m. record { got = []; given = []; received = sym (append-nil (relay_of m).received); put = sym (append-nil (relay_of m).put); order = append-nil (held_of m) }) ms
+
+  pub same_group : (p : GroupState J) → SameGroup p p
+  same_group p = record { part = record { board = refl; seat = record { role = refl; table = refl; weight = refl } }; group = refl; blimit = refl; members = folks_same (members_of p) }
+
   -- ---- the law
+
+  -- a step on a word that no member waits for
+  pub lawful_later : (n i x : ℕ) (v w : View) (ms : List (Folk J)) → w ≡ touched i x v → NeverFalls n v w → IsLawfulGroup v ms → IsLawfulGroup w ms
+  lawful_later n i x v w ms e later l = record {
+    bare = record { own = ap (λ (u : View). u.own) e ∙ l.bare.own; claims = ap (λ (u : View). u.claims) e ∙ l.bare.claims; running = ap (λ (u : View). u.running) e ∙ l.bare.running };
+    members_are = l.members_are;
+    looked = All-weaker (λ (m : Folk J). (relay_of m).advanced ≤ sight v) (λ (m : Folk J). (relay_of m).advanced ≤ sight w) (λ m le. let b = later.board in omega arith) ms l.looked;
+    needed = All-weaker (λ (m : Folk J). AreUpTo (seen_at v needed_word) (relay_of m).list) (λ (m : Folk J). AreUpTo (seen_at w needed_word) (relay_of m).list)
+        (λ m up. up-raised (seen_at v needed_word) (seen_at w needed_word) (relay_of m).list later.needed up) ms l.needed;
+  }
 
   pub lawful_takes : (v : View) (took : ℕ) (ms ns : List (Folk J)) → Sums TakesFrom took ms ns → IsLawfulGroup v ms → IsLawfulGroup v ns
   lawful_takes v took ms ns s l = record {

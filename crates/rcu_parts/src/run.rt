@@ -5,9 +5,12 @@ ghost use Rattle.std.specs.Int.{from_bool};
 ghost use Rattle.rcu_board.specs.Plays.{touched};
 ghost use Rattle.rcu_board.specs.Words.{halt_word};
 ghost use Rattle.rcu_parts.specs.Calls.{KeepsAll};
+ghost use Rattle.std.specs.List.{AllZip};
+ghost use Rattle.rcu_parts.specs.Groups.{SameGroup, PassesOn, group_view, members_of};
 ghost use Rattle.rcu_parts.specs.Hands.{SameHand, IsSoundHand, hand_view, hand_held, hand_drawn, hand_records};
 ghost use Rattle.rcu_parts.specs.Processors.{SameProcessor, IsSound, view_of};
 
+use crate::group::Group;
 use crate::hand::Hand;
 use crate::processor::Processor;
 use rcu_board::halted;
@@ -29,7 +32,7 @@ impl<J: Job> Processor<J> {
     }
 
     /// Reports and ticks once, unless the runtime was halted. Answers whether a report was counted or a callback ran.
-    fn turn(&mut self, moment: u64) -> Option<bool>
+    fn turn_unless_halted(&mut self, moment: u64) -> Option<bool>
         ensures same { SameProcessor self.old.state self.new.state }
         ensures count { self.new.state.accepted ≡ self.old.state.accepted }
         ensures sound { IsSound J.key_of J.gives self.old.state → IsSound J.key_of J.gives self.new.state }
@@ -53,7 +56,7 @@ impl<J: Job> Processor<J> {
         let mut pauses = Pauses::new();
         let mut moment: u64 = 1;
         for _ in rt.forever() {
-            match processor.turn(moment) {
+            match processor.turn_unless_halted(moment) {
                 None => return processor,
                 Some(true) => pauses.start_over(),
                 Some(false) => pauses.pause(rt),
@@ -76,6 +79,17 @@ impl<J: Job> Hand<J> {
         halted(&state.board, &mut state.seat)
     }
 
+    /// Turns once, unless the runtime was halted. Answers whether a callback ran.
+    fn turn_unless_halted(&mut self) -> Option<bool>
+        ensures same { SameHand self.old.state self.new.state }
+        ensures sound { IsSoundHand J.key_of J.gives self.old.state → IsSoundHand J.key_of J.gives self.new.state }
+    {
+        if self.is_halted() {
+            return None;
+        }
+        Some(self.turn().ran > 0)
+    }
+
     /// Turns until the runtime is halted, and gives the hand back. Between turns that ran nothing it pauses.
     pub fn run<R: Wait + Clock>(self, rt: &R) -> Hand<J>
         ensures same { SameHand self.state result.state }
@@ -84,13 +98,51 @@ impl<J: Job> Hand<J> {
         let mut hand = self;
         let mut pauses = Pauses::new();
         for _ in rt.forever() {
-            if hand.is_halted() {
-                return hand;
+            match hand.turn_unless_halted() {
+                None => return hand,
+                Some(true) => pauses.start_over(),
+                Some(false) => pauses.pause(rt),
             }
-            if hand.turn().ran > 0 {
-                pauses.start_over();
-            } else {
-                pauses.pause(rt);
+        }
+        unreachable!()
+    }
+}
+
+impl<J: Job> Group<J> {
+    /// Whether the runtime was halted.
+    fn is_halted(&mut self) -> bool
+        ensures same { SameGroup self.old.state self.new.state }
+        ensures members { members_of self.new.state ≡ members_of self.old.state }
+        ensures view { group_view self.new.state ≡ touched halt_word (from_bool result) (group_view self.old.state) }
+    {
+        let state = &mut self.state;
+        halted(&state.board, &mut state.seat)
+    }
+
+    /// Turns once, unless the runtime was halted. Answers whether a callback moved.
+    fn turn_unless_halted(&mut self) -> Option<bool>
+        ensures same { SameGroup self.old.state self.new.state }
+        ensures places { AllZip PassesOn (members_of self.old.state) (members_of self.new.state) }
+    {
+        if self.is_halted() {
+            return None;
+        }
+        let turned = self.turn();
+        Some(turned.took > 0 || turned.gave > 0)
+    }
+
+    /// Turns until the runtime is halted, and gives the group back. Between turns that moved nothing it pauses.
+    pub fn run<R: Wait + Clock>(self, rt: &R) -> Group<J>
+        ensures same { SameGroup self.state result.state }
+        ensures places { AllZip PassesOn (members_of self.state) (members_of result.state) }
+    {
+        let mut group = self;
+        let mut pauses = Pauses::new();
+        for _ in rt.forever() {
+            match group.turn_unless_halted() {
+                None => return group,
+                Some(true) => pauses.start_over(),
+                Some(false) => pauses.pause(rt),
             }
         }
         unreachable!()

@@ -1,4 +1,4 @@
-use Rattle.rcu_parts.proofs.processor.Processor.turn.Goals as goal
+use Rattle.rcu_parts.proofs.processor.Processor.turn_unless_halted.Goals as goal
 
 pub returns-then-counted-clause-sound : goal.returns-then-counted-clause-sound
 returns-then-counted-clause-sound g c = λ sound. c.tick-ticked.ensures.sound (c.quiescent.ensures.sound (c.is_halted.ensures.sound sound))
