@@ -45,6 +45,11 @@ unfolding Every
 own_enough x p [] state e h = absurd (omega (arith, ap length e))
 own_enough x p (o ∷ os) state e h = reports_enough x o.cpu o.reports state h.0
 
+own_reported : (x p : ℕ) (os : List Own) → cpus os ≡ p ∷ [] → Every (λ o. Reported x o.cpu o.reports) os → Reported x p (first_reports os)
+unfolding Every
+own_reported x p [] e h = absurd (omega (arith, ap length e))
+own_reported x p (o ∷ os) e h = subst (λ (q : ℕ). Reported x q o.reports) (ap (λ (l : List ℕ). get_or l 0 0) e) h.0
+
 -- ---- the accepted count
 
 none_fresh : (f : Option ℕ) → f ≡ None → fresh_count f ≡ 0
@@ -159,3 +164,8 @@ module _ {J R : Type 0} (key_of : J → ℕ) (gives : ℕ → R → Type 0) (n x
 
   pub closes : Closes key_of gives v others es
   closes k d lt = closes_at k d lt
+
+  -- and of the reports of each
+  pub reported : All (λ (e : CpuEnd J R). Reported x e.part.cpu (reports_of e.part.view)) es
+  reported = all_both Rests (λ (e : CpuEnd J R). All Stands (views_of e.part)) (λ (e : CpuEnd J R). Reported x e.part.cpu (reports_of e.part.view)) es
+      (λ e r s. own_reported x e.part.cpu e.part.view.own r.own_cpu (all_head Stands e.part.view (hand_views e.part.hand) s).0) h.at_rest stands

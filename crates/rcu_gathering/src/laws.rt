@@ -1,6 +1,8 @@
 //! Laws over plain data, which have no code.
 
 ghost use Rattle.std.specs.Prelude.{◌≡◌, ◌<◌, ◌≤◌, ◌∷◌, ◌++◌, ℕ, List, All, false, length};
+ghost use Rattle.rcu_board.specs.Laws.{Reported};
+ghost use Rattle.rcu_board.specs.Seats.{reports_of};
 ghost use Rattle.rcu_board.specs.Views.{claimed, seen_at, tally, total};
 ghost use Rattle.rcu_board.specs.Words.{is_asks};
 ghost use Rattle.rcu_board.specs.declared.view.View.{View};
@@ -19,7 +21,9 @@ pub fn gathering()
 {}
 
 /// Where the parts of one open have ended, each processor and its hand by [`rcu_endings::end_offloadable`] or
-/// [`rcu_endings::end_local`], the last loads say of each what `close` promises.
+/// [`rcu_endings::end_local`], the last loads say of each what `close` promises, and the last board word how many counted
+/// reports it made (see [`crate::reports_by`]).
 pub fn closing<J: Job>()
-    ensures { (n x : ℕ) (v : View) (others : List View) (es : List (CpuEnd J J.Receipt)) → HaveEnded J.key_of J.gives n x v others es → Closes J.key_of J.gives v others es }
+    ensures closes { (n x : ℕ) (v : View) (others : List View) (es : List (CpuEnd J J.Receipt)) → HaveEnded J.key_of J.gives n x v others es → Closes J.key_of J.gives v others es }
+    ensures reports { (n x : ℕ) (v : View) (others : List View) (es : List (CpuEnd J J.Receipt)) → HaveEnded J.key_of J.gives n x v others es → All (λ e. Reported x e.part.cpu (reports_of e.part.view)) es }
 {}

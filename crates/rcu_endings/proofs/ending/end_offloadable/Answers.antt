@@ -26,6 +26,7 @@ start_batch g c = search rules
 start_member : (g : Over) (c : Start g) → FitsInMemory (member_row.the_row (param 0 g.row.J))
 start_member g c = search rules
 
+-- the third of the bounds that stand for the values passed whole: the search doesn't reach it
 start_held : (g : Over) (c : Start g) → FitsInMemory (held_row.the_row (param 0 g.row.J))
 start_held g c = c.requires-raw.1.1.1.1.1.1.0
 
