@@ -1,0 +1,81 @@
+-- What is known of the parts of one open as they come to rest, over plain data: docs/specification/definitions.md, "The running parts: laws".
+use Rattle.std.specs.Prelude.{◌≡◌, ℕ, suc, Option, Some, None, List, [], ◌∷◌, ◌++◌, map, All}
+use Rattle.rcu_board.specs.Seats.{accepted_of, fresh_of}
+use Rattle.rcu_board.specs.Views.{cpus}
+use Rattle.rcu_board.specs.declared.view.Accepted.{Accepted as Entry}
+use Rattle.rcu_board.specs.declared.view.Claim.{Claim}
+use Rattle.rcu_board.specs.declared.view.View.{View}
+use Rattle.rcu_endings.specs.Ends.{AreInPlace, AreSound}
+use Rattle.rcu_holdings.specs.Callers.{Holding}
+use Rattle.rcu_jobs.specs.declared.callback.Callback.{Callback}
+use Rattle.rcu_jobs.specs.declared.callback.Record.{Record}
+use Rattle.rcu_places.specs.Places.{Accepted}
+use Rattle.rcu_records.specs.Records.{AreRipe}
+
+abbrev pub accepted_entry : Entry → Accepted
+accepted_entry e = record { key = e.key; stamp = e.stamp }
+
+-- a processor's accepted list
+abbrev pub accepted_list : View → List Accepted
+accepted_list v = map accepted_entry (accepted_of v)
+
+-- the claim that a record came from: its `ready` is the claim's board sight
+abbrev pub claim_of : {R : Type 0} → ℕ → Record R → Claim
+claim_of cpu r = record { cpu = cpu; number = r.number; sight = r.ready }
+
+-- A hand: its view, its records, all that it drew, and what it took of that.
+pub record HandPart (J R : Type 0) : Type 0 where
+  pub view : View
+  pub ran : List (Record R)
+  pub drawn : List (Callback J)
+  pub taken : List (Callback J)
+
+-- A processor with its hand, if it has one: its number, its view, its records and its lists.
+pub record CpuPart (J R : Type 0) : Type 0 where
+  pub cpu : ℕ
+  pub view : View
+  pub own : List (Record R)
+  pub lists : Holding J
+  pub hand : Option (HandPart J R)
+
+module _ {J R : Type 0} where
+  -- what the hand has, where there is one; else nothing
+  abbrev pub hand_views : Option (HandPart J R) → List View
+  hand_views (Some h) = h.view ∷ []
+  hand_views None = []
+
+  abbrev pub hand_ran : Option (HandPart J R) → List (Record R)
+  hand_ran (Some h) = h.ran
+  hand_ran None = []
+
+  abbrev pub hand_drawn : Option (HandPart J R) → List (Callback J)
+  hand_drawn (Some h) = h.drawn
+  hand_drawn None = []
+
+  abbrev pub hand_taken : Option (HandPart J R) → List (Callback J)
+  hand_taken (Some h) = h.taken
+  hand_taken None = []
+
+  -- the views of a processor and of its hand
+  abbrev pub views_of : CpuPart J R → List View
+  views_of c = c.view ∷ hand_views c.hand
+
+  -- the records of each view's claims on processor cpu
+  abbrev pub HandClaims : ℕ → Option (HandPart J R) → Type 0
+  HandClaims cpu (Some h) = h.view.claims ≡ map (claim_of cpu) h.ran
+  HandClaims cpu None = Unit {0}
+
+  -- A processor and its hand at rest.
+  pub record IsAtRest (key_of : J → ℕ) (gives : ℕ → R → Type 0) (c : CpuPart J R) : Type 0 where
+    -- the processor's view has its lists, and each accepted number has its stamp
+    pub own_cpu : cpus c.view.own ≡ c.cpu ∷ []
+    pub stamped : fresh_of c.view ≡ None
+    -- the law of places
+    pub places : AreInPlace (accepted_list c.view) c.own (hand_ran c.hand) c.lists (hand_taken c.hand)
+    -- the records are those of the claims, each with the claim's board sight, by which its wait was over
+    pub claims : c.view.claims ≡ map (claim_of c.cpu) c.own
+    pub hand_claims : HandClaims c.cpu c.hand
+    pub ripe : AreRipe c.own
+    pub hand_ripe : AreRipe (hand_ran c.hand)
+    -- what is known of jobs
+    pub sound : AreSound key_of gives c.own (hand_ran c.hand) c.lists (hand_drawn c.hand)
