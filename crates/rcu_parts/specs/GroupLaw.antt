@@ -1,6 +1,6 @@
 -- What a group's part keeps between its calls: docs/specification/rules.md, "Groups", and definitions.md, "The running
 -- parts: views".
-use Rattle.std.specs.Prelude.{◌≡◌, ℕ, ◌≤◌, ◌<◌, List, ◌∷◌, map, length, All}
+use Rattle.std.specs.Prelude.{ℕ, ◌≤◌, ◌<◌, List, ◌∷◌, map, length, All}
 use Rattle.std.specs.List.{AllPairs}
 use Rattle.rcu_board.specs.Views.{seen_at, sight}
 use Rattle.rcu_board.specs.Words.{needed_word}

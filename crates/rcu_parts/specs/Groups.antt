@@ -11,7 +11,7 @@ use Rattle.rcu_board.specs.declared.board.Seat.{Seat}
 use Rattle.rcu_board.specs.declared.view.View.{View}
 use Rattle.rcu_control.specs.Views.{SamePart}
 use Rattle.rcu_holdings.specs.Aims.{wanted}
-use Rattle.rcu_holdings.specs.Members.{Relay, front_of, rear_of, TakesIn, after_look, Gives, folk_lists}
+use Rattle.rcu_holdings.specs.Members.{front_of, rear_of, TakesIn, after_look, Gives, folk_lists}
 use Rattle.rcu_holdings.specs.declared.member.TheConstants.{MOST_BATCHES}
 use Rattle.rcu_jobs.specs.declared.callback.Callback.{Callback}
 use Rattle.rcu_jobs.specs.declared.turns.GroupTurn.{GroupTurn}

@@ -1,4 +1,4 @@
-use Rattle.std.proofs.Common.{ℕ, ◌≡◌, List, [], sym, ap, subst}
+use Rattle.std.proofs.Common.{ℕ, List, sym, ap, subst}
 use Rattle.rcu_board.specs.declared.board.Seat.{Seat}
 use Rattle.rcu_board.specs.Roles.{MayNeed, cpu_of_role}
 use Rattle.rcu_board.specs.Opened.{InOrder, numbers_where, is_offloadable, has_offloadable, IsNewProcessor, IsNewHand, IsNewGroup}

@@ -1,5 +1,4 @@
 use Rattle.std.proofs.Common.{◌≡◌, ◌≢◌, ◌<◌, zero, suc, length, get_or, ap, sym, ◌∙◌, refl, subst, arith}
-use Rattle.std.specs.List.{All}
 use Rattle.std.proofs.lemmas.List.{take_all}
 use Rattle.std.proofs.lemmas.List.Elements.{All-cons, All-more, All-same}
 use Rattle.rcu_parts.specs.declared.folk.Folk.{Folk}

@@ -1,4 +1,4 @@
-use Rattle.std.proofs.Common.{◌≡◌, ◌<◌, ◌≤◌, ℕ, zero, ◌+◌, [], ◌∷◌, ◌++◌, List, Option, length, length-append, get_or, set, rules, refl, ◌∙◌, ap, sym, subst, arith}
+use Rattle.std.proofs.Common.{◌≡◌, ◌<◌, ◌≤◌, ℕ, zero, ◌+◌, [], ◌∷◌, ◌++◌, List, length, length-append, get_or, set, rules, refl, ◌∙◌, ap, sym, subst, arith}
 use Rattle.std.specs.Mem.{FitsInMemory}
 use denote.Param.{param}
 use Rattle.rcu_holdings.proofs.Sizes.{in_struct}

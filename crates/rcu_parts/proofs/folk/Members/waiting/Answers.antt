@@ -1,4 +1,4 @@
-use Rattle.std.proofs.Common.{◌∙◌, length, ap, arith}
+use Rattle.std.proofs.Common.{length, ap, arith}
 use Rattle.rcu_parts.specs.Groups.{waiting_of}
 use Rattle.rcu_parts.proofs.GroupLists.{sum_next, sum_behind}
 use Rattle.rcu_parts.proofs.folk.Members.waiting.Goals as goal

@@ -4,7 +4,6 @@ use denote.Param.{param}
 use Rattle.rcu_holdings.proofs.Sizes.{in_struct}
 use Rattle.rcu_parts.specs.contracts.group.Group as row
 use Rattle.rcu_parts.specs.Groups.{members_of}
-use Rattle.rcu_parts.specs.GroupLaw.{folks_in}
 use Rattle.rcu_parts.proofs.GroupTurns.{same_group_again, takes_places, looks_places, gives_places, places_again}
 use Rattle.rcu_parts.proofs.group.Group.turn.Goals as goal
 
