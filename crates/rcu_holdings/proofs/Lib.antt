@@ -5,3 +5,4 @@ pub mod Pieces
 pub mod Relays
 pub mod Releases
 pub mod Sizes
+pub mod Rows
