@@ -1,14 +1,14 @@
 -- How a hand keeps its law, and what its runs come to.
-use Rattle.std.proofs.Common.{◌≡◌, ◌≢◌, ℕ, zero, suc, ◌+◌, ◌≤◌, List, [], ◌∷◌, ◌++◌, map, length, length-append, append-nil, append_assoc, ap, sym, ◌∙◌, refl, subst, arith, get_or, false, rules}
+use Rattle.std.proofs.Common.{◌≡◌, ◌≢◌, ℕ, zero, suc, ◌+◌, ◌≤◌, List, [], ◌∷◌, ◌++◌, map, length, length-append, append-nil, append_assoc, ap, sym, ◌∙◌, refl, subst, arith, get_or, get_or-set_same, false, rules}
 use Rattle.std.proofs.lemmas.List.{map-append}
 use Rattle.std.proofs.lemmas.List.Elements.{All-append}
 use Rattle.std.specs.List.{All}
-use Rattle.rcu_board.specs.Views.{new_view, sight}
+use Rattle.rcu_board.specs.Views.{new_view, sight, tally}
 use Rattle.rcu_board.specs.declared.board.Board.{Board}
 use Rattle.rcu_holdings.specs.Ends.{before_end}
 use Rattle.rcu_board.specs.declared.view.Claim.{Claim}
 use Rattle.rcu_board.specs.declared.view.View.{View}
-use Rattle.rcu_control.proofs.Stepping.{same_again}
+use Rattle.rcu_control.proofs.Stepping.{has_words, same_again}
 use Rattle.rcu_jobs.specs.Records.{Given}
 use Rattle.rcu_jobs.specs.declared.callback.Callback.{Callback}
 use Rattle.rcu_jobs.specs.declared.callback.Record.{Record}
@@ -16,10 +16,10 @@ use Rattle.rcu_numbers.specs.Numbers.{snap_of}
 use Rattle.rcu_places.specs.Places.{Numbered}
 use Rattle.rcu_records.specs.Records.{numbered_record, AreRipe}
 use Rattle.rcu_parts.specs.Changes.{Keeps, Claims, Finishes, StepsOnly, claim_at}
-use Rattle.rcu_board.specs.Words.{turns_word}
+use Rattle.rcu_board.specs.Words.{board_word, turns_word}
 use Rattle.rcu_parts.proofs.Turning.{steps_more}
 use Rattle.rcu_parts.specs.HandLaw.{IsLawfulHand}
-use Rattle.rcu_parts.specs.Hands.{Ran, SameHand, hand_held, hand_drawn, hand_records, hand_view}
+use Rattle.rcu_parts.specs.Hands.{Looks, Loads, Ran, SameHand, hand_board, hand_held, hand_drawn, hand_records, hand_view}
 use Rattle.rcu_parts.specs.Places.{AreKeyed, numbered_callback, claim_of}
 use Rattle.rcu_parts.specs.declared.hand.HandState.{HandState}
 
@@ -160,3 +160,8 @@ module _ {J R : Type 0} where
   } where
     taken_none : (ys : List (Callback J)) → map numbered_callback (before_end [] ys) ≡ []
     taken_none ys = search rules
+
+  -- one step was made on the board word, by the look
+  pub looked_once : (p q r : HandState J R) (seen : ℕ) → Looks seen p q → Loads q r → tally (hand_view r) board_word ≡ tally (hand_view p) board_word + 1
+  looked_once p q r seen a b = ap (λ (v : View). tally v board_word) b.view ∙ (ap (λ (v : View). tally v board_word) a.step
+      ∙ get_or-set_same (hand_view p).steps 0 (tally (hand_view p) 0 + 1) 0 (let h = has_words (hand_board p) p.seat p.here in omega (arith, h.steps)))

@@ -1,7 +1,8 @@
 //! The turn of a hand.
 
 ghost use Rattle.std.specs.Prelude.{◌≡◌, ◌+◌, ◌≤◌, ℕ, IfNone, IfSome};
-ghost use Rattle.rcu_board.specs.Views.{sight};
+ghost use Rattle.rcu_board.specs.Views.{sight, tally};
+ghost use Rattle.rcu_board.specs.Words.{board_word};
 ghost use Rattle.rcu_numbers.specs.declared.sequence.TheConstants.{GREATEST_NUMBER};
 ghost use Rattle.rcu_parts.specs.Hands.{SameHand, IsSoundHand, Looks, Loads, Ran, StopsAt, TurnsBy, hand_view};
 
@@ -97,6 +98,7 @@ impl<J: Job> Hand<J> {
         ensures same { SameHand self.old.state self.new.state }
         ensures turn { TurnsBy result self.old.state self.new.state }
         ensures few { result.ran ≤ self.old.state.blimit }
+        ensures fresh { tally (hand_view self.new.state) board_word ≡ tally (hand_view self.old.state) board_word + 1 }
         ensures sound { IsSoundHand J.key_of J.gives self.old.state → IsSoundHand J.key_of J.gives self.new.state }
     {
         let seen = self.look();
