@@ -24,21 +24,24 @@ fn record(number: u64) -> Record<u64> {
     }
 }
 
+// The job of the callback of this number.
+fn job(alloc: Global, number: u64) -> Result<Work, AllocError> {
+    Ok(BoxedJob::new(number ^ 1024, Box::new(alloc, || 7)?))
+}
+
 // Places one more callback, of this number.
-fn call(caller: &mut Caller<Work>, alloc: Global, number: u64) -> Result<(), AllocError>
+fn call(caller: &mut Caller<Work>, number: u64, job: Work) -> Result<(), AllocError>
     requires small { number < MOST_CALLBACKS }
     requires few { length (passed_on (holding caller.old)) < MOST_CALLBACKS }
     ensures lane { SameRear (rear_of caller.old) (rear_of caller.new) }
     ensures passed { OnOk result (length (passed_on (holding caller.new)) ≡ length (passed_on (holding caller.old)) + 1) }
     ensures local { is_offloaded (holding caller.old).mode ≡ false → (is_offloaded (holding caller.new).mode ≡ false) × (put_by (holding caller.new) ≡ put_by (holding caller.old)) }
 {
-    let key = number ^ 1024;
-    let job = BoxedJob::new(key, Box::new(alloc, || 7)?);
     caller.reserve()?;
     let callback = Callback {
         cpu: 0,
         number,
-        key,
+        key: number ^ 1024,
         stamp: 0,
         job,
     };
@@ -51,8 +54,8 @@ fn what_a_local_one_holds_comes_back(rt: HostRuntime) -> Result<(), Fail> {
     let alloc = rt.alloc();
     let (_, rear) = ruled_lane::<Batch<Work>, Safe>(alloc)?;
     let mut caller = Caller::new(alloc, rear, false, 10000);
-    call(&mut caller, alloc, 1)?;
-    call(&mut caller, alloc, 2)?;
+    call(&mut caller, 1, job(alloc, 1)?)?;
+    call(&mut caller, 2, job(alloc, 2)?)?;
     let own = vec![in alloc; record(0)]?;
     let ended = end_local::<Work>(caller, own, Vec::with_capacity(alloc, 2)?);
     assert_eq!(rt; ended.ran.len(), 1);
@@ -71,10 +74,10 @@ fn all_places_come_back_in_order(rt: HostRuntime) -> Result<(), Fail> {
     let mut caller = Caller::new(alloc, rear, true, 10000);
     let mut member = Member::new(alloc, front, done_rear);
     let held = Held::new(alloc, done_front);
-    call(&mut caller, alloc, 0)?;
-    call(&mut caller, alloc, 1)?;
+    call(&mut caller, 0, job(alloc, 0)?)?;
+    call(&mut caller, 1, job(alloc, 1)?)?;
     assert_eq!(rt; member.take_in(), 2);
-    call(&mut caller, alloc, 2)?;
+    call(&mut caller, 2, job(alloc, 2)?)?;
     let room = Ended::with_room(alloc, 0, 3)?;
     let ended = end_offloadable::<Work>(
         caller,
