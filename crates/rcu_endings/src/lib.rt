@@ -9,3 +9,6 @@ mod moving;
 
 pub use ended::Ended;
 pub use ending::{end_local, end_offloadable};
+
+#[cfg(test)]
+mod tests;
