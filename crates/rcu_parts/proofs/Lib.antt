@@ -1,7 +1,7 @@
 pub mod Keeping
 pub mod Bounds
 pub mod Taking
-pub mod Opening
+pub mod Beginnings
 pub mod HandRuns
 pub mod Turning
 pub mod Moving
@@ -13,3 +13,16 @@ pub mod CatchingUp
 pub mod Barring
 pub mod GroupLists
 pub mod GroupTurns
+pub mod Counting
+pub mod Passing
+pub mod StaySame
+pub mod WholeClose
+pub mod OneByOne
+pub mod Resting
+pub mod RoomFor
+pub mod Openings
+pub mod Splitting
+pub mod Grouped
+pub mod Zips
+pub mod Making
+pub mod Whole

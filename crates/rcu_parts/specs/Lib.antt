@@ -11,3 +11,9 @@ pub mod Ticks
 pub mod Each
 pub mod GroupLaw
 pub mod Groups
+pub mod OneOpen
+pub mod AtClose
+pub mod Rooms
+pub mod Ending
+pub mod SameParts
+pub mod Openings

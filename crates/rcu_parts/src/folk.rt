@@ -46,4 +46,11 @@ impl<J: Drop> Members<J> {
         self.others.push(folk)?;
         Ok(())
     }
+
+    /// The first one, and the others.
+    pub(crate) fn into_parts(self) -> (Folk<J>, Vec<Folk<J>>)
+        ensures { (result.0 ≡ self.first) × (result.1 ≡ self.others) }
+    {
+        (self.first, self.others)
+    }
 }

@@ -71,4 +71,12 @@ impl<J: Job> Group<J> {
     {
         self.state.members.lists(p)
     }
+
+    /// Its seat and its members, which `close` takes in.
+    pub(crate) fn into_parts(self) -> (Seat, Members<J>)
+        ensures { (result.0 ≡ self.state.seat) × (result.1 ≡ self.state.members) }
+    {
+        let GroupState { seat, members, .. } = self.state;
+        (seat, members)
+    }
 }

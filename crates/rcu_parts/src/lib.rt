@@ -5,21 +5,32 @@
 
 mod barrier;
 mod calling;
+mod closing;
+mod ending;
 mod folk;
+mod gathering;
 mod group;
 mod grouping;
 mod hand;
 mod handling;
+mod laws;
+mod opening;
+mod parts;
 mod processor;
 mod reporting;
+mod room;
 mod run;
 mod running;
 mod steps;
 mod ticking;
 
+pub use closing::{AllClosing, Closing, close};
 pub use folk::{Folk, Members};
 pub use group::Group;
 pub use hand::Hand;
+pub use laws::same_parts;
+pub use opening::open;
+pub use parts::{AllParts, Parts};
 pub use processor::Processor;
 pub use reporting::Reading;
 
@@ -27,3 +38,5 @@ pub use reporting::Reading;
 mod tests;
 #[cfg(test)]
 mod tests_group;
+#[cfg(test)]
+mod tests_open;

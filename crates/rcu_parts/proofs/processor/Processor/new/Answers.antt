@@ -5,7 +5,7 @@ use Rattle.rcu_board.specs.declared.board.Board.{Board}
 use Rattle.rcu_numbers.specs.Words.{owes_of}
 use Rattle.rcu_holdings.specs.Callers.{holding}
 use Rattle.rcu_holdings.specs.Modes.{first_mode}
-use Rattle.rcu_parts.proofs.Opening.{first_law, offloads_at}
+use Rattle.rcu_parts.proofs.Beginnings.{first_law, offloads_at}
 use Rattle.rcu_parts.proofs.processor.Processor.new.Goals as goal
 
 pub invariant_of-result : goal.invariant_of-result

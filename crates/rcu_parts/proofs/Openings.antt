@@ -1,0 +1,87 @@
+-- The parts of a new board, one by one.
+use Rattle.std.proofs.Common.{◌≡◌, ℕ, ◌/◌, Bool, true, false, Option, Some, None, List, [], ◌∷◌, ◌++◌, ap, sym, ◌∙◌, refl, subst, append_assoc}
+use Rattle.std.proofs.lemmas.List.Elements.{All-cons, All-nil, All-push}
+use Rattle.std.specs.Prelude.{slice_index_or, option_to_list, IsSome, All}
+use Rattle.rcu_board.specs.Opened.{IsNewHand, IsNewProcessor, is_offloadable}
+use Rattle.rcu_board.specs.declared.board.Board.{Board}
+use Rattle.rcu_board.specs.declared.board.Seat.{Seat}
+use Rattle.rcu_holdings.specs.Callers.{Holding, holding}
+use Rattle.rcu_holdings.specs.Helds.{drawn_by, held_by}
+use Rattle.rcu_holdings.specs.Modes.{first_mode}
+use Rattle.rcu_holdings.specs.declared.caller.Caller.{Caller}
+use Rattle.rcu_holdings.specs.declared.hand.Held.{Held}
+use Rattle.rcu_numbers.specs.declared.shape.Shape.{Shape}
+use Rattle.rcu_parts.specs.Hands.{IsNewHandOf}
+use Rattle.rcu_parts.specs.Opened.{IsEmpty, IsNew}
+use Rattle.rcu_parts.specs.Openings.{BeginsOutside, IsFirstHand, IsFirstProcessor, TakesMember, TakesMembers, first_lists}
+use Rattle.rcu_parts.specs.declared.folk.Folk.{Folk}
+use Rattle.rcu_parts.specs.declared.hand.Hand.{Hand}
+use Rattle.rcu_parts.specs.declared.processor.Processor.{Processor}
+
+module _ {J : Type 0} where
+  pub first_empty : (r o : Bool) (qhimark : ℕ) (lists : Caller J) → holding lists ≡ first_lists r qhimark → r ≡ o → IsEmpty o lists
+  first_empty r o qhimark lists e same = record {
+    mode = ap (λ (h : Holding J). h.mode) e ∙ ap first_mode same;
+    put = ap (λ (h : Holding J). h.outgoing.put) e;
+    bypass = ap (λ (h : Holding J). h.outgoing.bypass) e;
+    own = ap (λ (h : Holding J). h.own) e;
+    looked = ap (λ (h : Holding J). h.advanced) e;
+  }
+
+  pub takes_first : (stride g : ℕ) (x : Folk J) (old new : List (Folk J)) (r : Option (Folk J)) → IsSome r → x ≡ slice_index_or old 0 x → x.cpu / stride ≡ g → old ≡ option_to_list r ++ new → TakesMember stride g r old new
+  takes_first stride g x old new (Some m) is at in' e = (ap (λ (f : Folk J). f.cpu / stride) (sym (at ∙ ap (λ (l : List (Folk J)). slice_index_or l 0 x) e)) ∙ in', e)
+  takes_first stride g x old new None is at in' e = absurd (let f : true ≡ false = sym is in cc)
+
+  -- the members taken so far, and what is left
+  abbrev pub Taking : ℕ → ℕ → List (Folk J) → List (Folk J) → List (Folk J) → Type 0
+  Taking stride g all taken left = (all ≡ taken ++ left) × All (λ (m : Folk J). m.cpu / stride ≡ g) taken
+
+  pub taking_first : (stride g : ℕ) (first : Folk J) (all taken left : List (Folk J)) → (m : Folk J) × (ms : List (Folk J)) × (all ≡ m ∷ ms) × (m.cpu / stride ≡ g) → all ≡ first ∷ left → taken ≡ first ∷ [] → Taking stride g all taken left
+  taking_first stride g first all taken left h e one = let same : h.0 ≡ first = ap (λ (l : List (Folk J)). slice_index_or l 0 first) (sym h.2 ∙ e) in
+      (e ∙ ap (λ (l : List (Folk J)). l ++ left) (sym one), subst (All (λ (m : Folk J). m.cpu / stride ≡ g)) (sym one) (All-cons (λ (m : Folk J). m.cpu / stride ≡ g) first [] (subst (λ (m : Folk J). m.cpu / stride ≡ g) same h.3) (All-nil (λ (m : Folk J). m.cpu / stride ≡ g))))
+
+  pub taking_next : (stride g : ℕ) (m : Folk J) (all taken left more rest : List (Folk J)) → all ≡ taken ++ left → All (λ (m : Folk J). m.cpu / stride ≡ g) taken → TakesMember stride g (Some m) left rest → more ≡ taken ++ m ∷ [] → Taking stride g all more rest
+  taking_next stride g m all taken left more rest order inside t e = (
+    order ∙ ap (λ (l : List (Folk J)). taken ++ l) t.1 ∙ sym (append_assoc taken (m ∷ []) rest) ∙ ap (λ (l : List (Folk J)). l ++ rest) (sym e),
+    subst (All (λ (m : Folk J). m.cpu / stride ≡ g)) (sym e) (All-push (λ (m : Folk J). m.cpu / stride ≡ g) taken m inside t.0),
+  )
+
+  pub taking_last : (stride g : ℕ) (all taken left rest : List (Folk J)) → all ≡ taken ++ left → All (λ (m : Folk J). m.cpu / stride ≡ g) taken → TakesMember stride g None left rest → TakesMembers stride g taken all rest
+  taking_last stride g all taken left rest order inside t = record {
+    order = order ∙ ap (λ (l : List (Folk J)). taken ++ l) (sym t.0);
+    inside = inside;
+    outside = subst (BeginsOutside stride g) (sym t.0) t.1;
+  }
+
+module _ {J R : Type 0} where
+  pub first_processor : (shape : Shape) (own b : Board) (k : ℕ) (s : Seat) (lists : Caller J) (p : Processor J R) (r : Bool) → own ≡ b → IsNewProcessor b k s → holding lists ≡ first_lists r shape.qhimark → r ≡ is_offloadable b.offloadable k
+      → IsNew shape own k s lists p.state → IsFirstProcessor shape b k p
+  first_processor shape own b k s lists p r same seat empty kind new = record {
+    seat = subst (IsNewProcessor b k) (sym new.seat) seat;
+    lists = ap holding new.lists_are ∙ empty ∙ ap (λ o. first_lists o shape.qhimark) kind;
+    part = record {
+      board = new.board ∙ same;
+      seat = refl;
+      lists_are = refl;
+      cpu_is = new.cpu_is;
+      offloadable = new.offloadable ∙ ap (λ (x : Board). is_offloadable x.offloadable k) same;
+      limit = new.limit;
+      blimit = new.blimit;
+      accepted = new.accepted;
+      ran = new.ran;
+    };
+  }
+
+  pub first_of_hands : (shape : Shape) (own b : Board) (k : ℕ) (s : Seat) (held : Held J) (h : Hand J R) → own ≡ b → IsNewHand b k s → (drawn_by held ≡ []) × (held_by held ≡ []) → IsNewHandOf shape own k s held h.state → IsFirstHand shape b k h
+  first_of_hands shape own b k s held h same seat empty new = record {
+    seat = subst (IsNewHand b k) (sym new.seat) seat;
+    empty = (ap drawn_by new.held_is ∙ empty.0, ap held_by new.held_is ∙ empty.1);
+    part = record {
+      board = new.board ∙ same;
+      seat = refl;
+      held_is = refl;
+      cpu_is = new.cpu_is;
+      limit = new.limit;
+      ran = new.ran;
+    };
+  }

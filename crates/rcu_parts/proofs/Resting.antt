@@ -1,0 +1,92 @@
+-- A processor and its hand at rest, and the room that they want.
+use Rattle.std.proofs.Common.{◌≡◌, ℕ, ◌+◌, ◌-◌, ◌≤◌, ◌∙◌, Option, Some, None, List, [], ◌∷◌, map, length, ap, subst, refl, arith, vec_len}
+use Rattle.std.proofs.Math.Logic.{∥∥₁_elim}
+use Rattle.std.proofs.Props.{props}
+use Rattle.std.proofs.lemmas.List.{length-map}
+use Rattle.rcu_board.specs.Seats.{AtBoard, accepted_of, view}
+use Rattle.rcu_board.specs.Views.{cpus}
+use Rattle.rcu_board.specs.Words.{words_of}
+use Rattle.rcu_board.specs.declared.board.Board.{Board}
+use Rattle.rcu_board.specs.declared.board.Seat.{Seat}
+use Rattle.rcu_board.specs.declared.view.View.{View}
+use Rattle.rcu_endings.specs.Ends.{HasRoom}
+use Rattle.rcu_endings.specs.declared.ended.Ended.{Ended}
+use Rattle.rcu_gathering.specs.Parts.{HandPart, IsAtRest, accepted_entry, accepted_list, claim_of, hand_ran, hand_taken}
+use Rattle.rcu_gathering.proofs.Lists.{all_cons, all_none}
+use Rattle.rcu_holdings.specs.Callers.{Holding, held_in, put_by}
+use Rattle.rcu_jobs.specs.declared.callback.Record.{Record}
+use Rattle.rcu_numbers.specs.Numbers.{snap_of}
+use Rattle.rcu_places.proofs.Moves.{placed_all}
+use Rattle.rcu_records.specs.Records.{numbered_record, numbered_records}
+use Rattle.rcu_parts.specs.AtClose.{cpu_part, hand_part}
+use Rattle.rcu_parts.specs.Ending.{AreLong}
+use Rattle.rcu_parts.specs.Hands.{IsSoundHand}
+use Rattle.rcu_parts.specs.Lawful.{IsLawful}
+use Rattle.rcu_parts.specs.Places.{numbered_callback, numbered_callbacks}
+use Rattle.rcu_parts.specs.Processors.{IsSound, lists_of, records_of, view_of}
+use Rattle.rcu_parts.specs.Rooms.{FitsCpu}
+use Rattle.rcu_parts.specs.declared.hand.Hand.{Hand}
+use Rattle.rcu_parts.specs.declared.processor.Processor.{Processor}
+
+-- a seat's view has a sight of each word of its board
+pub is_long : (b : Board) (s : Seat) → AtBoard b s → length (view s).seen ≡ words_of b.processors
+is_long b s at = s.of_role.can_step.seen_long ∙ (ap (λ t. t.words) at ∙ b.sized)
+
+pub is_long_at : (b c : Board) (s : Seat) → c ≡ b → AtBoard c s → length (view s).seen ≡ words_of b.processors
+is_long_at b c s same at = subst (λ d. length (view s).seen ≡ words_of d.processors) same (is_long c s at)
+
+pub one_long : (b c : Board) (s : Seat) → c ≡ b → AtBoard c s → AreLong b.processors (view s ∷ [])
+one_long b c s same at = all_cons (λ w. length w.seen ≡ words_of b.processors) (view s) [] (is_long_at b c s same at) (all_none (λ w. length w.seen ≡ words_of b.processors))
+
+pub both_long : (b c d : Board) (s t : Seat) → c ≡ b → d ≡ b → AtBoard c s → AtBoard d t → AreLong b.processors (view s ∷ view t ∷ [])
+both_long b c d s t first second at there =
+    all_cons (λ w. length w.seen ≡ words_of b.processors) (view s) (view t ∷ []) (is_long_at b c s first at) (one_long b d t second there)
+
+module _ {J R : Type 0} where
+  own_cpu : (p : Processor J R) → cpus (view_of p.state).own ≡ p.state.cpu ∷ []
+  own_cpu p = p.state.seat.of_role.own p.state.cpu p.state.role
+
+  -- a processor that has no hand
+  pub rests_alone : (key_of : J → ℕ) (gives : ℕ → R → Type 0) (p : Processor J R) → IsSound key_of gives p.state → IsAtRest key_of gives (cpu_part p None)
+  rests_alone key_of gives p sound = record {
+    own_cpu = own_cpu p;
+    stamped = p.state.lawful.stamped;
+    places = record { processor = p.state.lawful.places; hand = refl };
+    claims = p.state.lawful.claims;
+    hand_claims = tt;
+    ripe = p.state.lawful.ripe;
+    hand_ripe = all_none (λ r. snap_of r.stamp ≤ r.ready);
+    sound = record { keyed = sound.keyed; own_given = sound.given; hands_given = λ keyed. all_none (λ r. gives r.key r.receipt) };
+  }
+
+  -- a processor and its hand
+  pub rests_with : (key_of : J → ℕ) (gives : ℕ → R → Type 0) (p : Processor J R) (h : Hand J R) → h.state.cpu ≡ p.state.cpu → IsSound key_of gives p.state → IsSoundHand key_of gives h.state
+      → IsAtRest key_of gives (cpu_part p (Some (hand_part h)))
+  rests_with key_of gives p h same sound hands = record {
+    own_cpu = own_cpu p;
+    stamped = p.state.lawful.stamped;
+    places = record { processor = p.state.lawful.places; hand = h.state.lawful.places };
+    claims = p.state.lawful.claims;
+    hand_claims = subst (λ (k : ℕ). (view h.state.seat).claims ≡ map (claim_of k) h.state.ran.items) same h.state.lawful.claims;
+    ripe = p.state.lawful.ripe;
+    hand_ripe = h.state.lawful.ripe;
+    sound = record { keyed = sound.keyed; own_given = sound.given; hands_given = hands };
+  }
+
+  -- what was accepted ran, was put on the lane, or is held
+  all_counted : (cpu n : ℕ) (v : View) (ran : List (Record R)) (h : Holding J) → IsLawful cpu n v ran h → n ≡ length ran + length (put_by h) + length (held_in h)
+  all_counted cpu n v ran h l = ∥∥₁_elim l.places (hlevel props) (λ p.
+      let all = placed_all (accepted_list v) (numbered_records ran) (numbered_callbacks (put_by h)) (numbered_callbacks (held_in h)) p in
+      omega (arith, all, length-map ran (numbered_record {R = R}), length-map (accepted_of v) accepted_entry, length-map (put_by h) (numbered_callback {J = J}), length-map (held_in h) (numbered_callback {J = J}), l.counted))
+
+  -- room for its records and its hand's, and for as many jobs as were accepted besides
+  pub fits_cpu : (p : Processor J R) (hand : Option (HandPart J R)) (hands records jobs : ℕ) (room : Ended J R) → records ≡ vec_len p.state.ran + hands → jobs ≡ p.state.accepted - records
+      → HasRoom records jobs room → length (hand_ran hand) ≡ hands → length (hand_taken hand) ≡ hands → FitsCpu (cpu_part p hand) room
+  fits_cpu p hand hands records jobs room all rest has ran taken =
+      let n = all_counted p.state.cpu p.state.accepted (view_of p.state) (records_of p.state) (lists_of p.state) p.state.lawful in
+      let long = p.state.ran.ok.0 in
+      record {
+        jobs = jobs;
+        empty = subst (λ (k : ℕ). HasRoom k jobs room) (let z : records ≡ length (records_of p.state) + length (hand_ran hand) = omega (arith, all, ran, long) in z) has;
+        enough = omega (arith, n, all, rest, taken, long);
+      }

@@ -1,0 +1,127 @@
+use Rattle.std.proofs.Common.{◌≡◌, ℕ, ◌-◌, true, false, List, [], length, ap, sym, ◌∙◌, subst}
+use Rattle.std.specs.Arc.{arc_value}
+use Rattle.std.specs.List.{AllZip}
+use Rattle.std.specs.Mem.{FitsInMemory}
+use denote.Param.{param}
+use Rattle.rcu_board.specs.Opened.{AreNew, IsNewGroup, IsNewHand, has_offloadable, is_offloadable, numbers_where}
+use Rattle.rcu_board.specs.Opened.{IsNew as IsNewSeat}
+use Rattle.rcu_board.specs.Plays.{all_seats}
+use Rattle.rcu_board.specs.Seats.{view}
+use Rattle.rcu_board.specs.declared.board.Board.{Board}
+use Rattle.rcu_board.specs.declared.board.Role.TheVariants.{Control, Driver}
+use Rattle.rcu_board.specs.declared.board.Seat.{Seat}
+use Rattle.rcu_board.specs.declared.view.View.{View}
+use Rattle.rcu_control.specs.Parts.{control_board}
+use Rattle.rcu_holdings.proofs.Sizes.{in_struct}
+use Rattle.rcu_lists.specs.contracts.batch.Batch as batch
+use Rattle.rcu_parts.specs.OneOpen.{HasHand, members_in}
+use Rattle.rcu_parts.specs.Openings.{AreFirstGroups, AreFirstHands, AreFirstProcessors}
+use Rattle.rcu_parts.specs.contracts.folk.Folk as folk
+use Rattle.rcu_parts.specs.contracts.group.Group as group
+use Rattle.rcu_parts.specs.contracts.hand.Hand as hand
+use Rattle.rcu_parts.specs.contracts.processor.Processor as processor
+use Rattle.rcu_parts.specs.declared.folk.Folk.{Folk}
+use Rattle.rcu_parts.proofs.Whole.{all_weigh, are_in_order, as_many, groups_here, groups_of_board, groups_weigh, hands_here, hands_of_board, hands_sound, hands_weigh, have_members, is_bare, many_fronts, none_drawn, offloadable_cpus, processors_sound, processors_weigh}
+use Rattle.rcu_parts.proofs.Zips.{as_many_seats}
+use Rattle.rcu_parts.proofs.opening.open.Given.{Over}
+use Rattle.rcu_parts.proofs.opening.open.Goals as goal
+
+processor_fits : (g : Over) (c : goal.After-board-3-1 g) → FitsInMemory (processor.the_row (param 0 g.row.J) (param 1 g.row.J-Receipt))
+processor_fits g c = c.requires-raw.1.1.1.1.0
+
+group_fits : (g : Over) (c : goal.After-board-3-1 g) → FitsInMemory (group.the_row (param 0 g.row.J) (param 1 g.row.J-Receipt))
+group_fits g c = c.requires-raw.1.1.1.1.1.0
+
+hand_fits : (g : Over) (c : goal.After-board-3-1 g) → FitsInMemory (hand.the_row (param 0 g.row.J) (param 1 g.row.J-Receipt))
+hand_fits g c = c.requires-raw.1.1.1.1.1.1
+
+folk_fits : (g : Over) (c : goal.After-board-3-1 g) → FitsInMemory (folk.the_row (param 0 g.row.J))
+folk_fits g c = let h = group_fits g c in in_struct _ _ _ (in_struct _ _ _ (in_struct _ _ _ h))
+
+batch_fits : (g : Over) (c : goal.After-board-3-1 g) → FitsInMemory (batch.the_row (param 0 g.row.J))
+batch_fits g c = let h = hand_fits g c in in_struct _ _ _ (in_struct _ _ _ (in_struct _ _ _ h))
+
+pub open_processors-requires-after_bounds : goal.open_processors-requires-after_bounds
+open_processors-requires-after_bounds g c κs within = let shape = c.args.shape in let s = c.in_ok-board.seats in let e = c.in_ok-board-2.ensures.ok in let b = arc_value c.in_ok-board-2.board in
+    let new = subst (λ (x : Board). AreNew shape x s) (sym e) c.in_ok-board.ensures.seats in
+    let many : b.processors ≡ shape.processors = ap (λ (x : Board). x.processors) e ∙ c.in_ok-board.ensures.shape.0 in
+    let mask : b.offloadable ≡ shape.offloadable = ap (λ (x : Board). x.offloadable) e ∙ c.in_ok-board.ensures.shape.1 in
+    (processor_fits g c, (batch_fits g c, (new.processors, new.as_many ∙ sym many)))
+
+pub open_hands-requires-after_bounds : goal.open_hands-requires-after_bounds
+open_hands-requires-after_bounds g c κs within = let shape = c.args.shape in let s = c.in_ok-board.seats in let e = c.in_ok-board-2.ensures.ok in let b = arc_value c.in_ok-board-2.board in
+    let new = subst (λ (x : Board). AreNew shape x s) (sym e) c.in_ok-board.ensures.seats in
+    let many : b.processors ≡ shape.processors = ap (λ (x : Board). x.processors) e ∙ c.in_ok-board.ensures.shape.0 in
+    let mask : b.offloadable ≡ shape.offloadable = ap (λ (x : Board). x.offloadable) e ∙ c.in_ok-board.ensures.shape.1 in
+    let ps = c.in_ok-processors.processors.items in let first = c.in_ok-processors.ensures.processors in let fronts = c.in_ok-processors.ensures.fronts in
+    let ks = numbers_where (is_offloadable b.offloadable) 0 b.processors in let cpus = offloadable_cpus shape b 0 b.processors ps first in
+    let start = c.before.before.before.before.before in let seats = hands_of_board shape b s new many mask in
+    (batch_fits g start, (folk_fits g start, (hand_fits g start, (seats, (many_fronts ps c.in_ok-processors.fronts.items ks fronts cpus ∙ sym (as_many_seats (IsNewHand b) ks s.hands.items seats), none_drawn ps c.in_ok-processors.fronts.items fronts)))))
+
+pub open_groups-requires-after_bounds : goal.open_groups-requires-after_bounds
+open_groups-requires-after_bounds g c κs within = let shape = c.args.shape in let s = c.in_ok-board.seats in let e = c.in_ok-board-2.ensures.ok in let b = arc_value c.in_ok-board-2.board in
+    let new = subst (λ (x : Board). AreNew shape x s) (sym e) c.in_ok-board.ensures.seats in
+    let many : b.processors ≡ shape.processors = ap (λ (x : Board). x.processors) e ∙ c.in_ok-board.ensures.shape.0 in
+    let mask : b.offloadable ≡ shape.offloadable = ap (λ (x : Board). x.offloadable) e ∙ c.in_ok-board.ensures.shape.1 in
+    let start = c.before.before.before.before.before.before.before.before.before.before in
+    (folk_fits g start, (group_fits g start, (groups_of_board shape b s new many mask, (c.in_ok-folks.ensures.cpus, c.in_ok-folks.ensures.empty))))
+
+pub new-requires-2-clause-here : goal.new-requires-2-clause-here
+new-requires-2-clause-here g c = c.in_ok-board.ensures.seats.control.board ∙ ap (λ (x : Board). x.table.shared.table_id) (sym c.in_ok-board-2.ensures.ok)
+
+pub new-requires-2-clause-role : goal.new-requires-2-clause-role
+new-requires-2-clause-role g c = c.in_ok-board.ensures.seats.control.who
+
+pub new-requires-2-clause-bare : goal.new-requires-2-clause-bare
+new-requires-2-clause-bare g c = let b = c.in_ok-board.board in is_bare b.processors b.offloadable 1 false true (view c.in_ok-board.seats.control) c.in_ok-board.ensures.seats.control.first_view
+
+pub returns-clause-opened : goal.returns-clause-opened
+returns-clause-opened g c = let shape = c.args.shape in let s = c.in_ok-board.seats in let e = c.in_ok-board-2.ensures.ok in let b = arc_value c.in_ok-board-2.board in
+    let new = subst (λ (x : Board). AreNew shape x s) (sym e) c.in_ok-board.ensures.seats in
+    let many : b.processors ≡ shape.processors = ap (λ (x : Board). x.processors) e ∙ c.in_ok-board.ensures.shape.0 in
+    let mask : b.offloadable ≡ shape.offloadable = ap (λ (x : Board). x.offloadable) e ∙ c.in_ok-board.ensures.shape.1 in
+    let at : b ≡ control_board c.new-2.result = sym c.new-2.ensures.board in record {
+      many = ap (λ (x : Board). x.processors) (sym at) ∙ many;
+      mask = ap (λ (x : Board). x.offloadable) (sym at) ∙ mask;
+      processors = subst (λ (x : Board). AreFirstProcessors shape x c.in_ok-processors.processors.items) at c.in_ok-processors.ensures.processors;
+      hands = subst (λ (x : Board). AreFirstHands shape x c.in_ok-folks.hands.items) at c.in_ok-folks.ensures.hands;
+      groups = subst (λ (x : Board). AreFirstGroups shape x c.in_ok-groups.groups.items) at c.in_ok-groups.ensures.groups;
+      control = subst (λ (t : Seat). IsNewSeat (control_board c.new-2.result) Control 1 false true [] t) (sym c.new-2.ensures.seat) (subst (λ (x : Board). IsNewSeat x Control 1 false true [] s.control) at new.control);
+      driver = subst (λ (t : Seat). IsNewSeat (control_board c.new-2.result) Driver (view t).weight true false [] t) (sym c.new-driver.ensures.seat)
+          (subst (λ (x : Board). IsNewSeat x Driver (view s.driver).weight true false [] s.driver) at (subst (λ (w : ℕ). IsNewSeat b Driver w true false [] s.driver) (sym (ap (λ (v : View). v.weight) new.driver.first_view)) new.driver));
+    }
+
+pub returns-clause-one : goal.returns-clause-one
+returns-clause-one g c = let shape = c.args.shape in let s = c.in_ok-board.seats in let e = c.in_ok-board-2.ensures.ok in let b = arc_value c.in_ok-board-2.board in
+    let new = subst (λ (x : Board). AreNew shape x s) (sym e) c.in_ok-board.ensures.seats in
+    let many : b.processors ≡ shape.processors = ap (λ (x : Board). x.processors) e ∙ c.in_ok-board.ensures.shape.0 in
+    let mask : b.offloadable ≡ shape.offloadable = ap (λ (x : Board). x.offloadable) e ∙ c.in_ok-board.ensures.shape.1 in
+    let ps = c.in_ok-processors.processors.items in let first = c.in_ok-processors.ensures.processors in let fronts = c.in_ok-processors.ensures.fronts in
+    let ks = numbers_where (is_offloadable b.offloadable) 0 b.processors in let cpus = offloadable_cpus shape b 0 b.processors ps first in
+    let at : b ≡ control_board c.new-2.result = sym c.new-2.ensures.board in let top = control_board c.new-2.result in
+    let here = subst (λ (x : Board). AreFirstProcessors shape x ps) at first in
+    let hands = subst (λ (x : Board). AreFirstHands shape x c.in_ok-folks.hands.items) at c.in_ok-folks.ensures.hands in
+    let groups = subst (λ (x : Board). AreFirstGroups shape x c.in_ok-groups.groups.items) at c.in_ok-groups.ensures.groups in
+    let cs = numbers_where (is_offloadable top.offloadable) 0 top.processors in let gs = numbers_where (has_offloadable top.offloadable shape.stride top.processors) 0 top.processors in
+    let atop = subst (λ (x : Board). AreNew shape x s) at new in let n : top.processors ≡ shape.processors = ap (λ (x : Board). x.processors) (sym at) ∙ many in let o : top.offloadable ≡ shape.offloadable = ap (λ (x : Board). x.offloadable) (sym at) ∙ mask in record {
+      driver = c.new-driver.ensures.board ∙ c.in_ok-try_clone.ensures ∙ at;
+      processors = are_in_order shape top 0 top.processors ps here;
+      as_many = as_many shape top ps here;
+      groups = groups_here shape top gs c.in_ok-groups.groups.items groups;
+      hands = hands_here shape top cs c.in_ok-folks.hands.items hands;
+      members = have_members ps c.in_ok-processors.fronts.items c.in_ok-folks.folks.items (members_in c.in_ok-groups.groups.items) ks fronts cpus c.in_ok-folks.ensures.fronts c.in_ok-folks.ensures.cpus c.in_ok-groups.ensures.members;
+      running = subst (λ (ms : List (Folk g.row.J.Denot)). AllZip HasHand ms c.in_ok-folks.hands.items) (sym c.in_ok-groups.ensures.members) c.in_ok-folks.ensures.lanes;
+      weighs = all_weigh _ _ _ _ _ (length s.processors.items) (length s.hands.items) (length s.groups.items) (all_seats - length s.processors.items - length s.hands.items - length s.groups.items - 1) all_seats
+          (ap (λ (t : Seat). (view t).weight) c.new-2.ensures.seat ∙ ap (λ (v : View). v.weight) new.control.first_view)
+          (ap (λ (t : Seat). (view t).weight) c.new-driver.ensures.seat ∙ ap (λ (v : View). v.weight) new.driver.first_view)
+          (groups_weigh shape top gs c.in_ok-groups.groups.items groups ∙ sym (as_many_seats (IsNewGroup top) gs s.groups.items (groups_of_board shape top s atop n o)))
+          (processors_weigh shape top _ ps here ∙ as_many shape top ps here ∙ n ∙ sym new.as_many)
+          (hands_weigh shape top cs c.in_ok-folks.hands.items hands ∙ sym (as_many_seats (IsNewHand top) cs s.hands.items (hands_of_board shape top s atop n o)))
+          new.weighs;
+    }
+
+pub returns-clause-sound : goal.returns-clause-sound
+returns-clause-sound g c = let b = arc_value c.in_ok-board-2.board in record {
+  processors = processors_sound c.args.shape b g.J.Job.key_of g.J.Job.gives _ c.in_ok-processors.processors.items c.in_ok-processors.ensures.processors;
+  hands = hands_sound c.args.shape b g.J.Job.key_of g.J.Job.gives _ c.in_ok-folks.hands.items c.in_ok-folks.ensures.hands;
+}

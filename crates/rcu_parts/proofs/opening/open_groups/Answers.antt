@@ -1,0 +1,112 @@
+use Rattle.std.proofs.Common.{◌≡◌, ℕ, rules, arith, List, ◌∷◌, [], ◌++◌, length, append_assoc, ap, sym, ◌∙◌, subst, refl}
+use Rattle.std.specs.Arc.{arc_value}
+use Rattle.std.specs.List.{AllZip}
+use Rattle.std.specs.Mem.{FitsInMemory}
+use denote.Param.{param}
+use Rattle.std.proofs.lemmas.List.{length-map}
+use Rattle.rcu_board.specs.Opened.{IsNewGroup, SeatForEach, has_offloadable, numbers_where}
+use Rattle.rcu_board.specs.declared.board.Board.{Board}
+use Rattle.rcu_holdings.proofs.Sizes.{in_struct}
+use Rattle.rcu_parts.specs.GroupLaw.{cpus_of, folks_in}
+use Rattle.rcu_parts.specs.OneOpen.{members_in}
+use Rattle.rcu_parts.specs.Openings.{IsFirstGroup}
+use Rattle.rcu_parts.specs.contracts.folk.Folk as folk
+use Rattle.rcu_parts.specs.contracts.folk.Members as members
+use Rattle.rcu_parts.specs.contracts.group.Group as group
+use Rattle.rcu_parts.specs.declared.folk.Folk.{Folk}
+use Rattle.rcu_parts.specs.declared.group.Group.{Group}
+use Rattle.rcu_parts.proofs.Grouped.{are_members, group_begins, group_taken}
+use Rattle.rcu_parts.proofs.Making.{empty_parts, group_made, group_of_role, grouped_more, groups_more}
+use Rattle.rcu_parts.proofs.Splitting.{AreGrouped, all_groups}
+use Rattle.rcu_parts.proofs.Zips.{all_of, none_long, seat_and_rest, seats_over}
+use Rattle.rcu_parts.proofs.opening.open_groups.Given.{Over}
+use Rattle.rcu_parts.proofs.opening.open_groups.Goals as goal
+
+group_fits : (g : Over) (c : goal.After-into_iter-seat-iterator g) → FitsInMemory (group.the_row (param 0 g.row.J) (param 1 g.row.J-Receipt))
+group_fits g c = search rules
+
+folk_fits : (g : Over) (c : goal.After-into_iter-seat-iterator g) → FitsInMemory (folk.the_row (param 0 g.row.J))
+folk_fits g c = search rules
+
+members_fits : (g : Over) (c : goal.After-into_iter-seat-iterator g) → FitsInMemory (members.the_row (param 0 g.row.J))
+members_fits g c = let h = group_fits g c in in_struct _ _ _ (in_struct _ _ _ h)
+
+pub loop-seat-init : goal.loop-seat-init
+loop-seat-init g c = let b = arc_value c.args.board.now in let stride = c.args.shape.now.stride in let gs = numbers_where (has_offloadable b.offloadable stride b.processors) 0 b.processors in record {
+  done = [];
+  left = gs;
+  all = refl;
+  seats = search rules;
+  grouped = subst (AreGrouped b.offloadable stride b.processors gs) (sym c.requires.cpus) (all_groups b.offloadable stride b.processors (let w = c.args.shape.now.within.group in omega (arith, w)));
+  members = ap (λ (l : List (Group g.row.J.Denot g.row.J-Receipt.Denot)). members_in l ++ c.args.folks.items) c.new-groups.ensures.items;
+  empty = c.requires.empty;
+  groups = search rules;
+}
+
+pub unreachable-requires : goal.unreachable-requires
+unreachable-requires g c = let P = IsNewGroup (arc_value c.args.board.now) in let i = c.loop-seat.invariant in
+    let t = seat_and_rest P i.left c.in-Some.seat c.next.new.self.rest.items (subst (SeatForEach P i.left) c.in-Some.ensures.steps.0 i.seats) in c.in_default.not-Group t.0 (c.role.ensures ∙ t.3.who)
+
+pub take_members-requires : goal.take_members-requires
+take_members-requires g c = let b = arc_value c.args.board.now in let P = IsNewGroup b in let i = c.loop-seat.invariant in
+    let t = seat_and_rest P i.left c.in-Some.seat c.next.new.self.rest.items (subst (SeatForEach P i.left) c.in-Some.ensures.steps.0 i.seats) in
+    let same : t.0 ≡ c.in-Group.number = ap group_of_role (sym t.3.who ∙ sym c.role.ensures ∙ c.in-Group.is) in
+    let grouped = subst (λ (l : List ℕ). AreGrouped b.offloadable c.args.shape.now.stride b.processors l (cpus_of c.loop-seat.folks.items)) (t.2 ∙ ap (λ (k : ℕ). k ∷ t.1) same) i.grouped in
+    let begins = group_begins b.offloadable c.args.shape.now.stride b.processors c.in-Group.number t.1 c.loop-seat.folks.items grouped in
+    let start = c.before.before.before.before.before.before.before.before.before.before.before in
+    (folk_fits g start, (members_fits g start, ((let w = c.args.shape.now.within.group in omega (arith, w)), begins)))
+
+pub new-requires-after_bounds : goal.new-requires-after_bounds
+new-requires-after_bounds g c κs within = let b = arc_value c.args.board.now in let P = IsNewGroup b in let i = c.loop-seat.invariant in let stride = c.args.shape.now.stride in let number = c.in-Group.number in
+    let t = seat_and_rest P i.left c.in-Some.seat c.next.new.self.rest.items (subst (SeatForEach P i.left) c.in-Some.ensures.steps.0 i.seats) in
+    let same : t.0 ≡ number = ap group_of_role (sym t.3.who ∙ sym c.role.ensures ∙ c.in-Group.is) in
+    let grouped = subst (λ (l : List ℕ). AreGrouped b.offloadable stride b.processors l (cpus_of c.loop-seat.folks.items)) (t.2 ∙ ap (λ (k : ℕ). k ∷ t.1) same) i.grouped in
+    let took = c.in_ok-members.ensures in let ms = folks_in c.in_ok-members.members in let rest = c.take_members.new.folks.items in
+    let of = group_taken b.offloadable stride b.processors number t.1 ms c.loop-seat.folks.items rest grouped took in
+    let start = c.before.before.before.before.before.before.before.before.before.before.before.before.before.before.before in (
+      members_fits g start,
+      (
+        group_fits g start,
+        (
+          subst (λ (x : Board). IsNewGroup x number c.in-Some.seat) (sym c.in_ok-own.ensures) (subst (λ (k : ℕ). P k c.in-Some.seat) same t.3),
+          (are_members b.offloadable stride b.processors number ms b.few of.0, (empty_parts ms c.loop-seat.folks.items rest took.order i.empty).0),
+        ),
+      ),
+    )
+
+pub loop-seat-preserved : goal.loop-seat-preserved
+loop-seat-preserved g c = let b = arc_value c.args.board.now in let P = IsNewGroup b in let i = c.loop-seat.invariant in let stride = c.args.shape.now.stride in let number = c.in-Group.number in
+    let t = seat_and_rest P i.left c.in-Some.seat c.next.new.self.rest.items (subst (SeatForEach P i.left) c.in-Some.ensures.steps.0 i.seats) in
+    let same : t.0 ≡ number = ap group_of_role (sym t.3.who ∙ sym c.role.ensures ∙ c.in-Group.is) in
+    let next : i.left ≡ number ∷ t.1 = t.2 ∙ ap (λ (k : ℕ). k ∷ t.1) same in
+    let grouped = subst (λ (l : List ℕ). AreGrouped b.offloadable stride b.processors l (cpus_of c.loop-seat.folks.items)) next i.grouped in
+    let took = c.in_ok-members.ensures in let ms = folks_in c.in_ok-members.members in let rest = c.take_members.new.folks.items in
+    let of = group_taken b.offloadable stride b.processors number t.1 ms c.loop-seat.folks.items rest grouped took in
+    let empty = empty_parts ms c.loop-seat.folks.items rest took.order i.empty in let made = c.new.ensures in
+    let first = group_made c.args.shape.now (arc_value c.in_ok-own.own) b number c.in-Some.seat ms c.new.result c.in_ok-own.ensures (subst (λ (k : ℕ). P k c.in-Some.seat) same t.3) of.0 empty.0 made in
+    let e = c.in_ok-push.ensures.items in record {
+      done = i.done ++ number ∷ [];
+      left = t.1;
+      all = append_assoc i.done (number ∷ []) t.1 ∙ ap (λ (l : List ℕ). i.done ++ l) (sym next) ∙ i.all;
+      seats = t.4;
+      grouped = of.1;
+      members = grouped_more c.loop-seat.groups.items c.push.new.self.items c.new.result ms c.loop-seat.folks.items rest c.args.folks.items i.members took.order made.members_are e;
+      empty = empty.1;
+      groups = groups_more c.args.shape.now b i.done number c.loop-seat.groups.items c.push.new.self.items c.new.result i.groups first e;
+    }
+
+over : (g : Over) (c : goal.After-drop-folks-2 g) → length c.loop-seat.seat-iterator.rest.items ≡ 0
+over g c = search rules
+
+none : (g : Over) (c : goal.After-drop-folks-2 g) → c.loop-seat.invariant.left ≡ []
+none g c = seats_over (IsNewGroup (arc_value c.args.board.now)) c.loop-seat.invariant.left c.loop-seat.seat-iterator.rest.items c.loop-seat.invariant.seats (over g c)
+
+pub returns-clause-groups : goal.returns-clause-groups
+returns-clause-groups g c = let i = c.loop-seat.invariant in let b = arc_value c.args.board.now in
+    subst (λ (gs : List ℕ). AllZip (IsFirstGroup c.args.shape.now b) gs c.loop-seat.groups.items) (all_of i.done i.left (numbers_where (has_offloadable b.offloadable c.args.shape.now.stride b.processors) 0 b.processors) i.all (none g c)) i.groups
+
+pub returns-clause-members : goal.returns-clause-members
+returns-clause-members g c = let i = c.loop-seat.invariant in let b = arc_value c.args.board.now in
+    let left = subst (λ (gs : List ℕ). AreGrouped b.offloadable c.args.shape.now.stride b.processors gs (cpus_of c.loop-seat.folks.items)) (none g c) i.grouped in
+    all_of (members_in c.loop-seat.groups.items) c.loop-seat.folks.items c.args.folks.items i.members
+    (none_long c.loop-seat.folks.items (sym (length-map c.loop-seat.folks.items (λ (m : Folk g.row.J.Denot). m.cpu)) ∙ ap (λ (l : List ℕ). length l) left))

@@ -1,0 +1,105 @@
+use Rattle.std.proofs.Common.{◌≡◌, ℕ, rules, arith, List, [], ◌++◌, length, ap, sym, ◌∙◌, subst}
+use Rattle.std.specs.Prelude.{All}
+use Rattle.std.specs.Arc.{arc_value}
+use Rattle.std.specs.List.{AllZip}
+use Rattle.std.specs.Mem.{FitsInMemory}
+use denote.Param.{param}
+use Rattle.std.proofs.lemmas.List.Elements.{All-head, All-nil, All-push, All-tail}
+use Rattle.rcu_board.specs.Opened.{IsNewHand, SeatForEach, is_offloadable, numbers_where}
+use Rattle.rcu_board.specs.Roles.{cpu_of_role}
+use Rattle.rcu_board.specs.declared.board.Seat.{Seat}
+use Rattle.rcu_holdings.specs.declared.safe.Safe.{Safe}
+use Rattle.rcu_lanes.specs.Ends.{items_drawn}
+use Rattle.rcu_lanes.specs.declared.ends.Front.{Front}
+use Rattle.rcu_lists.specs.contracts.batch.Batch as batch
+use Rattle.rcu_lists.specs.declared.batch.Batch.{Batch}
+use Rattle.rcu_parts.specs.GroupLaw.{cpus_of}
+use Rattle.rcu_parts.specs.Groups.{IsEmptyFolk}
+use Rattle.rcu_parts.specs.Openings.{IsFirstHand, fronts_of}
+use Rattle.rcu_parts.specs.contracts.folk.Folk as folk
+use Rattle.rcu_parts.specs.contracts.hand.Hand as hand
+use Rattle.rcu_parts.specs.declared.folk.Folk.{Folk}
+use Rattle.rcu_parts.proofs.Making.{hands_more, made_more}
+use Rattle.rcu_parts.proofs.Zips.{all_of, none_long, seat_and_rest, seats_over}
+use Rattle.rcu_parts.proofs.opening.open_hands.Given.{Over}
+use Rattle.rcu_parts.proofs.opening.open_hands.Goals as goal
+
+hand_fits : (g : Over) (c : goal.After-into_iter-seat-iterator g) → FitsInMemory (hand.the_row (param 0 g.row.J) (param 1 g.row.J-Receipt))
+hand_fits g c = search rules
+
+folk_fits : (g : Over) (c : goal.After-into_iter-seat-iterator g) → FitsInMemory (folk.the_row (param 0 g.row.J))
+folk_fits g c = search rules
+
+batch_fits : (g : Over) (c : goal.After-into_iter-seat-iterator g) → FitsInMemory (batch.the_row (param 0 g.row.J))
+batch_fits g c = search rules
+
+pub loop-seat-init : goal.loop-seat-init
+loop-seat-init g c = let b = arc_value c.args.board.now in let ks = numbers_where (is_offloadable b.offloadable) 0 b.processors in let none = c.new-folks.ensures.items in record {
+  left = ks;
+  all = ap (λ (l : List (Folk g.row.J.Denot)). cpus_of l ++ ks) none;
+  seats = search rules;
+  many = search rules;
+  drawn = c.requires.fronts;
+  fronts = ap (λ (l : List (Folk g.row.J.Denot)). fronts_of l ++ c.args.fronts.items) none;
+  empty = subst (All IsEmptyFolk) (sym none) (All-nil IsEmptyFolk);
+  hands = search rules;
+  lanes = search rules;
+}
+
+pub unreachable-requires : goal.unreachable-requires
+unreachable-requires g c = let P = IsNewHand (arc_value c.args.board.now) in let i = c.loop-seat.invariant in
+    let t = seat_and_rest P i.left c.in-Some.seat c.next.new.self.rest.items (subst (SeatForEach P i.left) c.in-Some.ensures.steps.0 i.seats) in c.in_default.not-Hand t.0 (c.role.ensures ∙ t.3.who)
+
+pub open_hand-requires-after_bounds : goal.open_hand-requires-after_bounds
+open_hand-requires-after_bounds g c κs within = let P = IsNewHand (arc_value c.args.board.now) in let i = c.loop-seat.invariant in
+    let t = seat_and_rest P i.left c.in-Some.seat c.next.new.self.rest.items (subst (SeatForEach P i.left) c.in-Some.ensures.steps.0 i.seats) in
+    let same : t.0 ≡ c.in-Hand.cpu = ap cpu_of_role (sym t.3.who ∙ sym c.role.ensures ∙ c.in-Hand.is) in
+    let start = c.before.before.before.before.before.before.before.before.before.before in
+    let drawn = λ (f : Front (Batch g.row.J.Denot) Safe). items_drawn f ≡ [] in (
+      batch_fits g start,
+      (
+        folk_fits g start,
+        (
+          hand_fits g start,
+          (
+            subst (λ (k : ℕ). P k c.in-Some.seat) same t.3,
+            All-head drawn c.in-Some-pop_front.front c.pop_front.new.self.items (subst (All drawn) c.in-Some-pop_front.ensures.items i.drawn),
+          ),
+        ),
+      ),
+    )
+
+pub loop-seat-preserved : goal.loop-seat-preserved
+loop-seat-preserved g c = let b = arc_value c.args.board.now in let P = IsNewHand b in let i = c.loop-seat.invariant in let ks = numbers_where (is_offloadable b.offloadable) 0 b.processors in
+    let t = seat_and_rest P i.left c.in-Some.seat c.next.new.self.rest.items (subst (SeatForEach P i.left) c.in-Some.ensures.steps.0 i.seats) in
+    let same : c.in-Hand.cpu ≡ t.0 = ap cpu_of_role (sym c.in-Hand.is ∙ c.role.ensures ∙ t.3.who) in
+    let drawn = λ (f : Front (Batch g.row.J.Denot) Safe). items_drawn f ≡ [] in
+    let cut = c.in-Some-pop_front.ensures.items in let folk = c.in_ok-folk.folk in let e = c.in_ok-push_back.ensures.items in let made = c.in_ok-folk.ensures in
+    let m = made_more ks c.args.fronts.items t.0 c.in-Hand.cpu i.left t.1 c.in-Some-pop_front.front c.loop-seat.fronts.items c.pop_front.new.self.items folk c.loop-seat.folks.items c.push_back.new.self.items i.all i.fronts t.2 cut made.folk.0 same made.folk.1 e in
+    let h = hands_more c.args.shape.now b c.in-Hand.cpu folk c.loop-seat.folks.items c.push_back.new.self.items c.in_ok-folk.hand c.loop-seat.hands.items c.push.new.self.items i.hands i.lanes made.folk.0 made.hand made.lane e c.in_ok-push.ensures.items in record {
+      left = t.1;
+      all = m.cpus;
+      seats = t.4;
+      many = let x = ap (λ (l : List (Front (Batch g.row.J.Denot) Safe)). length l) cut in let y = ap (λ (l : List Seat). length l) c.in-Some.ensures.steps.0 in let z = i.many in omega (arith, x, y, z);
+      drawn = All-tail drawn c.in-Some-pop_front.front c.pop_front.new.self.items (subst (All drawn) cut i.drawn);
+      fronts = m.fronts_are;
+      empty = subst (All IsEmptyFolk) (sym e) (All-push IsEmptyFolk c.loop-seat.folks.items folk i.empty made.folk.2);
+      hands = h.0;
+      lanes = h.1;
+    }
+
+over : (g : Over) (c : goal.After-drop-fronts-2 g) → length c.loop-seat.seat-iterator.rest.items ≡ 0
+over g c = search rules
+
+cpus : (g : Over) (c : goal.After-drop-fronts-2 g) → cpus_of c.loop-seat.folks.items ≡ numbers_where (is_offloadable (arc_value c.args.board.now).offloadable) 0 (arc_value c.args.board.now).processors
+cpus g c = let i = c.loop-seat.invariant in all_of (cpus_of c.loop-seat.folks.items) i.left (numbers_where (is_offloadable (arc_value c.args.board.now).offloadable) 0 (arc_value c.args.board.now).processors) i.all
+    (seats_over (IsNewHand (arc_value c.args.board.now)) i.left c.loop-seat.seat-iterator.rest.items i.seats (over g c))
+
+pub returns-clause-cpus : goal.returns-clause-cpus
+returns-clause-cpus g c = cpus g c
+
+pub returns-clause-fronts : goal.returns-clause-fronts
+returns-clause-fronts g c = let i = c.loop-seat.invariant in all_of (fronts_of c.loop-seat.folks.items) c.loop-seat.fronts.items c.args.fronts.items i.fronts (none_long c.loop-seat.fronts.items (i.many ∙ over g c))
+
+pub returns-clause-hands : goal.returns-clause-hands
+returns-clause-hands g c = subst (λ (ks : List ℕ). AllZip (IsFirstHand c.args.shape.now (arc_value c.args.board.now)) ks c.loop-seat.hands.items) (cpus g c) c.loop-seat.invariant.hands

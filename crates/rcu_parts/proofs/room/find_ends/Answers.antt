@@ -1,0 +1,26 @@
+use Rattle.std.proofs.Common.{◌≡◌, suc, ◌+◌, ◌<◌, ◌∙◌, ◌∷◌, length, drop, get_or, sym, ap, arith}
+use Rattle.std.proofs.Math.Seq.{drop-cons}
+use Rattle.std.proofs.lemmas.List.{drop_all}
+use Rattle.rcu_parts.specs.AtClose.{hand_for}
+use Rattle.rcu_parts.proofs.RoomFor.{fits_all, fits_more, fits_none, taken_ran}
+use Rattle.rcu_parts.proofs.room.find_ends.Goals as goal
+
+pub loop-processor-init : goal.loop-processor-init
+loop-processor-init g c = fits_none c.args.processors.now.items c.args.hands.now.items _ c.new-ends.ensures.items
+
+pub loop-processor-preserved : goal.loop-processor-preserved
+loop-processor-preserved g c =
+    let i = c.loop-processor.processor-index in
+    let p = c.processor-item.result in
+    let ps = c.args.processors.now.items in
+    let low : i < length ps = (let t = c.loop-processor-test.true in let e = ap length c.deref-processor-items.ensures.value in omega (arith, t, e)) in
+    let at = drop-cons ps i p low in
+    let next : suc i ≡ i + 1 = omega arith in
+    let item : p ≡ get_or ps i p = c.processor-item.is ∙ ap (λ l. get_or l i p) c.deref-processor-items.ensures.value in
+    let left = drop c.loop-processor.next c.args.hands.now.items in
+    fits_more i c.loop-processor.next c.ran_by_hand-ran.result.1 ps c.args.hands.now.items c.loop-processor.ends.items c.push.new.self.items p c.in_ok-find_end.field-0 c.loop-processor.invariant
+    (at ∙ (ap (λ x. x ∷ drop (suc i) ps) (sym item) ∙ ap (λ k. p ∷ drop k ps) next)) c.ran_by_hand-ran.ensures.left c.in_ok-push.ensures.items
+    (c.in_ok-find_end.ensures (hand_for p left) (sym c.ran_by_hand-ran.ensures.ran) (taken_ran p left ∙ sym c.ran_by_hand-ran.ensures.ran))
+
+pub returns : goal.returns
+returns g c = fits_all c.loop-processor.processor-index c.loop-processor.next c.args.processors.now.items c.args.hands.now.items c.loop-processor.ends.items c.loop-processor.invariant (drop_all c.loop-processor.processor-index c.args.processors.now.items (let t = c.loop-processor-test.false in let e = ap length c.deref-processor-items.ensures.value in omega (arith, t, e)))

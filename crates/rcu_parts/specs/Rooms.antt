@@ -1,0 +1,30 @@
+-- Room that `close` finds before anything moves: docs/specification/surface.md, "After want of memory".
+use Rattle.std.specs.Prelude.{◌≡◌, ℕ, ◌+◌, ◌≤◌, List, [], length, vec_capacity}
+use Rattle.std.specs.List.{AllZip}
+use Rattle.rcu_endings.specs.Ends.{HasRoom}
+use Rattle.rcu_endings.specs.declared.ended.Ended.{Ended}
+use Rattle.rcu_gathering.specs.Parts.{CpuPart, hand_ran, hand_taken}
+use Rattle.rcu_holdings.specs.Callers.{held_in, put_by}
+use Rattle.rcu_parts.specs.AtClose.{cpu_parts}
+use Rattle.rcu_parts.specs.declared.hand.Hand.{Hand}
+use Rattle.rcu_parts.specs.declared.processor.Processor.{Processor}
+use Rattle.rcu_parts.specs.declared.room.Room.{Room}
+
+module _ {J R : Type 0} where
+  -- nothing is there yet, and there is room for a processor's records, its hand's, and the jobs that are handed back
+  pub record FitsCpu (c : CpuPart J R) (room : Ended J R) : Type 0 where
+    pub jobs : ℕ
+    pub empty : HasRoom (length c.own + length (hand_ran c.hand)) jobs room
+    pub enough : length (put_by c.lists) + length (held_in c.lists) ≤ length (hand_taken c.hand) + jobs
+
+  -- the same for all processors, the members of all groups, and the lists that are answered
+  pub record FitsAll (ps : List (Processor J R)) (hs : List (Hand J R)) (room : Room J R) : Type 0 where
+    pub ends : AllZip FitsCpu (cpu_parts ps hs) room.ends.items
+    pub no_member : room.members.items ≡ []
+    pub members : length hs ≤ vec_capacity room.members
+    pub no_ran : room.ran.items ≡ []
+    pub ran : length ps ≤ vec_capacity room.ran
+    pub no_back : room.back.items ≡ []
+    pub back : length ps ≤ vec_capacity room.back
+    pub no_reports : room.reports.items ≡ []
+    pub reports : length ps ≤ vec_capacity room.reports

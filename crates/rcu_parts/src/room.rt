@@ -1,0 +1,109 @@
+//! The room that `close` finds before anything moves.
+
+ghost use Rattle.std.specs.Prelude.{◌≡◌, IfOk, drop, length};
+ghost use Rattle.std.specs.List.{AllZip};
+ghost use Rattle.rcu_gathering.specs.Parts.{hand_ran};
+ghost use Rattle.rcu_parts.specs.AtClose.{cpu_part, cpu_parts, first_hand, hand_for, hands_after};
+ghost use Rattle.rcu_parts.specs.Rooms.{FitsAll, FitsCpu};
+
+use crate::folk::Folk;
+use crate::hand::Hand;
+use crate::processor::Processor;
+use rcu_endings::Ended;
+use rcu_jobs::{Job, Record};
+use std::alloc::{AllocError, Global};
+
+/// Room for what is left of all processors.
+pub(crate) struct Room<J: Job> {
+    /// Of each processor.
+    pub(crate) ends: Vec<Ended<J, J::Receipt>>,
+    pub(crate) ran: Vec<Vec<Record<J::Receipt>>>,
+    pub(crate) back: Vec<Vec<J>>,
+    pub(crate) reports: Vec<u64>,
+    /// For the members of all groups.
+    pub(crate) members: Vec<Folk<J>>,
+}
+
+impl<J: Job> Room<J> {
+    /// Room for these processors, these hands, and as many members of groups.
+    pub(crate) fn find(
+        alloc: Global,
+        processors: &Vec<Processor<J>>,
+        hands: &Vec<Hand<J>>,
+    ) -> Result<Room<J>, AllocError>
+        ensures { IfOk result (λ room. FitsAll processors.now.items hands.now.items room) }
+    {
+        let n = processors.len();
+        Ok(Room {
+            ends: find_ends(alloc, processors, hands)?,
+            ran: Vec::with_capacity(alloc, n)?,
+            back: Vec::with_capacity(alloc, n)?,
+            reports: Vec::with_capacity(alloc, n)?,
+            members: Vec::with_capacity(alloc, hands.len())?,
+        })
+    }
+}
+
+/// Room for what is left of each processor. The offloadable ones have these hands, in order.
+fn find_ends<J: Job>(
+    alloc: Global,
+    processors: &Vec<Processor<J>>,
+    hands: &Vec<Hand<J>>,
+) -> Result<Vec<Ended<J, J::Receipt>>, AllocError>
+    ensures { IfOk result (λ ends. AllZip FitsCpu (cpu_parts processors.now.items hands.now.items) ends.items) }
+{
+    let mut ends = Vec::new(alloc);
+    let mut next = 0;
+    for processor in processors.iter() {
+        let (ran, left) = ran_by_hand(processor, hands, next);
+        ends.push(processor.find_end(alloc, ran)?)?;
+        next = left;
+    }
+    Ok(ends)
+}
+
+/// How many callbacks the hand of a processor ran, if it has one, where this many hands are those of processors before it;
+/// and how many are not those of processors behind it.
+fn ran_by_hand<J: Job>(
+    processor: &Processor<J>,
+    hands: &Vec<Hand<J>>,
+    before: usize,
+) -> (usize, usize)
+    ensures ran { result.0 ≡ length (hand_ran (hand_for processor.now (drop before hands.now.items))) }
+    ensures left { drop result.1 hands.now.items ≡ hands_after processor.now (drop before hands.now.items) }
+{
+    if !processor.state.offloadable {
+        return (0, before);
+    }
+    let ran = ran_by(hands, before);
+    if before >= hands.len() {
+        return (ran, before);
+    }
+    (ran, before + 1)
+}
+
+/// How many callbacks the hand in this place ran, if there is one.
+fn ran_by<J: Job>(hands: &Vec<Hand<J>>, place: usize) -> usize
+    ensures { result ≡ length (hand_ran (first_hand (drop place hands.now.items))) }
+{
+    match hands.get(place) {
+        Some(hand) => hand.state.ran.len(),
+        None => 0,
+    }
+}
+
+impl<J: Job> Processor<J> {
+    ghost use Rattle.std.specs.Prelude.{Option};
+    ghost use Rattle.rcu_gathering.specs.Parts.{HandPart, hand_taken};
+
+    /// Room for what is left of this processor and of its hand, which ran so many callbacks.
+    fn find_end(&self, alloc: Global, hands: usize) -> Result<Ended<J, J::Receipt>, AllocError>
+        ensures { IfOk result (λ room. (hand : Option (HandPart J J.Receipt)) → length (hand_ran hand) ≡ hands → length (hand_taken hand) ≡ hands → FitsCpu (cpu_part self.now hand) room) }
+    {
+        let Some(records) = self.state.ran.len().checked_add(hands) else {
+            return Err(AllocError);
+        };
+        let jobs = (self.state.accepted as usize).saturating_sub(records);
+        Ended::with_room(alloc, records, jobs)
+    }
+}
