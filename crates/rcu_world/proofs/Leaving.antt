@@ -9,9 +9,11 @@ use Rattle.rcu_law.specs.Places.{key_of, remaining_callbacks}
 use Rattle.rcu_law.specs.Closing.{shut_mark, shut_marks, back_marks}
 use Rattle.rcu_law.specs.States.{Cpu}
 use Rattle.rcu_law.specs.Calls.{Call}
-use Rattle.rcu_world.specs.declared.processors.Processor.{Processor}
-use Rattle.rcu_world.specs.Leaving.{HaveRoom, IsCounted, backs, left_keys, most_marks}
-use Rattle.rcu_world.specs.Views.{seen, all_seen}
+use Rattle.rcu_processor.specs.declared.processor.Processor.{Processor}
+use Rattle.rcu_processor.specs.Leaving.{IsCounted, left_keys}
+use Rattle.rcu_world.specs.Leaving.{HaveRoom, backs, most_marks}
+use Rattle.rcu_processor.specs.Views.{seen}
+use Rattle.rcu_world.specs.Views.{all_seen}
 
 pub all_at : {X : Type 0} (P : X → Type 0) (xs : List X) (i : ℕ) (x : X) → i < length xs → x ≡ get_or xs i x → AllByRecursion P xs → P x
 all_at P (z ∷ xs) zero x l e a = subst P (sym e) a.0
@@ -107,7 +109,7 @@ most_both p (c ∷ cs) =
 pub exact_room : {a b c : ℕ} → a ≡ b → c ≡ a → b ≤ c
 exact_room e f = omega arith
 
-pub room_step : (len cap later grown left rest : ℕ) → later ≡ len + 1 → cap ≤ grown → rest + 1 ≡ left → len + left ≤ cap → later + rest ≤ grown
+pub room_step : (len cap later grown left rest : ℕ) → later ≡ len + 1 → grown ≡ cap → rest + 1 ≡ left → len + left ≤ cap → later + rest ≤ grown
 room_step len cap later grown left rest a b c d = omega arith
 
 pub one_fits : (c : Cpu) (left : ℕ) → IsCounted c → left ≡ length (remaining_callbacks c) → Fits w64 (1 + left)

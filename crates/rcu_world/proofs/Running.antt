@@ -12,7 +12,8 @@ use Rattle.rcu_law.specs.States.{State, Cpu, empty_cpu, cpu_at, has, with_cpu}
 use Rattle.rcu_law.specs.Steps.{can_claim, can_claim_own, can_claim_held, claims, can_finish, finishes}
 use Rattle.rcu_law.specs.Events.{CoreEvent, is_enabled, after, happens, run}
 use Rattle.rcu_law.specs.Events.CoreEvent.{Claim, Finish}
-use Rattle.rcu_world.specs.Turns.{IsIdle, IsAtRest, Leads, where_enabled, run_events, has_none, stop_of}
+use Rattle.rcu_processor.specs.Turns.{has_none}
+use Rattle.rcu_world.specs.Turns.{IsIdle, IsAtRest, Leads, where_enabled, run_events, stop_of}
 use Rattle.rcu_world.proofs.Leading.{leads_append, leads_one}
 
 run_events_suc : (p : ℕ) (by : Side) (n : ℕ) → run_events p by (suc n) ≡ run_events p by n ++ (Claim p by ∷ (Finish p by ∷ []))

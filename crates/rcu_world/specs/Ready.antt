@@ -6,17 +6,9 @@ use Rattle.rcu_law.specs.States.{State, cpu_at, is_offloaded}
 use Rattle.rcu_law.specs.Steps.{can_accept}
 use Rattle.rcu_world.specs.declared.events.Answer.{Answer}
 use Rattle.rcu_world.specs.declared.events.Answer.TheVariants as answers
-use Rattle.rcu_world.specs.declared.processors.Processor.{Processor}
+use Rattle.rcu_processor.specs.declared.processor.Processor.{Processor}
 use Rattle.rcu_world.specs.declared.cores.Core.{Core}
-use Rattle.rcu_world.specs.Batches.{HasRoom}
-
--- room for one more in the bypass list of an offloaded processor, else in its own list
-abbrev pub IsRoomy : {J R : Type 0} → Bool → Processor J R → Type 0
-IsRoomy true p = HasRoom p.bypass 1
-IsRoomy false p = vec_len p.own + 1 ≤ vec_capacity p.own
-
-abbrev pub IsReady : {J R : Type 0} → Processor J R → Type 0
-IsReady p = IsRoomy (is_offloaded p.mode) p
+use Rattle.rcu_processor.specs.Ready.{IsReady}
 
 abbrev pub IsReadyAt : {J R : Type 0} → Core J R → ℕ → Type 0
 IsReadyAt {J} {R} w cpu = (p : Processor J R) → p ≡ slice_index_or w.processors.items cpu p → IsReady p

@@ -4,7 +4,7 @@ use Rattle.std.proofs.lemmas.Result.{on_ok_weaker}
 use Rattle.std.specs.Io.KnownBytes.{Appends}
 use Rattle.rcu_jobs.specs.declared.Lists.{Lists}
 use Rattle.rcu_law.specs.States.{State, cpu_at, is_offloadable}
-use Rattle.rcu_world.specs.Shown.{cpu_lists, folk_lists}
+use Rattle.rcu_processor.specs.Shown.{cpu_lists, folk_lists}
 use Rattle.rcuo.specs.Outcomes.{group_line, lists_line, shown, shown_one}
 use Rattle.rcuo.proofs.Known.{Appends-append, Appends-none}
 
