@@ -1,5 +1,5 @@
 -- the end of a loop over all processors
-use Rattle.std.proofs.Common.{◌≡◌, ℕ, ◌≤◌, ◌+◌, ◌++◌, List, [], ◌∷◌, Bool, true, false, not, ◌<◌, get_or, cond, append_assoc, refl, length, take, drop, ap, sym, ◌∙◌, arith}
+use Rattle.std.proofs.Common.{◌≡◌, ℕ, ◌≤◌, ◌+◌, ◌++◌, List, [], ◌∷◌, Bool, true, false, not, ◌<◌, get_or, cond, append_assoc, refl, length, take, drop, ap, sym, ◌∙◌}
 use Rattle.std.proofs.lemmas.List.{take_all, drop_all, append-nil}
 use Rattle.rcu_law.specs.declared.marks.Mark.{Mark}
 use Rattle.rcu_law.specs.declared.marks.Mark.TheVariants.{Shut}

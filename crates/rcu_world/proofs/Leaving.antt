@@ -1,9 +1,8 @@
 -- what a close finds room for, and what it hands back
 use Rattle.std.proofs.Common.{◌≡◌, ℕ, zero, suc, ◌+◌, ◌<◌, ◌≤◌, List, [], ◌∷◌, ◌++◌, length, map, take, drop, get_or, vec_len, vec_capacity, Fits, w64, ◌*◌, refl, ap, sym, ◌∙◌, subst, arith, append_assoc, length-append}
-use Rattle.std.proofs.lemmas.List.{drop_more, drop_all, take_all, map-append, length-map}
+use Rattle.std.proofs.lemmas.List.{drop_more, drop_all, take_all, length-map}
 use Rattle.std.specs.Global.{Vec}
 use Rattle.std.specs.List.{AllByRecursion, remove}
-use Rattle.rcu_law.specs.declared.marks.Mark.{Mark}
 use Rattle.rcu_law.specs.declared.marks.Mark.TheVariants.{Back}
 use Rattle.rcu_law.specs.Places.{key_of, remaining_callbacks}
 use Rattle.rcu_law.specs.Closing.{shut_mark, shut_marks, back_marks}

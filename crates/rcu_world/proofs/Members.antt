@@ -1,5 +1,5 @@
 -- a loop over all processors
-use Rattle.std.proofs.Common.{◌≡◌, ℕ, zero, suc, ◌<◌, ◌^◌, ◌+◌, ◌/◌, ◌==◌, ◌&&◌, ◌||◌, Bool, true, false, cond, nat_lt, length, refl, subst, sym, List, [], ◌∷◌, ◌++◌, arith, get_or, ap, ◌∙◌, take, drop, set}
+use Rattle.std.proofs.Common.{◌≡◌, ℕ, zero, suc, ◌<◌, ◌+◌, ◌/◌, ◌==◌, ◌&&◌, ◌||◌, Bool, true, false, cond, nat_lt, length, refl, subst, sym, List, [], ◌∷◌, ◌++◌, arith, get_or, ap, ◌∙◌, take, drop, set}
 use Rattle.std.proofs.lemmas.Bool.{lt-ltb}
 use Rattle.rcu_law.specs.States.{State, is_member}
 use Rattle.rcu_law.specs.Events.{any_member, most_wanted}
@@ -13,7 +13,6 @@ use Rattle.rcu_world.specs.Views.{all_seen}
 use Rattle.std.proofs.lemmas.List.{drop_more, take_more_set, drop-set-lt, append_assoc, drop-drop}
 use Rattle.rcu_law.specs.States.{Cpu, empty_cpu}
 use Rattle.rcu_law.specs.Events.{each_cpu}
-use Rattle.rcu_law.specs.LabelledLists.{newest, advance}
 use Rattle.rcu_world.specs.Members.{AreLookable, IsLookable}
 
 -- one more

@@ -1,5 +1,5 @@
 -- What a report does
-use Rattle.std.proofs.Common.{◌≡◌, ℕ, Bool, true, false, cond, List, Some, None, set, ap, sym, ◌∙◌}
+use Rattle.std.proofs.Common.{◌≡◌, ℕ, Bool, false, cond, List, Some, None, set, ap, sym, ◌∙◌}
 use Rattle.rcu_law.specs.declared.marks.Mark.{Mark}
 use Rattle.rcu_law.specs.declared.marks.Mark.TheVariants.{Reported}
 use Rattle.rcu_law.specs.States.{State, added, owes}

@@ -1,18 +1,14 @@
 -- the processors of the code, as the law sees them
-use Rattle.std.proofs.Common.{◌≡◌, ℕ, zero, suc, ◌<◌, ◌≤◌, ◌^◌, ◌&&◌, nat_lt, not, max, List, [], ◌∷◌, ◌++◌, length, map, set, get_or, take, drop, replicate, ◌+◌, refl, ap, sym, ◌∙◌, subst, arith, Bool, true, false, Option, Some, None}
+use Rattle.std.proofs.Common.{◌≡◌, ℕ, zero, suc, ◌<◌, ◌≤◌, ◌&&◌, nat_lt, not, max, List, [], ◌∷◌, length, map, set, get_or, refl, ap, sym, ◌∙◌, subst, arith, Bool, true, false, Option, Some, None}
 use Rattle.std.proofs.lemmas.Bool.{le-ltb, lt-ltb}
-use Rattle.std.proofs.lemmas.List.{map-append, map-set, get_or-map, get_or_default, length-map}
-use Rattle.std.proofs.lemmas.Grind.{common_steps}
-use Rattle.std.proofs.lemmas.List.{append-nil, take_all}
+use Rattle.std.proofs.lemmas.List.{map-set, get_or-map, get_or_default, length-map}
 use Rattle.std.proofs.Math.Seq.{map-set_same}
 use Rattle.std.specs.List.{AllByRecursion}
-use Rattle.rcu_law.specs.States.{State, Shape, Barrier, no_barrier, Cpu, empty_cpu, cpu_at, has}
+use Rattle.rcu_law.specs.States.{State, Barrier, no_barrier, Cpu, empty_cpu, cpu_at, has}
 use Rattle.rcu_law.specs.Lists.{is_none}
-use Rattle.rcu_law.specs.LabelledLists.{newest, advance}
 use Rattle.rcu_law.specs.declared.marks.Mark.{Mark}
 use Rattle.rcu_law.specs.Numbers.{GREATEST_NUMBER}
-use Rattle.rcu_law.specs.States.{barrier_at, is_open, with_barrier, added, with_mark, with_cpu, opening, opening_cpu, opening_cpus}
-use Rattle.rcu_law.specs.Events.{each_cpu}
+use Rattle.rcu_law.specs.States.{barrier_at, is_open, with_barrier, added, with_mark, with_cpu}
 use Rattle.rcu_law.specs.Lists.{needed_with}
 use Rattle.rcu_law.specs.Invariant.{IsCore}
 use Rattle.rcu_law.proofs.Room.{turn_fits}

@@ -1,5 +1,5 @@
 -- What a close finds room for, and what it hands back. docs/specification/definitions.md, "The law": settled, given
-use Rattle.std.specs.Prelude.{◌≡◌, ℕ, ◌+◌, ◌/◌, ◌≤◌, ◌<◌, List, [], ◌∷◌, ◌++◌, length, map, All, vec_len, vec_capacity, slice_index_or}
+use Rattle.std.specs.Prelude.{◌≡◌, ℕ, ◌+◌, ◌≤◌, ◌<◌, List, [], ◌∷◌, ◌++◌, length, map, All, vec_len, vec_capacity, slice_index_or}
 use Rattle.std.specs.Global.{Vec}
 use Rattle.std.specs.List.{AllByRecursion}
 use Rattle.rcu_jobs.specs.declared.Record.{Record}
@@ -7,7 +7,7 @@ use Rattle.rcu_law.specs.declared.marks.Mark.{Mark}
 use Rattle.rcu_law.specs.declared.marks.Mark.TheVariants.{Back}
 use Rattle.rcu_law.specs.Law.{ran, back}
 use Rattle.rcu_law.specs.States.{Cpu}
-use Rattle.rcu_law.specs.Places.{key_of, remaining_callbacks}
+use Rattle.rcu_law.specs.Places.{remaining_callbacks}
 use Rattle.rcu_law.specs.Invariant.{reports}
 use Rattle.rcu_processor.specs.declared.processor.Processor.{Processor}
 use Rattle.rcu_processor.specs.Leaving.{IsCounted}

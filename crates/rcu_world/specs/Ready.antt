@@ -1,8 +1,8 @@
 -- Room for a Stamp that follows directly on Accept. docs/specification/surface.md, "rcu_world"
-use Rattle.std.specs.Prelude.{ℕ, ◌≡◌, ◌+◌, ◌≤◌, Bool, true, false, Option, None, Some, slice_index_or, vec_len, vec_capacity}
+use Rattle.std.specs.Prelude.{ℕ, ◌≡◌, ◌+◌, ◌≤◌, Bool, true, false, slice_index_or}
 use Rattle.rcu_jobs.specs.declared.Refused.{Refused}
 use Rattle.rcu_jobs.specs.declared.Refused.TheVariants.{Limit, Memory, Closed}
-use Rattle.rcu_law.specs.States.{State, cpu_at, is_offloaded}
+use Rattle.rcu_law.specs.States.{State, cpu_at}
 use Rattle.rcu_law.specs.Steps.{can_accept}
 use Rattle.rcu_world.specs.declared.events.Answer.{Answer}
 use Rattle.rcu_world.specs.declared.events.Answer.TheVariants as answers

@@ -1,5 +1,5 @@
 -- The turn calls, as lists of events. docs/specification/rules.md, "On the core"; docs/specification/surface.md, "rcu_world"
-use Rattle.std.specs.Prelude.{ℕ, zero, suc, ◌+◌, ◌*◌, ◌%◌, ◌≡◌, Bool, true, false, not, ◌&&◌, ◌||◌, ◌==◌, nat_lt, if◌then◌else◌, Option, Some, None, nat_le, ◌<◌, ◌⊎◌, slice_index, List, [], ◌∷◌, ◌++◌, length}
+use Rattle.std.specs.Prelude.{ℕ, zero, suc, ◌+◌, ◌*◌, ◌%◌, ◌≡◌, Bool, true, false, not, ◌&&◌, ◌==◌, nat_lt, if◌then◌else◌, Option, Some, None, nat_le, ◌<◌, ◌⊎◌, slice_index, List, [], ◌∷◌, ◌++◌, length}
 use Rattle.rcu_jobs.specs.declared.Stop.{Stop}
 use Rattle.rcu_jobs.specs.declared.Stop.TheVariants as stops
 use Rattle.rcu_law.specs.declared.who.Side.{Side}
@@ -14,17 +14,14 @@ use Rattle.rcu_jobs.specs.declared.Ticket.{Ticket}
 use Rattle.rcu_jobs.specs.declared.BarrierFault.{BarrierFault}
 use Rattle.rcu_jobs.specs.declared.BarrierFault.TheVariants as barriers
 use Rattle.rcu_law.specs.Numbers.{GREATEST_NUMBER}
-use Rattle.rcu_law.specs.Lists.{is_nil, none_owes}
+use Rattle.rcu_law.specs.Lists.{none_owes}
 use Rattle.rcu_law.specs.Invariant.{owed}
-use Rattle.rcu_law.specs.declared.modes.Mode.{Mode}
-use Rattle.rcu_law.specs.declared.modes.Mode.TheVariants as modes
-use Rattle.rcu_law.specs.LabelledLists.{done_count}
 use Rattle.rcu_law.specs.States.{State, Cpu, cpu_at, has, is_offloadable, is_offloaded}
 use Rattle.rcu_law.specs.Steps.{can_claim}
 use Rattle.rcu_processor.specs.Turns.{has_none, is_switching}
 use Rattle.rcu_law.specs.Releases.{releases, releases_in_tick, moment_of_tick}
 use Rattle.rcu_law.specs.Events.{CoreEvent, is_enabled, happens, run}
-use Rattle.rcu_law.specs.Events.CoreEvent.{Accept, Stamp, Put, Report, Start, End, Look, Need, Claim, Finish, Heed, Settle, Hear, LookHand, Fetch, Shut, Open, Count, Urge}
+use Rattle.rcu_law.specs.Events.CoreEvent.{Accept, Stamp, Put, Start, End, Look, Need, Claim, Finish, Heed, Settle, Hear, LookHand, Fetch, Shut, Open, Count, Urge}
 
 -- every event of the list is enabled, one after another
 abbrev pub AreEnabled : List CoreEvent → State → Type 0

@@ -1,5 +1,5 @@
 -- What the calls of a world answer, as the lines of the commands say it.
-use Rattle.std.proofs.Common.{◌≡◌, ℕ, ◌<◌, ◌≤◌, ◌&&◌, length, [], ◌∷◌, ◌++◌, true, false, nat_le, nat_lt, arith, Bool, not, if◌then◌else◌, Option, Some, None, Result, Ok, Err, IfOk, IfErr, OnOk, OnErr, ◌∙◌, ap, refl, sym, subst, true≢false}
+use Rattle.std.proofs.Common.{◌≡◌, ℕ, ◌<◌, ◌&&◌, length, [], ◌∷◌, ◌++◌, true, false, nat_le, nat_lt, arith, Bool, not, Option, Some, None, Result, Ok, Err, IfOk, IfErr, OnOk, OnErr, ◌∙◌, ap, refl, sym, subst, true≢false}
 use Rattle.std.proofs.lemmas.Bool.Decides.{nat_tests}
 use Rattle.std.specs.Option.{is_some}
 use Rattle.rcu_jobs.specs.declared.Passed.{Passed}
@@ -8,7 +8,6 @@ use Rattle.rcu_jobs.specs.declared.Refused.TheVariants.{Limit, Memory, Closed}
 use Rattle.rcu_jobs.specs.Refusals.{number_of}
 use Rattle.rcu_law.specs.Events.CoreEvent.{Ask}
 use Rattle.rcu_law.specs.States.{State, cpu_at}
-use Rattle.rcu_law.specs.Steps.{can_accept}
 use Rattle.rcu_law.specs.declared.marks.Mark.TheVariants as marks
 use Rattle.rcu_world.specs.Polls.{IsPollAnswer}
 use Rattle.rcu_world.specs.Ready.{IsRefusal}

@@ -1,5 +1,5 @@
 -- What `show` writes, one list and one processor further.
-use Rattle.std.proofs.Common.{◌≡◌, ℕ, suc, ◌+◌, arith, ◌++◌, ◌∙◌, ap, sym, subst, append-nil, if◌then◌else◌, Bool, List, Option, Some, None, Result, OnOk}
+use Rattle.std.proofs.Common.{◌≡◌, ℕ, suc, ◌+◌, arith, ◌++◌, ◌∙◌, ap, sym, subst, append-nil, if◌then◌else◌, List, Option, Some, None, Result, OnOk}
 use Rattle.std.proofs.lemmas.Result.{on_ok_weaker}
 use Rattle.std.specs.Io.KnownBytes.{Appends}
 use Rattle.rcu_jobs.specs.declared.Lists.{Lists}

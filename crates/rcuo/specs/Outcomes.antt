@@ -1,5 +1,5 @@
 -- What each command does, and the line of its answer: docs/specification/tables.md, "Script commands and what they print". The events of a call are those of docs/specification/rules.md, "On the core".
-use Rattle.std.specs.Prelude.{ℕ, zero, suc, ◌+◌, ◌≡◌, ◌≤◌, ◌<◌, Bool, true, false, not, if◌then◌else◌, nat_le, List, [], ◌∷◌, ◌++◌, length, take, Option, None, Some, Ok, Err, string_bytes}
+use Rattle.std.specs.Prelude.{ℕ, zero, suc, ◌≡◌, ◌≤◌, ◌<◌, Bool, true, false, not, if◌then◌else◌, nat_le, List, [], ◌∷◌, ◌++◌, length, take, Option, None, Some, Ok, Err, string_bytes}
 use Rattle.rcu_law.specs.declared.marks.Mark.TheVariants as marks
 use Rattle.rcu_law.specs.Events.{is_enabled}
 use Rattle.rcu_law.specs.Events.CoreEvent.{Ask, LookGroup, Report}

@@ -1,4 +1,4 @@
-use Rattle.std.proofs.Common.{◌<◌, ◌≡◌, length, arith, subst, sym, ap, ◌∙◌, drop, take, ◌+◌, ◌++◌, set, cond, rules}
+use Rattle.std.proofs.Common.{◌<◌, ◌≡◌, length, arith, subst, sym, ◌∙◌, drop, take, ◌+◌, ◌++◌, set}
 use Rattle.std.proofs.lemmas.List.{length-set, drop-set-lt, length-map, map-set}
 use Rattle.rcu_law.specs.Events.{each_cpu}
 use Rattle.rcu_world.specs.Members.{urge_step}

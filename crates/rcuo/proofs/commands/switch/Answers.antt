@@ -1,4 +1,4 @@
-use Rattle.std.proofs.Common.{◌≡◌, ◌∙◌, true, false, refl, sym, subst}
+use Rattle.std.proofs.Common.{◌∙◌, true, false, refl, sym, subst}
 use Rattle.rcu_law.specs.Events.CoreEvent.{Ask}
 use Rattle.rcu_world.specs.Turns.{IsAtRest, Leads, where_enabled}
 use Rattle.rcu_world.specs.Views.{state}

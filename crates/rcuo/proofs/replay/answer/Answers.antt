@@ -1,4 +1,4 @@
-use Rattle.std.proofs.Common.{◌≡◌, ◌∙◌, IfOk, ap, subst, sym, true≢false}
+use Rattle.std.proofs.Common.{◌∙◌, IfOk, ap, subst, sym, true≢false}
 use Rattle.rcu_world.specs.Views.{state}
 use Rattle.rcuo.specs.Calls.{is_call, is_show}
 use Rattle.rcuo.specs.Printed.{IsAnswer}

@@ -1,4 +1,4 @@
-use Rattle.std.proofs.Common.{◌∙◌, ◌<◌, ◌≤◌, ◌++◌, ◌∷◌, [], false, true, set, subst, vec_len, ap, arith, refl, length, sym}
+use Rattle.std.proofs.Common.{◌∙◌, ◌++◌, ◌∷◌, [], false, true, set, subst, vec_len, ap, arith, refl, sym}
 use Rattle.std.proofs.lemmas.List.{length-map, get_or_default}
 use Rattle.rcu_law.specs.declared.marks.Mark.TheVariants.{Reported}
 use Rattle.rcu_law.specs.States.{State}

@@ -1,8 +1,7 @@
-use Rattle.std.proofs.Common.{rules, refl, ◌≡◌, ◌≤◌, ◌∙◌, arith, ap, length, false, sym, replicate, map, ◌++◌, ◌∷◌, []}
+use Rattle.std.proofs.Common.{rules, refl, ◌≡◌, ◌∙◌, arith, ap, false, sym, replicate, map, ◌++◌, ◌∷◌, []}
 use Rattle.std.proofs.lemmas.List.{replicate-append-replicate, map-append}
 use Rattle.rcu_law.specs.States.{opening_cpu}
 use Rattle.rcu_processor.specs.Views.{AreGiven, seen}
-use Rattle.rcu_world.specs.Views.{all_seen}
 use Rattle.rcu_world.specs.Barrings.{barrier}
 use Rattle.rcu_world.specs.Worlds.{plan}
 use Rattle.rcu_world.proofs.Opening.{bits_start, all_more, at_rest, bits_next, bits_end, opening_bits}

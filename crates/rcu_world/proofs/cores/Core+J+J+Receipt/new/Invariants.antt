@@ -1,4 +1,4 @@
-use Rattle.std.proofs.Common.{◌≡◌, ◌-◌, ◌++◌, map, length, replicate, false}
+use Rattle.std.proofs.Common.{◌≡◌, ◌-◌, ◌++◌, map, replicate, false}
 use Rattle.std.specs.List.{AllByRecursion}
 use Rattle.rcu_law.specs.States.{opening_cpu}
 use Rattle.rcu_processor.specs.Views.{AreGiven}

@@ -1,4 +1,4 @@
-use Rattle.std.proofs.Common.{arith, rules, refl, sym, ◌∙◌}
+use Rattle.std.proofs.Common.{arith, rules, refl}
 use Rattle.rcu_law.specs.Steps.{looks}
 use Rattle.rcu_world.proofs.Seen.{lookable_at, happened, given_at}
 use denote.Param.{param}

@@ -1,4 +1,4 @@
-use Rattle.std.proofs.Common.{◌≡◌, ◌∙◌, ap, sym, arith, refl, length, cond, rules}
+use Rattle.std.proofs.Common.{◌∙◌, ap, sym, arith, refl, rules}
 use Rattle.rcu_law.specs.States.{State}
 use Rattle.rcu_law.specs.Events.{most_wanted}
 use Rattle.rcu_processor.specs.Members.{is_wanting, forgets}

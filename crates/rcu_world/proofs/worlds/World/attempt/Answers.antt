@@ -1,4 +1,3 @@
-use Rattle.std.proofs.Common.{◌≡◌}
 use Rattle.rcu_world.proofs.Leading.{took, passed, rest_took, length_took, shape_took}
 use Rattle.rcu_world.proofs.worlds.World.attempt.Goals as goal
 

@@ -1,4 +1,4 @@
-use Rattle.std.proofs.Common.{rules, ◌∷◌, [], ◌<◌, arith, length, subst}
+use Rattle.std.proofs.Common.{rules, ◌∷◌, [], ◌<◌, arith, subst}
 use Rattle.rcu_law.specs.Events.CoreEvent.{Accept}
 use Rattle.rcu_world.specs.Turns.{stamp_events}
 use Rattle.rcu_world.proofs.Leading.{leads_then}

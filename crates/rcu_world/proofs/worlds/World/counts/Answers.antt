@@ -1,4 +1,4 @@
-use Rattle.std.proofs.Common.{rules, ℕ, ◌∙◌, ◌<◌, ◌≡◌, ap, arith, length, refl, sym}
+use Rattle.std.proofs.Common.{rules, ℕ, ◌∙◌, ◌<◌, ap, arith, length}
 use Rattle.std.proofs.lemmas.List.{length-map, length-set, length-replicate}
 use denote.Param.{param}
 use Rattle.rcu_law.specs.States.{cpu_at}

@@ -1,4 +1,4 @@
-use Rattle.std.proofs.Common.{◌∙◌, ◌<◌, ◌≤◌, ◌≡◌, ap, arith, refl, sym, subst}
+use Rattle.std.proofs.Common.{◌∙◌, ◌<◌, ◌≤◌, ap, refl, sym, subst}
 use Rattle.rcu_law.specs.Events.CoreEvent.{Start, End}
 use Rattle.rcu_world.specs.Views.{state}
 use Rattle.rcu_world.proofs.Driving.{driver_ends, answers_ended, answers_waits, answers_started, answers_spent, answers_idle}

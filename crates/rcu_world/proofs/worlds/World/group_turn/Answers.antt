@@ -1,4 +1,4 @@
-use Rattle.std.proofs.Common.{◌∙◌, ◌≡◌, arith, length, sym, subst}
+use Rattle.std.proofs.Common.{◌∙◌, ◌≡◌, arith, length, subst}
 use Rattle.rcu_world.specs.GroupTurns.{Gives, Made, Takes, Then, Upto, look_group_events}
 use Rattle.rcu_world.specs.Views.{state}
 use Rattle.rcu_world.proofs.Drawing.{then_made}

@@ -1,4 +1,4 @@
-use Rattle.std.proofs.Common.{rules, ◌∙◌, arith, sym}
+use Rattle.std.proofs.Common.{rules, ◌∙◌, arith}
 use denote.Param.{param}
 use Rattle.rcu_world.specs.Members.{is_any}
 use Rattle.rcu_world.specs.Views.{state, all_seen}

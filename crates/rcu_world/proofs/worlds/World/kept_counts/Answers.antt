@@ -1,4 +1,4 @@
-use Rattle.std.proofs.Common.{◌∙◌, ◌<◌, ◌≡◌, ap, arith, length, refl, ℕ}
+use Rattle.std.proofs.Common.{◌∙◌, ap, arith, length, refl, ℕ}
 use Rattle.std.proofs.lemmas.List.{length-map, length-set, length-replicate}
 use Rattle.rcu_law.specs.Lists.{value_or}
 use Rattle.rcu_law.specs.States.{barrier_at, count_at}

@@ -1,4 +1,4 @@
-use Rattle.std.proofs.Common.{rules, ◌∙◌, ◌<◌, ap, length, subst}
+use Rattle.std.proofs.Common.{rules, ◌∙◌, ◌<◌, ap, subst}
 use Rattle.std.proofs.lemmas.List.{length-map}
 use Rattle.rcu_processor.specs.Shown.{cpu_lists}
 use Rattle.rcu_processor.specs.Views.{seen}

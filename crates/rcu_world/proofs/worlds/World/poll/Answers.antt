@@ -5,7 +5,7 @@ use Rattle.rcu_world.specs.Polls.{turns_for}
 use Rattle.rcu_world.specs.Turns.{upto, where_enabled}
 use Rattle.rcu_world.specs.Views.{state}
 use Rattle.rcu_world.proofs.Leading.{leads_then}
-use Rattle.rcu_world.proofs.Passing.{leads_same, passed_marks, passed_counts, passed_there}
+use Rattle.rcu_world.proofs.Passing.{passed_marks, passed_counts, passed_there}
 use Rattle.rcu_world.proofs.worlds.World.poll.Goals as goal
 
 pub returns-then-not-branch-clause-events : goal.returns-then-not-branch-clause-events

@@ -1,4 +1,4 @@
-use Rattle.std.proofs.Common.{rules, arith, refl, ◌∙◌, ◌<◌, ap, sym, subst, length}
+use Rattle.std.proofs.Common.{rules, arith, refl, ◌∙◌, ◌<◌, ap, sym, subst}
 use Rattle.std.proofs.lemmas.List.{length-map}
 use Rattle.rcu_law.specs.Releases.{releases_in_tick, moment_of_tick}
 use Rattle.rcu_processor.specs.Views.{seen}

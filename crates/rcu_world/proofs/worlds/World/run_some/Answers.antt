@@ -1,4 +1,4 @@
-use Rattle.std.proofs.Common.{rules, ◌≡◌, true, false, cond, [], ◌∷◌, ◌∙◌, ◌<◌, ap, arith, sym, subst, length}
+use Rattle.std.proofs.Common.{rules, ◌≡◌, true, false, cond, [], ◌∷◌, ◌∙◌, ◌<◌, ap, arith, sym, subst}
 use Rattle.std.proofs.lemmas.List.{length-map}
 use Rattle.rcu_jobs.specs.declared.Stop.TheVariants as stops
 use Rattle.rcu_law.specs.Events.{is_enabled, run}

@@ -1,6 +1,6 @@
 use Rattle.std.proofs.Common.{◌∙◌, sym, refl, arith}
 use Rattle.rcu_world.specs.Polls.{turns_for}
-use Rattle.rcu_world.proofs.Leading.{leads_upto, leads_none}
+use Rattle.rcu_world.proofs.Leading.{leads_upto}
 use Rattle.rcu_world.proofs.Passing.{history_turned, seen_skipped, seen_turned}
 use Rattle.std.proofs.lemmas.List.{length-map}
 use Rattle.rcu_processor.specs.Views.{seen}

@@ -1,6 +1,6 @@
 use Rattle.std.proofs.Common.{◌∙◌, refl, arith, subst, sym, ℕ}
 use Rattle.rcu_world.specs.Turns.{shuts, Leads, upto}
-use Rattle.rcu_world.proofs.Leading.{leads_upto, leads_none}
+use Rattle.rcu_world.proofs.Leading.{leads_upto}
 use Rattle.std.proofs.lemmas.List.{length-map}
 use Rattle.rcu_processor.specs.Views.{seen}
 use Rattle.rcu_world.specs.Views.{state}

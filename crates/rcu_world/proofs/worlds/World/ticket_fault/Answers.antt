@@ -1,9 +1,8 @@
-use Rattle.std.proofs.Common.{rules, get_or, ◌≡◌, ◌<◌, ◌∙◌, ap, arith, length, Some, sym}
+use Rattle.std.proofs.Common.{rules, get_or, ◌∙◌, ap, arith, Some, sym}
 use Rattle.std.proofs.lemmas.List.{drop_all}
 use denote.Param.{param}
 use Rattle.rcu_jobs.specs.declared.Ticket.{Ticket}
 use Rattle.rcu_jobs.specs.declared.BarrierFault.TheVariants.{Ahead}
-use Rattle.rcu_law.specs.States.{cpu_at}
 use Rattle.rcu_world.specs.Turns.{ticket_fault}
 use Rattle.rcu_world.specs.Views.{state}
 use Rattle.rcu_world.proofs.Entering.{not_there}

@@ -1,4 +1,4 @@
-use Rattle.std.proofs.Common.{rules, ◌∙◌, ◌<◌, ◌≡◌, ◌≤◌, ◌+◌, ap, arith, sym, subst, length}
+use Rattle.std.proofs.Common.{rules, ◌∙◌, ◌<◌, ◌≡◌, ap, arith, sym, subst, length}
 use Rattle.std.proofs.lemmas.List.{length-map}
 use Rattle.rcu_law.specs.States.{Cpu, cpu_at}
 use Rattle.rcu_processor.specs.Views.{seen}
