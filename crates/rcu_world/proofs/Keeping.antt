@@ -1,5 +1,5 @@
 -- Answers keep what always holds
-use Rattle.std.proofs.Common.{◌≡◌, ℕ, ◌≤◌, Bool, true, false, None, ap, subst, sym, refl, ◌∙◌, List, [], ◌∷◌, ◌++◌, length}
+use Rattle.std.proofs.Common.{◌≡◌, ℕ, ◌≤◌, Bool, true, false, None, ap, subst, sym, refl, ◌∙◌, List, [], ◌∷◌, ◌++◌}
 use Rattle.rcu_world.specs.declared.events.Event.{Event}
 use Rattle.rcu_world.specs.declared.events.Answer.{Answer}
 use Rattle.rcu_world.specs.declared.events.Answer.TheVariants as answers
@@ -12,7 +12,6 @@ use Rattle.rcu_law.specs.States.{State, cpu_at, is_offloaded}
 use Rattle.rcu_law.specs.declared.who.Side.TheVariants.{Local}
 use Rattle.rcu_law.proofs.Schedules.{offloaded_claims_nothing}
 use Rattle.rcu_law.specs.Invariant.{IsCore}
-use Rattle.rcu_law.specs.Law.{HasNoBack}
 use Rattle.rcu_world.specs.Worlds.{IsFit}
 use Rattle.rcu_law.proofs.Keeping.{after_kept}
 use Rattle.rcu_law.proofs.Keeping.{length_after}

@@ -11,8 +11,9 @@ use Rattle.rcu_law.proofs.Keeping.{length_after}
 use Rattle.rcu_world.proofs.Resting.{rest_after}
 use Rattle.rcu_world.proofs.Seen.{seen_at}
 use Rattle.rcu_world.specs.declared.cores.Core.{Core}
-use Rattle.rcu_world.specs.declared.processors.Processor.{Processor}
-use Rattle.rcu_world.specs.Views.{seen, state}
+use Rattle.rcu_processor.specs.declared.processor.Processor.{Processor}
+use Rattle.rcu_processor.specs.Views.{seen}
+use Rattle.rcu_world.specs.Views.{state}
 
 pub leads_nothing : (w new : State) → new ≡ w → Leads w [] new
 leads_nothing w new e = record { enabled = tt; state = e }

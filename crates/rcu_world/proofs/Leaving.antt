@@ -1,17 +1,18 @@
 -- what a close finds room for, and what it hands back
 use Rattle.std.proofs.Common.{◌≡◌, ℕ, zero, suc, ◌+◌, ◌<◌, ◌≤◌, List, [], ◌∷◌, ◌++◌, length, map, take, drop, get_or, vec_len, vec_capacity, Fits, w64, ◌*◌, refl, ap, sym, ◌∙◌, subst, arith, append_assoc, length-append}
-use Rattle.std.proofs.lemmas.List.{drop_more, drop_all, take_all, map-append, length-map}
+use Rattle.std.proofs.lemmas.List.{drop_more, drop_all, take_all, length-map}
 use Rattle.std.specs.Global.{Vec}
 use Rattle.std.specs.List.{AllByRecursion, remove}
-use Rattle.rcu_law.specs.declared.marks.Mark.{Mark}
 use Rattle.rcu_law.specs.declared.marks.Mark.TheVariants.{Back}
 use Rattle.rcu_law.specs.Places.{key_of, remaining_callbacks}
 use Rattle.rcu_law.specs.Closing.{shut_mark, shut_marks, back_marks}
 use Rattle.rcu_law.specs.States.{Cpu}
 use Rattle.rcu_law.specs.Calls.{Call}
-use Rattle.rcu_world.specs.declared.processors.Processor.{Processor}
-use Rattle.rcu_world.specs.Leaving.{HaveRoom, IsCounted, backs, left_keys, most_marks}
-use Rattle.rcu_world.specs.Views.{seen, all_seen}
+use Rattle.rcu_processor.specs.declared.processor.Processor.{Processor}
+use Rattle.rcu_processor.specs.Leaving.{IsCounted, left_keys}
+use Rattle.rcu_world.specs.Leaving.{HaveRoom, backs, most_marks}
+use Rattle.rcu_processor.specs.Views.{seen}
+use Rattle.rcu_world.specs.Views.{all_seen}
 
 pub all_at : {X : Type 0} (P : X → Type 0) (xs : List X) (i : ℕ) (x : X) → i < length xs → x ≡ get_or xs i x → AllByRecursion P xs → P x
 all_at P (z ∷ xs) zero x l e a = subst P (sym e) a.0
@@ -107,7 +108,7 @@ most_both p (c ∷ cs) =
 pub exact_room : {a b c : ℕ} → a ≡ b → c ≡ a → b ≤ c
 exact_room e f = omega arith
 
-pub room_step : (len cap later grown left rest : ℕ) → later ≡ len + 1 → cap ≤ grown → rest + 1 ≡ left → len + left ≤ cap → later + rest ≤ grown
+pub room_step : (len cap later grown left rest : ℕ) → later ≡ len + 1 → grown ≡ cap → rest + 1 ≡ left → len + left ≤ cap → later + rest ≤ grown
 room_step len cap later grown left rest a b c d = omega arith
 
 pub one_fits : (c : Cpu) (left : ℕ) → IsCounted c → left ≡ length (remaining_callbacks c) → Fits w64 (1 + left)

@@ -1,5 +1,13 @@
-pub mod Waits
 pub mod Seen
+pub mod Sizes
+pub mod Ends
+pub mod Barred
+pub mod Asking
+pub mod Driving
+pub mod Reporting
+pub mod Wholes
+pub mod Stamping
+pub mod Entering
 pub mod Giving
 pub mod Keeping
 pub mod Members
@@ -15,3 +23,6 @@ pub mod Readying
 pub mod Counting
 pub mod Passing
 pub mod Drawing
+pub mod Fitting
+pub mod Refusing
+pub mod Faults

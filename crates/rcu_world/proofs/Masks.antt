@@ -1,6 +1,6 @@
 -- The mask of the processors that owe a report
-use Rattle.std.proofs.Common.{◌≡◌, ℕ, zero, suc, ◌+◌, ◌*◌, ◌<◌, ◌≤◌, Bool, true, false, List, [], ◌∷◌, length, drop, get_or, Fits, w32, refl, ap, ◌∙◌, sym, arith}
-use Rattle.std.proofs.lemmas.List.{drop_more, length-drop}
+use Rattle.std.proofs.Common.{◌≡◌, ℕ, zero, suc, ◌+◌, ◌*◌, ◌<◌, ◌≤◌, Bool, true, false, List, [], ◌∷◌, length, drop, Fits, w32, refl, arith}
+use Rattle.std.proofs.lemmas.List.{length-drop}
 use Rattle.rcu_law.specs.Invariant.{owed}
 use Rattle.rcu_world.specs.Turns.{mask_of}
 

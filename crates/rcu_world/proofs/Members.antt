@@ -1,19 +1,19 @@
 -- a loop over all processors
-use Rattle.std.proofs.Common.{◌≡◌, ℕ, zero, suc, ◌<◌, ◌^◌, ◌+◌, ◌/◌, ◌==◌, ◌&&◌, ◌||◌, Bool, true, false, cond, nat_lt, length, refl, subst, sym, List, [], ◌∷◌, ◌++◌, arith, get_or, ap, ◌∙◌, take, drop, set}
+use Rattle.std.proofs.Common.{◌≡◌, ℕ, zero, suc, ◌<◌, ◌+◌, ◌/◌, ◌==◌, ◌&&◌, ◌||◌, Bool, true, false, cond, nat_lt, length, refl, subst, sym, List, [], ◌∷◌, ◌++◌, arith, get_or, ap, ◌∙◌, take, drop, set}
 use Rattle.std.proofs.lemmas.Bool.{lt-ltb}
 use Rattle.rcu_law.specs.States.{State, is_member}
 use Rattle.rcu_law.specs.Events.{any_member, most_wanted}
 use Rattle.rcu_law.specs.Lists.{needed_with}
 use Rattle.rcu_law.specs.Invariant.{IsCore}
-use Rattle.rcu_law.proofs.Room.{look_group_fits}
+use Rattle.rcu_law.proofs.Room.{labelled_lists, look_group_fits}
 use Rattle.rcu_world.specs.Members.{is_any, is_in_group, any_in_group, most_in_group}
-use Rattle.rcu_world.specs.declared.processors.Processor.{Processor}
-use Rattle.rcu_world.specs.Views.{seen, all_seen}
+use Rattle.rcu_processor.specs.declared.processor.Processor.{Processor}
+use Rattle.rcu_processor.specs.Views.{seen}
+use Rattle.rcu_world.specs.Views.{all_seen}
 use Rattle.std.proofs.lemmas.List.{drop_more, take_more_set, drop-set-lt, append_assoc, drop-drop}
 use Rattle.rcu_law.specs.States.{Cpu, empty_cpu}
 use Rattle.rcu_law.specs.Events.{each_cpu}
-use Rattle.rcu_law.specs.LabelledLists.{newest, advance}
-use Rattle.rcu_world.specs.Members.{IsLookable}
+use Rattle.rcu_world.specs.Members.{AreLookable, IsLookable}
 
 -- one more
 pub each_more : (f : ℕ → Cpu → Cpu) (i : ℕ) (all xs : List Cpu) (x new : Cpu) → i < length xs → x ≡ get_or xs i empty_cpu → new ≡ f i x
@@ -26,18 +26,18 @@ each_more f i all xs x new l r s h =
     ∙ sym (append_assoc (take i xs) (new ∷ []) (each_cpu f (i + 1) (drop (i + 1) xs))) ∙ ap (λ y. y ++ each_cpu f (i + 1) (drop (i + 1) xs)) (sym t)
     ∙ ap (λ y. take (i + 1) (set xs i new) ++ each_cpu f (i + 1) y) (sym e)
 
-pub lookable_at : (number i : ℕ) (all xs : List Cpu) (x : Cpu) → IsLookable number all → i < length xs → length xs ≡ length all → x ≡ get_or xs i empty_cpu → drop i xs ≡ drop i all
-    → newest number (advance number x.joined) < 2 ^ 63
+pub lookable_at : (number i : ℕ) (all xs : List Cpu) (x : Cpu) → AreLookable number all → i < length xs → length xs ≡ length all → x ≡ get_or xs i empty_cpu → drop i xs ≡ drop i all
+    → IsLookable number x.joined
 lookable_at number i all xs x a l n r d =
     let e : get_or xs i empty_cpu ≡ get_or all i empty_cpu = ap (λ y. get_or y 0 empty_cpu) (sym (drop_more xs i empty_cpu l) ∙ d ∙ drop_more all i empty_cpu (omega arith)) in
-    subst (λ y. newest number (advance number y.joined) < 2 ^ 63) (sym (r ∙ e)) (a i (omega arith))
+    subst (λ y. IsLookable number y.joined) (sym (r ∙ e)) (a i (omega arith))
 
 pub drop_again : (i : ℕ) (xs ys : List Cpu) → drop i xs ≡ drop i ys → drop (i + 1) xs ≡ drop (i + 1) ys
 drop_again i xs ys e = sym (drop-drop 1 i xs) ∙ ap (drop 1) e ∙ drop-drop 1 i ys
 
--- a look asks for no number that is too great
-pub lookable : (w : State) → IsCore w → IsLookable w.number w.cpus
-lookable w k = λ p l. let f = look_group_fits w p k l in omega arith
+-- what a look asks of the groups' lists holds
+pub lookable : (w : State) → IsCore w → AreLookable w.number w.cpus
+lookable w k = λ p l. record { small = look_group_fits w p k l; may = (labelled_lists w p k l).joined_accelerates }
 
 -- the members, as the law and as the loops see them
 member_same : (w : State) (g p : ℕ) → p < length w.cpus → is_member w g p ≡ is_in_group w.shape.offloadable w.shape.stride g p

@@ -8,7 +8,7 @@ use Rattle.rcu_law.specs.declared.who.Who.TheVariants as who
 use Rattle.rcu_law.specs.Lists.{is_nil, needed_with}
 use Rattle.rcu_law.specs.States.{State, Cpu, empty_cpu, cpu_at, has, with_cpu, is_member, is_offloaded}
 use Rattle.rcu_law.specs.Releases.{Pace, pace_after_stamp, pace_after_put}
-use Rattle.rcu_law.specs.Steps.{accepts, stamps, stamps_into, with_pace, puts, looks, group_looks, hand_looks, draws, joins, gives, fetches, finishes, leaves, pours, heeds, heeds_mode, settles}
+use Rattle.rcu_law.specs.Steps.{accepts, stamps, stamps_into, with_pace, puts, looks, group_looks, hand_looks, draws, joins, gives, fetches, finishes, leaves, heeds, heeds_mode, settles}
 use Rattle.rcu_law.specs.Events.{CoreEvent, is_enabled, after, each_cpu, most_wanted}
 use Rattle.rcu_law.specs.Events.CoreEvent.{Accept, Stamp, Put, Report, Start, End, Look, LookGroup, LookHand, Need, Draw, Join, Give, Fetch, Claim, Finish, Ask, Heed, Settle, Open, Count, Turn, Pass, Shut, Urge, Hear}
 use Rattle.rcu_world.specs.Turns.{IsIdle, IsAtRest, IsAtRestBut, keeps_rest}

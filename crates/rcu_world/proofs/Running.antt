@@ -1,18 +1,19 @@
 -- Claim and Finish, one callback after another
-use Rattle.std.proofs.Common.{◌≡◌, ℕ, zero, suc, ◌+◌, ◌<◌, ◌≤◌, Bool, true, false, cond, ◌&&◌, ◌==◌, nat_lt, length, None, Some, List, [], ◌∷◌, ◌++◌, get_or, set, refl, ap, sym, ◌∙◌, subst, arith}
+use Rattle.std.proofs.Common.{◌≡◌, ℕ, zero, suc, ◌+◌, ◌<◌, ◌≤◌, Bool, true, false, cond, ◌&&◌, ◌==◌, nat_lt, length, None, List, [], ◌∷◌, ◌++◌, get_or, set, refl, ap, sym, ◌∙◌, subst, arith}
 use Rattle.std.proofs.lemmas.List.{get_or-set_same, length-set}
-use Rattle.std.proofs.lemmas.Bool.{ltb-true, lt-ltb, and_parts, eq-eqb, ne_eqb}
+use Rattle.std.proofs.lemmas.Bool.{lt-ltb, and_parts, eq-eqb, ne_eqb}
 use Rattle.rcu_jobs.specs.declared.Stop.{Stop}
 use Rattle.rcu_jobs.specs.declared.Stop.TheVariants as stops
 use Rattle.rcu_law.specs.declared.who.Side.{Side}
 use Rattle.rcu_law.specs.declared.who.Side.TheVariants.{Local, Hand}
 use Rattle.rcu_law.specs.Calls.{Call}
 use Rattle.rcu_law.specs.LabelledLists.{Labelled, done_count, is_done}
-use Rattle.rcu_law.specs.States.{State, Cpu, empty_cpu, cpu_at, has, with_cpu}
+use Rattle.rcu_law.specs.States.{State, Cpu, empty_cpu, cpu_at}
 use Rattle.rcu_law.specs.Steps.{can_claim, can_claim_own, can_claim_held, claims, can_finish, finishes}
-use Rattle.rcu_law.specs.Events.{CoreEvent, is_enabled, after, happens, run}
+use Rattle.rcu_law.specs.Events.{CoreEvent, is_enabled, after}
 use Rattle.rcu_law.specs.Events.CoreEvent.{Claim, Finish}
-use Rattle.rcu_world.specs.Turns.{IsIdle, IsAtRest, Leads, where_enabled, run_events, has_none, stop_of}
+use Rattle.rcu_processor.specs.Turns.{has_none}
+use Rattle.rcu_world.specs.Turns.{IsIdle, IsAtRest, Leads, where_enabled, run_events, stop_of}
 use Rattle.rcu_world.proofs.Leading.{leads_append, leads_one}
 
 run_events_suc : (p : ℕ) (by : Side) (n : ℕ) → run_events p by (suc n) ≡ run_events p by n ++ (Claim p by ∷ (Finish p by ∷ []))

@@ -1,27 +1,38 @@
 -- the processors of the code, as the law sees them
-use Rattle.std.proofs.Common.{◌≡◌, ℕ, zero, suc, ◌<◌, ◌≤◌, ◌^◌, ◌&&◌, nat_lt, not, max, List, [], ◌∷◌, ◌++◌, length, map, set, get_or, take, drop, replicate, ◌+◌, refl, ap, sym, ◌∙◌, subst, arith, Bool, true, false, Option, Some, None}
-use Rattle.std.proofs.lemmas.Bool.{lt-ltb}
-use Rattle.std.proofs.lemmas.List.{map-append, map-set, get_or-map, get_or_default, length-map}
-use Rattle.std.proofs.lemmas.Grind.{common_steps}
-use Rattle.std.proofs.lemmas.List.{append-nil, take_all}
+use Rattle.std.proofs.Common.{◌≡◌, ℕ, zero, suc, ◌<◌, ◌≤◌, ◌&&◌, nat_lt, not, max, List, [], ◌∷◌, length, map, set, get_or, refl, ap, sym, ◌∙◌, subst, arith, Bool, true, false, Option, Some, None}
+use Rattle.std.proofs.lemmas.Bool.{le-ltb, lt-ltb}
+use Rattle.std.proofs.lemmas.List.{map-set, get_or-map, get_or_default, length-map}
 use Rattle.std.proofs.Math.Seq.{map-set_same}
 use Rattle.std.specs.List.{AllByRecursion}
-use Rattle.rcu_law.specs.States.{State, Shape, Barrier, no_barrier, Cpu, empty_cpu, cpu_at, has}
+use Rattle.rcu_law.specs.States.{State, Barrier, no_barrier, Cpu, empty_cpu, cpu_at, has}
 use Rattle.rcu_law.specs.Lists.{is_none}
-use Rattle.rcu_law.specs.LabelledLists.{newest, advance}
 use Rattle.rcu_law.specs.declared.marks.Mark.{Mark}
 use Rattle.rcu_law.specs.Numbers.{GREATEST_NUMBER}
-use Rattle.rcu_law.specs.States.{barrier_at, is_open, with_barrier, added, with_mark, with_cpu, opening, opening_cpu, opening_cpus}
-use Rattle.rcu_law.specs.Events.{each_cpu}
+use Rattle.rcu_law.specs.States.{barrier_at, is_open, with_barrier, added, with_mark, with_cpu}
 use Rattle.rcu_law.specs.Lists.{needed_with}
 use Rattle.rcu_law.specs.Invariant.{IsCore}
 use Rattle.rcu_law.proofs.Room.{turn_fits}
-use Rattle.rcu_law.proofs.Room.{look_fits}
-use Rattle.rcu_world.specs.declared.processors.Processor.{Processor}
+use Rattle.rcu_law.proofs.Room.{look_fits, labelled_lists}
+use Rattle.rcu_law.proofs.Looks.{all_left}
+use Rattle.rcu_law.specs.Calls.{Call}
+use Rattle.rcu_law.specs.Invariant.{IsStamped}
+use Rattle.rcu_law.specs.Steps.{front}
+use Rattle.rcu_world.specs.Members.{IsLookable}
+use Rattle.rcu_world.proofs.Leaving.{all_at}
+use Rattle.rcu_processor.specs.declared.processor.Processor.{Processor}
 use Rattle.rcu_world.specs.declared.cores.Core.{Core}
 use Rattle.rcu_world.specs.declared.barriers.Barring.{Barring}
 use Rattle.rcu_world.specs.Barrings.{barrier}
-use Rattle.rcu_world.specs.Views.{urged, seen, all_seen, state, AreGiven}
+use Rattle.rcu_processor.specs.Views.{seen, mark_of, AreGiven}
+use Rattle.rcu_world.specs.Views.{all_seen, state, AllGiven}
+
+front_fits : (n : ℕ) (h : List Mark) (p number : ℕ) (cs : List Call) → AllByRecursion (IsStamped n h p number) cs → number ≤ GREATEST_NUMBER → (front cs).stamp ≤ GREATEST_NUMBER
+front_fits n h p number [] a l = omega arith
+front_fits n h p number (c ∷ cs) a l = omega (arith, a.0.past)
+
+held_fits : (w : State) (p : ℕ) → IsCore w → p < length w.cpus → (front (cpu_at w p).held).stamp ≤ GREATEST_NUMBER
+held_fits w p k l = front_fits (length w.cpus) w.history p w.number (cpu_at w p).held
+    (all_left (IsStamped (length w.cpus) w.history p w.number) (cpu_at w p).held _ (k.cpu p l).timely.stamped) k.board.small
 
 module _ {J R : Type 0} (key_of : J → ℕ) where
   -- a processor that is there
@@ -42,6 +53,15 @@ module _ {J R : Type 0} (key_of : J → ℕ) where
   pub test_at : (w : Core J R) (i : ℕ) (p : Processor J R) (test : Cpu → Bool) (b : Bool) → i < length w.processors.items → p ≡ get_or w.processors.items i p
       → test (seen key_of p) ≡ b → test (cpu_at (state key_of w) i) ≡ b
   test_at w i p test b l e t = ap test (sym (seen_at w.processors.items i p l e)) ∙ t
+
+  -- an event of a processor that isn't there
+  pub absent : (w : Core J R) (i : ℕ) (test : Bool) → length w.processors.items ≤ i → (has (state key_of w) i && test) ≡ false
+  absent w i test l = ap (λ b. b && test) (le-ltb i (length (all_seen key_of w.processors.items)) (omega (arith, length-map w.processors.items (seen key_of))))
+
+  -- an event that the test of processor i skips
+  pub skipped : (w : Core J R) (i : ℕ) (p : Processor J R) (test : Cpu → Bool) → i < length w.processors.items → p ≡ get_or w.processors.items i p → test (seen key_of p) ≡ false
+      → ((has (state key_of w) i && test (cpu_at (state key_of w) i)) ≡ false) × (record (state key_of w) { cpus = all_seen key_of (set w.processors.items i p) } ≡ state key_of w)
+  skipped w i p test l e t = (tested w i p test false l e t, ap {B = State} (λ x. record (state key_of w) { cpus = x }) (same_at w.processors.items i p p e refl))
 
   -- an event that does f to processor i, and adds a mark
   pub stepped : (w : Core J R) (i : ℕ) (p q : Processor J R) (test : Cpu → Bool) (f : Cpu → Cpu) (mark : Cpu → Option Mark) (h : List Mark)
@@ -76,12 +96,16 @@ module _ {J R : Type 0} (key_of : J → ℕ) where
   fits_at w i p k l e = turn_fits (state key_of w) i (seen key_of p) k (omega (arith, length-map w.processors.items (seen key_of)))
       (seen_at w.processors.items i p l e ∙ get_or_default (all_seen key_of w.processors.items) i empty_cpu (seen key_of p) (omega (arith, length-map w.processors.items (seen key_of))))
 
-  pub look_fits_at : (w : Core J R) (i : ℕ) (p : Processor J R) → IsCore (state key_of w) → i < length w.processors.items → p ≡ get_or w.processors.items i p
-      → newest w.number (advance w.number (seen key_of p).own) < 2 ^ 63
-  look_fits_at w i p k l e =
-      let f : newest w.number (advance w.number (cpu_at (state key_of w) i).own) ≤ GREATEST_NUMBER = look_fits (state key_of w) i k (omega (arith, length-map w.processors.items (seen key_of))) in
-      let b : newest w.number (advance w.number (seen key_of p).own) ≤ GREATEST_NUMBER = subst (λ x. newest w.number (advance w.number x.own) ≤ GREATEST_NUMBER) (sym (seen_at w.processors.items i p l e)) f in
-      omega arith
+  -- what a look asks of its own list holds
+  pub lookable_at : (w : Core J R) (i : ℕ) (p : Processor J R) → IsCore (state key_of w) → i < length w.processors.items → p ≡ get_or w.processors.items i p → IsLookable w.number (seen key_of p).own
+  lookable_at w i p k l e =
+      let n : i < length (all_seen key_of w.processors.items) = omega (arith, length-map w.processors.items (seen key_of)) in
+      subst (λ x. IsLookable w.number x.own) (sym (seen_at w.processors.items i p l e)) (record { small = look_fits (state key_of w) i k n; may = (labelled_lists (state key_of w) i k n).own_accelerates })
+
+  -- the first stamp that a hand holds isn't too great
+  pub held_fits_at : (w : Core J R) (i : ℕ) (p : Processor J R) → IsCore (state key_of w) → i < length w.processors.items → p ≡ get_or w.processors.items i p → (front (seen key_of p).held).stamp ≤ GREATEST_NUMBER
+  held_fits_at w i p k l e = subst (λ x. (front x.held).stamp ≤ GREATEST_NUMBER) (sym (seen_at w.processors.items i p l e))
+      (held_fits (state key_of w) i k (omega (arith, length-map w.processors.items (seen key_of))))
 
   -- an event of any processor that is there
   pub happened : (w : Core J R) (i : ℕ) (p q : Processor J R) (f : Cpu → Cpu) → i < length w.processors.items → p ≡ get_or w.processors.items i p → seen key_of q ≡ f (seen key_of p)
@@ -108,23 +132,14 @@ kept_at P (z ∷ xs) zero x y l e h a = (h (subst P (sym e) a.0), a.1)
 kept_at P (z ∷ xs) (suc i) x y l e h a = (a.0, kept_at P xs i x y (omega arith) e h a.1)
 kept_at P [] i x y l e h a = absurd (omega arith)
 
--- all are urged
-pub urged_each : {J R : Type 0} (key_of : J → ℕ) (i : ℕ) (ps : List (Processor J R)) → all_seen key_of (map urged ps) ≡ each_cpu (λ p c. record c { urged = true }) i (all_seen key_of ps)
-urged_each key_of i [] = refl
-urged_each key_of i (p ∷ ps) = ap (λ cs. seen key_of (urged p) ∷ cs) (urged_each key_of (i + 1) ps)
+-- an event of one processor keeps what the law doesn't see
+pub given_at : {J R : Type 0} (gives : ℕ → R → Type 0) (w : Core J R) (i : ℕ) (p q : Processor J R) → i < length w.processors.items → p ≡ get_or w.processors.items i p
+    → ((mark : ℕ) → AreGiven gives mark p → AreGiven gives mark q) → AllGiven gives w → AllByRecursion (AreGiven gives w.qhimark) (set w.processors.items i q)
+given_at gives w i p q l e h a = kept_at (AreGiven gives w.qhimark) w.processors.items i p q l e (h w.qhimark) a
 
-pub urged_given : {J R : Type 0} (gives : ℕ → R → Type 0) (ps : List (Processor J R)) → AllByRecursion (AreGiven gives) ps → AllByRecursion (AreGiven gives) (map urged ps)
-urged_given gives [] a = tt
-urged_given gives (p ∷ ps) a = (a.0, urged_given gives ps a.1)
-
--- the end of a loop over all
-pub loop_end : {X : Type 0} (f : X → X) (xs ys : List X) (n i : ℕ) → length xs ≡ length ys → n ≡ length ys → length xs ≤ i → map f ys ≡ take i xs ++ map f (drop i xs)
-    → take n (xs ++ drop (length xs) ys) ≡ map f ys
-loop_end f xs ys n i e m l h =
-    let d : drop (length xs) ys ≡ [] = grind (arith, common_steps) in
-    let a : xs ++ drop (length xs) ys ≡ xs = ap (λ z. xs ++ z) d ∙ append-nil xs in
-    let t : take i xs ++ map f (drop i xs) ≡ xs = grind (arith, common_steps) in
-    ap (take n) a ∙ take_all n xs (omega arith) ∙ sym (h ∙ t)
+-- the length at which a processor's bypass list is released
+pub mark_at : {J R : Type 0} (gives : ℕ → R → Type 0) (w : Core J R) (i : ℕ) (p : Processor J R) → i < length w.processors.items → p ≡ get_or w.processors.items i p → AllGiven gives w → mark_of p ≡ w.qhimark
+mark_at gives w i p l e a = (all_at (AreGiven gives w.qhimark) w.processors.items i p l e a).1
 
 -- a barrier that is there
 pub barrier_seen : {J R : Type 0} (key_of : J → ℕ) (w : Core J R) (j : ℕ) (v q : Barring) (f : Barrier → Barrier) → j < length w.barriers.items → v ≡ get_or w.barriers.items j v → barrier q ≡ f (barrier v)

@@ -1,5 +1,5 @@
 -- What a close hands back is what its marks say
-use Rattle.std.proofs.Common.{◌≡◌, ℕ, ◌+◌, ◌<◌, ◌≤◌, zero, suc, length-append, List, [], ◌∷◌, ◌++◌, length, map, get_or, Bool, true, false, cond, refl, ap, sym, ◌∙◌, subst, arith, inl, inr}
+use Rattle.std.proofs.Common.{◌≡◌, ℕ, ◌+◌, ◌<◌, zero, suc, length-append, List, [], ◌∷◌, ◌++◌, length, map, get_or, Bool, true, false, cond, refl, ap, sym, ◌∙◌, subst, arith}
 use Rattle.std.proofs.lemmas.List.{append-nil, append_cancel_left, get_or-map, length-map}
 use Rattle.std.proofs.lemmas.Grind.{flat_map-append}
 use Rattle.std.specs.Global.{Vec}
@@ -14,10 +14,12 @@ use Rattle.rcu_law.specs.Places.{key_of, remaining_callbacks}
 use Rattle.rcu_law.specs.Invariant.{AreNumbered, IsCore}
 use Rattle.rcu_law.specs.Closing.{closing, shut_mark, shut_marks, back_marks}
 use Rattle.rcu_law.proofs.Closing.{closed}
-use Rattle.rcu_world.specs.declared.processors.Processor.{Processor}
+use Rattle.rcu_processor.specs.declared.processor.Processor.{Processor}
 use Rattle.rcu_world.specs.declared.cores.Core.{Core}
-use Rattle.rcu_world.specs.Leaving.{AreCounted, AreHandedBack, AreNumberedFrom, AreRecorded, IsCounted, left_keys}
-use Rattle.rcu_world.specs.Views.{run, seen, all_seen, state, AreGiven}
+use Rattle.rcu_processor.specs.Leaving.{IsCounted, left_keys}
+use Rattle.rcu_world.specs.Leaving.{AreCounted, AreHandedBack, AreNumberedFrom, AreRecorded}
+use Rattle.rcu_processor.specs.Views.{records_of, run, seen, AreGiven}
+use Rattle.rcu_world.specs.Views.{all_seen, state}
 
 -- what reads nothing of the marks that close adds
 module _ (f : Mark → List ℕ) (shut : (p : ℕ) → f (Shut p) ≡ []) (handed : (p key : ℕ) → f (Back p key) ≡ []) where
@@ -79,13 +81,13 @@ same_numbers k [] a = tt
 same_numbers k (r ∷ rs) a = (a.0, same_numbers (k + 1) rs a.1)
 
 all_numbered : {J R : Type 0} (job_key : J → ℕ) (ps : List (Processor J R)) → AllByRecursion (λ p. AreNumbered 0 (map (λ r. r.call) (seen job_key p).runs)) ps
-    → AllByRecursion (λ (v : Vec (Record R)). AreNumberedFrom 0 v.items) (map (λ p. p.records) ps)
+    → AllByRecursion (λ (v : Vec (Record R)). AreNumberedFrom 0 v.items) (map records_of ps)
 all_numbered job_key [] a = tt
 all_numbered job_key (p ∷ ps) a = (same_numbers 0 p.records.items a.0, all_numbered job_key ps a.1)
 
-all_given : {J R : Type 0} (gives : ℕ → R → Type 0) (ps : List (Processor J R)) → AllByRecursion (AreGiven gives) ps → AllByRecursion (λ (v : Vec (Record R)). All (λ r. gives r.key r.receipt) v.items) (map (λ p. p.records) ps)
-all_given gives [] a = tt
-all_given gives (p ∷ ps) a = (a.0, all_given gives ps a.1)
+all_given : {J R : Type 0} (gives : ℕ → R → Type 0) (mark : ℕ) (ps : List (Processor J R)) → AllByRecursion (AreGiven gives mark) ps → AllByRecursion (λ (v : Vec (Record R)). All (λ r. gives r.key r.receipt) v.items) (map records_of ps)
+all_given gives mark [] a = tt
+all_given gives mark (p ∷ ps) a = (a.0.0, all_given gives mark ps a.1)
 
 module _ {J R : Type 0} (job_key : J → ℕ) (w : Core J R) (k : IsCore (state job_key w)) where
   pub are_counted : AreCounted job_key w.processors.items
@@ -98,19 +100,19 @@ module _ {J R : Type 0} (job_key : J → ℕ) (w : Core J R) (k : IsCore (state 
     len = sym (length-map lists (λ (v : Vec J). map job_key v.items)) ∙ ap length e ∙ length-map (all_seen job_key w.processors.items) left_keys;
   }
 
-  ran_keys : (ps : List (Processor J R)) (p : ℕ) → p < length ps → get_or (map (λ (v : Vec (Record R)). map (λ r. r.key) v.items) (map (λ q. q.records) ps)) p [] ≡ map (λ r. r.call.key) (get_or (all_seen job_key ps) p empty_cpu).runs
+  ran_keys : (ps : List (Processor J R)) (p : ℕ) → p < length ps → get_or (map (λ (v : Vec (Record R)). map (λ r. r.key) v.items) (map records_of ps)) p [] ≡ map (λ r. r.call.key) (get_or (all_seen job_key ps) p empty_cpu).runs
   ran_keys (q ∷ ps) zero l = same_keys q.records.items
   ran_keys (q ∷ ps) (suc p) l = ran_keys ps p (omega arith)
   ran_keys [] p l = absurd (omega arith)
 
-  pub recorded : (gives : ℕ → R → Type 0) → AllByRecursion (AreGiven gives) w.processors.items → (lists : List (Vec (Record R))) → lists ≡ map (λ p. p.records) w.processors.items
+  pub recorded : (gives : ℕ → R → Type 0) → AllByRecursion (AreGiven gives w.qhimark) w.processors.items → (lists : List (Vec (Record R))) → lists ≡ map records_of w.processors.items
       → AreRecorded gives (length (all_seen job_key w.processors.items)) (closing (state job_key w)) lists
   recorded gives a lists e = record {
     each = λ p l. ap (λ x. get_or (map (λ (v : Vec (Record R)). map (λ r. r.key) v.items) x) p []) e ∙ ran_keys w.processors.items p (omega (arith, length-map w.processors.items (seen job_key)))
         ∙ (k.cpu p l).placed.runs ∙ sym (ran_closing p (state job_key w));
-    given = subst (AllByRecursion (λ (v : Vec (Record R)). All (λ r. gives r.key r.receipt) v.items)) (sym e) (all_given gives w.processors.items a);
+    given = subst (AllByRecursion (λ (v : Vec (Record R)). All (λ r. gives r.key r.receipt) v.items)) (sym e) (all_given gives w.qhimark w.processors.items a);
     numbered = subst (AllByRecursion (λ (v : Vec (Record R)). AreNumberedFrom 0 v.items)) (sym e)
         (all_numbered job_key w.processors.items (all_unmapped (λ c. AreNumbered 0 (map (λ r. r.call) c.runs)) (seen job_key) w.processors.items
         (all_from (λ c. AreNumbered 0 (map (λ r. r.call) c.runs)) empty_cpu (all_seen job_key w.processors.items) (λ p l. (k.cpu p l).placed.numbered))));
-    len = ap length e ∙ length-map w.processors.items (λ p. p.records) ∙ sym (length-map w.processors.items (seen job_key));
+    len = ap length e ∙ length-map w.processors.items records_of ∙ sym (length-map w.processors.items (seen job_key));
   }

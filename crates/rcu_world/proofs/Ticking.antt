@@ -4,8 +4,9 @@ use Rattle.std.proofs.lemmas.Bool.{lt-ltb}
 use Rattle.rcu_law.specs.Releases.{releases_in_tick, moment_of_tick}
 use Rattle.rcu_law.specs.States.{State, cpu_at, has, is_offloadable, is_offloaded}
 use Rattle.rcu_law.specs.Events.CoreEvent.{Hear, Put, Heed, Settle}
-use Rattle.rcu_world.specs.Turns.{Leads, Rooms, where_enabled, and_then, put_in_tick, release_events, is_switching, put_after_pouring, switch_events, offloadable_events}
-use Rattle.rcu_world.proofs.Leading.{leads_then, leads_nothing, chosen, not_chosen, where_true, where_false}
+use Rattle.rcu_processor.specs.Turns.{is_switching}
+use Rattle.rcu_world.specs.Turns.{Leads, Rooms, where_enabled, and_then, put_in_tick, release_events, put_after_pouring, switch_events, offloadable_events}
+use Rattle.rcu_world.proofs.Leading.{leads_then, chosen, not_chosen, where_true, where_false}
 
 module _ (p : ℕ) where
   pub release_skipped : (moment : ℕ) (urged : Bool) (old mid : State) → urged ≡ (cpu_at old p).urged → Leads old (where_enabled (Hear p) old) mid

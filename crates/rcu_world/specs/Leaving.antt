@@ -1,5 +1,5 @@
 -- What a close finds room for, and what it hands back. docs/specification/definitions.md, "The law": settled, given
-use Rattle.std.specs.Prelude.{◌≡◌, ℕ, ◌+◌, ◌/◌, ◌≤◌, ◌<◌, List, [], ◌∷◌, ◌++◌, length, map, All, vec_len, vec_capacity, slice_index_or}
+use Rattle.std.specs.Prelude.{◌≡◌, ℕ, ◌+◌, ◌≤◌, ◌<◌, List, [], ◌∷◌, ◌++◌, length, map, All, vec_len, vec_capacity, slice_index_or}
 use Rattle.std.specs.Global.{Vec}
 use Rattle.std.specs.List.{AllByRecursion}
 use Rattle.rcu_jobs.specs.declared.Record.{Record}
@@ -7,16 +7,14 @@ use Rattle.rcu_law.specs.declared.marks.Mark.{Mark}
 use Rattle.rcu_law.specs.declared.marks.Mark.TheVariants.{Back}
 use Rattle.rcu_law.specs.Law.{ran, back}
 use Rattle.rcu_law.specs.States.{Cpu}
-use Rattle.rcu_law.specs.Places.{key_of, remaining_callbacks}
+use Rattle.rcu_law.specs.Places.{remaining_callbacks}
 use Rattle.rcu_law.specs.Invariant.{reports}
-use Rattle.rcu_world.specs.declared.processors.Processor.{Processor}
+use Rattle.rcu_processor.specs.declared.processor.Processor.{Processor}
+use Rattle.rcu_processor.specs.Leaving.{IsCounted}
 use Rattle.rcu_world.specs.declared.cores.Core.{Core}
 use Rattle.rcu_world.specs.declared.ending.Room.{Room}
-use Rattle.rcu_world.specs.Views.{seen, all_seen}
-
--- the keys of what is left of a processor, place after place
-abbrev pub left_keys : Cpu → List ℕ
-left_keys c = map key_of (remaining_callbacks c)
+use Rattle.rcu_processor.specs.Views.{seen}
+use Rattle.rcu_world.specs.Views.{all_seen}
 
 -- a Shut, and a Back for each callback that is left
 abbrev pub most_marks : List Cpu → ℕ
@@ -27,11 +25,6 @@ most_marks (c ∷ cs) = (1 + length (remaining_callbacks c)) + most_marks cs
 abbrev pub backs : ℕ → List (List ℕ) → List Mark
 backs p [] = []
 backs p (keys ∷ rest) = map (λ key. Back p key) keys ++ backs (p + 1) rest
-
--- what was accepted ran or is left
-pub record IsCounted (c : Cpu) : Type 0 where
-  pub count : c.count ≡ (c.turn + 1) / 2 + length (remaining_callbacks c)
-  pub few : c.count ≤ 1000000
 
 module _ {J R : Type 0} (job_key : J → ℕ) where
   abbrev pub AreCounted : List (Processor J R) → Type 0

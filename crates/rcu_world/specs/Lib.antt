@@ -1,14 +1,10 @@
 pub mod Barrings
-pub mod Waits
-pub mod Batches
 pub mod Views
 pub mod Events
 pub mod Worlds
-pub mod Giving
 pub mod Members
 pub mod Leaving
 pub mod Turns
 pub mod Ready
-pub mod Shown
 pub mod Polls
 pub mod GroupTurns

@@ -1,9 +1,11 @@
 -- The members of a group, as its loops see them. docs/specification/rules.md, "Groups"
-use Rattle.std.specs.Prelude.{ℕ, ◌+◌, Bool, true, false, List, [], ◌∷◌, length, not, ◌||◌, ◌&&◌, ◌==◌, ◌/◌, ◌<◌, ◌^◌, Option, None, slice_index_or, if◌then◌else◌}
+use Rattle.std.specs.Prelude.{ℕ, ◌+◌, Bool, true, false, List, [], ◌∷◌, length, ◌||◌, ◌&&◌, ◌==◌, ◌/◌, ◌<◌, ◌≤◌, slice_index_or, if◌then◌else◌}
 use Rattle.rcu_law.specs.States.{Cpu, empty_cpu}
 use Rattle.rcu_law.specs.Steps.{group_looks}
-use Rattle.rcu_law.specs.Lists.{is_none, needed_with}
-use Rattle.rcu_law.specs.LabelledLists.{newest, advance}
+use Rattle.rcu_law.specs.Lists.{needed_with}
+use Rattle.rcu_law.specs.LabelledLists.{Labelled, MayAccelerate, advance, newest}
+use Rattle.rcu_law.specs.Numbers.{GREATEST_NUMBER, snap}
+use Rattle.rcu_processor.specs.Members.{forgets}
 
 -- whether processor p is a member of group g
 abbrev pub is_in_group : List Bool → ℕ → ℕ → ℕ → Bool
@@ -11,9 +13,6 @@ is_in_group offloadable stride g p = slice_index_or offloadable p false && (p / 
 
 abbrev pub is_any : Cpu → Bool
 is_any c = true
-
-abbrev pub is_wanting : Cpu → Bool
-is_wanting c = not (is_none c.group_wanted)
 
 -- some member, of the processors from p on, meets the test
 abbrev pub any_in_group : List Bool → ℕ → ℕ → (Cpu → Bool) → ℕ → List Cpu → Bool
@@ -29,13 +28,19 @@ most_in_group offloadable stride g d p (c ∷ cs) = most_in_group offloadable st
 abbrev pub group_step : List Bool → ℕ → ℕ → ℕ → ℕ → Cpu → Cpu
 group_step offloadable stride g number p c = if is_in_group offloadable stride g p then group_looks number c else c
 
--- what is wanted for a member is asked for
-abbrev pub forgets : Cpu → Cpu
-forgets c = record c { group_wanted = None }
-
+-- what is wanted for the members is asked for
 abbrev pub forget_step : List Bool → ℕ → ℕ → ℕ → Cpu → Cpu
 forget_step offloadable stride g p c = if is_in_group offloadable stride g p then forgets c else c
 
--- there is room for the numbers that a look at each list asks for
-abbrev pub IsLookable : ℕ → List Cpu → Type 0
-IsLookable number cs = (p : ℕ) → p < length cs → newest number (advance number (slice_index_or cs p empty_cpu).joined) < 2 ^ 63
+-- a barrier urges each
+abbrev pub urge_step : ℕ → Cpu → Cpu
+urge_step p c = record c { urged = true }
+
+-- what a look at a list asks (docs/specification/rules.md, "Callback lists"): no number is too great, and `accelerate` may be called
+pub record IsLookable (number : ℕ) (ws : List Labelled) : Type 0 where
+  pub small : newest number (advance number ws) ≤ GREATEST_NUMBER
+  pub may : MayAccelerate (snap (newest number (advance number ws))) (advance number ws)
+
+-- the group's list for each processor may be looked at
+abbrev pub AreLookable : ℕ → List Cpu → Type 0
+AreLookable number cs = (p : ℕ) → p < length cs → IsLookable number (slice_index_or cs p empty_cpu).joined

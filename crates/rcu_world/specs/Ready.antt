@@ -1,22 +1,14 @@
 -- Room for a Stamp that follows directly on Accept. docs/specification/surface.md, "rcu_world"
-use Rattle.std.specs.Prelude.{ℕ, ◌≡◌, ◌+◌, ◌≤◌, Bool, true, false, Option, None, Some, slice_index_or, vec_len, vec_capacity}
+use Rattle.std.specs.Prelude.{ℕ, ◌≡◌, ◌+◌, ◌≤◌, Bool, true, false, slice_index_or}
 use Rattle.rcu_jobs.specs.declared.Refused.{Refused}
 use Rattle.rcu_jobs.specs.declared.Refused.TheVariants.{Limit, Memory, Closed}
-use Rattle.rcu_law.specs.States.{State, cpu_at, is_offloaded}
+use Rattle.rcu_law.specs.States.{State, cpu_at}
 use Rattle.rcu_law.specs.Steps.{can_accept}
 use Rattle.rcu_world.specs.declared.events.Answer.{Answer}
 use Rattle.rcu_world.specs.declared.events.Answer.TheVariants as answers
-use Rattle.rcu_world.specs.declared.processors.Processor.{Processor}
+use Rattle.rcu_processor.specs.declared.processor.Processor.{Processor}
 use Rattle.rcu_world.specs.declared.cores.Core.{Core}
-use Rattle.rcu_world.specs.Batches.{HasRoom}
-
--- room for one more in the bypass list of an offloaded processor, else in its own list
-abbrev pub IsRoomy : {J R : Type 0} → Bool → Processor J R → Type 0
-IsRoomy true p = HasRoom p.bypass 1
-IsRoomy false p = vec_len p.own + 1 ≤ vec_capacity p.own
-
-abbrev pub IsReady : {J R : Type 0} → Processor J R → Type 0
-IsReady p = IsRoomy (is_offloaded p.mode) p
+use Rattle.rcu_processor.specs.Ready.{IsReady}
 
 abbrev pub IsReadyAt : {J R : Type 0} → Core J R → ℕ → Type 0
 IsReadyAt {J} {R} w cpu = (p : Processor J R) → p ≡ slice_index_or w.processors.items cpu p → IsReady p

@@ -1,5 +1,5 @@
 -- The turn calls, as lists of events. docs/specification/rules.md, "On the core"; docs/specification/surface.md, "rcu_world"
-use Rattle.std.specs.Prelude.{ℕ, zero, suc, ◌+◌, ◌*◌, ◌%◌, ◌≡◌, Bool, true, false, not, ◌&&◌, ◌||◌, ◌==◌, nat_lt, if◌then◌else◌, Option, Some, None, nat_le, ◌<◌, ◌⊎◌, slice_index, List, [], ◌∷◌, ◌++◌, length}
+use Rattle.std.specs.Prelude.{ℕ, zero, suc, ◌+◌, ◌*◌, ◌%◌, ◌≡◌, Bool, true, false, not, ◌&&◌, ◌==◌, nat_lt, if◌then◌else◌, Option, Some, None, nat_le, ◌<◌, ◌⊎◌, slice_index, List, [], ◌∷◌, ◌++◌, length}
 use Rattle.rcu_jobs.specs.declared.Stop.{Stop}
 use Rattle.rcu_jobs.specs.declared.Stop.TheVariants as stops
 use Rattle.rcu_law.specs.declared.who.Side.{Side}
@@ -14,16 +14,14 @@ use Rattle.rcu_jobs.specs.declared.Ticket.{Ticket}
 use Rattle.rcu_jobs.specs.declared.BarrierFault.{BarrierFault}
 use Rattle.rcu_jobs.specs.declared.BarrierFault.TheVariants as barriers
 use Rattle.rcu_law.specs.Numbers.{GREATEST_NUMBER}
-use Rattle.rcu_law.specs.Lists.{is_nil, none_owes}
+use Rattle.rcu_law.specs.Lists.{none_owes}
 use Rattle.rcu_law.specs.Invariant.{owed}
-use Rattle.rcu_law.specs.declared.modes.Mode.{Mode}
-use Rattle.rcu_law.specs.declared.modes.Mode.TheVariants as modes
-use Rattle.rcu_law.specs.LabelledLists.{done_count}
 use Rattle.rcu_law.specs.States.{State, Cpu, cpu_at, has, is_offloadable, is_offloaded}
 use Rattle.rcu_law.specs.Steps.{can_claim}
+use Rattle.rcu_processor.specs.Turns.{has_none, is_switching}
 use Rattle.rcu_law.specs.Releases.{releases, releases_in_tick, moment_of_tick}
 use Rattle.rcu_law.specs.Events.{CoreEvent, is_enabled, happens, run}
-use Rattle.rcu_law.specs.Events.CoreEvent.{Accept, Stamp, Put, Report, Start, End, Look, Need, Claim, Finish, Heed, Settle, Hear, LookHand, Fetch, Shut, Open, Count, Urge}
+use Rattle.rcu_law.specs.Events.CoreEvent.{Accept, Stamp, Put, Start, End, Look, Need, Claim, Finish, Heed, Settle, Hear, LookHand, Fetch, Shut, Open, Count, Urge}
 
 -- every event of the list is enabled, one after another
 abbrev pub AreEnabled : List CoreEvent → State → Type 0
@@ -54,12 +52,6 @@ abbrev pub keeps_rest : CoreEvent → Bool
 keeps_rest (Accept p key) = false
 keeps_rest (Claim p by) = false
 keeps_rest e = true
-
-abbrev pub is_offloading : Mode → Bool
-is_offloading modes.Local = false
-is_offloading modes.Offloading = true
-is_offloading modes.Offloaded = false
-is_offloading modes.Deoffloading = false
 
 -- an event, where it is enabled
 abbrev pub where_enabled : CoreEvent → State → List CoreEvent
@@ -97,9 +89,6 @@ abbrev pub release_events : ℕ → ℕ → Bool → State → List CoreEvent
 release_events p moment room w = and_then (where_enabled (Hear p)) (put_in_tick p moment (cpu_at w p).urged room) w
 
 -- Heed where a switch is asked for that can be made; after pouring Put with no moment for a bypass list that isn't empty;
-abbrev pub is_switching : Cpu → Bool
-is_switching c = if c.asked then not (is_offloaded c.mode) else (is_offloading c.mode || (is_offloaded c.mode && is_nil c.bypass))
-
 abbrev pub put_after_pouring : ℕ → Bool → State → List CoreEvent
 put_after_pouring p room w = if is_offloaded (cpu_at w p).mode && room then where_enabled (Put p None) w else []
 
@@ -118,11 +107,6 @@ run_events p by (suc n) = Claim p by ∷ (Finish p by ∷ run_events p by n)
 
 abbrev pub tick_events : ℕ → ℕ → Rooms → ℕ → State → List CoreEvent
 tick_events p moment rooms ran = and_then (look_events p) (and_then (offloadable_events p moment rooms) (λ w. run_events p Local ran))
-
--- a processor has nothing that is done, a hand nothing that it holds
-abbrev pub has_none : Side → Cpu → Bool
-has_none Local c = done_count c.own == 0
-has_none Hand c = is_nil c.held
 
 -- Why no more are run: the first of these that holds before the next callback (docs/specification/surface.md, "Shared answer types"). A claim that is enabled fails by want of memory alone.
 abbrev pub stop_of : Side → ℕ → ℕ → Cpu → Stop

@@ -9,7 +9,6 @@ ghost use Rattle.rcu_world.specs.declared.events.Event.TheVariants as events;
 
 use crate::cores::Core;
 use crate::events::Answer;
-use crate::lists::push_within;
 use rcu_jobs::Job;
 use rcu_law::marks::Mark;
 
@@ -38,12 +37,13 @@ impl<J: Job> Core<J, J::Receipt> {
         }
         let key = job.key();
         p.accept(cpu, job);
-        push_within(&mut self.history, Mark::Accepted(cpu, key));
+        self.history.push_reserved(Mark::Accepted(cpu, key));
         Answer::Done
     }
 
     pub(crate) fn stamp(&mut self, cpu: u64, moment: u64, lazy: bool) -> Answer<J>
-        requires { IsFit (state J.key_of self.old) }
+        requires fit { IsFit (state J.key_of self.old) }
+        requires given { AllGiven J.gives self.old }
         ensures answers { Answers J.key_of (state J.key_of self.old) (events.Stamp cpu moment lazy) result (state J.key_of self.new) }
         ensures sure { IsReadyAt self.old cpu → lacks_room result ≡ false }
         ensures given { AllGiven J.gives self.old → AllGiven J.gives self.new }
@@ -57,15 +57,11 @@ impl<J: Job> Core<J, J::Receipt> {
         if !p.is_fresh() {
             return Answer::Skipped(None);
         }
-        let due = p.is_due(self.qhimark, lazy, moment);
         match p.stamp(number, moment, lazy) {
-            Err(_) => return Answer::Memory(None),
-            Ok(()) => {}
+            Err(_) => Answer::Memory(None),
+            Ok(true) => Answer::Due,
+            Ok(false) => Answer::Done,
         }
-        if due {
-            return Answer::Due;
-        }
-        Answer::Done
     }
 
     pub(crate) fn put(&mut self, cpu: u64, moment: Option<u64>) -> Answer<J>

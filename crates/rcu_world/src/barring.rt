@@ -1,25 +1,30 @@
 //! The events of a barrier: `Open`, `Count`, `Urge`, `Turn`, `Pass`; and `Shut`.
 
-ghost use Rattle.std.specs.Prelude.{◌≡◌, map};
-ghost use Rattle.rcu_world.specs.Views.{urged};
+ghost use Rattle.std.specs.Prelude.{◌≡◌, ℕ};
+ghost use Rattle.std.specs.List.{AllByRecursion};
+ghost use Rattle.rcu_law.specs.Events.{each_cpu};
+ghost use Rattle.rcu_processor.specs.Views.{AreGiven};
+ghost use Rattle.rcu_world.specs.Members.{urge_step};
 ghost use Rattle.rcu_world.specs.Worlds.{IsFit};
 ghost use Rattle.rcu_world.specs.Events.{Answers};
-ghost use Rattle.rcu_world.specs.Views.{state, AllGiven};
+ghost use Rattle.rcu_world.specs.Views.{all_seen, state, AllGiven};
 ghost use Rattle.rcu_world.specs.declared.events.Event.TheVariants as events;
 
 use crate::barriers::Barring;
 use crate::cores::Core;
 use crate::events::Answer;
-use crate::lists::push_within;
-use crate::processors::Processor;
 use rcu_jobs::Job;
 use rcu_law::marks::Mark;
+use rcu_processor::Processor;
 
-fn urge_all<J: Drop, R: Drop>(processors: &mut Vec<Processor<J, R>>)
-    ensures { processors.new.items ≡ map urged processors.old.items }
+/// All processors are urged.
+fn urge_all<J: Job>(processors: &mut Vec<Processor<J, J::Receipt>>)
+    ensures urges { all_seen J.key_of processors.new.items ≡ each_cpu urge_step 0 (all_seen J.key_of processors.old.items) }
+    ensures given { (mark : ℕ) → AllByRecursion (AreGiven J.gives mark) processors.old.items → AllByRecursion (AreGiven J.gives mark) processors.new.items }
 {
-    for p in processors.iter_mut() {
-        p.urged = true;
+    for i in 0..processors.len() {
+        let p = &mut processors[i];
+        p.urge();
     }
 }
 
@@ -43,8 +48,8 @@ impl<J: Job> Core<J, J::Receipt> {
         match Barring::new(self.alloc, self.processors.len()) {
             Err(_) => Answer::Memory(None),
             Ok(opened) => {
-                push_within(&mut self.barriers, opened);
-                push_within(&mut self.history, Mark::Opened(barrier));
+                self.barriers.push_reserved(opened);
+                self.history.push_reserved(Mark::Opened(barrier));
                 Answer::Done
             }
         }
@@ -63,7 +68,7 @@ impl<J: Job> Core<J, J::Receipt> {
         if i >= self.processors.len() {
             return Answer::Skipped(None);
         }
-        let count = self.processors[i].count;
+        let count = self.processors[i].count();
         let b = &mut self.barriers[j];
         if b.passed {
             return Answer::Skipped(None);
@@ -88,7 +93,7 @@ impl<J: Job> Core<J, J::Receipt> {
         if i >= self.processors.len() {
             return Answer::Skipped(None);
         }
-        let turn = self.processors[i].turn;
+        let turn = self.processors[i].turn();
         let b = &mut self.barriers[j];
         if b.passed {
             return Answer::Skipped(None);
@@ -121,7 +126,7 @@ impl<J: Job> Core<J, J::Receipt> {
             Ok(()) => {}
         }
         b.passed = true;
-        push_within(&mut self.history, Mark::Passed(barrier));
+        self.history.push_reserved(Mark::Passed(barrier));
         Answer::Done
     }
 
@@ -143,7 +148,7 @@ impl<J: Job> Core<J, J::Receipt> {
             Ok(()) => {}
         }
         p.shut();
-        push_within(&mut self.history, Mark::Shut(cpu));
+        self.history.push_reserved(Mark::Shut(cpu));
         Answer::Done
     }
 

@@ -10,7 +10,6 @@ ghost use Rattle.rcu_world.specs.declared.events.Event.TheVariants as events;
 
 use crate::cores::Core;
 use crate::events::Answer;
-use crate::lists::push_within;
 use rcu_jobs::Job;
 use rcu_law::marks::Mark;
 
@@ -57,7 +56,7 @@ impl<J: Job> Core<J, J::Receipt> {
                 Err(_) => return Answer::Memory(None),
                 Ok(()) => {}
             }
-            push_within(&mut self.history, Mark::Reported(cpu));
+            self.history.push_reserved(Mark::Reported(cpu));
         }
         self.owing[i] = false;
         Answer::Done

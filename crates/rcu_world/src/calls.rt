@@ -28,7 +28,7 @@ impl<J: Job> World<J> {
         ensures kept { IsWorld J.key_of J.gives self.new.core }
     {
         let limit = self.core.limit;
-        let count = self.core.processors[cpu as usize].count;
+        let count = self.core.processors[cpu as usize].count();
         match self.core.accept(cpu, job) {
             Answer::Skipped(Some(back)) if count >= limit => Err(Refused::Limit(back)),
             Answer::Skipped(Some(back)) => Err(Refused::Closed(back)),
@@ -72,7 +72,7 @@ impl<J: Job> World<J> {
         ensures len { length (state J.key_of self.new.core).cpus ≡ length (state J.key_of self.old.core).cpus }
         ensures kept { IsWorld J.key_of J.gives self.new.core }
     {
-        let number = self.core.processors[cpu as usize].count;
+        let number = self.core.processors[cpu as usize].count();
         self.accept_call(cpu, job)?;
         self.stamp_call(cpu, moment, lazy);
         Ok(Ticket { cpu, number })

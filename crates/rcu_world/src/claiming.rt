@@ -8,7 +8,6 @@ ghost use Rattle.rcu_world.specs.declared.events.Event.TheVariants as events;
 
 use crate::cores::Core;
 use crate::events::Answer;
-use crate::lists::push_within;
 use rcu_jobs::Job;
 use rcu_law::marks::Mark;
 use rcu_law::who::Side;
@@ -34,7 +33,7 @@ impl<J: Job> Core<J, J::Receipt> {
         match p.claim(by) {
             Err(_) => Answer::Memory(None),
             Ok(key) => {
-                push_within(&mut self.history, Mark::Ran(cpu, key));
+                self.history.push_reserved(Mark::Ran(cpu, key));
                 Answer::Done
             }
         }

@@ -19,7 +19,7 @@ impl<J: Job> World<J> {
         let n = self.core.processors.len();
         let mut counts = Counts::new(n as u64);
         for cpu in 0..n {
-            counts.set(cpu as u64, self.core.processors[cpu].count);
+            counts.set(cpu as u64, self.core.processors[cpu].count());
         }
         counts
     }
@@ -50,7 +50,7 @@ impl<J: Job> World<J> {
             if cpu as usize >= self.core.processors.len() {
                 return Some(BarrierFault::NoProcessor(cpu));
             }
-            let count = self.core.processors[cpu as usize].count;
+            let count = self.core.processors[cpu as usize].count();
             if count <= number {
                 return Some(BarrierFault::Ahead { cpu, count });
             }
@@ -62,12 +62,13 @@ impl<J: Job> World<J> {
     fn barrier_fault(&self, by: Option<u64>, tickets: &[Ticket]) -> Option<BarrierFault>
         ensures { result ≡ barrier_fault (state J.key_of self.now.core) by tickets.now }
     {
-        if let Some(cpu) = by {
-            if cpu as usize >= self.core.processors.len() {
-                return Some(BarrierFault::NoProcessor(cpu));
+        match by {
+            Some(cpu) if cpu as usize >= self.core.processors.len() => {
+                Some(BarrierFault::NoProcessor(cpu))
             }
+            Some(_) => self.ticket_fault(tickets),
+            None => self.ticket_fault(tickets),
         }
-        self.ticket_fault(tickets)
     }
 
     /// Takes the counts of all processors for an open barrier.

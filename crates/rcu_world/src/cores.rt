@@ -8,12 +8,13 @@ ghost use Rattle.rcu_world.specs.Views.{state, AllGiven};
 
 use crate::barriers::Barring;
 use crate::events::{Answer, Event};
-use crate::processors::Processor;
 use rcu_jobs::Job;
 use rcu_law::marks::Mark;
 use rcu_law::who::Who;
 use rcu_numbers::Shape;
+use rcu_processor::Processor;
 use std::alloc::{AllocError, Global};
+use std::mem::ManuallyDrop;
 
 /// All processors, their board, and the history.
 #[derive(Drop)]
@@ -30,12 +31,16 @@ pub struct Core<J, R> {
     pub(crate) processors: Vec<Processor<J, R>>,
     pub(crate) barriers: Vec<Barring>,
     pub(crate) history: Vec<Mark>,
+    /// Always None, so nothing is left undropped in it. A list on the heap says nothing of the size of its items, and a call
+    /// of a processor asks that a processor fits in memory: that follows from this place for one, which lies in the core itself.
+    pub(crate) spare: ManuallyDrop<Option<Processor<J, R>>>,
 }
 
 impl<J: Job> Core<J, J::Receipt> {
     /// One event.
     pub fn apply(&mut self, event: Event<J>) -> Answer<J>
-        requires { IsFit (state J.key_of self.old) }
+        requires fit { IsFit (state J.key_of self.old) }
+        requires given { AllGiven J.gives self.old }
         ensures answers { Answers J.key_of (state J.key_of self.old) event result (state J.key_of self.new) }
         ensures given { AllGiven J.gives self.old → AllGiven J.gives self.new }
     {
@@ -87,7 +92,7 @@ impl<J: Job> Core<J, J::Receipt> {
             let is_offloadable = mask % 2 == 1;
             offloadable.push(is_offloadable)?;
             owing.push(false)?;
-            processors.push(Processor::new(alloc, is_offloadable))?;
+            processors.push(Processor::new(alloc, is_offloadable, shape.qhimark))?;
             mask /= 2;
         }
         Ok(Core {
@@ -103,6 +108,7 @@ impl<J: Job> Core<J, J::Receipt> {
             processors,
             barriers: Vec::new(alloc),
             history: Vec::new(alloc),
+            spare: ManuallyDrop::new(None),
         })
     }
 }

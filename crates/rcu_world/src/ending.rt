@@ -4,15 +4,16 @@ ghost use Rattle.std.specs.Prelude.{◌≡◌, [], ◌+◌, ◌≤◌, ◌++◌,
 ghost use Rattle.rcu_law.specs.declared.marks.Mark.TheVariants.{Back};
 ghost use Rattle.rcu_law.specs.Invariant.{reports};
 ghost use Rattle.rcu_law.specs.Closing.{closing, shut_marks};
-ghost use Rattle.rcu_world.specs.Leaving.{AreReported, AreCounted, HaveRoom, IsRoomFor, backs, left_keys, most_marks};
+ghost use Rattle.rcu_processor.specs.Leaving.{left_keys};
+ghost use Rattle.rcu_world.specs.Leaving.{AreReported, AreCounted, HaveRoom, IsRoomFor, backs, most_marks};
+ghost use Rattle.rcu_processor.specs.Views.{records_of};
 ghost use Rattle.rcu_world.specs.Views.{all_seen, state};
 ghost use Rattle.rcu_world.specs.Worlds.{IsFit};
 
 use crate::cores::Core;
-use crate::lists::push_within;
-use crate::processors::Processor;
 use rcu_jobs::{Closed, Job, Record};
 use rcu_law::marks::Mark;
+use rcu_processor::Processor;
 use std::alloc::{AllocError, Global};
 
 /// The room that a close needs, found before anything moves.
@@ -63,8 +64,8 @@ fn add_shuts<J: Job>(processors: &Vec<Processor<J, J::Receipt>>, marks: &mut Vec
     ensures capacity { vec_capacity marks.old ≤ vec_capacity marks.new }
 {
     for cpu in 0..processors.len() {
-        if !processors[cpu].shut {
-            push_within(marks, Mark::Shut(cpu as u64));
+        if processors[cpu].is_open() {
+            marks.push_reserved(Mark::Shut(cpu as u64));
         }
     }
 }
@@ -79,14 +80,15 @@ fn take_apart<J: Job>(
     requires rooms { HaveRoom J.key_of processors.items rooms.items }
     requires ran_room { vec_len ran.old + vec_len processors ≤ vec_capacity ran.old }
     requires back_room { vec_len back.old + vec_len processors ≤ vec_capacity back.old }
-    ensures ran { ran.new.items ≡ ran.old.items ++ map (λ p. p.records) processors.items }
+    ensures ran { ran.new.items ≡ ran.old.items ++ map records_of processors.items }
     ensures back { map (λ v. map J.key_of v.items) back.new.items ≡ map (λ v. map J.key_of v.items) back.old.items ++ map left_keys (all_seen J.key_of processors.items) }
 {
     while !processors.is_empty() {
-        let processor = processors.remove(0);
+        let mut processor = processors.remove(0);
         let mut jobs = rooms.remove(0);
-        push_within(ran, processor.into_parts(&mut jobs));
-        push_within(back, jobs);
+        processor.drain(&mut jobs);
+        ran.push_reserved(processor.into_records());
+        back.push_reserved(jobs);
     }
 }
 
@@ -98,7 +100,7 @@ fn add_back<J: Job>(cpu: u64, jobs: &Vec<J>, marks: &mut Vec<Mark>)
     ensures capacity { vec_capacity marks.old ≤ vec_capacity marks.new }
 {
     for job in jobs {
-        push_within(marks, Mark::Back(cpu, job.key()));
+        marks.push_reserved(Mark::Back(cpu, job.key()));
     }
 }
 
@@ -132,7 +134,7 @@ fn add_reports(marks: &Vec<Mark>, n: usize, counts: &mut Vec<u64>)
     ensures { AreReported n marks.now.items counts.new.items }
 {
     for cpu in 0..n {
-        push_within(counts, count_reports(marks, cpu as u64));
+        counts.push_reserved(count_reports(marks, cpu as u64));
     }
 }
 
@@ -158,7 +160,7 @@ impl<J: Job> Core<J, J::Receipt> {
     pub(crate) fn into_closed(self, room: Room<J, J::Receipt>) -> (Vec<Mark>, Closed<J>)
         requires { IsRoomFor J.key_of self room }
         ensures marks { result.0.items ≡ closing (state J.key_of self) }
-        ensures ran { result.1.ran.items ≡ map (λ p. p.records) self.processors.items }
+        ensures ran { result.1.ran.items ≡ map records_of self.processors.items }
         ensures back { map (λ v. map J.key_of v.items) result.1.back.items ≡ map left_keys (all_seen J.key_of self.processors.items) }
         ensures reports { AreReported (vec_len self.processors) result.0.items result.1.reports.items }
     {

@@ -78,7 +78,7 @@ impl<J: Job> World<J> {
             if !self.perform(Event::Draw { cpu }) {
                 return took;
             }
-            let drawn = self.core.processors[cpu as usize].drawn.len() as u64;
+            let drawn = self.core.processors[cpu as usize].drawn_len();
             took += drawn;
             if !self.join(cpu) {
                 return took;
@@ -182,8 +182,8 @@ impl<J: Job> World<J> {
                 continue;
             }
             let p = &self.core.processors[cpu];
-            let drawn = p.drawn.len() as u64;
-            let out = p.out.len() as u64;
+            let drawn = p.drawn_len();
+            let out = p.out_len();
             waiting += drawn + out;
         }
         waiting

@@ -1,14 +1,16 @@
 //! A group's loops over its members (docs/specification/rules.md, "Groups").
 
-ghost use Rattle.std.specs.Prelude.{◌≡◌, ◌≤◌};
+ghost use Rattle.std.specs.Prelude.{◌≡◌, ℕ, ◌≤◌};
 ghost use Rattle.std.specs.List.{AllByRecursion};
 ghost use Rattle.rcu_law.specs.Events.{each_cpu};
-ghost use Rattle.rcu_world.specs.Members.{is_in_group, is_any, is_wanting, any_in_group, most_in_group, group_step, forget_step, IsLookable};
-ghost use Rattle.rcu_world.specs.Views.{all_seen, AreGiven};
+ghost use Rattle.rcu_processor.specs.Members.{is_wanting};
+ghost use Rattle.rcu_world.specs.Members.{is_in_group, is_any, any_in_group, most_in_group, group_step, forget_step, AreLookable};
+ghost use Rattle.rcu_processor.specs.Views.{AreGiven};
+ghost use Rattle.rcu_world.specs.Views.{all_seen};
 
-use crate::processors::Processor;
 use crate::switching::is_set;
 use rcu_jobs::Job;
+use rcu_processor::Processor;
 
 /// Whether processor `i` is a member of the group.
 pub(crate) fn is_member_of(offloadable: &Vec<bool>, stride: u64, group: u64, i: usize) -> bool
@@ -83,7 +85,7 @@ pub(crate) fn forget_members<J: Job>(
 )
     requires { 1 ≤ stride }
     ensures forgets { all_seen J.key_of processors.new.items ≡ each_cpu (forget_step offloadable.now.items stride group) 0 (all_seen J.key_of processors.old.items) }
-    ensures given { AllByRecursion (AreGiven J.gives) processors.old.items → AllByRecursion (AreGiven J.gives) processors.new.items }
+    ensures given { (mark : ℕ) → AllByRecursion (AreGiven J.gives mark) processors.old.items → AllByRecursion (AreGiven J.gives mark) processors.new.items }
 {
     for i in 0..processors.len() {
         let member = is_member_of(offloadable, stride, group, i);
@@ -101,9 +103,9 @@ pub(crate) fn look_members<J: Job>(
     number: u64,
 )
     requires stride { 1 ≤ stride }
-    requires fits { IsLookable number (all_seen J.key_of processors.old.items) }
+    requires fits { AreLookable number (all_seen J.key_of processors.old.items) }
     ensures looks { all_seen J.key_of processors.new.items ≡ each_cpu (group_step offloadable.now.items stride group number) 0 (all_seen J.key_of processors.old.items) }
-    ensures given { AllByRecursion (AreGiven J.gives) processors.old.items → AllByRecursion (AreGiven J.gives) processors.new.items }
+    ensures given { (mark : ℕ) → AllByRecursion (AreGiven J.gives mark) processors.old.items → AllByRecursion (AreGiven J.gives mark) processors.new.items }
 {
     for i in 0..processors.len() {
         let member = is_member_of(offloadable, stride, group, i);

@@ -57,7 +57,7 @@ impl<J: Job> Core<J, J::Receipt> {
             return Answer::Skipped(None);
         }
         let p = &mut self.processors[i];
-        match p.wanted {
+        match p.wanted() {
             None => Answer::Skipped(None),
             Some(number) => {
                 p.forget();

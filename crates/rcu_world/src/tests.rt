@@ -51,7 +51,9 @@ fn boxed_jobs_run(rt: HostRuntime) -> Result<(), Fail> {
         assert!(rt; matches!(answer, Answer::Done));
     }
     // the claim still runs: its job counts as run
-    let (marks, closed) = world.close().ok().ok_or("no room")?;
+    let Ok((marks, closed)) = world.close() else {
+        return Err(Fail::from("no room"));
+    };
     assert_eq!(rt; marks.len(), 4);
     assert_eq!(rt; marks[0], Mark::Accepted(0, 65543));
     assert_eq!(rt; marks[1], Mark::Reported(0));
@@ -110,7 +112,9 @@ fn two_generations(rt: HostRuntime) -> Result<(), Fail> {
             numbers: [4, 8],
         }
     );
-    let (_marks, closed) = world.close().ok().ok_or("no room")?;
+    let Ok((_marks, closed)) = world.close() else {
+        return Err(Fail::from("no room"));
+    };
     assert_eq!(rt; closed.back.first().ok_or("no processor")?.len(), 2);
     Ok(())
 }
@@ -232,7 +236,9 @@ fn turn_word_claims(rt: HostRuntime) -> Result<(), Fail> {
         .skip(made)
         .map(|answer| matches!(answer, Answer::Done));
     assert!(rt; won.eq([true, false, true, true]));
-    let (_marks, closed) = world.close().ok().ok_or("no room")?;
+    let Ok((_marks, closed)) = world.close() else {
+        return Err(Fail::from("no room"));
+    };
     let ran = closed.ran.first().ok_or("no processor")?;
     assert!(rt; ran.iter().map(|record| record.number).eq(0..2u64));
     Ok(())

@@ -162,7 +162,7 @@ impl<J: Job> World<J> {
         ensures kept { IsWorld J.key_of J.gives self.new.core }
     {
         let i = cpu as usize;
-        let urged = self.core.processors[i].urged;
+        let urged = self.core.processors[i].is_urged();
         self.perform(Event::Hear { cpu });
         if !self.core.processors[i].is_released_in_tick(urged, moment) {
             return;

@@ -15,7 +15,6 @@ ghost use Rattle.rcu_world.specs.declared.events.Event.TheVariants as events;
 
 use crate::cores::Core;
 use crate::events::{Answer, Event};
-use crate::lists::push_within;
 use rcu_jobs::{Closed, Job};
 use rcu_law::marks::Mark;
 use rcu_numbers::Shape;
@@ -67,7 +66,7 @@ impl<J: Job> World<J> {
         }
         for event in events {
             let answer = self.step(event);
-            push_within(&mut answers, answer);
+            answers.push_reserved(answer);
         }
         Ok(answers)
     }

@@ -1,5 +1,5 @@
 -- What a command prints, as it is written.
-use Rattle.std.proofs.Common.{◌≡◌, ℕ, ◌++◌, Bool, true, false, codes, List, Option, OnOk, Result, length, refl, sym, subst}
+use Rattle.std.proofs.Common.{◌≡◌, ℕ, ◌++◌, true, false, codes, List, Option, OnOk, Result, length, refl, sym, subst}
 use Rattle.std.proofs.lemmas.Result.{on_ok_weaker}
 use Rattle.std.specs.Io.KnownBytes.{Appends}
 use Rattle.rcu_law.specs.States.{State}

@@ -7,8 +7,9 @@ use Rattle.rcu_law.specs.States.{State, has, is_offloadable}
 use Rattle.rcu_world.specs.Turns.{switch_answer}
 use Rattle.rcuo.specs.declared.lines.Line.{Line}
 use Rattle.rcuo.specs.declared.lines.Line.TheVariants.{Refused}
+use Rattle.rcuo.specs.declared.lines.Verb.{Verb}
 use Rattle.rcuo.specs.declared.lines.Verb.TheVariants.{Hand}
-use Rattle.rcuo.specs.Outcomes.{IsHand, call_refusal}
+use Rattle.rcuo.specs.Outcomes.{IsCall, IsHand, call_refusal}
 
 module _ (w : State) (p : ℕ) where
   pub no_call : length w.cpus ≤ p → call_refusal w p ≡ 6
@@ -32,3 +33,6 @@ module _ (w : State) (p : ℕ) where
   not_offloadable h none =
       let t : nat_lt p (length w.cpus) ≡ true = grind (arith, nat_tests) in
       (refl, refl, (NotOffloadable p, answer_without (has w p) (is_offloadable w p) t none, refl), refl)
+
+  pub no_call_line : length w.cpus ≤ p → (l : Line) → (v : Verb) → (moment key : ℕ) → l ≡ Refused v p 6 → IsCall w v p moment key l w
+  no_call_line h l v moment key is = subst (λ x. IsCall w v p moment key x w) (sym is) (refl, refl, sym (no_call h), refl)

@@ -1,10 +1,10 @@
 -- What `show` writes, one list and one processor further.
-use Rattle.std.proofs.Common.{◌≡◌, ℕ, suc, ◌+◌, arith, ◌++◌, ◌∙◌, ap, sym, subst, append-nil, if◌then◌else◌, Bool, List, Option, Some, None, Result, OnOk}
+use Rattle.std.proofs.Common.{◌≡◌, ℕ, suc, ◌+◌, arith, ◌++◌, ◌∙◌, ap, sym, subst, append-nil, if◌then◌else◌, List, Option, Some, None, Result, OnOk}
 use Rattle.std.proofs.lemmas.Result.{on_ok_weaker}
 use Rattle.std.specs.Io.KnownBytes.{Appends}
 use Rattle.rcu_jobs.specs.declared.Lists.{Lists}
 use Rattle.rcu_law.specs.States.{State, cpu_at, is_offloadable}
-use Rattle.rcu_world.specs.Shown.{cpu_lists, folk_lists}
+use Rattle.rcu_processor.specs.Shown.{cpu_lists, folk_lists}
 use Rattle.rcuo.specs.Outcomes.{group_line, lists_line, shown, shown_one}
 use Rattle.rcuo.proofs.Known.{Appends-append, Appends-none}
 

@@ -1,5 +1,5 @@
 -- What each command does, and the line of its answer: docs/specification/tables.md, "Script commands and what they print". The events of a call are those of docs/specification/rules.md, "On the core".
-use Rattle.std.specs.Prelude.{ℕ, zero, suc, ◌+◌, ◌≡◌, ◌≤◌, ◌<◌, Bool, true, false, not, if◌then◌else◌, nat_le, List, [], ◌∷◌, ◌++◌, length, take, Option, None, Some, Ok, Err, string_bytes}
+use Rattle.std.specs.Prelude.{ℕ, zero, suc, ◌≡◌, ◌≤◌, ◌<◌, Bool, true, false, not, if◌then◌else◌, nat_le, List, [], ◌∷◌, ◌++◌, length, take, Option, None, Some, Ok, Err, string_bytes}
 use Rattle.rcu_law.specs.declared.marks.Mark.TheVariants as marks
 use Rattle.rcu_law.specs.Events.{is_enabled}
 use Rattle.rcu_law.specs.Events.CoreEvent.{Ask, LookGroup, Report}
@@ -11,7 +11,7 @@ use Rattle.rcu_jobs.specs.declared.Lists.{Lists}
 use Rattle.rcu_status.specs.Line.{line_text}
 use Rattle.rcu_world.specs.GroupTurns.{IsGroupTurn, Made}
 use Rattle.rcu_world.specs.Polls.{poll_events}
-use Rattle.rcu_world.specs.Shown.{cpu_lists, folk_lists}
+use Rattle.rcu_processor.specs.Shown.{cpu_lists, folk_lists}
 use Rattle.rcu_world.specs.Turns.{AreCounts, Leads, Rooms, barrier_events, call_events, driver_answer, driver_events, hand_events, shuts, switch_answer, tick_events, upto, where_enabled}
 use Rattle.rcuo.specs.declared.lines.Verb.{Verb}
 use Rattle.rcuo.specs.declared.lines.Verb.TheVariants as verb

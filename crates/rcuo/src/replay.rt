@@ -15,7 +15,7 @@ use crate::fault::Fault;
 use crate::lines::{Line, Verb, write_line, write_text};
 use crate::plan::Plan;
 use crate::versions::route_of;
-use rcu_jobs::Job;
+use rcu_jobs::{BoxedJob, Job};
 use rcu_setup::Command;
 use rcu_status::totals;
 use rcu_world::World;
@@ -29,21 +29,16 @@ use std::io::Write;
 /// # Errors
 ///
 /// The fault of a failed write, after which nothing more is written; want of memory, but for a call's, which is printed.
-pub fn replay<J: Job<Receipt = u64>, W: Write>(
+pub fn replay<W: Write>(
     alloc: Global,
     plan: &Plan,
-    jobs: Vec<J>,
+    jobs: Vec<BoxedJob<65536>>,
     writer: &mut W,
 ) -> Result<(), Fault>
     requires jobs { vec_len jobs ≡ count_by is_call plan.now.setup.script.items }
 {
     let mut world = World::new(alloc, plan.setup.shape)?;
-    let mut opened = None;
-    let mut jobs = VecDeque::from_vec(jobs);
-    for command in &plan.setup.script {
-        let job = job_for(command, &mut jobs);
-        perform(alloc, &mut world, &mut opened, command, job, writer)?;
-    }
+    perform_all(alloc, &mut world, plan, jobs, writer)?;
     let Ok((_, closed)) = world.close() else {
         return Err(Fault::memory());
     };
@@ -53,6 +48,28 @@ pub fn replay<J: Job<Receipt = u64>, W: Write>(
         Ok(()) => Ok(()),
         Err(_) => Err(Fault::CannotWrite),
     }
+}
+
+/// All commands of the script, in order, until one fails.
+fn perform_all<J: Job<Receipt = u64>, W: Write>(
+    alloc: Global,
+    world: &mut World<J>,
+    plan: &Plan,
+    jobs: Vec<J>,
+    writer: &mut W,
+) -> Result<(), Fault>
+    requires world { IsWorld J.key_of J.gives world.old.core }
+    requires rest { IsAtRest (state J.key_of world.old.core) }
+    requires jobs { vec_len jobs ≡ count_by is_call plan.now.setup.script.items }
+    ensures { IsWorld J.key_of J.gives world.new.core }
+{
+    let mut opened = None;
+    let mut jobs = VecDeque::from_vec(jobs);
+    for command in &plan.setup.script {
+        let job = job_for(command, &mut jobs);
+        perform(alloc, world, &mut opened, command, job, writer)?;
+    }
+    Ok(())
 }
 
 /// The job of a command: the first that is left where the command is a call.

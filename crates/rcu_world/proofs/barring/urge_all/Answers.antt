@@ -1,8 +1,31 @@
-use Rattle.std.proofs.Common.{◌∙◌, ◌≤◌, ap, sym, subst, length}
-use Rattle.rcu_world.specs.Views.{urged}
-use Rattle.rcu_world.proofs.Seen.{loop_end}
+use Rattle.std.proofs.Common.{◌<◌, ◌≡◌, length, arith, subst, sym, ◌∙◌, drop, take, ◌+◌, ◌++◌, set}
+use Rattle.std.proofs.lemmas.List.{length-set, drop-set-lt, length-map, map-set}
+use Rattle.rcu_law.specs.Events.{each_cpu}
+use Rattle.rcu_world.specs.Members.{urge_step}
+use Rattle.rcu_processor.specs.Views.{seen, AreGiven}
+use Rattle.rcu_world.specs.Views.{all_seen}
+use Rattle.rcu_world.proofs.Seen.{seen_at, kept_at}
+use Rattle.rcu_world.proofs.Members.{each_more, drop_again}
+use Rattle.rcu_world.proofs.Ends.{each_end}
 use Rattle.rcu_world.proofs.barring.urge_all.Goals as goal
 
-pub returns : goal.returns
-returns g c = loop_end urged c.loop-p.p-items c.args.processors.now.items _ c.loop-p.p-index (c.loop-p.auto.p-items ∙ ap length c.deref_mut-p-items.ensures.value)
-    c.args.processors.now.ok.0 (subst (λ n. n ≤ c.loop-p.p-index) (sym c.loop-p.auto.p-items) c.loop-p-test.false) c.loop-p.invariant
+pub loop-i-preserved : goal.loop-i-preserved
+loop-i-preserved g c =
+    let l : c.loop-i.i < length c.loop-i.processors.items = omega arith in
+    let k : c.loop-i.i < length (all_seen g.J.Job.key_of c.loop-i.processors.items) = subst (λ n. c.loop-i.i < n) (sym (length-map c.loop-i.processors.items (seen g.J.Job.key_of))) l in
+    let s : seen g.J.Job.key_of c.urge.new.self ≡ urge_step c.loop-i.i (seen g.J.Job.key_of c.index_mut-p.result.now) =
+    c.urge.ensures.urges in
+    let m : set (all_seen g.J.Job.key_of c.loop-i.processors.items) c.loop-i.i (seen g.J.Job.key_of c.urge.new.self) ≡ all_seen g.J.Job.key_of (set c.loop-i.processors.items c.loop-i.i c.urge.new.self) = sym (map-set (seen g.J.Job.key_of) c.loop-i.processors.items c.loop-i.i c.urge.new.self) in
+    record {
+      done = subst (λ x. each_cpu urge_step 0 (all_seen g.J.Job.key_of c.args.processors.now.items)
+          ≡ take (c.loop-i.i + 1) x ++ each_cpu urge_step (c.loop-i.i + 1) (drop (c.loop-i.i + 1) x)) m
+          (each_more urge_step c.loop-i.i _ (all_seen g.J.Job.key_of c.loop-i.processors.items) (seen g.J.Job.key_of c.index_mut-p.result.now) (seen g.J.Job.key_of c.urge.new.self) k
+          (seen_at g.J.Job.key_of c.loop-i.processors.items c.loop-i.i c.index_mut-p.result.now l c.index_mut-p.ensures.value) s c.loop-i.invariant.done);
+      rest = subst (λ x. drop (c.loop-i.i + 1) x ≡ drop (c.loop-i.i + 1) (all_seen g.J.Job.key_of c.args.processors.now.items)) m
+          (drop-set-lt (c.loop-i.i + 1) (all_seen g.J.Job.key_of c.loop-i.processors.items) c.loop-i.i (seen g.J.Job.key_of c.urge.new.self) (omega arith) ∙ drop_again c.loop-i.i _ _ c.loop-i.invariant.rest);
+      len = length-set c.loop-i.processors.items c.loop-i.i c.urge.new.self ∙ c.loop-i.invariant.len;
+      given = λ mark a. kept_at (AreGiven g.J.Job.gives mark) c.loop-i.processors.items c.loop-i.i c.index_mut-p.result.now c.urge.new.self l c.index_mut-p.ensures.value (c.urge.ensures.given mark) (c.loop-i.invariant.given mark a);
+    }
+
+pub returns-clause-urges : goal.returns-clause-urges
+returns-clause-urges g c = each_end (urge_step) c.loop-i.i _ (all_seen g.J.Job.key_of c.loop-i.processors.items) (omega (arith, length-map c.loop-i.processors.items (seen g.J.Job.key_of))) c.loop-i.invariant.done

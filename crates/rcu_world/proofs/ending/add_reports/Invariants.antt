@@ -1,4 +1,4 @@
-use Rattle.std.proofs.Common.{◌≡◌, ◌≤◌, vec_len, vec_capacity}
+use Rattle.std.proofs.Common.{◌≤◌, vec_capacity}
 use Rattle.rcu_world.specs.Leaving.{AreReported}
 use Rattle.rcu_world.proofs.ending.add_reports.Given as goal
 

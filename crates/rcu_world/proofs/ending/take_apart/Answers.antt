@@ -1,11 +1,20 @@
-use Rattle.std.proofs.Common.{◌≡◌, ◌+◌, ◌<◌, ◌≤◌, ◌∙◌, ◌∷◌, [], arith, ap, length, map, rules, sym, refl, ◌++◌}
+use Rattle.std.proofs.Common.{◌<◌, ◌∙◌, ◌∷◌, [], arith, ap, length, map, rules, sym, refl, ◌++◌}
 use Rattle.std.proofs.lemmas.List.{map-append, append-nil}
 use Rattle.std.specs.List.{remove}
 use Rattle.std.proofs.lemmas.Bool.{eqb-true}
-use Rattle.rcu_world.specs.Leaving.{left_keys}
-use Rattle.rcu_world.specs.Views.{seen, all_seen}
+use Rattle.rcu_processor.specs.Leaving.{left_keys}
+use Rattle.rcu_processor.specs.Views.{records_of, seen}
+use Rattle.rcu_world.specs.Views.{all_seen}
 use Rattle.rcu_world.proofs.Leaving.{room_there, room_first, room_rest, moved_one, none_left, room_step}
+use denote.Param.{param}
+use Rattle.std.specs.Mem.{FitsInMemory}
+use Rattle.rcu_processor.specs.contracts.processor.Processor as processor
+use Rattle.rcu_world.proofs.ending.take_apart.Given.{Over}
 use Rattle.rcu_world.proofs.ending.take_apart.Goals as goal
+use Rattle.rcu_world.proofs.ending.take_apart.Goals.{Start}
+
+start_fits : (g : Over) (c : Start g) → FitsInMemory (processor.the_row (param 0 g.row.J) (param 1 g.row.J-Receipt))
+start_fits g c = search rules
 
 pub remove-jobs-requires : goal.remove-jobs-requires
 remove-jobs-requires g c =
@@ -13,11 +22,11 @@ remove-jobs-requires g c =
     let r = room_there g.J.Job.key_of c.loop-processors.processors.items c.loop-processors.rooms.items l c.loop-processors.invariant.rooms in
     omega (arith, c.loop-processors.rooms.ok.0)
 
-pub into_parts-requires-clause-room : goal.into_parts-requires-clause-room
-into_parts-requires-clause-room g c =
+pub drain-requires-after_bounds : goal.drain-requires-after_bounds
+drain-requires-after_bounds g c κs within =
     let l : 0 < length c.loop-processors.processors.items = search rules in
     let r = room_first g.J.Job.key_of c.loop-processors.processors.items c.loop-processors.rooms.items c.remove-processor.result c.remove-jobs.result l c.remove-processor.ensures.value c.remove-jobs.ensures.value c.loop-processors.invariant.rooms in
-    omega (arith, r.1, ap length r.0, c.remove-jobs.result.ok.0)
+    (start_fits g c.before.before.before.before.before.before.before.before.before.before, omega (arith, r.1, ap length r.0, c.remove-jobs.result.ok.0))
 
 pub loop-processors-preserved : goal.loop-processors-preserved
 loop-processors-preserved g c =
@@ -25,22 +34,22 @@ loop-processors-preserved g c =
     let r = room_first g.J.Job.key_of c.loop-processors.processors.items c.loop-processors.rooms.items c.remove-processor.result c.remove-jobs.result l c.remove-processor.ensures.value c.remove-jobs.ensures.value c.loop-processors.invariant.rooms in
     record {
       rooms = rw (c.remove-processor.ensures.items, c.remove-jobs.ensures.items) (room_rest g.J.Job.key_of c.loop-processors.processors.items c.loop-processors.rooms.items l c.loop-processors.invariant.rooms);
-      ran = rw (c.push_within.ensures.items, c.remove-processor.ensures.items)
-          (moved_one (map (λ p. p.records)) (λ p. p.records) (λ x xs. refl) c.loop-processors.ran.items c.loop-processors.processors.items c.remove-processor.result _ l c.remove-processor.ensures.value c.into_parts.ensures.records ∙ c.loop-processors.invariant.ran);
-      back = rw (c.push_within-in-loop-processors.ensures.items, c.remove-processor.ensures.items)
-          (ap (λ x. x ++ map left_keys (all_seen g.J.Job.key_of (remove c.loop-processors.processors.items 0))) (map-append (λ v. map g.J.Job.key_of v.items) c.loop-processors.back.items (c.into_parts.new.jobs ∷ []))
+      ran = rw (c.push_reserved.ensures.items, c.remove-processor.ensures.items)
+          (moved_one (map records_of) records_of (λ x xs. refl) c.loop-processors.ran.items c.loop-processors.processors.items c.remove-processor.result _ l c.remove-processor.ensures.value (c.into_records.ensures ∙ c.drain.ensures.records) ∙ c.loop-processors.invariant.ran);
+      back = rw (c.push_reserved-in-loop-processors.ensures.items, c.remove-processor.ensures.items)
+          (ap (λ x. x ++ map left_keys (all_seen g.J.Job.key_of (remove c.loop-processors.processors.items 0))) (map-append (λ v. map g.J.Job.key_of v.items) c.loop-processors.back.items (c.drain.new.jobs ∷ []))
           ∙ moved_one (λ ps. map left_keys (all_seen g.J.Job.key_of ps)) (λ p. left_keys (seen g.J.Job.key_of p)) (λ x xs. refl) (map (λ v. map g.J.Job.key_of v.items) c.loop-processors.back.items) c.loop-processors.processors.items c.remove-processor.result _ l c.remove-processor.ensures.value
-          (c.into_parts.ensures.keys ∙ ap (λ x. map g.J.Job.key_of x ++ left_keys (seen g.J.Job.key_of c.remove-processor.result)) r.0)
+          (c.drain.ensures.keys ∙ ap (λ x. map g.J.Job.key_of x ++ left_keys (seen g.J.Job.key_of c.remove-processor.result)) r.0)
           ∙ c.loop-processors.invariant.back);
-      ran_room = room_step _ _ _ _ _ _ c.push_within.ensures.len c.push_within.ensures.capacity c.remove-processor.ensures.len c.loop-processors.invariant.ran_room;
-      back_room = room_step _ _ _ _ _ _ c.push_within-in-loop-processors.ensures.len c.push_within-in-loop-processors.ensures.capacity c.remove-processor.ensures.len c.loop-processors.invariant.back_room;
+      ran_room = room_step _ _ _ _ _ _ c.push_reserved.ensures.len c.push_reserved.ensures.capacity c.remove-processor.ensures.len c.loop-processors.invariant.ran_room;
+      back_room = room_step _ _ _ _ _ _ c.push_reserved-in-loop-processors.ensures.len c.push_reserved-in-loop-processors.ensures.capacity c.remove-processor.ensures.len c.loop-processors.invariant.back_room;
     }
 
 pub returns-clause-ran : goal.returns-clause-ran
 returns-clause-ran g c =
     let n = sym c.loop-processors.processors.ok.0 ∙ eqb-true _ _ (sym c.is_empty.ensures ∙ c.loop-processors-test.false) in
     let e = none_left c.loop-processors.processors.items n in
-    sym (append-nil c.loop-processors.ran.items) ∙ ap (λ ps. c.loop-processors.ran.items ++ map (λ p. p.records) ps) (sym e) ∙ c.loop-processors.invariant.ran
+    sym (append-nil c.loop-processors.ran.items) ∙ ap (λ ps. c.loop-processors.ran.items ++ map records_of ps) (sym e) ∙ c.loop-processors.invariant.ran
 
 pub returns-clause-back : goal.returns-clause-back
 returns-clause-back g c =
@@ -48,3 +57,6 @@ returns-clause-back g c =
     let e = none_left c.loop-processors.processors.items n in
     sym (append-nil (map (λ v. map g.J.Job.key_of v.items) c.loop-processors.back.items))
     ∙ ap (λ ps. map (λ v. map g.J.Job.key_of v.items) c.loop-processors.back.items ++ map left_keys (all_seen g.J.Job.key_of ps)) (sym e) ∙ c.loop-processors.invariant.back
+
+pub into_records-requires-after_bounds : goal.into_records-requires-after_bounds
+into_records-requires-after_bounds g c κs within = start_fits g c.before.before.before.before.before.before.before.before.before.before.before.before

@@ -1,10 +1,13 @@
-use Rattle.std.proofs.Common.{◌<◌, ◌≡◌, length, arith, subst, sym, ap, ◌∙◌, drop, take, ◌+◌, ◌++◌, set, cond, rules}
+use Rattle.std.proofs.Common.{◌<◌, ◌≡◌, length, arith, subst, sym, ap, ◌∙◌, drop, take, ◌+◌, ◌++◌, set, cond}
 use Rattle.std.proofs.lemmas.List.{length-set, drop-set-lt, length-map, map-set}
 use Rattle.rcu_law.specs.Events.{each_cpu}
-use Rattle.rcu_world.specs.Members.{forget_step, forgets}
-use Rattle.rcu_world.specs.Views.{seen, all_seen, AreGiven}
+use Rattle.rcu_processor.specs.Members.{forgets}
+use Rattle.rcu_world.specs.Members.{forget_step}
+use Rattle.rcu_processor.specs.Views.{seen, AreGiven}
+use Rattle.rcu_world.specs.Views.{all_seen}
 use Rattle.rcu_world.proofs.Seen.{seen_at, kept_at}
 use Rattle.rcu_world.proofs.Members.{each_more, drop_again}
+use Rattle.rcu_world.proofs.Ends.{each_end}
 use Rattle.rcu_world.proofs.groups.forget_members.Goals as goal
 
 pub loop-i-preserved : goal.loop-i-preserved
@@ -22,6 +25,8 @@ loop-i-preserved g c =
       rest = subst (λ x. drop (c.loop-i.i + 1) x ≡ drop (c.loop-i.i + 1) (all_seen g.J.Job.key_of c.args.processors.now.items)) m
           (drop-set-lt (c.loop-i.i + 1) (all_seen g.J.Job.key_of c.loop-i.processors.items) c.loop-i.i (seen g.J.Job.key_of c.forget_as.new.self) (omega arith) ∙ drop_again c.loop-i.i _ _ c.loop-i.invariant.rest);
       len = length-set c.loop-i.processors.items c.loop-i.i c.forget_as.new.self ∙ c.loop-i.invariant.len;
-      given = λ a. kept_at (AreGiven g.J.Job.gives) c.loop-i.processors.items c.loop-i.i c.index_mut-p.result.now c.forget_as.new.self l c.index_mut-p.ensures.value
-          (λ (h : AreGiven g.J.Job.gives c.index_mut-p.result.now). search rules) (c.loop-i.invariant.given a);
+      given = λ mark a. kept_at (AreGiven g.J.Job.gives mark) c.loop-i.processors.items c.loop-i.i c.index_mut-p.result.now c.forget_as.new.self l c.index_mut-p.ensures.value (c.forget_as.ensures.given mark) (c.loop-i.invariant.given mark a);
     }
+
+pub returns-clause-forgets : goal.returns-clause-forgets
+returns-clause-forgets g c = each_end (forget_step c.args.offloadable.now.items c.args.stride c.args.group) c.loop-i.i _ (all_seen g.J.Job.key_of c.loop-i.processors.items) (omega (arith, length-map c.loop-i.processors.items (seen g.J.Job.key_of))) c.loop-i.invariant.done

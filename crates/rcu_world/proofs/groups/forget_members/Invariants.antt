@@ -1,8 +1,9 @@
-use Rattle.std.proofs.Common.{◌≡◌, take, drop, ◌++◌, length}
+use Rattle.std.proofs.Common.{◌≡◌, ℕ, take, drop, ◌++◌, length}
 use Rattle.std.specs.List.{AllByRecursion}
 use Rattle.rcu_law.specs.Events.{each_cpu}
 use Rattle.rcu_world.specs.Members.{forget_step}
-use Rattle.rcu_world.specs.Views.{all_seen, AreGiven}
+use Rattle.rcu_processor.specs.Views.{AreGiven}
+use Rattle.rcu_world.specs.Views.{all_seen}
 use Rattle.rcu_world.proofs.groups.forget_members.Given as goal
 
 abbrev pub invariant-loop-i : goal.invariant-loop-i
@@ -11,5 +12,5 @@ invariant-loop-i g l = record {
       ≡ take l.i (all_seen g.J.Job.key_of l.processors.items) ++ each_cpu (forget_step l.offloadable.items l.stride l.group) l.i (drop l.i (all_seen g.J.Job.key_of l.processors.items));
   rest : drop l.i (all_seen g.J.Job.key_of l.processors.items) ≡ drop l.i (all_seen g.J.Job.key_of l.fn.processors.items);
   len : length l.processors.items ≡ length l.fn.processors.items;
-  given : AllByRecursion (AreGiven g.J.Job.gives) l.fn.processors.items → AllByRecursion (AreGiven g.J.Job.gives) l.processors.items;
+  given : (mark : ℕ) → AllByRecursion (AreGiven g.J.Job.gives mark) l.fn.processors.items → AllByRecursion (AreGiven g.J.Job.gives mark) l.processors.items;
 }

@@ -3,18 +3,21 @@ use Rattle.std.proofs.lemmas.List.{length-set, drop-set-lt, length-map, map-set}
 use Rattle.rcu_law.specs.Steps.{group_looks}
 use Rattle.rcu_law.specs.Events.{each_cpu}
 use Rattle.rcu_world.specs.Members.{group_step}
-use Rattle.rcu_world.specs.Views.{seen, all_seen, AreGiven}
+use Rattle.rcu_processor.specs.Views.{seen, AreGiven}
+use Rattle.rcu_world.specs.Views.{all_seen}
 use Rattle.rcu_world.proofs.Seen.{seen_at, kept_at}
 use Rattle.rcu_world.proofs.Members.{each_more, lookable_at, drop_again}
+use Rattle.rcu_world.proofs.Ends.{each_end}
 use Rattle.rcu_world.proofs.groups.look_members.Goals as goal
 
 pub look_as-requires-after_bounds : goal.look_as-requires-after_bounds
 look_as-requires-after_bounds g c κs within =
     let l : c.loop-i.i < length c.loop-i.processors.items = omega arith in
-    lookable_at c.args.number c.loop-i.i (all_seen g.J.Job.key_of c.args.processors.now.items) (all_seen g.J.Job.key_of c.loop-i.processors.items) (seen g.J.Job.key_of c.index_mut-p.result.now) c.requires.fits
+    let f = lookable_at c.args.number c.loop-i.i (all_seen g.J.Job.key_of c.args.processors.now.items) (all_seen g.J.Job.key_of c.loop-i.processors.items) (seen g.J.Job.key_of c.index_mut-p.result.now) c.requires.fits
     (subst (λ n. c.loop-i.i < n) (sym (length-map c.loop-i.processors.items (seen g.J.Job.key_of))) l)
     (length-map c.loop-i.processors.items (seen g.J.Job.key_of) ∙ c.loop-i.invariant.len ∙ sym (length-map c.args.processors.now.items (seen g.J.Job.key_of)))
-    (seen_at g.J.Job.key_of c.loop-i.processors.items c.loop-i.i c.index_mut-p.result.now l c.index_mut-p.ensures.value) c.loop-i.invariant.rest
+    (seen_at g.J.Job.key_of c.loop-i.processors.items c.loop-i.i c.index_mut-p.result.now l c.index_mut-p.ensures.value) c.loop-i.invariant.rest in
+    (search rules, (f.small, f.may))
 
 pub loop-i-preserved : goal.loop-i-preserved
 loop-i-preserved g c =
@@ -31,6 +34,8 @@ loop-i-preserved g c =
       rest = subst (λ x. drop (c.loop-i.i + 1) x ≡ drop (c.loop-i.i + 1) (all_seen g.J.Job.key_of c.args.processors.now.items)) m
           (drop-set-lt (c.loop-i.i + 1) (all_seen g.J.Job.key_of c.loop-i.processors.items) c.loop-i.i (seen g.J.Job.key_of c.look_as.new.self) (omega arith) ∙ drop_again c.loop-i.i _ _ c.loop-i.invariant.rest);
       len = length-set c.loop-i.processors.items c.loop-i.i c.look_as.new.self ∙ c.loop-i.invariant.len;
-      given = λ a. kept_at (AreGiven g.J.Job.gives) c.loop-i.processors.items c.loop-i.i c.index_mut-p.result.now c.look_as.new.self l c.index_mut-p.ensures.value
-          (λ (h : AreGiven g.J.Job.gives c.index_mut-p.result.now). search rules) (c.loop-i.invariant.given a);
+      given = λ mark a. kept_at (AreGiven g.J.Job.gives mark) c.loop-i.processors.items c.loop-i.i c.index_mut-p.result.now c.look_as.new.self l c.index_mut-p.ensures.value (c.look_as.ensures.given mark) (c.loop-i.invariant.given mark a);
     }
+
+pub returns-clause-looks : goal.returns-clause-looks
+returns-clause-looks g c = each_end (group_step c.args.offloadable.now.items c.args.stride c.args.group c.args.number) c.loop-i.i _ (all_seen g.J.Job.key_of c.loop-i.processors.items) (omega (arith, length-map c.loop-i.processors.items (seen g.J.Job.key_of))) c.loop-i.invariant.done

@@ -1,7 +1,4 @@
-use Rattle.std.proofs.Common.{◌∙◌, sym, ap, cond, arith}
-use Rattle.rcu_law.specs.Lists.{needed_with}
-use Rattle.rcu_world.specs.Members.{most_in_group}
-use Rattle.rcu_world.specs.Views.{seen}
+use Rattle.std.proofs.Common.{◌∙◌, arith}
 use Rattle.rcu_world.proofs.Members.{most_more}
 use Rattle.rcu_world.proofs.groups.most_wanted.Goals as goal
 

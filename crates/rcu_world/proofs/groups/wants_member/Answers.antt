@@ -1,5 +1,5 @@
 use Rattle.std.proofs.Common.{◌∙◌, sym, arith}
-use Rattle.rcu_world.specs.Members.{is_wanting}
+use Rattle.rcu_processor.specs.Members.{is_wanting}
 use Rattle.rcu_world.proofs.Members.{any_fails, any_meets}
 use Rattle.rcu_world.proofs.groups.wants_member.Goals as goal
 

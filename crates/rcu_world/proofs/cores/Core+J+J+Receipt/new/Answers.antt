@@ -1,11 +1,17 @@
-use Rattle.std.proofs.Common.{rules, refl, ◌≡◌, ◌≤◌, ◌∙◌, arith, ap, length, false, sym, replicate, map, ◌++◌, ◌∷◌, []}
+use Rattle.std.proofs.Common.{rules, refl, ◌≡◌, ◌∙◌, arith, ap, false, sym, replicate, map, ◌++◌, ◌∷◌, []}
 use Rattle.std.proofs.lemmas.List.{replicate-append-replicate, map-append}
 use Rattle.rcu_law.specs.States.{opening_cpu}
-use Rattle.rcu_world.specs.Views.{AreGiven, seen, all_seen}
+use Rattle.rcu_processor.specs.Views.{AreGiven, seen}
 use Rattle.rcu_world.specs.Barrings.{barrier}
 use Rattle.rcu_world.specs.Worlds.{plan}
 use Rattle.rcu_world.proofs.Opening.{bits_start, all_more, at_rest, bits_next, bits_end, opening_bits}
+use denote.Param.{param}
+use Rattle.rcu_world.proofs.Sizes.{processor_fits}
+use Rattle.std.specs.Mem.{FitsInMemory}
+use Rattle.rcu_processor.specs.contracts.processor.Processor as processor
+use Rattle.rcu_world.proofs.cores.Core+J+J+Receipt.new.Given.{Over}
 use Rattle.rcu_world.proofs.cores.Core+J+J+Receipt.new.Goals as goal
+use Rattle.rcu_world.proofs.cores.Core+J+J+Receipt.new.Goals.{Start}
 
 pub loop-cpu-init : goal.loop-cpu-init
 loop-cpu-init g c = record {
@@ -24,7 +30,7 @@ loop-cpu-preserved g c =
           (map-append (seen g.J.Job.key_of) c.loop-cpu.processors.items (c.new.result ∷ []) ∙ ap (λ x. x ++ seen g.J.Job.key_of c.new.result ∷ []) i.seen
           ∙ ap (λ x. map opening_cpu c.loop-cpu.offloadable.items ++ x ∷ []) c.new.ensures.opens ∙ sym (map-append opening_cpu c.loop-cpu.offloadable.items _));
       owing = rw (c.in_ok-push-2.ensures.items, i.owing) (replicate-append-replicate c.loop-cpu._cpu 1 false);
-      given = rw c.in_ok-push-3.ensures.items (all_more (AreGiven g.J.Job.gives) c.loop-cpu.processors.items c.new.result i.given c.new.ensures.given);
+      given = rw c.in_ok-push-3.ensures.items (all_more (AreGiven g.J.Job.gives c.args.shape.qhimark) c.loop-cpu.processors.items c.new.result i.given c.new.ensures.given);
     }
 
 pub returns-clause-opens : goal.returns-clause-opens
@@ -35,3 +41,24 @@ returns-clause-opens g c =
 
 pub returns-clause-given : goal.returns-clause-given
 returns-clause-given g c = c.loop-cpu.invariant.given
+
+start_fits : (g : Over) (c : Start g) → FitsInMemory (processor.the_row (param 0 g.row.J) (param 1 g.row.J-Receipt))
+start_fits g c = processor_fits (param 0 g.row.J) (param 1 g.row.J-Receipt) (search rules)
+
+pub new-requires-after_bounds : goal.new-requires-after_bounds
+new-requires-after_bounds g c κs within = processor_fits (param 0 g.row.J) (param 1 g.row.J-Receipt) (search rules)
+
+pub drop-processors-requires-room-T-Destruct : goal.drop-processors-requires-room-T-Destruct
+drop-processors-requires-room-T-Destruct g c κs within = processor_fits (param 0 g.row.J) (param 1 g.row.J-Receipt) (search rules)
+
+pub drop-processors-requires-in_err-push-2-room-T-Destruct : goal.drop-processors-requires-in_err-push-2-room-T-Destruct
+drop-processors-requires-in_err-push-2-room-T-Destruct g c κs within = start_fits g c.before.before.before.before.before.before.before.before.before.before.before.before.before.before
+
+pub from_residual-requires-in_err-push-3-room-F-From : goal.from_residual-requires-in_err-push-3-room-F-From
+from_residual-requires-in_err-push-3-room-F-From g c κs within = start_fits g c.before.before.before.before.before.before.before.before.before.before.before.before.before.before.before.before.before.before
+
+pub drop-processors-requires-in_err-push-3-room-T-Destruct : goal.drop-processors-requires-in_err-push-3-room-T-Destruct
+drop-processors-requires-in_err-push-3-room-T-Destruct g c κs within = start_fits g c.before.before.before.before.before.before.before.before.before.before.before.before.before.before.before.before.before.before.before
+
+pub new-requires-4-room-T-Destruct : goal.new-requires-4-room-T-Destruct
+new-requires-4-room-T-Destruct g c κs within = start_fits g c.before.before.before.before.before.before.before

@@ -1,13 +1,12 @@
-use Rattle.std.proofs.Common.{◌≡◌, ◌∙◌, ap, sym, arith, refl, length, cond}
+use Rattle.std.proofs.Common.{◌∙◌, ap, sym, arith, refl, rules}
 use Rattle.rcu_law.specs.States.{State}
 use Rattle.rcu_law.specs.Steps.{group_looks}
 use Rattle.rcu_world.specs.Members.{is_any}
 use Rattle.rcu_world.specs.Views.{state, all_seen}
 use Rattle.rcu_world.proofs.Members.{any_same, each_same, lookable}
+use denote.Param.{param}
+use Rattle.rcu_world.proofs.Sizes.{processor_fits}
 use Rattle.rcu_world.proofs.looking.Core+J+J+Receipt.look_group.Goals as goal
-
-pub look_members-requires-clause-fits : goal.look_members-requires-clause-fits
-look_members-requires-clause-fits g c κs within = lookable (state g.J.Job.key_of c.args.self.now) c.requires.core
 
 pub returns-then-not-has_member-clause-answers : goal.returns-then-not-has_member-clause-answers
 returns-then-not-has_member-clause-answers g c =
@@ -20,3 +19,12 @@ returns-clause-answers g c = (
       (c.look_members.ensures.looks ∙ each_same (state g.J.Job.key_of c.args.self.now) c.args.group (group_looks c.args.self.now.number) 0 (all_seen g.J.Job.key_of c.args.self.now.processors.items) (omega arith)),
   refl,
 )
+
+pub returns-clause-given : goal.returns-clause-given
+returns-clause-given g c = c.look_members.ensures.given c.args.self.now.qhimark
+
+pub look_members-requires-after_bounds : goal.look_members-requires-after_bounds
+look_members-requires-after_bounds g c κs within = (processor_fits (param 0 g.row.J) (param 1 g.row.J-Receipt) (search rules), (c.requires.stride, lookable (state g.J.Job.key_of c.args.self.now) c.requires.core))
+
+pub has_member-requires-after_bounds : goal.has_member-requires-after_bounds
+has_member-requires-after_bounds g c κs within = (processor_fits (param 0 g.row.J) (param 1 g.row.J-Receipt) (search rules), c.requires.stride)

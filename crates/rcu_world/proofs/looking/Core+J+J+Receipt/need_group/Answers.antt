@@ -1,9 +1,11 @@
-use Rattle.std.proofs.Common.{◌≡◌, ◌∙◌, ap, sym, arith, refl, length, cond}
+use Rattle.std.proofs.Common.{◌∙◌, ap, sym, arith, refl, rules}
 use Rattle.rcu_law.specs.States.{State}
 use Rattle.rcu_law.specs.Events.{most_wanted}
-use Rattle.rcu_world.specs.Members.{is_wanting, forgets}
+use Rattle.rcu_processor.specs.Members.{is_wanting, forgets}
 use Rattle.rcu_world.specs.Views.{state, all_seen}
 use Rattle.rcu_world.proofs.Members.{any_same, most_same, each_same}
+use denote.Param.{param}
+use Rattle.rcu_world.proofs.Sizes.{processor_fits}
 use Rattle.rcu_world.proofs.looking.Core+J+J+Receipt.need_group.Goals as goal
 
 pub returns-then-not-wants_member-clause-answers : goal.returns-then-not-wants_member-clause-answers
@@ -19,3 +21,15 @@ returns-clause-answers g c = (
       (c.forget_members.ensures.forgets ∙ each_same (state g.J.Job.key_of c.args.self.now) c.args.group forgets 0 (all_seen g.J.Job.key_of c.args.self.now.processors.items) (omega arith)),
   refl,
 )
+
+pub returns-clause-given : goal.returns-clause-given
+returns-clause-given g c = c.forget_members.ensures.given c.args.self.now.qhimark
+
+pub wants_member-requires-after_bounds : goal.wants_member-requires-after_bounds
+wants_member-requires-after_bounds g c κs within = (processor_fits (param 0 g.row.J) (param 1 g.row.J-Receipt) (search rules), c.requires.stride)
+
+pub most_wanted-self-requires-after_bounds : goal.most_wanted-self-requires-after_bounds
+most_wanted-self-requires-after_bounds g c κs within = (processor_fits (param 0 g.row.J) (param 1 g.row.J-Receipt) (search rules), c.requires.stride)
+
+pub forget_members-requires-after_bounds : goal.forget_members-requires-after_bounds
+forget_members-requires-after_bounds g c κs within = (processor_fits (param 0 g.row.J) (param 1 g.row.J-Receipt) (search rules), c.requires.stride)

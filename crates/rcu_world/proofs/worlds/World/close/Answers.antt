@@ -1,10 +1,13 @@
-use Rattle.std.proofs.Common.{◌∙◌, length, subst, sym}
+use Rattle.std.proofs.Common.{◌∙◌, length, subst, sym, rules}
 use Rattle.std.proofs.lemmas.List.{length-map}
 use Rattle.rcu_law.specs.Law.{IsClosed}
 use Rattle.rcu_law.proofs.Closing.{closed}
 use Rattle.rcu_world.specs.Leaving.{AreHandedBack, AreRecorded, AreReported}
-use Rattle.rcu_world.specs.Views.{state, seen, all_seen}
+use Rattle.rcu_processor.specs.Views.{seen}
+use Rattle.rcu_world.specs.Views.{state, all_seen}
 use Rattle.rcu_world.proofs.Settling.{handed_back, recorded}
+use denote.Param.{param}
+use Rattle.rcu_world.proofs.Fitting.{core_fits}
 use Rattle.rcu_world.proofs.worlds.World.close.Goals as goal
 
 pub returns-in-Ok-clause-closed : goal.returns-in-Ok-clause-closed
@@ -22,3 +25,9 @@ returns-in-Ok-clause-back g c = subst (λ h. AreHandedBack g.J.Job.key_of (lengt
 pub returns-in-Ok-clause-reports : goal.returns-in-Ok-clause-reports
 returns-in-Ok-clause-reports g c = subst (λ n. AreReported n c.into_closed.result.0.items c.into_closed.result.1.reports.items)
     (c.args.self.core.processors.ok.0 ∙ sym (length-map c.args.self.core.processors.items (seen g.J.Job.key_of))) c.into_closed.ensures.reports
+
+pub find_room-requires-after_bounds : goal.find_room-requires-after_bounds
+find_room-requires-after_bounds g c κs within = (core_fits (param 0 g.row.J) (param 1 g.row.J-Receipt) (search rules), c.requires.fit)
+
+pub into_closed-requires-after_bounds : goal.into_closed-requires-after_bounds
+into_closed-requires-after_bounds g c κs within = (core_fits (param 0 g.row.J) (param 1 g.row.J-Receipt) (search rules), c.in-Ok.ensures)

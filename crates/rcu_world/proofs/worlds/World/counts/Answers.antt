@@ -1,10 +1,32 @@
-use Rattle.std.proofs.Common.{◌∙◌, ◌<◌, ◌≡◌, ap, arith, length, refl}
-use Rattle.std.proofs.lemmas.List.{length-set, length-replicate}
+use Rattle.std.proofs.Common.{rules, ℕ, ◌∙◌, ◌<◌, ap, arith, length}
+use Rattle.std.proofs.lemmas.List.{length-map, length-set, length-replicate}
+use denote.Param.{param}
 use Rattle.rcu_law.specs.States.{cpu_at}
+use Rattle.rcu_processor.specs.Views.{seen}
 use Rattle.rcu_world.specs.Views.{state}
+use Rattle.rcu_world.proofs.Fitting.{fits_there}
 use Rattle.rcu_world.proofs.Leading.{seen_there}
 use Rattle.rcu_world.proofs.Counting.{counts_more}
 use Rattle.rcu_world.proofs.worlds.World.counts.Goals as goal
+
+pub loop-cpu-init : goal.loop-cpu-init
+loop-cpu-init g c = record {
+  all = omega (arith, c.new-counts.ensures.processors, length-map c.args.self.now.core.processors.items (seen g.J.Job.key_of));
+  len = ap length c.new-counts.ensures.zero ∙ length-replicate {A = ℕ} 32 0;
+  each = λ p l. absurd (omega (arith, l));
+}
+
+pub count-requires-after_bounds : goal.count-requires-after_bounds
+count-requires-after_bounds g c κs within = fits_there (param 0 g.row.J) (param 1 g.row.J-Receipt) (search rules)
+
+pub set-requires : goal.set-requires
+set-requires g c = omega (arith, c.loop-cpu.invariant.all, length-map c.args.self.now.core.processors.items (seen g.J.Job.key_of))
+
+pub returns : goal.returns
+returns g c = record {
+  all = c.loop-cpu.invariant.all;
+  each = λ p l. c.loop-cpu.invariant.each p (omega (arith, l, length-map c.args.self.now.core.processors.items (seen g.J.Job.key_of)));
+}
 
 pub loop-cpu-preserved : goal.loop-cpu-preserved
 loop-cpu-preserved g c =
@@ -12,7 +34,7 @@ loop-cpu-preserved g c =
     let l : c.loop-cpu.cpu < length c.args.self.now.core.processors.items = omega arith in
     record {
       all = c.set.ensures.processors ∙ i.all;
-      len = ap length c.set.ensures.one ∙ length-set c.loop-cpu.counts.counts c.loop-cpu.cpu c.index.result.now.count ∙ i.len;
-      each = counts_more c.loop-cpu.counts.counts _ c.loop-cpu.cpu c.index.result.now.count (λ p. (cpu_at (state g.J.Job.key_of c.args.self.now.core) p).count) (omega (arith, i.len, c.requires)) i.each
-          (ap (λ x. x.count) (seen_there g.J.Job.key_of c.args.self.now.core c.loop-cpu.cpu c.index.result.now l c.index.ensures)) c.set.ensures.one;
+      len = ap length c.set.ensures.one ∙ length-set c.loop-cpu.counts.counts c.loop-cpu.cpu c.count.result ∙ i.len;
+      each = counts_more c.loop-cpu.counts.counts _ c.loop-cpu.cpu c.count.result (λ p. (cpu_at (state g.J.Job.key_of c.args.self.now.core) p).count) (omega (arith, i.len, c.requires)) i.each
+          (c.count.ensures ∙ ap (λ x. x.count) (seen_there g.J.Job.key_of c.args.self.now.core c.loop-cpu.cpu c.index.result.now l c.index.ensures)) c.set.ensures.one;
     }

@@ -1,10 +1,16 @@
-use Rattle.std.proofs.Common.{◌∙◌, ◌<◌, ◌≤◌, ◌≡◌, ◌+◌, ap, arith, refl, sym, subst, length}
+use Rattle.std.proofs.Common.{rules, ◌∙◌, ◌<◌, ap, arith, refl, sym, subst, length}
 use Rattle.std.proofs.lemmas.List.{length-map}
-use Rattle.rcu_law.specs.States.{Cpu, cpu_at}
-use Rattle.rcu_world.specs.Views.{seen, state}
+use Rattle.rcu_law.specs.States.{Cpu}
+use Rattle.rcu_processor.specs.Views.{seen}
+use Rattle.rcu_world.specs.Views.{state}
 use Rattle.rcu_world.proofs.Drawing.{drawn_all, drawn_empty, drawn_none, drawn_one, drawn_waits, few_drawn, joins_where, waits_where}
 use Rattle.rcu_world.proofs.Leading.{seen_there}
+use denote.Param.{param}
+use Rattle.rcu_world.proofs.Fitting.{fits_there}
 use Rattle.rcu_world.proofs.worlds.World.draw_some.Goals as goal
+
+pub drawn_len-drawn-requires-after_bounds : goal.drawn_len-drawn-requires-after_bounds
+drawn_len-drawn-requires-after_bounds g c κs within = fits_there (param 0 g.row.J) (param 1 g.row.J-Receipt) (search rules)
 
 pub loop-batch-init : goal.loop-batch-init
 loop-batch-init g c = record {
@@ -25,18 +31,32 @@ returns-then-not-join-clause-events g c =
     let i = c.loop-batch.invariant in
     let l : c.args.cpu < length c.perform.new.self.core.processors.items = subst (λ n. c.args.cpu < n) (sym c.perform.ensures.len ∙ length-map c.perform.new.self.core.processors.items (seen g.J.Job.key_of)) i.there in
     let s = seen_there g.J.Job.key_of c.perform.new.self.core c.args.cpu c.index.result.now l c.index.ensures in
-    drawn_waits c.args.cpu c.loop-batch.batch _ _ _ _ c.loop-batch.took c.len-drawn.result (omega arith) i.there i.drawn (sym c.perform.ensures.enabled ∙ c.if-not-perform.false) c.perform.ensures.leads.1
-    (waits_where c.args.cpu c.join.result _ _ c.if-not-join.true c.join.ensures.leads) (c.len-drawn.ensures ∙ ap {A = Cpu} (λ x. length x.drawn) s)
+    drawn_waits c.args.cpu c.loop-batch.batch _ _ _ _ c.loop-batch.took c.drawn_len-drawn.result (omega arith) i.there i.drawn (sym c.perform.ensures.enabled ∙ c.if-not-perform.false) c.perform.ensures.leads.1
+    (waits_where c.args.cpu c.join.result _ _ c.if-not-join.true c.join.ensures.leads) (c.drawn_len-drawn.ensures ∙ ap {A = Cpu} (λ x. length x.drawn) s)
+
+pub overflow_add-took : goal.overflow_add-took
+overflow_add-took g c =
+    let l : c.args.cpu < length c.perform.new.self.core.processors.items = subst (λ n. c.args.cpu < n) (sym c.perform.ensures.len ∙ length-map c.perform.new.self.core.processors.items (seen g.J.Job.key_of)) c.loop-batch.invariant.there in
+    let s = seen_there g.J.Job.key_of c.perform.new.self.core c.args.cpu c.index.result.now l c.index.ensures in
+    let f = few_drawn (state g.J.Job.key_of c.perform.new.self.core) c.args.cpu c.perform.ensures.kept.fit.core (subst (λ n. c.args.cpu < n) (sym c.perform.ensures.len) c.loop-batch.invariant.there) in
+    omega (arith, c.loop-batch.invariant.most, f, c.drawn_len-drawn.ensures ∙ ap {A = Cpu} (λ x. length x.drawn) s)
+
+pub returns-then-not-join-clause-most : goal.returns-then-not-join-clause-most
+returns-then-not-join-clause-most g c =
+    let l : c.args.cpu < length c.perform.new.self.core.processors.items = subst (λ n. c.args.cpu < n) (sym c.perform.ensures.len ∙ length-map c.perform.new.self.core.processors.items (seen g.J.Job.key_of)) c.loop-batch.invariant.there in
+    let s = seen_there g.J.Job.key_of c.perform.new.self.core c.args.cpu c.index.result.now l c.index.ensures in
+    let f = few_drawn (state g.J.Job.key_of c.perform.new.self.core) c.args.cpu c.perform.ensures.kept.fit.core (subst (λ n. c.args.cpu < n) (sym c.perform.ensures.len) c.loop-batch.invariant.there) in
+    omega (arith, c.loop-batch.invariant.most, f, c.drawn_len-drawn.ensures ∙ ap {A = Cpu} (λ x. length x.drawn) s)
 
 pub loop-batch-preserved : goal.loop-batch-preserved
 loop-batch-preserved g c =
     let i = c.loop-batch.invariant in
     let l : c.args.cpu < length c.perform.new.self.core.processors.items = subst (λ n. c.args.cpu < n) (sym c.perform.ensures.len ∙ length-map c.perform.new.self.core.processors.items (seen g.J.Job.key_of)) i.there in
     let s = seen_there g.J.Job.key_of c.perform.new.self.core c.args.cpu c.index.result.now l c.index.ensures in
-    let d = c.len-drawn.ensures ∙ ap {A = Cpu} (λ x. length x.drawn) s in
+    let d = c.drawn_len-drawn.ensures ∙ ap {A = Cpu} (λ x. length x.drawn) s in
     let f = few_drawn (state g.J.Job.key_of c.perform.new.self.core) c.args.cpu c.perform.ensures.kept.fit.core (subst (λ n. c.args.cpu < n) (sym c.perform.ensures.len) i.there) in
     record {
-      drawn = drawn_one c.args.cpu c.loop-batch.batch _ _ _ _ c.loop-batch.took c.len-drawn.result (omega arith) i.there i.drawn (sym c.perform.ensures.enabled ∙ c.if-not-perform.false) c.perform.ensures.leads.1
+      drawn = drawn_one c.args.cpu c.loop-batch.batch _ _ _ _ c.loop-batch.took c.drawn_len-drawn.result (omega arith) i.there i.drawn (sym c.perform.ensures.enabled ∙ c.if-not-perform.false) c.perform.ensures.leads.1
           (joins_where c.args.cpu c.join.result _ _ c.if-not-join.false c.join.ensures.leads) d;
       most = omega (arith, i.most, f, d);
       there = subst (λ n. c.args.cpu < n) (sym (c.join.ensures.len ∙ c.perform.ensures.len)) i.there;
@@ -48,3 +68,12 @@ loop-batch-preserved g c =
 
 pub returns-clause-events : goal.returns-clause-events
 returns-clause-events g c = drawn_all c.args.cpu c.loop-batch.batch _ _ _ (omega arith) c.loop-batch.invariant.drawn
+
+pub index-requires : goal.index-requires
+index-requires g c = omega (arith, subst (λ n. c.args.cpu < n) (sym c.perform.ensures.len ∙ length-map c.perform.new.self.core.processors.items (seen g.J.Job.key_of)) c.loop-batch.invariant.there, c.perform.new.self.core.processors.ok.0)
+
+pub returns-then-not-perform-clause-rest : goal.returns-then-not-perform-clause-rest
+returns-then-not-perform-clause-rest g c = λ r. c.perform.ensures.rest refl (c.loop-batch.invariant.rest r)
+
+pub returns-then-not-join-clause-rest : goal.returns-then-not-join-clause-rest
+returns-then-not-join-clause-rest g c = λ r. c.join.ensures.rest (c.perform.ensures.rest refl (c.loop-batch.invariant.rest r))

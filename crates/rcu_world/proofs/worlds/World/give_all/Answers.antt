@@ -1,7 +1,10 @@
-use Rattle.std.proofs.Common.{◌∙◌, ◌<◌, arith, refl, length}
+use Rattle.std.proofs.Common.{◌∙◌, arith, refl}
 use Rattle.rcu_world.specs.GroupTurns.{Gives}
 use Rattle.rcu_world.specs.Views.{state}
 use Rattle.rcu_world.proofs.Drawing.{upto_more, upto_none}
+use Rattle.std.proofs.lemmas.List.{length-map}
+use Rattle.rcu_processor.specs.Views.{seen}
+use Rattle.rcu_world.proofs.Wholes.{made_all}
 use Rattle.rcu_world.proofs.worlds.World.give_all.Goals as goal
 
 pub loop-cpu-init : goal.loop-cpu-init
@@ -23,3 +26,9 @@ loop-cpu-preserved g c =
       rest = λ r. c.give-put.ensures.rest (i.rest r);
       kept = c.give-put.ensures.kept;
     }
+
+pub overflow_add-gave : goal.overflow_add-gave
+overflow_add-gave g c = omega (arith, c.loop-cpu.invariant.most, c.give-put.ensures.most, c.requires.fit.few, length-map c.args.self.now.core.processors.items (seen g.J.Job.key_of), c.args.self.now.core.processors.ok.0)
+
+pub returns-clause-events : goal.returns-clause-events
+returns-clause-events g c = made_all (Gives c.args.group) c.loop-cpu.cpu _ _ _ 0 c.loop-cpu.gave (omega (arith, length-map c.args.self.now.core.processors.items (seen g.J.Job.key_of), c.args.self.now.core.processors.ok.0)) c.loop-cpu.invariant.made

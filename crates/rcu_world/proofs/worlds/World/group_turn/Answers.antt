@@ -1,4 +1,4 @@
-use Rattle.std.proofs.Common.{◌∙◌, ◌≡◌, arith, length, sym, subst}
+use Rattle.std.proofs.Common.{◌∙◌, ◌≡◌, arith, length, subst}
 use Rattle.rcu_world.specs.GroupTurns.{Gives, Made, Takes, Then, Upto, look_group_events}
 use Rattle.rcu_world.specs.Views.{state}
 use Rattle.rcu_world.proofs.Drawing.{then_made}
@@ -10,3 +10,6 @@ returns-clause-events g c =
     let y = subst (λ m. Made (Upto (Gives c.args.group) m) (state g.J.Job.key_of c.look_group.new.self.core) (state g.J.Job.key_of c.give_all-gave.new.self.core) 0 c.give_all-gave.result) (c.look_group.ensures.len ∙ c.take_all-took.ensures.len) c.give_all-gave.ensures.events in
     then_made (Upto (Takes c.args.group) n) (Then (λ w es. es ≡ look_group_events c.args.group w) (Upto (Gives c.args.group) n)) _ _ _ c.take_all-took.result 0 0 c.give_all-gave.result _ _ (omega arith) (omega arith) c.take_all-took.ensures.events
     (then_made (λ w es. es ≡ look_group_events c.args.group w) (Upto (Gives c.args.group) n) _ _ _ 0 0 0 c.give_all-gave.result _ _ (omega arith) (omega arith) c.look_group.ensures.events y)
+
+pub returns-clause-rest : goal.returns-clause-rest
+returns-clause-rest g c = c.give_all-gave.ensures.rest (c.look_group.ensures.rest (c.take_all-took.ensures.rest c.requires.rest))

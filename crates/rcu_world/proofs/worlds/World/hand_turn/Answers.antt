@@ -2,8 +2,26 @@ use Rattle.rcu_law.specs.declared.who.Side.TheVariants.{Hand}
 use Rattle.rcu_law.specs.Events.CoreEvent.{LookHand, Fetch}
 use Rattle.rcu_world.specs.Turns.{where_enabled, run_events, and_then}
 use Rattle.rcu_world.proofs.Leading.{leads_then}
+use Rattle.std.proofs.Common.{rules, ◌<◌, ◌∙◌, subst, sym, refl, length}
+use Rattle.std.proofs.lemmas.Bool.{and_parts, ltb-true}
+use Rattle.rcu_law.specs.States.{has}
+use Rattle.rcu_world.specs.Views.{state}
 use Rattle.rcu_world.proofs.worlds.World.hand_turn.Goals as goal
 
 pub returns-clause-events : goal.returns-clause-events
 returns-clause-events g c = leads_then (where_enabled (LookHand c.args.cpu)) (and_then (where_enabled (Fetch c.args.cpu)) (λ w. run_events c.args.cpu Hand c.run_some-ran.result.ran)) _ _ _ c.perform.ensures.leads.1
     (leads_then (where_enabled (Fetch c.args.cpu)) (λ w. run_events c.args.cpu Hand c.run_some-ran.result.ran) _ _ _ c.perform-2.ensures.leads.1 c.run_some-ran.ensures.leads)
+
+pub run_some-ran-requires-after_bounds : goal.run_some-ran-requires-after_bounds
+run_some-ran-requires-after_bounds g c κs within =
+    let w = state g.J.Job.key_of c.args.self.now.core in
+    let l = ltb-true c.args.cpu (length w.cpus) (and_parts (has w c.args.cpu) _ c.requires.there).0 in (
+      search rules,
+      (
+        c.perform-2.ensures.kept,
+        (
+          subst (λ n. c.args.cpu < n) (sym (c.perform-2.ensures.len ∙ c.perform.ensures.len)) l,
+          c.perform-2.ensures.rest refl (c.perform.ensures.rest refl c.requires.rest),
+        ),
+      ),
+    )

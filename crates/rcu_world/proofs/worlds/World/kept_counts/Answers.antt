@@ -1,4 +1,4 @@
-use Rattle.std.proofs.Common.{◌∙◌, ◌<◌, ◌≡◌, ap, arith, length, refl}
+use Rattle.std.proofs.Common.{◌∙◌, ap, arith, length, refl, ℕ}
 use Rattle.std.proofs.lemmas.List.{length-map, length-set, length-replicate}
 use Rattle.rcu_law.specs.Lists.{value_or}
 use Rattle.rcu_law.specs.States.{barrier_at, count_at}
@@ -6,6 +6,7 @@ use Rattle.rcu_world.specs.Barrings.{barrier}
 use Rattle.rcu_world.specs.Views.{state}
 use Rattle.rcu_world.proofs.Seen.{barrier_seen}
 use Rattle.rcu_world.proofs.Counting.{counts_more}
+use Rattle.rcu_processor.specs.Views.{seen}
 use Rattle.rcu_world.proofs.worlds.World.kept_counts.Goals as goal
 
 pub loop-cpu-preserved : goal.loop-cpu-preserved
@@ -19,3 +20,16 @@ loop-cpu-preserved g c =
       each = counts_more c.loop-cpu.counts.counts _ c.loop-cpu.cpu c.kept.result (λ p. value_or (count_at (barrier_at w c.args.barrier) p)) (omega (arith, i.len, c.requires.few)) i.each
           (c.kept.ensures ∙ ap (λ x. value_or (count_at x c.loop-cpu.cpu)) s) c.set.ensures.one;
     }
+
+pub loop-cpu-init : goal.loop-cpu-init
+loop-cpu-init g c = record {
+  all = omega (arith, c.new-counts.ensures.processors, length-map c.args.self.now.core.processors.items (seen g.J.Job.key_of));
+  len = ap length c.new-counts.ensures.zero ∙ length-replicate {A = ℕ} 32 0;
+  each = λ p l. absurd (omega (arith, l));
+}
+
+pub set-requires : goal.set-requires
+set-requires g c = omega (arith, c.loop-cpu.invariant.all, length-map c.args.self.now.core.processors.items (seen g.J.Job.key_of))
+
+pub returns-clause-each : goal.returns-clause-each
+returns-clause-each g c = λ p l. c.loop-cpu.invariant.each p (omega (arith, l, length-map c.args.self.now.core.processors.items (seen g.J.Job.key_of)))

@@ -1,11 +1,11 @@
-use Rattle.std.proofs.Common.{◌∙◌, ap, sym, refl, length, ◌++◌, ◌∷◌, []}
+use Rattle.std.proofs.Common.{◌∙◌, ap, sym, refl, length, ◌++◌, ◌∷◌, [], rules}
 use Rattle.rcu_law.specs.Events.CoreEvent.{Pass}
 use Rattle.rcu_law.specs.declared.marks.Mark.TheVariants.{Passed}
 use Rattle.rcu_world.specs.Polls.{turns_for}
 use Rattle.rcu_world.specs.Turns.{upto, where_enabled}
 use Rattle.rcu_world.specs.Views.{state}
 use Rattle.rcu_world.proofs.Leading.{leads_then}
-use Rattle.rcu_world.proofs.Passing.{leads_same, passed_marks, passed_counts}
+use Rattle.rcu_world.proofs.Passing.{passed_marks, passed_counts, passed_there}
 use Rattle.rcu_world.proofs.worlds.World.poll.Goals as goal
 
 pub returns-then-not-branch-clause-events : goal.returns-then-not-branch-clause-events
@@ -21,3 +21,17 @@ returns-clause-answer g c =
       passed_marks _ _ c.args.barrier h l ∙ ap (λ x. x ++ Passed c.args.barrier ∷ []) c.see_all.ensures.history,
       passed_counts _ _ c.args.barrier c.kept_counts-counts.result.n c.kept_counts-counts.result.counts c.in_ok-attempt.ensures.kept.fit.core h l c.kept_counts-counts.ensures.all c.kept_counts-counts.ensures.each,
     )
+
+pub returns-in_err-attempt-clause-rest : goal.returns-in_err-attempt-clause-rest
+returns-in_err-attempt-clause-rest g c = c.attempt.ensures.rest refl (c.see_all.ensures.rest c.requires.rest)
+
+pub returns-then-not-branch-clause-rest : goal.returns-then-not-branch-clause-rest
+returns-then-not-branch-clause-rest g c = c.attempt.ensures.rest refl (c.see_all.ensures.rest c.requires.rest)
+
+pub kept_counts-counts-requires-after_bounds : goal.kept_counts-counts-requires-after_bounds
+kept_counts-counts-requires-after_bounds g c κs within =
+    let h = sym c.in_ok-attempt.ensures.enabled ∙ c.if-not-branch.false in
+    (search rules, (c.in_ok-attempt.ensures.kept.fit.few, passed_there _ _ c.args.barrier h c.in_ok-attempt.ensures.leads.1))
+
+pub returns-clause-rest : goal.returns-clause-rest
+returns-clause-rest g c = c.attempt.ensures.rest refl (c.see_all.ensures.rest c.requires.rest)

@@ -1,21 +1,51 @@
-use Rattle.std.proofs.Common.{◌∙◌, ◌<◌, ap, sym, subst, length}
+use Rattle.std.proofs.Common.{rules, arith, refl, ◌∙◌, ◌<◌, ap, sym, subst}
 use Rattle.std.proofs.lemmas.List.{length-map}
 use Rattle.rcu_law.specs.Releases.{releases_in_tick, moment_of_tick}
-use Rattle.rcu_world.specs.Views.{seen}
+use Rattle.rcu_processor.specs.Views.{seen}
 use Rattle.rcu_world.proofs.Leading.{seen_there}
 use Rattle.rcu_world.proofs.Ticking.{release_skipped, release_put}
+use denote.Param.{param}
+use Rattle.rcu_world.proofs.Fitting.{fits_there}
+use Rattle.std.specs.Mem.{FitsInMemory}
+use Rattle.rcu_processor.specs.contracts.processor.Processor as processor
+use Rattle.rcu_world.proofs.worlds.World.release.Given.{Over}
 use Rattle.rcu_world.proofs.worlds.World.release.Goals as goal
+use Rattle.rcu_world.proofs.worlds.World.release.Goals.{Start}
+
+start_fits : (g : Over) (c : Start g) → FitsInMemory (processor.the_row (param 0 g.row.J) (param 1 g.row.J-Receipt))
+start_fits g c = fits_there (param 0 g.row.J) (param 1 g.row.J-Receipt) (search rules)
+
+pub is_urged-urged-requires-after_bounds : goal.is_urged-urged-requires-after_bounds
+is_urged-urged-requires-after_bounds g c κs within = start_fits g c.before.before
+
+pub is_released_in_tick-requires-after_bounds : goal.is_released_in_tick-requires-after_bounds
+is_released_in_tick-requires-after_bounds g c κs within = start_fits g c.before.before.before.before.before.before.before
+
+pub moment_of_tick-late-requires-after_bounds : goal.moment_of_tick-late-requires-after_bounds
+moment_of_tick-late-requires-after_bounds g c κs within = start_fits g c.before.before.before.before.before.before.before.before.before.before.before
 
 pub returns-then-not-is_released_in_tick-clause-leads : goal.returns-then-not-is_released_in_tick-clause-leads
-returns-then-not-is_released_in_tick-clause-leads g c = release_skipped c.args.cpu c.args.moment c.index.result.now.urged _ _
-    (ap (λ x. x.urged) (seen_there g.J.Job.key_of c.args.self.now.core c.args.cpu c.index.result.now (subst (λ n. c.args.cpu < n) (length-map c.args.self.now.core.processors.items (seen g.J.Job.key_of)) c.requires.there) c.index.ensures))
+returns-then-not-is_released_in_tick-clause-leads g c = release_skipped c.args.cpu c.args.moment c.is_urged-urged.result _ _
+    (c.is_urged-urged.ensures ∙ ap (λ x. x.urged) (seen_there g.J.Job.key_of c.args.self.now.core c.args.cpu c.index.result.now (subst (λ n. c.args.cpu < n) (length-map c.args.self.now.core.processors.items (seen g.J.Job.key_of)) c.requires.there) c.index.ensures))
     c.perform.ensures.leads.1
-    (ap (releases_in_tick c.index.result.now.urged c.args.moment) (sym (seen_there g.J.Job.key_of c.perform.new.self.core c.args.cpu c.index-2.result.now (subst (λ n. c.args.cpu < n) (sym c.perform.ensures.len ∙ length-map c.perform.new.self.core.processors.items (seen g.J.Job.key_of)) c.requires.there) c.index-2.ensures)) ∙ sym c.is_released_in_tick.ensures ∙ c.if-not-is_released_in_tick.true)
+    (ap (releases_in_tick c.is_urged-urged.result c.args.moment) (sym (seen_there g.J.Job.key_of c.perform.new.self.core c.args.cpu c.index-2.result.now (subst (λ n. c.args.cpu < n) (sym c.perform.ensures.len ∙ length-map c.perform.new.self.core.processors.items (seen g.J.Job.key_of)) c.requires.there) c.index-2.ensures)) ∙ sym c.is_released_in_tick.ensures ∙ c.if-not-is_released_in_tick.true)
 
 pub returns-clause-leads : goal.returns-clause-leads
-returns-clause-leads g c = release_put c.args.cpu c.args.moment c.index.result.now.urged c.moment_of_tick-late.result c.put.result _ _ _
-    (ap (λ x. x.urged) (seen_there g.J.Job.key_of c.args.self.now.core c.args.cpu c.index.result.now (subst (λ n. c.args.cpu < n) (length-map c.args.self.now.core.processors.items (seen g.J.Job.key_of)) c.requires.there) c.index.ensures))
+returns-clause-leads g c = release_put c.args.cpu c.args.moment c.is_urged-urged.result c.moment_of_tick-late.result c.put.result _ _ _
+    (c.is_urged-urged.ensures ∙ ap (λ x. x.urged) (seen_there g.J.Job.key_of c.args.self.now.core c.args.cpu c.index.result.now (subst (λ n. c.args.cpu < n) (length-map c.args.self.now.core.processors.items (seen g.J.Job.key_of)) c.requires.there) c.index.ensures))
     c.perform.ensures.leads.1
-    (ap (releases_in_tick c.index.result.now.urged c.args.moment) (sym (seen_there g.J.Job.key_of c.perform.new.self.core c.args.cpu c.index-2.result.now (subst (λ n. c.args.cpu < n) (sym c.perform.ensures.len ∙ length-map c.perform.new.self.core.processors.items (seen g.J.Job.key_of)) c.requires.there) c.index-2.ensures)) ∙ sym c.is_released_in_tick.ensures ∙ c.if-not-is_released_in_tick.false)
+    (ap (releases_in_tick c.is_urged-urged.result c.args.moment) (sym (seen_there g.J.Job.key_of c.perform.new.self.core c.args.cpu c.index-2.result.now (subst (λ n. c.args.cpu < n) (sym c.perform.ensures.len ∙ length-map c.perform.new.self.core.processors.items (seen g.J.Job.key_of)) c.requires.there) c.index-2.ensures)) ∙ sym c.is_released_in_tick.ensures ∙ c.if-not-is_released_in_tick.false)
     (c.moment_of_tick-late.ensures ∙ ap (moment_of_tick c.args.moment) (seen_there g.J.Job.key_of c.perform.new.self.core c.args.cpu c.index-3.result.now (subst (λ n. c.args.cpu < n) (sym c.perform.ensures.len ∙ length-map c.perform.new.self.core.processors.items (seen g.J.Job.key_of)) c.requires.there) c.index-3.ensures))
     c.put.ensures.leads
+
+pub index-requires : goal.index-requires
+index-requires g c = omega (arith, subst (λ n. c.args.cpu < n) (length-map c.args.self.now.core.processors.items (seen g.J.Job.key_of)) c.requires.there, c.args.self.now.core.processors.ok.0)
+
+pub index-requires-2 : goal.index-requires-2
+index-requires-2 g c = omega (arith, subst (λ n. c.args.cpu < n) (sym c.perform.ensures.len ∙ length-map c.perform.new.self.core.processors.items (seen g.J.Job.key_of)) c.requires.there, c.perform.new.self.core.processors.ok.0)
+
+pub returns-then-not-is_released_in_tick-clause-rest : goal.returns-then-not-is_released_in_tick-clause-rest
+returns-then-not-is_released_in_tick-clause-rest g c = c.perform.ensures.rest refl
+
+pub returns-clause-rest : goal.returns-clause-rest
+returns-clause-rest g c = λ r. c.put.ensures.rest (c.perform.ensures.rest refl r)

@@ -1,6 +1,21 @@
-use Rattle.std.proofs.Common.{◌∙◌, ◌<◌, ap, arith, sym, subst, length}
-use Rattle.rcu_world.proofs.Running.{ran_one, rest_ran}
+use Rattle.std.proofs.Common.{rules, ◌≡◌, true, false, cond, [], ◌∷◌, ◌∙◌, ◌<◌, ap, arith, sym, subst}
+use Rattle.std.proofs.lemmas.List.{length-map}
+use Rattle.rcu_jobs.specs.declared.Stop.TheVariants as stops
+use Rattle.rcu_law.specs.Events.{is_enabled, run}
+use Rattle.rcu_law.specs.Events.CoreEvent.{Claim}
+use Rattle.rcu_law.specs.States.{cpu_at}
+use Rattle.rcu_processor.specs.Turns.{has_none}
+use Rattle.rcu_processor.specs.Views.{seen}
+use Rattle.rcu_world.specs.Turns.{stop_of}
+use Rattle.rcu_world.specs.Views.{state}
+use Rattle.rcu_world.proofs.Leading.{seen_there}
+use Rattle.rcu_world.proofs.Running.{ran_one, rest_ran, stops_memory, stops_early, stops_at_limit, claim_test}
+use denote.Param.{param}
+use Rattle.rcu_world.proofs.Fitting.{fits_there}
 use Rattle.rcu_world.proofs.worlds.World.run_some.Goals as goal
+
+pub why_no_claim-stop-requires-after_bounds : goal.why_no_claim-stop-requires-after_bounds
+why_no_claim-stop-requires-after_bounds g c κs within = fits_there (param 0 g.row.J) (param 1 g.row.J-Receipt) (search rules)
 
 pub loop-ran-preserved : goal.loop-ran-preserved
 loop-ran-preserved g c =
@@ -15,3 +30,31 @@ loop-ran-preserved g c =
       rest = rest_ran c.args.cpu c.args.by _ _ _ i.there i.rest h c.in-Ok-true.ensures.leads.1 c.perform.ensures.leads.1;
       kept = c.perform.ensures.kept;
     }
+
+pub index-requires : goal.index-requires
+index-requires g c = omega (arith, subst (λ n. c.args.cpu < n) (sym c.attempt.ensures.len ∙ length-map c.attempt.new.self.core.processors.items (seen g.J.Job.key_of)) c.loop-ran.invariant.there, c.attempt.new.self.core.processors.ok.0)
+
+pub returns-in-Err-clause-stop : goal.returns-in-Err-clause-stop
+returns-in-Err-clause-stop g c =
+    let i = c.loop-ran.invariant in
+    subst (λ w. stops.Memory ≡ stop_of c.args.by w.shape.blimit c.loop-ran.ran (cpu_at w c.args.cpu)) (sym c.in-Err.ensures.err)
+    (stops_memory c.args.by c.loop-ran.self.core.blimit c.loop-ran.ran (cpu_at (state g.J.Job.key_of c.loop-ran.self.core) c.args.cpu) (omega (arith, i.same))
+    (claim_test (state g.J.Job.key_of c.loop-ran.self.core) c.args.cpu c.args.by true i.there c.in-Err.ensures.err_enabled))
+
+pub returns-in-Ok-false-clause-stop : goal.returns-in-Ok-false-clause-stop
+returns-in-Ok-false-clause-stop g c =
+    let i = c.loop-ran.invariant in
+    let w = state g.J.Job.key_of c.loop-ran.self.core in
+    let new = state g.J.Job.key_of c.attempt.new.self.core in
+    let h : is_enabled w (Claim c.args.cpu c.args.by) ≡ false = sym c.in-Ok-false.ensures.enabled ∙ c.in-Ok-false.field-0-test in
+    let e : new ≡ w = c.in-Ok-false.ensures.leads.1.state ∙ ap (λ b. run (cond b (Claim c.args.cpu c.args.by ∷ []) []) w) h in
+    let l = subst (λ n. c.args.cpu < n) (sym c.attempt.ensures.len ∙ length-map c.attempt.new.self.core.processors.items (seen g.J.Job.key_of)) i.there in
+    let s = seen_there g.J.Job.key_of c.attempt.new.self.core c.args.cpu c.index.result.now l c.index.ensures in
+    stops_early c.args.by c.attempt.new.self.core.blimit c.loop-ran.ran (cpu_at new c.args.cpu) c.why_no_claim-stop.result (omega (arith, ap (λ x. x.blimit) c.attempt.ensures.shape, i.same))
+    (claim_test new c.args.cpu c.args.by false (subst (λ n. c.args.cpu < n) (sym c.attempt.ensures.len) i.there) (ap (λ x. is_enabled x (Claim c.args.cpu c.args.by)) e ∙ h))
+    (c.why_no_claim-stop.ensures ∙ ap (λ x. cond (has_none c.args.by x) stops.Empty stops.Turn) s)
+
+pub returns-clause-stop : goal.returns-clause-stop
+returns-clause-stop g c =
+    let i = c.loop-ran.invariant in
+    stops_at_limit c.args.by c.loop-ran.self.core.blimit c.loop-ran.ran (cpu_at (state g.J.Job.key_of c.loop-ran.self.core) c.args.cpu) (omega (arith, i.most, i.same)) (omega (arith, i.same))

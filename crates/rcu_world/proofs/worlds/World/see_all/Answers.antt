@@ -1,7 +1,10 @@
-use Rattle.std.proofs.Common.{◌∙◌, sym, refl}
+use Rattle.std.proofs.Common.{◌∙◌, sym, refl, arith}
 use Rattle.rcu_world.specs.Polls.{turns_for}
-use Rattle.rcu_world.proofs.Leading.{leads_upto, leads_none}
+use Rattle.rcu_world.proofs.Leading.{leads_upto}
 use Rattle.rcu_world.proofs.Passing.{history_turned, seen_skipped, seen_turned}
+use Rattle.std.proofs.lemmas.List.{length-map}
+use Rattle.rcu_processor.specs.Views.{seen}
+use Rattle.rcu_world.proofs.Wholes.{leads_all}
 use Rattle.rcu_world.proofs.worlds.World.see_all.Goals as goal
 
 pub loop-place-preserved-then-has_seen : goal.loop-place-preserved-then-has_seen
@@ -25,3 +28,6 @@ loop-place-preserved g c =
       rest = λ r. c.perform.ensures.rest refl (i.rest r);
       kept = c.perform.ensures.kept;
     }
+
+pub returns-clause-events : goal.returns-clause-events
+returns-clause-events g c = leads_all (turns_for c.args.barrier) c.loop-place.place _ _ _ (omega (arith, length-map c.args.self.now.core.processors.items (seen g.J.Job.key_of), c.args.self.now.core.processors.ok.0)) c.loop-place.invariant.leads

@@ -1,15 +1,22 @@
-use Rattle.std.proofs.Common.{◌∙◌}
+use Rattle.std.proofs.Common.{rules, ◌∙◌, ◌≡◌, true, false}
 use Rattle.rcu_world.proofs.Leading.{length_took}
 use Rattle.rcu_world.specs.declared.events.Event.TheVariants.{Stamp}
 use Rattle.rcu_world.proofs.Keeping.{answers_kept}
 use Rattle.rcu_world.proofs.Resting.{rest_stamped}
+use denote.Param.{param}
+use Rattle.rcu_world.specs.Views.{state}
+use Rattle.rcu_world.proofs.Fitting.{core_fits}
+use Rattle.rcu_world.proofs.Stamping.{stamp_done, stamp_due}
 use Rattle.rcu_world.proofs.worlds.World.stamp_call.Goals as goal
 
 pub put-requires-after_bounds : goal.put-requires-after_bounds
-put-requires-after_bounds g c κs within = record {
-  fit = answers_kept g.J.Job.key_of _ (Stamp c.args.cpu c.args.moment c.args.lazy) c.stamp.result _ c.requires.world.fit c.stamp.ensures.answers;
-  given = c.stamp.ensures.given c.requires.world.given;
-}
+put-requires-after_bounds g c κs within = (
+  search rules,
+  record {
+    fit = answers_kept g.J.Job.key_of _ (Stamp c.args.cpu c.args.moment c.args.lazy) c.stamp.result _ c.requires.world.fit c.stamp.ensures.answers;
+    given = c.stamp.ensures.given c.requires.world.given;
+  },
+)
 
 pub returns-in-Done-clause-kept : goal.returns-in-Done-clause-kept
 returns-in-Done-clause-kept g c = record {
@@ -28,3 +35,15 @@ returns-in-Done-clause-len g c = length_took g.J.Job.key_of _ (Stamp c.args.cpu 
 
 pub returns-in-Due-clause-len : goal.returns-in-Due-clause-len
 returns-in-Due-clause-len g c = c.put.ensures.len ∙ length_took g.J.Job.key_of _ (Stamp c.args.cpu c.args.moment c.args.lazy) _ c.in-Due.ensures.answers.1
+
+pub stamp-requires-after_bounds : goal.stamp-requires-after_bounds
+stamp-requires-after_bounds g c κs within = (core_fits (param 0 g.row.J) (param 1 g.row.J-Receipt) (search rules), (c.requires.world.fit, c.requires.world.given))
+
+pub unreachable-requires-in-Memory : goal.unreachable-requires-in-Memory
+unreachable-requires-in-Memory g c = absurd (let z : true ≡ false = c.in-Memory.ensures.sure c.requires.ready in cc)
+
+pub returns-in-Due-clause-events : goal.returns-in-Due-clause-events
+returns-in-Due-clause-events g c = let a = c.in-Due.ensures.answers in stamp_due (state g.J.Job.key_of c.args.self.now.core) _ _ c.args.cpu c.args.moment c.args.lazy c.put.result a.0 a.1 a.2 c.put.ensures.leads
+
+pub returns-in-Done-clause-events : goal.returns-in-Done-clause-events
+returns-in-Done-clause-events g c = let a = c.in-Done.ensures.answers in stamp_done (state g.J.Job.key_of c.args.self.now.core) _ c.args.cpu c.args.moment c.args.lazy a.0 a.1 a.2

@@ -1,11 +1,19 @@
-use Rattle.std.proofs.Common.{◌∙◌, ◌<◌, ap, sym, subst, length}
+use Rattle.std.proofs.Common.{rules, arith, refl, true, ◌∙◌, ◌<◌, ap, sym, subst}
 use Rattle.std.proofs.lemmas.List.{length-map}
 use Rattle.rcu_law.specs.States.{is_offloaded}
-use Rattle.rcu_world.specs.Turns.{is_switching}
-use Rattle.rcu_world.specs.Views.{seen}
-use Rattle.rcu_world.proofs.Leading.{seen_there}
+use Rattle.rcu_processor.specs.Turns.{is_switching}
+use Rattle.rcu_processor.specs.Views.{seen}
+use Rattle.rcu_world.proofs.Leading.{seen_there, where_false}
 use Rattle.rcu_world.proofs.Ticking.{switch_heeded, switch_put}
+use denote.Param.{param}
+use Rattle.rcu_world.proofs.Fitting.{fits_there}
 use Rattle.rcu_world.proofs.worlds.World.switch.Goals as goal
+
+pub is_switching-requires-after_bounds : goal.is_switching-requires-after_bounds
+is_switching-requires-after_bounds g c κs within = fits_there (param 0 g.row.J) (param 1 g.row.J-Receipt) (search rules)
+
+pub is_offloaded-requires-after_bounds : goal.is_offloaded-requires-after_bounds
+is_offloaded-requires-after_bounds g c κs within = fits_there (param 0 g.row.J) (param 1 g.row.J-Receipt) (search rules)
 
 pub returns-then-not-is_offloaded-clause-leads : goal.returns-then-not-is_offloaded-clause-leads
 returns-then-not-is_offloaded-clause-leads g c = switch_heeded c.args.cpu c.perform.ensures.leads.0 _ _
@@ -19,3 +27,20 @@ returns-clause-leads g c = switch_put c.args.cpu c.perform.ensures.leads.0 c.put
     c.perform.ensures.leads.1
     (ap (λ x. is_offloaded x.mode) (sym (seen_there g.J.Job.key_of c.perform.new.self.core c.args.cpu c.index-2.result.now (subst (λ n. c.args.cpu < n) (sym c.perform.ensures.len ∙ length-map c.perform.new.self.core.processors.items (seen g.J.Job.key_of)) c.requires.there) c.index-2.ensures)) ∙ sym c.is_offloaded.ensures ∙ c.if-not-is_offloaded.false)
     c.put.ensures.leads
+
+pub index-requires : goal.index-requires
+index-requires g c = omega (arith, subst (λ n. c.args.cpu < n) (length-map c.args.self.now.core.processors.items (seen g.J.Job.key_of)) c.requires.there, c.args.self.now.core.processors.ok.0)
+
+pub index-requires-2 : goal.index-requires-2
+index-requires-2 g c = omega (arith, subst (λ n. c.args.cpu < n) (sym c.perform.ensures.len ∙ length-map c.perform.new.self.core.processors.items (seen g.J.Job.key_of)) c.requires.there, c.perform.new.self.core.processors.ok.0)
+
+pub returns-then-not-is_switching-clause-leads : goal.returns-then-not-is_switching-clause-leads
+returns-then-not-is_switching-clause-leads g c =
+    let s = seen_there g.J.Job.key_of c.args.self.now.core c.args.cpu c.index.result.now (subst (λ n. c.args.cpu < n) (length-map c.args.self.now.core.processors.items (seen g.J.Job.key_of)) c.requires.there) c.index.ensures in
+    (true, true, where_false _ _ _ _ (ap is_switching (sym s) ∙ sym c.is_switching.ensures ∙ c.if-not-is_switching.true) refl)
+
+pub returns-then-not-is_offloaded-clause-rest : goal.returns-then-not-is_offloaded-clause-rest
+returns-then-not-is_offloaded-clause-rest g c = c.perform.ensures.rest refl
+
+pub returns-clause-rest : goal.returns-clause-rest
+returns-clause-rest g c = λ r. c.put.ensures.rest (c.perform.ensures.rest refl r)

@@ -10,3 +10,6 @@ returns-then-not-is_member-clause-events g c = takes_none c.args.group c.args.cp
 pub returns-clause-events : goal.returns-clause-events
 returns-clause-events g c = takes_made c.args.group c.args.cpu _ _ _ _ (sym c.is_member.ensures ∙ c.if-not-is_member.false)
     (then_made (WhereRoom (Join c.args.cpu)) (Draws c.args.cpu most_batches) _ _ _ 0 c.draw_some.result 0 0 _ _ (omega arith) (omega arith) (joined_made c.args.cpu c.join.result _ _ c.join.ensures.leads) c.draw_some.ensures.events)
+
+pub returns-clause-rest : goal.returns-clause-rest
+returns-clause-rest g c = λ r. c.draw_some.ensures.rest (c.join.ensures.rest r)

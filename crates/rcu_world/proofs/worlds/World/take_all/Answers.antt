@@ -1,7 +1,10 @@
-use Rattle.std.proofs.Common.{◌∙◌, ◌<◌, arith, refl, length}
+use Rattle.std.proofs.Common.{◌∙◌, arith, refl}
 use Rattle.rcu_world.specs.GroupTurns.{Takes}
 use Rattle.rcu_world.specs.Views.{state}
 use Rattle.rcu_world.proofs.Drawing.{upto_more, upto_none}
+use Rattle.std.proofs.lemmas.List.{length-map}
+use Rattle.rcu_processor.specs.Views.{seen}
+use Rattle.rcu_world.proofs.Wholes.{made_all}
 use Rattle.rcu_world.proofs.worlds.World.take_all.Goals as goal
 
 pub loop-cpu-init : goal.loop-cpu-init
@@ -23,3 +26,9 @@ loop-cpu-preserved g c =
       rest = λ r. c.take-drawn.ensures.rest (i.rest r);
       kept = c.take-drawn.ensures.kept;
     }
+
+pub overflow_add-took : goal.overflow_add-took
+overflow_add-took g c = omega (arith, c.loop-cpu.invariant.most, c.take-drawn.ensures.most, c.requires.fit.few, length-map c.args.self.now.core.processors.items (seen g.J.Job.key_of), c.args.self.now.core.processors.ok.0)
+
+pub returns-clause-events : goal.returns-clause-events
+returns-clause-events g c = made_all (Takes c.args.group) c.loop-cpu.cpu _ _ _ c.loop-cpu.took 0 (omega (arith, length-map c.args.self.now.core.processors.items (seen g.J.Job.key_of), c.args.self.now.core.processors.ok.0)) c.loop-cpu.invariant.made

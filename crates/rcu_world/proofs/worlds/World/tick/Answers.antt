@@ -1,6 +1,7 @@
 use Rattle.rcu_law.specs.declared.who.Side.TheVariants.{Local}
 use Rattle.rcu_world.specs.Turns.{look_events, offloadable_events, run_events, and_then}
 use Rattle.rcu_world.proofs.Leading.{leads_then}
+use Rattle.std.proofs.Common.{rules, ◌<◌, ◌∙◌, subst, sym}
 use Rattle.rcu_world.proofs.worlds.World.tick.Goals as goal
 
 pub returns-clause-events : goal.returns-clause-events
@@ -10,3 +11,15 @@ returns-clause-events g c =
       leads_then (look_events c.args.cpu) (and_then (offloadable_events c.args.cpu c.args.moment o.0) (λ w. run_events c.args.cpu Local c.run_some.result.ran)) _ _ _ c.look_own.ensures.leads
           (leads_then (offloadable_events c.args.cpu c.args.moment o.0) (λ w. run_events c.args.cpu Local c.run_some.result.ran) _ _ _ o.1 c.run_some.ensures.leads),
     )
+
+pub run_some-requires-after_bounds : goal.run_some-requires-after_bounds
+run_some-requires-after_bounds g c κs within = (
+  search rules,
+  (
+    c.tick_offloadable.ensures.kept,
+    (
+      subst (λ n. c.args.cpu < n) (sym (c.tick_offloadable.ensures.len ∙ c.look_own.ensures.len)) c.requires.there,
+      c.tick_offloadable.ensures.rest (c.look_own.ensures.rest c.requires.rest),
+    ),
+  ),
+)

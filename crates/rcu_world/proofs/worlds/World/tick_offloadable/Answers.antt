@@ -1,4 +1,5 @@
 use Rattle.rcu_world.proofs.Ticking.{not_offloadable, offloadable_stages}
+use Rattle.std.proofs.Common.{refl}
 use Rattle.rcu_world.proofs.worlds.World.tick_offloadable.Goals as goal
 
 pub returns-then-not-is_set-clause-leads : goal.returns-then-not-is_set-clause-leads
@@ -7,3 +8,6 @@ returns-then-not-is_set-clause-leads g c = not_offloadable c.args.cpu c.args.mom
 pub returns-clause-leads : goal.returns-clause-leads
 returns-clause-leads g c = offloadable_stages c.args.cpu c.args.moment c.is_set.result _ _ _ _ c.is_set.ensures c.if-not-is_set.false c.requires.there
     c.release.ensures.leads c.switch.ensures.leads c.perform.ensures.leads.1
+
+pub returns-clause-rest : goal.returns-clause-rest
+returns-clause-rest g c = λ r. c.perform.ensures.rest refl (c.switch.ensures.rest (c.release.ensures.rest r))

@@ -1,10 +1,20 @@
-use Rattle.std.proofs.Common.{◌∙◌, ◌<◌, ◌≡◌, ◌≤◌, ◌+◌, ap, arith, sym, subst, length}
+use Rattle.std.proofs.Common.{rules, ◌∙◌, ◌<◌, ◌≡◌, ap, arith, sym, subst, length}
 use Rattle.std.proofs.lemmas.List.{length-map}
 use Rattle.rcu_law.specs.States.{Cpu, cpu_at}
-use Rattle.rcu_world.specs.Views.{seen, state}
+use Rattle.rcu_processor.specs.Views.{seen}
+use Rattle.rcu_world.specs.Views.{state}
+use Rattle.rcu_world.specs.GroupTurns.{waiting_upto}
 use Rattle.rcu_world.proofs.Drawing.{few_drawn, waits_more, waits_none, waits_other}
 use Rattle.rcu_world.proofs.Leading.{seen_there}
+use denote.Param.{param}
+use Rattle.rcu_world.proofs.Fitting.{fits_there}
 use Rattle.rcu_world.proofs.worlds.World.waiting.Goals as goal
+
+pub drawn_len-drawn-requires-after_bounds : goal.drawn_len-drawn-requires-after_bounds
+drawn_len-drawn-requires-after_bounds g c κs within = fits_there (param 0 g.row.J) (param 1 g.row.J-Receipt) (search rules)
+
+pub out_len-out-requires-after_bounds : goal.out_len-out-requires-after_bounds
+out_len-out-requires-after_bounds g c κs within = fits_there (param 0 g.row.J) (param 1 g.row.J-Receipt) (search rules)
 
 pub loop-cpu-init : goal.loop-cpu-init
 loop-cpu-init g c = record { sum = waits_none c.args.group (state g.J.Job.key_of c.args.self.now.core); most = omega arith }
@@ -14,13 +24,21 @@ loop-cpu-preserved-then-not-is_member g c =
     let i = c.loop-cpu.invariant in
     record { sum = waits_other c.args.group c.loop-cpu.cpu _ (state g.J.Job.key_of c.args.self.now.core) (sym c.is_member.ensures ∙ c.if-not-is_member.true) i.sum; most = omega (arith, i.most) }
 
+pub overflow_add-waiting : goal.overflow_add-waiting
+overflow_add-waiting g c =
+    let w = state g.J.Job.key_of c.args.self.now.core in
+    let l : c.loop-cpu.cpu < length c.args.self.now.core.processors.items = omega arith in
+    let s : seen g.J.Job.key_of c.index-p.result.now ≡ cpu_at w c.loop-cpu.cpu = seen_there g.J.Job.key_of c.args.self.now.core c.loop-cpu.cpu c.index-p.result.now l c.index-p.ensures in
+    let f = few_drawn w c.loop-cpu.cpu c.requires.fit.core (subst (λ n. c.loop-cpu.cpu < n) (sym (length-map c.args.self.now.core.processors.items (seen g.J.Job.key_of))) l) in
+    omega (arith, c.loop-cpu.invariant.most, f, c.drawn_len-drawn.ensures ∙ ap {A = Cpu} (λ x. length x.drawn) s, c.out_len-out.ensures ∙ ap {A = Cpu} (λ x. length x.out) s, c.requires.fit.few, length-map c.args.self.now.core.processors.items (seen g.J.Job.key_of))
+
 pub overflow_add-waiting-in-loop-cpu : goal.overflow_add-waiting-in-loop-cpu
 overflow_add-waiting-in-loop-cpu g c =
     let w = state g.J.Job.key_of c.args.self.now.core in
     let l : c.loop-cpu.cpu < length c.args.self.now.core.processors.items = omega arith in
     let s : seen g.J.Job.key_of c.index-p.result.now ≡ cpu_at w c.loop-cpu.cpu = seen_there g.J.Job.key_of c.args.self.now.core c.loop-cpu.cpu c.index-p.result.now l c.index-p.ensures in
     let f = few_drawn w c.loop-cpu.cpu c.requires.fit.core (subst (λ n. c.loop-cpu.cpu < n) (sym (length-map c.args.self.now.core.processors.items (seen g.J.Job.key_of))) l) in
-    omega (arith, c.loop-cpu.invariant.most, f, c.len-drawn.ensures ∙ ap {A = Cpu} (λ x. length x.drawn) s, c.len-out.ensures ∙ ap {A = Cpu} (λ x. length x.out) s, c.requires.fit.few, length-map c.args.self.now.core.processors.items (seen g.J.Job.key_of))
+    omega (arith, c.loop-cpu.invariant.most, f, c.drawn_len-drawn.ensures ∙ ap {A = Cpu} (λ x. length x.drawn) s, c.out_len-out.ensures ∙ ap {A = Cpu} (λ x. length x.out) s, c.requires.fit.few, length-map c.args.self.now.core.processors.items (seen g.J.Job.key_of))
 
 pub loop-cpu-preserved : goal.loop-cpu-preserved
 loop-cpu-preserved g c =
@@ -29,9 +47,14 @@ loop-cpu-preserved g c =
     let l : c.loop-cpu.cpu < length c.args.self.now.core.processors.items = omega arith in
     let s : seen g.J.Job.key_of c.index-p.result.now ≡ cpu_at w c.loop-cpu.cpu = seen_there g.J.Job.key_of c.args.self.now.core c.loop-cpu.cpu c.index-p.result.now l c.index-p.ensures in
     let f = few_drawn w c.loop-cpu.cpu c.requires.fit.core (subst (λ n. c.loop-cpu.cpu < n) (sym (length-map c.args.self.now.core.processors.items (seen g.J.Job.key_of))) l) in
-    let d = c.len-drawn.ensures ∙ ap {A = Cpu} (λ x. length x.drawn) s in
-    let o = c.len-out.ensures ∙ ap {A = Cpu} (λ x. length x.out) s in
+    let d = c.drawn_len-drawn.ensures ∙ ap {A = Cpu} (λ x. length x.drawn) s in
+    let o = c.out_len-out.ensures ∙ ap {A = Cpu} (λ x. length x.out) s in
     record {
       sum = waits_more c.args.group c.loop-cpu.cpu _ _ _ w (sym c.is_member.ensures ∙ c.if-not-is_member.false) i.sum d o;
       most = omega (arith, i.most, f, d, o);
     }
+
+pub returns : goal.returns
+returns g c =
+    let n : c.loop-cpu.cpu ≡ length (state g.J.Job.key_of c.args.self.now.core).cpus = omega (arith, length-map c.args.self.now.core.processors.items (seen g.J.Job.key_of)) in
+    c.loop-cpu.invariant.sum ∙ ap (λ n. waiting_upto c.args.group n (state g.J.Job.key_of c.args.self.now.core)) n

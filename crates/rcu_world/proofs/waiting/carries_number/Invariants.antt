@@ -1,7 +1,0 @@
-use Rattle.std.proofs.Common.{◌≡◌, drop}
-use Rattle.rcu_law.specs.LabelledLists.{carries}
-use Rattle.rcu_world.specs.Waits.{waits}
-use Rattle.rcu_world.proofs.waiting.carries_number.Given as goal
-
-abbrev pub invariant-loop-w : goal.invariant-loop-w
-invariant-loop-w g l = carries l.number (waits g.J.Job.key_of l.own.items) ≡ carries l.number (waits g.J.Job.key_of (drop l.w-index l.own.items))

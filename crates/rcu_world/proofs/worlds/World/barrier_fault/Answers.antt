@@ -1,0 +1,12 @@
+use Rattle.std.proofs.Common.{◌∙◌, arith, sym}
+use Rattle.rcu_world.specs.Views.{state}
+use Rattle.rcu_world.proofs.Entering.{not_there}
+use Rattle.rcu_world.proofs.Faults.{caller_absent, caller_there}
+use Rattle.rcu_world.proofs.Seen.{has_at}
+use Rattle.rcu_world.proofs.worlds.World.barrier_fault.Goals as goal
+
+pub returns-in-Some : goal.returns-in-Some
+returns-in-Some g c = sym (caller_absent (state g.J.Job.key_of c.args.self.now.core) c.args.by c.args.tickets.now c.in-Some.cpu c.in-Some.is (not_there g.J.Job.key_of c.args.self.now.core c.in-Some.cpu (omega arith)))
+
+pub returns-in-Some-2 : goal.returns-in-Some-2
+returns-in-Some-2 g c = c.ticket_fault.ensures ∙ sym (caller_there (state g.J.Job.key_of c.args.self.now.core) c.args.by c.args.tickets.now c.in-Some.cpu c.in-Some.is (has_at g.J.Job.key_of c.args.self.now.core c.in-Some.cpu (omega arith)))

@@ -1,0 +1,42 @@
+use Rattle.std.proofs.Common.{◌∙◌, ◌<◌, ◌≤◌, ap, refl, sym, subst}
+use Rattle.rcu_law.specs.Events.CoreEvent.{Start, End}
+use Rattle.rcu_world.specs.Views.{state}
+use Rattle.rcu_world.proofs.Driving.{driver_ends, answers_ended, answers_waits, answers_started, answers_spent, answers_idle}
+use Rattle.rcu_world.proofs.Passing.{leads_same}
+use Rattle.rcu_world.proofs.worlds.World.driver_turn.Goals as goal
+
+pub returns-then-perform-clause-events : goal.returns-then-perform-clause-events
+returns-then-perform-clause-events g c = driver_ends (state g.J.Job.key_of c.args.self.now.core) _ c.if-number-ne0.true c.perform.ensures.leads.1
+
+pub returns-then-perform-clause-answer : goal.returns-then-perform-clause-answer
+returns-then-perform-clause-answer g c = answers_ended (state g.J.Job.key_of c.args.self.now.core) c.if-number-ne0.true (sym c.perform.ensures.enabled ∙ c.if-perform.true)
+
+pub returns-then-perform-clause-rest : goal.returns-then-perform-clause-rest
+returns-then-perform-clause-rest g c = c.perform.ensures.rest refl c.requires.rest
+
+pub returns-then-number-ne0-clause-events : goal.returns-then-number-ne0-clause-events
+returns-then-number-ne0-clause-events g c = driver_ends (state g.J.Job.key_of c.args.self.now.core) _ c.if-number-ne0.true c.perform.ensures.leads.1
+
+pub returns-then-number-ne0-clause-answer : goal.returns-then-number-ne0-clause-answer
+returns-then-number-ne0-clause-answer g c =
+    let w = state g.J.Job.key_of c.args.self.now.core in
+    let e = sym c.perform.ensures.enabled ∙ c.if-perform.false in
+    answers_waits w _ c.mask_of.result c.if-number-ne0.true c.requires.world.fit.core.board.phase e (leads_same w _ End e c.perform.ensures.leads.1) c.mask_of.ensures
+
+pub returns-then-perform-2-clause-answer : goal.returns-then-perform-2-clause-answer
+returns-then-perform-2-clause-answer g c = answers_started (state g.J.Job.key_of c.args.self.now.core) c.if-number-ne0.false (sym c.perform-2.ensures.enabled ∙ c.if-perform-2.true)
+
+pub returns-then-perform-2-clause-rest : goal.returns-then-perform-2-clause-rest
+returns-then-perform-2-clause-rest g c = c.perform-2.ensures.rest refl c.requires.rest
+
+pub returns-then-number-self-clause-answer : goal.returns-then-number-self-clause-answer
+returns-then-number-self-clause-answer g c =
+    let w = state g.J.Job.key_of c.args.self.now.core in
+    let e = sym c.perform-2.ensures.enabled ∙ c.if-perform-2.false in
+    answers_spent w c.if-number-ne0.false e (subst (λ n. w.number < n) (ap (λ s. s.needed) (leads_same w _ Start e c.perform-2.ensures.leads.1)) c.if-number-self.true)
+
+pub returns-clause-answer : goal.returns-clause-answer
+returns-clause-answer g c =
+    let w = state g.J.Job.key_of c.args.self.now.core in
+    let e = sym c.perform-2.ensures.enabled ∙ c.if-perform-2.false in
+    answers_idle w c.if-number-ne0.false (subst (λ n. n ≤ w.number) (ap (λ s. s.needed) (leads_same w _ Start e c.perform-2.ensures.leads.1)) c.if-number-self.false)

@@ -1,0 +1,21 @@
+use Rattle.std.proofs.Common.{length, refl, ◌∙◌, ℕ, Bool, Option, Some, None, cond, ap, sym}
+use Rattle.std.proofs.lemmas.Bool.{lt-ltb}
+use Rattle.rcu_law.specs.Events.CoreEvent.{Report}
+use Rattle.rcu_world.specs.Views.{state}
+use Rattle.rcu_world.proofs.Leading.{leads_one}
+use Rattle.rcu_world.proofs.worlds.World.quiescent.Goals.{then-is_set, else-is_set}
+use Rattle.rcu_world.proofs.worlds.World.quiescent.Goals as goal
+
+pub returns-clause-events : goal.returns-clause-events
+returns-clause-events g c =
+    let w = state g.J.Job.key_of c.args.self.now.core in
+    leads_one w _ (Report c.args.cpu) (lt-ltb c.args.cpu (length w.cpus) c.requires.there) c.in_ok-attempt.ensures.leads.1
+
+pub returns-clause-number : goal.returns-clause-number
+returns-clause-number g c = elim c.if-is_set.branch [
+  | then-is_set w ↦ w.counted-is ∙ sym (ap {A = Bool} {B = Option ℕ} (λ b. cond b (Some c.args.self.now.core.number) None) (sym c.is_set.ensures ∙ w.if-is_set.true))
+  | else-is_set w ↦ w.counted-is ∙ sym (ap {A = Bool} {B = Option ℕ} (λ b. cond b (Some c.args.self.now.core.number) None) (sym c.is_set.ensures ∙ w.if-is_set.false))
+]
+
+pub returns-clause-rest : goal.returns-clause-rest
+returns-clause-rest g c = c.attempt.ensures.rest refl c.requires.rest
