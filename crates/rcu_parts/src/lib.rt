@@ -37,6 +37,8 @@ pub use reporting::Reading;
 #[cfg(test)]
 mod tests;
 #[cfg(test)]
+mod tests_close;
+#[cfg(test)]
 mod tests_group;
 #[cfg(test)]
 mod tests_open;
