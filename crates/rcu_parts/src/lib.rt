@@ -32,6 +32,7 @@ pub use laws::same_parts;
 pub use opening::open;
 pub use parts::{AllParts, Parts};
 pub use processor::Processor;
+pub use rcu_control::{Barrier, Control, Driver, ReadsTurns};
 pub use reporting::Reading;
 
 #[cfg(test)]
