@@ -1,7 +1,7 @@
 -- Lists of views, of which one changes.
 use Rattle.rcu_board.specs.Views.{Every, total, cpus, one_if_equal}
 use Rattle.rcu_board.specs.Laws.{Each}
-use Rattle.std.proofs.Common.{◌≡◌, ◌≢◌, ℕ, zero, suc, ◌+◌, ◌≤◌, cond, eq-eqb, ne_eqb, List, [], ◌∷◌, ◌++◌, map, set, sym, refl, ap, subst, ⊎_elim, arith}
+use Rattle.std.proofs.Common.{◌≡◌, ◌≢◌, ℕ, zero, suc, ◌+◌, ◌≤◌, cond, eq-eqb, ne_eqb, List, [], ◌∷◌, ◌++◌, map, length, get_or, set, sym, refl, ap, subst, ⊎_elim, arith}
 use mathlib.Core.Option.{some, some-injective, some-ne-none}
 use lib.ListN.{get_elem?}
 use Rattle.atomic_table.proofs.Lists.{at_set}
@@ -55,6 +55,12 @@ pub each_set : (views : List View) (id : ℕ) (w : View) (P Q : View → Type 0)
 each_set views id w P Q all others here k u e = ⊎_elim
     (λ t. subst Q t.1 here)
     (λ t. others k u t.0 t.1 (all k u t.1)) (at_set views id k w u e)
+
+-- what is said of the one processor of a view
+pub of_alone : (P : Own → Type 0) (l : List Own) (p : ℕ) → cpus l ≡ p ∷ [] → Every (λ (o : Own). o.cpu ≡ p → P o) l → (o : Own) × (l ≡ o ∷ []) × P o
+of_alone P [] p e h = absurd (omega (arith, ap length e))
+of_alone P (o ∷ []) p e h = (o, refl, the_one (λ (u : Own). u.cpu ≡ p → P u) o h (ap (λ (xs : List ℕ). get_or xs 0 0) e))
+of_alone P (o ∷ q ∷ os) p e h = let long : length (cpus (o ∷ q ∷ os)) ≡ 1 = ap length e in absurd (omega arith)
 
 pub cpus-map : (f : Own → Own) → ((o : Own) → (f o).cpu ≡ o.cpu) → (l : List Own) → cpus (map f l) ≡ cpus l
 cpus-map f same [] = refl

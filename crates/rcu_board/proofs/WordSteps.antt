@@ -2,7 +2,7 @@
 use Rattle.rcu_board.specs.Views.{one_if, Every, total, seen_at, sight, accepted_count, fresh_count, one_if_claim, one_if_on, claimed, runs, cpus, one_if_equal, own_count, control_count}
 use Rattle.rcu_board.specs.Laws.{BoardRule, ViewAlone, AcceptLawInView, TurnLawInView, Reported}
 use Rattle.rcu_board.specs.Words.{urge_word, accepts_word, turns_word, asks_word, cpu_of}
-use Rattle.rcu_board.specs.Plays.{SeatState, touched, Loading, Switching, Needing, accept_own, accepted, Accepting, Shutting, claim_of, claiming, Claiming, finished, Finishing, urged, Urging, Hearing}
+use Rattle.rcu_board.specs.Plays.{SeatState, touched, Loading, Switching, Needing, accept_own, accepted, Accepting, Counting, Shutting, claim_of, claiming, Claiming, finished, Finishing, urged, Urging, Hearing}
 use Rattle.std.proofs.Common.{◌≡◌, ◌≢◌, ℕ, zero, suc, ◌+◌, ◌*◌, ◌%◌, ◌/◌, ◌^◌, ◌<◌, ◌≤◌, Bool, true, cond, eqb, ltb, None, List, [], ◌∷◌, ◌++◌, map, length, get_or, set, sym, refl, ap, ◌∙◌, subst, arith, eq-eqb, ne_eqb, max}
 use mathlib.Core.Logic.{dite}
 use mathlib.Core.Option.{some, none, some-injective}
@@ -80,8 +80,14 @@ module _ (n seats slots id : ℕ) (m : SeatState) (live : 0 < m.0.weight) where
   pub needed_allowed : Allows (BoardRule n seats) slots id m 1 (λ y. y) (Loading (step slots 1 0 0 none) m)
   needed_allowed s k _ at _ = (touched 1 (get_or s.words 1 0) m.0, keeps, tt, loaded n seats s k id m.0 at live 1 (λ e. omega arith) (omega arith), record { view = refl; later = k.needed id m.0 at })
 
-  pub count_allowed : (p : ℕ) → p < n → Allows (BoardRule n seats) slots id m (accepts_word p) (λ y. y) (Loading (step slots (accepts_word p) 0 0 none) m)
-  count_allowed p low s k _ at _ = let i : ℕ = accepts_word p in (touched i (get_or s.words i 0) m.0, keeps, tt, loaded n seats s k id m.0 at live i (λ e. omega arith) (omega arith), record { view = refl; later = (k.accept p low id m.0 at).sight })
+  pub count_allowed : (p : ℕ) → p < n → Allows (BoardRule n seats) slots id m (accepts_word p) (λ y. y) (Counting (step slots (accepts_word p) 0 0 none) m)
+  count_allowed p low s k _ at _ = let i : ℕ = accepts_word p in let x : ℕ = get_or s.words i 0 in let a = k.accept p low id m.0 at in let same : p ≡ cpu_of i = omega arith in (
+    touched i x m.0,
+    keeps,
+    tt,
+    loaded n seats s k id m.0 at live i (λ e. omega arith) (omega arith),
+    record { view = refl; later = a.sight; own = subst (λ (q : ℕ). Every (λ (o : Own). o.cpu ≡ q → x / 2 ≡ accepted_count o) m.0.own) same a.count },
+  )
 
   pub turn_allowed : (p : ℕ) → p < n → Allows (BoardRule n seats) slots id m (turns_word p) (λ y. y) (Loading (step slots (turns_word p) 0 0 none) m)
   turn_allowed p low s k _ at _ = let i : ℕ = turns_word p in (touched i (get_or s.words i 0) m.0, keeps, tt, loaded n seats s k id m.0 at live i (λ e. omega arith) (omega arith), record { view = refl; later = ((k.turn p low).in_views id m.0 at).sight })

@@ -83,6 +83,12 @@ pub record Accepting (st : Step ℕ) (m : SeatState) (r : ℕ) (n : SeatState) :
   pub odd : r ≢ st.first → r ≡ st.first + 1
   pub later : seen_at m.0 st.word ≤ r
 
+-- count_of: a load of A_p, by which the seat of p itself finds the length of its own accepted list, since no other seat lengthens it
+pub record Counting (st : Step ℕ) (m : SeatState) (r : ℕ) (n : SeatState) : Type 0 where
+  pub view : n ≡ (touched st.word r m.0, m.1)
+  pub later : seen_at m.0 st.word ≤ r
+  pub own : Every (λ (o : Own). o.cpu ≡ cpu_of st.word → r / 2 ≡ accepted_count o) m.0.own
+
 pub record Shutting (st : Step ℕ) (m : SeatState) (r : ℕ) (n : SeatState) : Type 0 where
   pub view : n ≡ (touched st.word (r / 2 * 2 + 1) m.0, m.1)
   pub later : seen_at m.0 st.word ≤ r

@@ -1,8 +1,8 @@
 -- Words for the clauses of steps.
-use Rattle.std.specs.Prelude.{◌≡◌, ℕ, ◌<◌, ◌≤◌, List, [], ◌∷◌, Option, None}
+use Rattle.std.specs.Prelude.{◌≡◌, ℕ, ◌+◌, ◌<◌, ◌≤◌, List, [], ◌∷◌, length, Option, None}
 use Rattle.rcu_numbers.specs.Words.{owes_of}
 use Rattle.rcu_board.specs.Words.{accepts_word, turns_word}
-use Rattle.rcu_board.specs.Views.{seen_at, sight}
+use Rattle.rcu_board.specs.Views.{seen_at, sight, fresh_count}
 use Rattle.rcu_board.specs.Roles.{IsProcessor, cpu_of_role}
 use Rattle.rcu_board.specs.declared.board.Role.{Role}
 use Rattle.rcu_board.specs.declared.board.Board.{Board}
@@ -59,6 +59,10 @@ first_fresh (o ∷ os) = o.fresh
 -- the key of the accepted number that has none yet
 abbrev pub fresh_of : View → Option ℕ
 fresh_of v = first_fresh v.own
+
+-- how many were accepted, of which the last may have no stamp yet
+abbrev pub count_of_own : View → ℕ
+count_of_own v = length (accepted_of v) + fresh_count (fresh_of v)
 
 -- ---- claims
 

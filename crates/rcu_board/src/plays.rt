@@ -2,7 +2,7 @@
 
 ghost use Rattle.rcu_board.specs.Laws.{BoardRule};
 ghost use Rattle.rcu_board.specs.Views.{opening_view, given_plain, plain, given_own, with_own, given_control, with_control, joined, spent};
-ghost use Rattle.rcu_board.specs.Plays.{Loading, Looking, Reporting, Driving, Needing, Accepting, Shutting, Claiming, Finishing, Switching, Urging, Hearing, LastLooking, LastTurning, LastCounting, all_seats};
+ghost use Rattle.rcu_board.specs.Plays.{Loading, Looking, Reporting, Driving, Needing, Accepting, Counting, Shutting, Claiming, Finishing, Switching, Urging, Hearing, LastLooking, LastTurning, LastCounting, all_seats};
 
 use crate::board::Frame;
 use crate::view::View;
@@ -51,6 +51,12 @@ pub(crate) struct Accept;
 
 impl Play<u64, View> for Accept {
     ghost then = { Accepting };
+}
+
+pub(crate) struct Count;
+
+impl Play<u64, View> for Count {
+    ghost then = { Counting };
 }
 
 pub(crate) struct Shut;

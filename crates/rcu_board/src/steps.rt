@@ -1,7 +1,7 @@
 //! The steps of the running seats, each on one word (docs/specification/tables.md, "Kinds of atomic step"). Each asks
 //! that its seat is one of those that the table names.
 
-ghost use Rattle.std.specs.Prelude.{◌≡◌, ◌≢◌, ℕ, ◌+◌, ◌*◌, ◌%◌, ◌<◌, ◌≤◌, ◌↔◌, IsTrue, IfSome, IfNone, IfOk, IfErr, OnOk, None, [], length, max, bit_or, bit_and};
+ghost use Rattle.std.specs.Prelude.{◌≡◌, ◌≢◌, ℕ, ◌+◌, ◌*◌, ◌/◌, ◌%◌, ◌<◌, ◌≤◌, ◌↔◌, IsTrue, IfSome, IfNone, IfOk, IfErr, OnOk, None, [], length, max, bit_or, bit_and};
 ghost use Rattle.std.specs.Int.{from_bool};
 ghost use Rattle.rcu_numbers.specs.Numbers.{IsIdle, IsInProgress};
 ghost use Rattle.rcu_numbers.specs.Words.{Owes, packed, all_of, all_but_of, owes_of};
@@ -10,12 +10,12 @@ ghost use Rattle.rcu_board.specs.Views.{sight, seen_at};
 ghost use Rattle.rcu_board.specs.Laws.{IsBoard};
 ghost use Rattle.rcu_board.specs.Plays.{touched, looked, reported, accepted, claiming, finished, urged};
 ghost use Rattle.rcu_board.specs.Roles.{IsProcessor, IsDriver, IsControl, MayNeed, MayCount, MayClaim, MayHalt, cpu_of_role};
-ghost use Rattle.rcu_board.specs.Seats.{view, AtBoard, SameSeat, NeverFalls, MayHear, IsRunning, running_number, reports_of, accepted_of, fresh_of};
+ghost use Rattle.rcu_board.specs.Seats.{view, AtBoard, SameSeat, NeverFalls, MayHear, IsRunning, running_number, reports_of, accepted_of, fresh_of, count_of_own};
 ghost use Rattle.rcu_board.specs.Claims.{IfWon, IfNot};
 
 use crate::board::{Board, Role, Seat};
 use crate::plays::{
-    Accept, Claim, Drive, Finish, Hear, Load, Look, Need, Report, Shut, Switch, Urge,
+    Accept, Claim, Count, Drive, Finish, Hear, Load, Look, Need, Report, Shut, Switch, Urge,
 };
 use rcu_numbers::{BoardWord, all_but, all_processors, ended};
 
@@ -199,7 +199,8 @@ pub fn shut_one(board: &Board, seat: &mut Seat, p: u64) -> u64
     found / 2
 }
 
-/// Loads twice the count of the callbacks that processor `p` accepted, plus 1 once it was shut.
+/// Loads twice the count of the callbacks that processor `p` accepted, plus 1 once it was shut. To the seat of `p` itself
+/// it is the count of its own accepted list, since no other seat accepts there.
 pub fn count_of(board: &Board, seat: &mut Seat, p: u64) -> u64
     requires board { AtBoard board.now seat.old }
     requires who { MayCount seat.old.role }
@@ -207,11 +208,12 @@ pub fn count_of(board: &Board, seat: &mut Seat, p: u64) -> u64
     ensures same { SameSeat seat.old seat.new }
     ensures view { view seat.new ≡ touched (accepts_word p) result (view seat.old) }
     ensures later { NeverFalls board.now.processors (view seat.old) (view seat.new) }
+    ensures own { seat.old.role ≡ Role.Processor p → result / 2 ≡ count_of_own (view seat.old) }
 {
     board
         .table
         .shared
-        .load::<Load>(&mut seat.seat, FIRST_ACCEPTS + WORDS_EACH * p as usize)
+        .load::<Count>(&mut seat.seat, FIRST_ACCEPTS + WORDS_EACH * p as usize)
 }
 
 // ---- the turn words

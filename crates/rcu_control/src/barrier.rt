@@ -9,7 +9,7 @@ ghost use Rattle.rcu_board.specs.Words.{turns_word};
 ghost use Rattle.rcu_board.specs.declared.board.Board.{Board};
 ghost use Rattle.rcu_board.specs.declared.board.Seat.{Seat};
 ghost use Rattle.rcu_control.specs.Views.{SamePart};
-ghost use Rattle.rcu_control.specs.Barriers.{ReadsCounts, Opens, PollsBy, AreCounted, count_at, first_fault, ticket_fault};
+ghost use Rattle.rcu_control.specs.Barriers.{ReadsCounts, CountsItsOwn, Opens, PollsBy, AreCounted, count_at, first_fault, ticket_fault};
 
 use rcu_board::{Board, Seat, count_of, urge};
 use rcu_jobs::{BarrierFault, Counts, Passed, Ticket};
@@ -43,6 +43,7 @@ pub(crate) fn read_counts(board: &Board, seat: &mut Seat) -> Counts
     ensures same { SameSeat seat.old seat.new }
     ensures many { result.n ≡ board.now.processors }
     ensures reads { ReadsCounts board.now.processors result (view seat.old) (view seat.new) }
+    ensures own { CountsItsOwn board.now.processors result seat.old }
 {
     let n = board.processors();
     let mut counts = Counts::new(n);
@@ -53,12 +54,14 @@ pub(crate) fn read_counts(board: &Board, seat: &mut Seat) -> Counts
     counts
 }
 
-/// Opens a barrier: reads the count of each processor, and then urges them all to release their bypass lists.
+/// Opens a barrier: reads the count of each processor, and then urges them all to release their bypass lists. A
+/// processor's seat counts each callback that it has accepted itself.
 pub fn open_barrier(board: &Board, seat: &mut Seat) -> Barrier
     requires board { AtBoard board.now seat.old }
     requires who { MayCount seat.old.role }
     ensures same { SameSeat seat.old seat.new }
     ensures opens { Opens board.now.processors result (view seat.old) (view seat.new) }
+    ensures own { CountsItsOwn board.now.processors result.counts seat.old }
 {
     let counts = read_counts(board, seat);
     urge(board, seat);

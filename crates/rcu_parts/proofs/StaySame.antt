@@ -1,5 +1,5 @@
 -- Parts stay those of one open while each stays the same part.
-use Rattle.std.proofs.Common.{◌≡◌, ℕ, suc, ◌+◌, ◌∙◌, Bool, true, false, cond, List, [], ◌∷◌, ◌++◌, length, sum_by, sym, ap, subst, refl, arith}
+use Rattle.std.proofs.Common.{◌≡◌, ℕ, suc, ◌∙◌, Bool, true, false, List, [], ◌∷◌, ◌++◌, sum_by, sym, ap, subst, refl, arith}
 use Rattle.std.specs.List.{All, AllZip}
 use Rattle.std.proofs.lemmas.List.Sums.{sum_by-cons}
 use Rattle.std.proofs.lemmas.Slice.Zip.{AllZip-long}
@@ -8,7 +8,7 @@ use Rattle.rcu_gathering.proofs.Lists.{all_cons, all_head, all_none, all_tail}
 use Rattle.rcu_parts.specs.Groups.{SameFolk, SameGroup, group_board, group_view, members_of}
 use Rattle.rcu_parts.specs.Hands.{SameHand, hand_board, hand_view}
 use Rattle.rcu_parts.specs.OneOpen.{AreOfOneOpen, AreProcessorsFrom, HasHand, HasMember, Parts, groups_in, hands_in, members_in, offloadable_in, parts_board, processors_in}
-use Rattle.rcu_parts.specs.Processors.{SameProcessor, board_of, view_of}
+use Rattle.rcu_parts.specs.Processors.{SameProcessor, view_of}
 use Rattle.rcu_parts.specs.SameParts.{AreSameParts}
 use Rattle.rcu_parts.specs.declared.folk.Folk.{Folk}
 use Rattle.rcu_parts.specs.declared.group.Group.{Group}

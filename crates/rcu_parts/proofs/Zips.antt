@@ -2,6 +2,7 @@
 use Rattle.std.proofs.Common.{◌≡◌, ℕ, zero, suc, ◌+◌, ◌<◌, List, [], ◌∷◌, ◌++◌, length, append-nil, ap, sym, ◌∙◌, refl, subst, arith}
 use Rattle.std.specs.Prelude.{All, sum_by}
 use Rattle.std.specs.List.{AllZip, range_with_len}
+use Rattle.std.proofs.lemmas.List.{nil_from_length}
 use Rattle.std.proofs.lemmas.List.Elements.{All-cons, All-nil}
 use Rattle.std.proofs.lemmas.List.Sums.{sum_by-cons}
 use Rattle.rcu_board.specs.Opened.{InOrder, SeatForEach}
@@ -57,13 +58,9 @@ as_many_seats P [] (x ∷ xs) h = absurd h
 as_many_seats P (k ∷ ks) [] h = absurd h
 as_many_seats P (k ∷ ks) (x ∷ xs) h = let more = as_many_seats P ks xs h.1 in omega (arith, more)
 
-pub none_long : {X : Type 0} (l : List X) → length l ≡ 0 → l ≡ []
-none_long [] e = refl
-none_long (x ∷ xs) e = absurd (omega (arith, e))
-
 -- none is left
 pub seats_over : (P : ℕ → Seat → Type 0) (ks : List ℕ) (xs : List Seat) → SeatForEach P ks xs → length xs ≡ 0 → ks ≡ []
-seats_over P ks xs h e = none_long ks (sym (as_many_seats P ks xs h) ∙ e)
+seats_over P ks xs h e = nil_from_length ks (sym (as_many_seats P ks xs h) ∙ e)
 
 pub all_of : {X : Type 0} (xs rest all : List X) → xs ++ rest ≡ all → rest ≡ [] → xs ≡ all
 all_of xs rest all h e = sym (append-nil xs) ∙ ap (λ l. xs ++ l) (sym e) ∙ h

@@ -1,5 +1,4 @@
 -- Each part stays the same part of its open: docs/specification/promises.md, "Headline on the running parts", Same part.
-use Rattle.std.specs.Prelude.{◌≡◌, ℕ}
 use Rattle.std.specs.List.{AllZip}
 use Rattle.rcu_control.specs.Parts.{control_board, control_seat, driver_board, driver_seat}
 use Rattle.rcu_control.specs.Views.{SamePart}

@@ -65,6 +65,13 @@ impl<J: Job> Group<J> {
         }
     }
 
+    /// The group's number.
+    pub fn number(&self) -> u64
+        ensures { result ≡ self.now.state.group }
+    {
+        self.state.group
+    }
+
     /// What is shown of the group's list for processor `p`; None where that isn't a member.
     pub fn lists(&self, p: u64) -> Option<Lists>
         ensures { ShownFor p result (members_of self.now.state) }

@@ -65,4 +65,11 @@ impl<J: Job> Hand<J> {
             },
         }
     }
+
+    /// The processor that it runs for.
+    pub fn cpu(&self) -> u64
+        ensures { result ≡ self.now.state.cpu }
+    {
+        self.state.cpu
+    }
 }

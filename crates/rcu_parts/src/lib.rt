@@ -43,3 +43,5 @@ mod tests_close;
 mod tests_group;
 #[cfg(test)]
 mod tests_open;
+#[cfg(test)]
+mod tests_rows;

@@ -1,3 +1,6 @@
+pub mod Labels
+pub mod Below
+pub mod Orders
 pub mod Waits
 pub mod Paces
 pub mod Claims

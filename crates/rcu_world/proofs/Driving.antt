@@ -8,7 +8,8 @@ use Rattle.rcu_law.specs.Lists.{none_owes}
 use Rattle.rcu_law.specs.States.{State}
 use Rattle.rcu_law.specs.Events.{is_enabled}
 use Rattle.rcu_law.specs.Events.CoreEvent.{Start, End}
-use Rattle.rcu_world.specs.Turns.{Leads, where_enabled, driver_events, driver_answer, mask_of}
+use Rattle.rcu_world.specs.Boards.{mask_of}
+use Rattle.rcu_world.specs.Turns.{Leads, where_enabled, driver_events, driver_answer}
 
 abbrev pub answer_of : State → Bool → Bool → Bool → Bool → DriverTurn
 answer_of w idle wanted fits none =
@@ -27,29 +28,39 @@ second_false : (a b : Bool) → a ≡ true → (a && b) ≡ false → b ≡ fals
 second_false true b h e = e
 second_false false b h e = absurd cc
 
-pub driver_ends : (w new : State) → (w.number % 4 ≡ 0 → ⊥) → Leads w (where_enabled End w) new → Leads w (driver_events w) new
-driver_ends w new d l = subst (λ b. Leads w (cond b (where_enabled Start w) (where_enabled End w)) new) (sym (ne_eqb (w.number % 4) 0 d)) l
+-- the number that the driver read is the state's
+busy : (w : State) (number : ℕ) → number ≡ w.number → (number % 4 ≡ 0 → ⊥) → w.number % 4 ≡ 0 → ⊥
+busy w number n d z = d (ap (λ x. x % 4) n ∙ z)
 
-pub answers_ended : (w : State) → (w.number % 4 ≡ 0 → ⊥) → is_enabled w End ≡ true → drivers.Ended (w.number + 3) ≡ driver_answer w
-answers_ended w d e = answered w false (nat_lt w.number w.needed) (nat_lt w.number GREATEST_NUMBER) true (ne_eqb (w.number % 4) 0 d) refl refl (and_parts (nat_eq (w.number % 4) 1) (none_owes w.owing) e).1
+idle : (w : State) (number : ℕ) → number ≡ w.number → number % 4 ≡ 0 → w.number % 4 ≡ 0
+idle w number n z = ap (λ x. x % 4) (sym n) ∙ z
 
-pub answers_waits : (w new : State) (mask : ℕ) → (w.number % 4 ≡ 0 → ⊥) → w.number % 4 ≤ 1 → is_enabled w End ≡ false → new ≡ w → mask ≡ mask_of new.owing → drivers.Waits mask ≡ driver_answer w
-answers_waits w new mask d p e s m =
-    let o : w.number % 4 ≡ 1 = omega (arith, p, d) in
+pub driver_ends : (w new : State) (number : ℕ) → number ≡ w.number → (number % 4 ≡ 0 → ⊥) → Leads w (where_enabled End w) new → Leads w (driver_events w) new
+driver_ends w new number n d l = subst (λ b. Leads w (cond b (where_enabled Start w) (where_enabled End w)) new) (sym (ne_eqb (w.number % 4) 0 (busy w number n d))) l
+
+pub answers_ended : (w : State) (number : ℕ) → number ≡ w.number → (number % 4 ≡ 0 → ⊥) → is_enabled w End ≡ true → drivers.Ended (number + 3) ≡ driver_answer w
+answers_ended w number n d e = ap (λ x. drivers.Ended (x + 3)) n
+    ∙ answered w false (nat_lt w.number w.needed) (nat_lt w.number GREATEST_NUMBER) true (ne_eqb (w.number % 4) 0 (busy w number n d)) refl refl (and_parts (nat_eq (w.number % 4) 1) (none_owes w.owing) e).1
+
+pub answers_waits : (w new : State) (number mask : ℕ) → number ≡ w.number → (number % 4 ≡ 0 → ⊥) → w.number % 4 ≤ 1 → is_enabled w End ≡ false → new ≡ w → mask ≡ mask_of new.owing → drivers.Waits mask ≡ driver_answer w
+answers_waits w new number mask n d p e s m =
+    let b = busy w number n d in
+    let o : w.number % 4 ≡ 1 = omega (arith, p, b) in
     ap drivers.Waits (m ∙ ap (λ x. mask_of x.owing) s)
-    ∙ answered w false (nat_lt w.number w.needed) (nat_lt w.number GREATEST_NUMBER) false (ne_eqb (w.number % 4) 0 d) refl refl
+    ∙ answered w false (nat_lt w.number w.needed) (nat_lt w.number GREATEST_NUMBER) false (ne_eqb (w.number % 4) 0 b) refl refl
     (second_false (nat_eq (w.number % 4) 1) (none_owes w.owing) (eq-eqb (w.number % 4) 1 o) e)
 
-pub answers_started : (w : State) → w.number % 4 ≡ 0 → is_enabled w Start ≡ true → drivers.Started (w.number + 1) ≡ driver_answer w
-answers_started w z e =
+pub answers_started : (w : State) (number : ℕ) → number ≡ w.number → number % 4 ≡ 0 → is_enabled w Start ≡ true → drivers.Started (number + 1) ≡ driver_answer w
+answers_started w number n z e =
     let h = and_parts (nat_lt w.number w.needed) (nat_lt w.number GREATEST_NUMBER) (and_parts (nat_eq (w.number % 4) 0) (nat_lt w.number w.needed && nat_lt w.number GREATEST_NUMBER) e).1 in
-    answered w true true true (none_owes w.owing) (eq-eqb (w.number % 4) 0 z) h.0 h.1 refl
+    ap (λ x. drivers.Started (x + 1)) n ∙ answered w true true true (none_owes w.owing) (eq-eqb (w.number % 4) 0 (idle w number n z)) h.0 h.1 refl
 
-pub answers_spent : (w : State) → w.number % 4 ≡ 0 → is_enabled w Start ≡ false → w.number < w.needed → drivers.Spent ≡ driver_answer w
-answers_spent w z e l =
-    let n = lt-ltb w.number w.needed l in
-    let f = second_false (nat_lt w.number w.needed) (nat_lt w.number GREATEST_NUMBER) n (second_false (nat_eq (w.number % 4) 0) (nat_lt w.number w.needed && nat_lt w.number GREATEST_NUMBER) (eq-eqb (w.number % 4) 0 z) e) in
-    answered w true true false (none_owes w.owing) (eq-eqb (w.number % 4) 0 z) n f refl
+pub answers_spent : (w : State) (number : ℕ) → number ≡ w.number → number % 4 ≡ 0 → is_enabled w Start ≡ false → number < w.needed → drivers.Spent ≡ driver_answer w
+answers_spent w number n z e l =
+    let i = eq-eqb (w.number % 4) 0 (idle w number n z) in
+    let a = lt-ltb w.number w.needed (subst (λ x. x < w.needed) n l) in
+    let f = second_false (nat_lt w.number w.needed) (nat_lt w.number GREATEST_NUMBER) a (second_false (nat_eq (w.number % 4) 0) (nat_lt w.number w.needed && nat_lt w.number GREATEST_NUMBER) i e) in
+    answered w true true false (none_owes w.owing) i a f refl
 
-pub answers_idle : (w : State) → w.number % 4 ≡ 0 → w.needed ≤ w.number → drivers.Idle ≡ driver_answer w
-answers_idle w z l = answered w true false (nat_lt w.number GREATEST_NUMBER) (none_owes w.owing) (eq-eqb (w.number % 4) 0 z) (le-ltb w.number w.needed l) refl refl
+pub answers_idle : (w : State) (number : ℕ) → number ≡ w.number → number % 4 ≡ 0 → w.needed ≤ number → drivers.Idle ≡ driver_answer w
+answers_idle w number n z l = answered w true false (nat_lt w.number GREATEST_NUMBER) (none_owes w.owing) (eq-eqb (w.number % 4) 0 (idle w number n z)) (le-ltb w.number w.needed (subst (λ x. w.needed ≤ x) n l)) refl refl

@@ -8,7 +8,9 @@ use Rattle.rcu_numbers.specs.declared.Shape.{Shape as Limits}
 use Rattle.rcu_numbers.specs.Limits.{IsWithinLimits}
 use Rattle.rcu_law.proofs.Opening.{opening_kept, length_opening}
 use Rattle.rcu_world.specs.Turns.{IsIdle, IsAtRest}
-use Rattle.rcu_world.specs.Worlds.{IsFit, bits, plan}
+use Rattle.rcu_world.specs.Boards.{GracePeriod, bits}
+use Rattle.rcu_world.specs.Worlds.{IsFit, plan}
+use Rattle.rcu_world.proofs.Masks.{length_bits}
 
 pub all_more : {X : Type 0} (P : X → Type 0) (xs : List X) (x : X) → AllByRecursion P xs → P x → AllByRecursion P (xs ++ x ∷ [])
 all_more P [] x a h = (h, tt)
@@ -34,16 +36,12 @@ opening_each : (bs : List Bool) → opening_cpus (length bs) bs ≡ map opening_
 opening_each [] = refl
 opening_each (b ∷ bs) = ap (λ cs. opening_cpu b ∷ cs) (opening_each bs)
 
-length_bits : (n mask : ℕ) → length (bits n mask) ≡ n
-length_bits zero mask = refl
-length_bits (suc n) mask = ap suc (length_bits n (mask / 2))
-
 pub opening_bits : (n mask : ℕ) (bs : List Bool) → bs ≡ bits n mask → map opening_cpu bs ≡ opening_cpus n (bits n mask)
 opening_bits n mask bs e = ap (map opening_cpu) e ∙ sym (opening_each (bits n mask)) ∙ ap (λ k. opening_cpus k (bits n mask)) (length_bits n mask)
 
-pub at_rest : (plan : Shape) (n : ℕ) (offloadable : List Bool) (owing : List Bool) (cs : List Cpu) (bs : List Barrier) (h : List Mark) → offloadable ≡ plan.offloadable → owing ≡ replicate n false → cs ≡ opening_cpus n plan.offloadable → bs ≡ [] → h ≡ []
-    → record { shape = record plan { offloadable = offloadable }; number = 0; owing = owing; needed = 0; cpus = cs; barriers = bs; history = h } ≡ opening n plan
-at_rest plan n offloadable owing cs bs h s o c b e = rw (s, o, c, b, e) refl
+pub at_rest : (plan : Shape) (n : ℕ) (offloadable : List Bool) (board : GracePeriod) (cs : List Cpu) (bs : List Barrier) (h : List Mark) → offloadable ≡ plan.offloadable → board ≡ record { number = 0; owing = replicate n false } → cs ≡ opening_cpus n plan.offloadable → bs ≡ [] → h ≡ []
+    → record { shape = record plan { offloadable = offloadable }; number = board.number; owing = board.owing; needed = 0; cpus = cs; barriers = bs; history = h } ≡ opening n plan
+at_rest plan n offloadable board cs bs h s o c b e = rw (s, o, c, b, e) refl
 
 pub fit_opening : (s : Limits) → IsWithinLimits s.processors s.offloadable s.stride s.blimit s.qhimark s.limit → IsFit (opening s.processors (plan s))
 fit_opening s w = record {

@@ -97,10 +97,10 @@ module _ {J R : Type 0} (key_of : J → ℕ) where
       (seen_at w.processors.items i p l e ∙ get_or_default (all_seen key_of w.processors.items) i empty_cpu (seen key_of p) (omega (arith, length-map w.processors.items (seen key_of))))
 
   -- what a look asks of its own list holds
-  pub lookable_at : (w : Core J R) (i : ℕ) (p : Processor J R) → IsCore (state key_of w) → i < length w.processors.items → p ≡ get_or w.processors.items i p → IsLookable w.number (seen key_of p).own
+  pub lookable_at : (w : Core J R) (i : ℕ) (p : Processor J R) → IsCore (state key_of w) → i < length w.processors.items → p ≡ get_or w.processors.items i p → IsLookable w.board.number (seen key_of p).own
   lookable_at w i p k l e =
       let n : i < length (all_seen key_of w.processors.items) = omega (arith, length-map w.processors.items (seen key_of)) in
-      subst (λ x. IsLookable w.number x.own) (sym (seen_at w.processors.items i p l e)) (record { small = look_fits (state key_of w) i k n; may = (labelled_lists (state key_of w) i k n).own_accelerates })
+      subst (λ x. IsLookable w.board.number x.own) (sym (seen_at w.processors.items i p l e)) (record { small = look_fits (state key_of w) i k n; may = (labelled_lists (state key_of w) i k n).own_accelerates })
 
   -- the first stamp that a hand holds isn't too great
   pub held_fits_at : (w : Core J R) (i : ℕ) (p : Processor J R) → IsCore (state key_of w) → i < length w.processors.items → p ≡ get_or w.processors.items i p → (front (seen key_of p).held).stamp ≤ GREATEST_NUMBER

@@ -1,3 +1,4 @@
+pub mod Boards
 pub mod Barrings
 pub mod Views
 pub mod Events

@@ -1,5 +1,5 @@
 -- The turn calls, as lists of events. docs/specification/rules.md, "On the core"; docs/specification/surface.md, "rcu_world"
-use Rattle.std.specs.Prelude.{ℕ, zero, suc, ◌+◌, ◌*◌, ◌%◌, ◌≡◌, Bool, true, false, not, ◌&&◌, ◌==◌, nat_lt, if◌then◌else◌, Option, Some, None, nat_le, ◌<◌, ◌⊎◌, slice_index, List, [], ◌∷◌, ◌++◌, length}
+use Rattle.std.specs.Prelude.{ℕ, zero, suc, ◌+◌, ◌%◌, ◌≡◌, Bool, true, false, not, ◌&&◌, ◌==◌, nat_lt, if◌then◌else◌, Option, Some, None, nat_le, ◌<◌, ◌⊎◌, slice_index, List, [], ◌∷◌, ◌++◌, length}
 use Rattle.rcu_jobs.specs.declared.Stop.{Stop}
 use Rattle.rcu_jobs.specs.declared.Stop.TheVariants as stops
 use Rattle.rcu_law.specs.declared.who.Side.{Side}
@@ -15,12 +15,12 @@ use Rattle.rcu_jobs.specs.declared.BarrierFault.{BarrierFault}
 use Rattle.rcu_jobs.specs.declared.BarrierFault.TheVariants as barriers
 use Rattle.rcu_law.specs.Numbers.{GREATEST_NUMBER}
 use Rattle.rcu_law.specs.Lists.{none_owes}
-use Rattle.rcu_law.specs.Invariant.{owed}
 use Rattle.rcu_law.specs.States.{State, Cpu, cpu_at, has, is_offloadable, is_offloaded}
 use Rattle.rcu_law.specs.Steps.{can_claim}
 use Rattle.rcu_processor.specs.Turns.{has_none, is_switching}
 use Rattle.rcu_law.specs.Releases.{releases, releases_in_tick, moment_of_tick}
 use Rattle.rcu_law.specs.Events.{CoreEvent, is_enabled, happens, run}
+use Rattle.rcu_world.specs.Boards.{mask_of}
 use Rattle.rcu_law.specs.Events.CoreEvent.{Accept, Stamp, Put, Start, End, Look, Need, Claim, Finish, Heed, Settle, Hear, LookHand, Fetch, Shut, Open, Count, Urge}
 
 -- every event of the list is enabled, one after another
@@ -119,11 +119,6 @@ hand_events p ran = and_then (where_enabled (LookHand p)) (and_then (where_enabl
 -- `offload` and `deoffload`: Ask, where there is such a processor (tested first) and it is offloadable
 abbrev pub switch_answer : State → ℕ → Result (Unit {0}) SwitchFault
 switch_answer w p = if not (has w p) then Err (faults.NoProcessor p) else if not (is_offloadable w p) then Err (faults.NotOffloadable p) else Ok tt
-
--- the bits of the processors that owe a report
-abbrev pub mask_of : List Bool → ℕ
-mask_of [] = 0
-mask_of (b ∷ bs) = owed b + 2 * mask_of bs
 
 -- `driver_turn`: Start or End
 abbrev pub driver_events : State → List CoreEvent

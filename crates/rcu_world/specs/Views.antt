@@ -13,8 +13,8 @@ all_seen key_of cs = map (seen key_of) cs
 abbrev pub state : {J R : Type 0} → (J → ℕ) → Core J R → State
 state key_of w = record {
   shape = record { offloadable = w.offloadable.items; stride = w.stride; blimit = w.blimit; qhimark = w.qhimark; limit = w.limit };
-  number = w.number;
-  owing = w.owing.items;
+  number = w.board.number;
+  owing = w.board.owing;
   needed = w.needed;
   cpus = all_seen key_of w.processors.items;
   barriers = map barrier w.barriers.items;

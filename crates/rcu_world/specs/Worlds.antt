@@ -1,10 +1,11 @@
 -- What always holds of a world
-use Rattle.std.specs.Prelude.{ℕ, zero, suc, ◌≤◌, ◌%◌, ◌/◌, ◌==◌, Bool, List, [], ◌∷◌, length}
+use Rattle.std.specs.Prelude.{ℕ, ◌≤◌, length}
 use Rattle.rcu_numbers.specs.declared.Shape.{Shape}
 use Rattle.rcu_law.specs.States.{State, Shape as Plan}
 use Rattle.rcu_law.specs.Invariant.{IsCore}
 use Rattle.rcu_law.specs.Law.{HasNoBack}
 use Rattle.rcu_world.specs.declared.cores.Core.{Core}
+use Rattle.rcu_world.specs.Boards.{bits}
 use Rattle.rcu_world.specs.Views.{state, AllGiven}
 
 -- the machine's invariant, the limits of its shape, and that it isn't closed
@@ -18,11 +19,6 @@ pub record IsFit (w : State) : Type 0 where
 pub record IsWorld {J R : Type 0} (key_of : J → ℕ) (gives : ℕ → R → Type 0) (w : Core J R) : Type 0 where
   pub fit : IsFit (state key_of w)
   pub given : AllGiven gives w
-
--- the lowest n bits of a mask
-abbrev pub bits : ℕ → ℕ → List Bool
-bits zero mask = []
-bits (suc n) mask = (mask % 2 == 1) ∷ bits n (mask / 2)
 
 -- the shape that the law speaks of
 abbrev pub plan : Shape → Plan

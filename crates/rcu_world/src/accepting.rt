@@ -48,7 +48,7 @@ impl<J: Job> Core<J, J::Receipt> {
         ensures sure { IsReadyAt self.old cpu → lacks_room result ≡ false }
         ensures given { AllGiven J.gives self.old → AllGiven J.gives self.new }
     {
-        let number = self.number;
+        let number = self.board.number();
         let i = cpu as usize;
         if i >= self.processors.len() {
             return Answer::Skipped(None);

@@ -1,7 +1,6 @@
 //! The events of the board word: `Report`, `Start`, `End`.
 
-ghost use Rattle.std.specs.Prelude.{◌≡◌, ◌%◌, ◌&&◌, ◌==◌, true, length, nat_lt, replicate};
-ghost use Rattle.rcu_law.specs.Lists.{none_owes};
+ghost use Rattle.std.specs.Prelude.{◌≡◌, ◌%◌, ◌&&◌, ◌==◌, nat_lt};
 ghost use Rattle.rcu_law.specs.Numbers.{GREATEST_NUMBER};
 ghost use Rattle.rcu_world.specs.Worlds.{IsFit};
 ghost use Rattle.rcu_world.specs.Events.{Answers};
@@ -13,29 +12,10 @@ use crate::events::Answer;
 use rcu_jobs::Job;
 use rcu_law::marks::Mark;
 
-fn set_all(owing: &mut Vec<bool>)
-    ensures { owing.new.items ≡ replicate (length owing.old.items) true }
-{
-    for b in owing.iter_mut() {
-        *b = true;
-    }
-}
-
 fn may_start(number: u64, needed: u64) -> bool
     ensures { result ≡ ((number % 4 == 0) && (nat_lt number needed && nat_lt number GREATEST_NUMBER)) }
 {
     number % 4 == 0 && number < needed && number < 2147483644
-}
-
-fn no_one_owes(owing: &Vec<bool>) -> bool
-    ensures { result ≡ none_owes owing.now.items }
-{
-    for b in owing {
-        if *b {
-            return false;
-        }
-    }
-    true
 }
 
 impl<J: Job> Core<J, J::Receipt> {
@@ -48,17 +28,14 @@ impl<J: Job> Core<J, J::Receipt> {
         if i >= self.processors.len() {
             return Answer::Skipped(None);
         }
-        if i >= self.owing.len() {
-            return Answer::Skipped(None);
-        }
-        if self.owing[i] {
+        if self.board.owes(cpu) {
             match self.history.reserve(1) {
                 Err(_) => return Answer::Memory(None),
                 Ok(()) => {}
             }
             self.history.push_reserved(Mark::Reported(cpu));
         }
-        self.owing[i] = false;
+        self.board.report(cpu);
         Answer::Done
     }
 
@@ -67,11 +44,10 @@ impl<J: Job> Core<J, J::Receipt> {
         ensures answers { Answers J.key_of (state J.key_of self.old) events.Start result (state J.key_of self.new) }
         ensures given { AllGiven J.gives self.old → AllGiven J.gives self.new }
     {
-        if !may_start(self.number, self.needed) {
+        if !may_start(self.board.number(), self.needed) {
             return Answer::Skipped(None);
         }
-        self.number += 1;
-        set_all(&mut self.owing);
+        self.board.start();
         Answer::Done
     }
 
@@ -80,13 +56,13 @@ impl<J: Job> Core<J, J::Receipt> {
         ensures answers { Answers J.key_of (state J.key_of self.old) events.End result (state J.key_of self.new) }
         ensures given { AllGiven J.gives self.old → AllGiven J.gives self.new }
     {
-        if self.number % 4 != 1 {
+        if self.board.number() % 4 != 1 {
             return Answer::Skipped(None);
         }
-        if !no_one_owes(&self.owing) {
+        if !self.board.none_owes() {
             return Answer::Skipped(None);
         }
-        self.number += 3;
+        self.board.end();
         Answer::Done
     }
 }

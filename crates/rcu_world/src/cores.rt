@@ -7,6 +7,7 @@ ghost use Rattle.rcu_world.specs.Events.{Answers};
 ghost use Rattle.rcu_world.specs.Views.{state, AllGiven};
 
 use crate::barriers::Barring;
+use crate::boards::Board;
 use crate::events::{Answer, Event};
 use rcu_jobs::Job;
 use rcu_law::marks::Mark;
@@ -25,8 +26,7 @@ pub struct Core<J, R> {
     pub(crate) blimit: u64,
     pub(crate) qhimark: u64,
     pub(crate) limit: u64,
-    pub(crate) number: u64,
-    pub(crate) owing: Vec<bool>,
+    pub(crate) board: Board,
     pub(crate) needed: u64,
     pub(crate) processors: Vec<Processor<J, R>>,
     pub(crate) barriers: Vec<Barring>,
@@ -85,13 +85,11 @@ impl<J: Job> Core<J, J::Receipt> {
         ensures given { IfOk result (λ w. AllGiven J.gives w) }
     {
         let mut offloadable = Vec::new(alloc);
-        let mut owing = Vec::new(alloc);
         let mut processors = Vec::new(alloc);
         let mut mask = shape.offloadable;
         for _cpu in 0..shape.processors {
             let is_offloadable = mask % 2 == 1;
             offloadable.push(is_offloadable)?;
-            owing.push(false)?;
             processors.push(Processor::new(alloc, is_offloadable, shape.qhimark))?;
             mask /= 2;
         }
@@ -102,8 +100,7 @@ impl<J: Job> Core<J, J::Receipt> {
             blimit: shape.blimit,
             qhimark: shape.qhimark,
             limit: shape.limit,
-            number: 0,
-            owing,
+            board: Board::new(shape.processors),
             needed: 0,
             processors,
             barriers: Vec::new(alloc),

@@ -5,6 +5,7 @@ mod accepting;
 mod barriers;
 mod barring;
 mod boarding;
+mod boards;
 mod calls;
 mod claiming;
 mod control;

@@ -20,7 +20,7 @@ impl<J: Job> Core<J, J::Receipt> {
         ensures given { AllGiven J.gives self.old → AllGiven J.gives self.new }
     {
         let i = cpu as usize;
-        let number = self.number;
+        let number = self.board.number();
         if i >= self.processors.len() {
             return Answer::Skipped(None);
         }
@@ -34,7 +34,7 @@ impl<J: Job> Core<J, J::Receipt> {
         ensures answers { Answers J.key_of (state J.key_of self.old) (events.LookHand cpu) result (state J.key_of self.new) }
         ensures given { AllGiven J.gives self.old → AllGiven J.gives self.new }
     {
-        let number = self.number;
+        let number = self.board.number();
         let i = cpu as usize;
         if i >= self.processors.len() {
             return Answer::Skipped(None);
@@ -72,7 +72,7 @@ impl<J: Job> Core<J, J::Receipt> {
         ensures answers { Answers J.key_of (state J.key_of self.old) (events.LookGroup group) result (state J.key_of self.new) }
         ensures given { AllGiven J.gives self.old → AllGiven J.gives self.new }
     {
-        let number = self.number;
+        let number = self.board.number();
         if !has_member(&self.processors, &self.offloadable, self.stride, group) {
             return Answer::Skipped(None);
         }

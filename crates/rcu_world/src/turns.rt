@@ -6,7 +6,7 @@ ghost use Rattle.rcu_law.specs.Events.CoreEvent.{Ask, Put, Report};
 ghost use Rattle.rcu_law.specs.States.{cpu_at, is_offloadable, owes};
 ghost use Rattle.rcu_law.specs.declared.who.Side.TheVariants.{Local, Hand};
 ghost use Rattle.rcu_world.specs.Events.{core_event, needs_room};
-ghost use Rattle.rcu_world.specs.Turns.{IsAtRest, Leads, Rooms, driver_answer, driver_events, hand_events, keeps_rest, look_events, mask_of, offloadable_events, release_events, run_events, stop_of, switch_answer, switch_events, tick_events, where_enabled};
+ghost use Rattle.rcu_world.specs.Turns.{IsAtRest, Leads, Rooms, driver_answer, driver_events, hand_events, keeps_rest, look_events, offloadable_events, release_events, run_events, stop_of, switch_answer, switch_events, tick_events, where_enabled};
 ghost use Rattle.rcu_world.specs.Views.{state};
 ghost use Rattle.rcu_world.specs.Worlds.{IsWorld};
 
@@ -16,23 +16,6 @@ use crate::worlds::World;
 use rcu_jobs::{DriverTurn, HandTurn, Job, Stop, SwitchFault, Ticked};
 use rcu_law::who::{Side, Who};
 use std::alloc::AllocError;
-
-/// The mask of the processors that owe a report.
-fn mask_of(owing: &Vec<bool>) -> u32
-    requires { length owing.now.items ≤ 32 }
-    ensures { result ≡ mask_of owing.now.items }
-{
-    let mut mask = 0;
-    let mut cpu = owing.len();
-    while cpu > 0 {
-        cpu -= 1;
-        mask *= 2;
-        if owing[cpu] {
-            mask += 1;
-        }
-    }
-    mask
-}
 
 impl<J: Job> World<J> {
     /// One event that has no job: whether it was enabled.
@@ -85,8 +68,8 @@ impl<J: Job> World<J> {
         ensures len { length (state J.key_of self.new.core).cpus ≡ length (state J.key_of self.old.core).cpus }
         ensures kept { IsWorld J.key_of J.gives self.new.core }
     {
-        let counted = if is_set(&self.core.owing, cpu as usize) {
-            Some(self.core.number)
+        let counted = if self.core.board.owes(cpu) {
+            Some(self.core.board.number())
         } else {
             None
         };
@@ -105,12 +88,12 @@ impl<J: Job> World<J> {
         ensures len { length (state J.key_of self.new.core).cpus ≡ length (state J.key_of self.old.core).cpus }
         ensures kept { IsWorld J.key_of J.gives self.new.core }
     {
-        let number = self.core.number;
+        let number = self.core.board.number();
         if number % 4 != 0 {
             if self.perform(Event::End) {
                 return Ok(DriverTurn::Ended(number + 3));
             }
-            return Ok(DriverTurn::Waits(mask_of(&self.core.owing)));
+            return Ok(DriverTurn::Waits(self.core.board.mask()));
         }
         if self.perform(Event::Start) {
             return Ok(DriverTurn::Started(number + 1));

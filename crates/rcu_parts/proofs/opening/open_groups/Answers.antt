@@ -3,7 +3,7 @@ use Rattle.std.specs.Arc.{arc_value}
 use Rattle.std.specs.List.{AllZip}
 use Rattle.std.specs.Mem.{FitsInMemory}
 use denote.Param.{param}
-use Rattle.std.proofs.lemmas.List.{length-map}
+use Rattle.std.proofs.lemmas.List.{length-map, nil_from_length}
 use Rattle.rcu_board.specs.Opened.{IsNewGroup, SeatForEach, has_offloadable, numbers_where}
 use Rattle.rcu_board.specs.declared.board.Board.{Board}
 use Rattle.rcu_holdings.proofs.Sizes.{in_struct}
@@ -18,7 +18,7 @@ use Rattle.rcu_parts.specs.declared.group.Group.{Group}
 use Rattle.rcu_parts.proofs.Grouped.{are_members, group_begins, group_taken}
 use Rattle.rcu_parts.proofs.Making.{empty_parts, group_made, group_of_role, grouped_more, groups_more}
 use Rattle.rcu_parts.proofs.Splitting.{AreGrouped, all_groups}
-use Rattle.rcu_parts.proofs.Zips.{all_of, none_long, seat_and_rest, seats_over}
+use Rattle.rcu_parts.proofs.Zips.{all_of, seat_and_rest, seats_over}
 use Rattle.rcu_parts.proofs.opening.open_groups.Given.{Over}
 use Rattle.rcu_parts.proofs.opening.open_groups.Goals as goal
 
@@ -109,4 +109,4 @@ pub returns-clause-members : goal.returns-clause-members
 returns-clause-members g c = let i = c.loop-seat.invariant in let b = arc_value c.args.board.now in
     let left = subst (λ (gs : List ℕ). AreGrouped b.offloadable c.args.shape.now.stride b.processors gs (cpus_of c.loop-seat.folks.items)) (none g c) i.grouped in
     all_of (members_in c.loop-seat.groups.items) c.loop-seat.folks.items c.args.folks.items i.members
-    (none_long c.loop-seat.folks.items (sym (length-map c.loop-seat.folks.items (λ (m : Folk g.row.J.Denot). m.cpu)) ∙ ap (λ (l : List ℕ). length l) left))
+    (nil_from_length c.loop-seat.folks.items (sym (length-map c.loop-seat.folks.items (λ (m : Folk g.row.J.Denot). m.cpu)) ∙ ap (λ (l : List ℕ). length l) left))

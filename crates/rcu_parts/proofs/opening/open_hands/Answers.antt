@@ -4,6 +4,7 @@ use Rattle.std.specs.Arc.{arc_value}
 use Rattle.std.specs.List.{AllZip}
 use Rattle.std.specs.Mem.{FitsInMemory}
 use denote.Param.{param}
+use Rattle.std.proofs.lemmas.List.{nil_from_length}
 use Rattle.std.proofs.lemmas.List.Elements.{All-head, All-nil, All-push, All-tail}
 use Rattle.rcu_board.specs.Opened.{IsNewHand, SeatForEach, is_offloadable, numbers_where}
 use Rattle.rcu_board.specs.Roles.{cpu_of_role}
@@ -20,7 +21,7 @@ use Rattle.rcu_parts.specs.contracts.folk.Folk as folk
 use Rattle.rcu_parts.specs.contracts.hand.Hand as hand
 use Rattle.rcu_parts.specs.declared.folk.Folk.{Folk}
 use Rattle.rcu_parts.proofs.Making.{hands_more, made_more}
-use Rattle.rcu_parts.proofs.Zips.{all_of, none_long, seat_and_rest, seats_over}
+use Rattle.rcu_parts.proofs.Zips.{all_of, seat_and_rest, seats_over}
 use Rattle.rcu_parts.proofs.opening.open_hands.Given.{Over}
 use Rattle.rcu_parts.proofs.opening.open_hands.Goals as goal
 
@@ -99,7 +100,7 @@ pub returns-clause-cpus : goal.returns-clause-cpus
 returns-clause-cpus g c = cpus g c
 
 pub returns-clause-fronts : goal.returns-clause-fronts
-returns-clause-fronts g c = let i = c.loop-seat.invariant in all_of (fronts_of c.loop-seat.folks.items) c.loop-seat.fronts.items c.args.fronts.items i.fronts (none_long c.loop-seat.fronts.items (i.many ∙ over g c))
+returns-clause-fronts g c = let i = c.loop-seat.invariant in all_of (fronts_of c.loop-seat.folks.items) c.loop-seat.fronts.items c.args.fronts.items i.fronts (nil_from_length c.loop-seat.fronts.items (i.many ∙ over g c))
 
 pub returns-clause-hands : goal.returns-clause-hands
 returns-clause-hands g c = subst (λ (ks : List ℕ). AllZip (IsFirstHand c.args.shape.now (arc_value c.args.board.now)) ks c.loop-seat.hands.items) (cpus g c) c.loop-seat.invariant.hands

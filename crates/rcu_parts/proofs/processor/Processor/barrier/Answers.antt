@@ -1,7 +1,8 @@
-use Rattle.std.proofs.Common.{◌∙◌}
+use Rattle.std.proofs.Common.{◌∙◌, ap, arith}
 use Rattle.rcu_board.specs.Seats.{view}
+use Rattle.rcu_board.specs.declared.board.Board.{Board}
 use Rattle.rcu_holdings.specs.Callers.{holding}
-use Rattle.rcu_parts.proofs.Barring.{opens_law}
+use Rattle.rcu_parts.proofs.Barring.{opens_law, own_is_exact}
 use Rattle.rcu_parts.proofs.processor.Processor.barrier.Goals as goal
 
 pub invariant_of-state : goal.invariant_of-state
@@ -14,3 +15,7 @@ invariant_of-state g c = let s = c.args.self.now.state in let e = c.open_barrier
   small = s.small;
   lawful = opens_law s.cpu s.accepted _ c.open_barrier.result (view s.seat) (view c.open_barrier.new.seat) s.ran.items (holding s.lists) e.opens s.lawful;
 }
+
+pub returns-clause-own : goal.returns-clause-own
+returns-clause-own g c = let s = c.args.self.now.state in let low = s.there in let same = ap (λ (b : Board). b.processors) c.deref.ensures in
+    own_is_exact _ s.cpu s.accepted c.open_barrier.result.counts s.seat s.ran.items (holding s.lists) c.open_barrier.ensures.own (omega (arith, low, same)) s.role s.lawful

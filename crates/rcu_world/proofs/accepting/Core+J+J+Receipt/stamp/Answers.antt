@@ -1,4 +1,4 @@
-use Rattle.std.proofs.Common.{◌≡◌, ◌<◌, ◌∙◌, sym, arith, refl, None, not, ◌&&◌, length, subst, true, false, rules}
+use Rattle.std.proofs.Common.{◌≡◌, ◌<◌, ◌∙◌, ap, sym, arith, refl, None, not, ◌&&◌, length, subst, true, false, rules}
 use Rattle.rcu_law.specs.Lists.{is_none}
 use Rattle.rcu_law.specs.States.{is_offloaded}
 use Rattle.rcu_law.specs.Steps.{stamps}
@@ -18,8 +18,8 @@ returns-in-Err-clause-answers g c =
 pub returns-in-Ok-true-clause-answers : goal.returns-in-Ok-true-clause-answers
 returns-in-Ok-true-clause-answers g c =
     let l : c.args.cpu < length c.args.self.now.processors.items = omega arith in
-    let d = stepped g.J.Job.key_of c.args.self.now c.args.cpu c.index_mut-p.result.now c.stamp.new.self (λ x. not (is_none x.fresh)) (stamps c.args.self.now.number c.args.moment c.args.lazy) (λ x. None) c.args.self.now.history.items
-    l c.index_mut-p.ensures.value (sym c.is_fresh.ensures ∙ c.if-not-is_fresh.false) c.in-Ok-true.ensures.ok refl in
+    let d = stepped g.J.Job.key_of c.args.self.now c.args.cpu c.index_mut-p.result.now c.stamp.new.self (λ x. not (is_none x.fresh)) (stamps c.args.self.now.board.number c.args.moment c.args.lazy) (λ x. None) c.args.self.now.history.items
+    l c.index_mut-p.ensures.value (sym c.is_fresh.ensures ∙ c.if-not-is_fresh.false) (c.in-Ok-true.ensures.ok ∙ ap (λ s. stamps s c.args.moment c.args.lazy (seen g.J.Job.key_of c.index_mut-p.result.now)) c.number-number.ensures) refl in
     let m = mark_at g.J.Job.gives c.args.self.now c.args.cpu c.index_mut-p.result.now l c.index_mut-p.ensures.value c.requires.given in
     let r = subst (λ n. (is_offloaded c.index_mut-p.result.now.mode && releases n c.args.lazy c.args.moment (seen g.J.Job.key_of c.index_mut-p.result.now)) ≡ true) m (sym c.in-Ok-true.ensures.due ∙ c.in-Ok-true.field-0-test) in
     (d.0, d.1, test_at g.J.Job.key_of c.args.self.now c.args.cpu c.index_mut-p.result.now (λ x. is_offloaded x.mode && releases c.args.self.now.qhimark c.args.lazy c.args.moment x) _ l c.index_mut-p.ensures.value r)
@@ -27,8 +27,8 @@ returns-in-Ok-true-clause-answers g c =
 pub returns-in-Ok-false-clause-answers : goal.returns-in-Ok-false-clause-answers
 returns-in-Ok-false-clause-answers g c =
     let l : c.args.cpu < length c.args.self.now.processors.items = omega arith in
-    let d = stepped g.J.Job.key_of c.args.self.now c.args.cpu c.index_mut-p.result.now c.stamp.new.self (λ x. not (is_none x.fresh)) (stamps c.args.self.now.number c.args.moment c.args.lazy) (λ x. None) c.args.self.now.history.items
-    l c.index_mut-p.ensures.value (sym c.is_fresh.ensures ∙ c.if-not-is_fresh.false) c.in-Ok-false.ensures.ok refl in
+    let d = stepped g.J.Job.key_of c.args.self.now c.args.cpu c.index_mut-p.result.now c.stamp.new.self (λ x. not (is_none x.fresh)) (stamps c.args.self.now.board.number c.args.moment c.args.lazy) (λ x. None) c.args.self.now.history.items
+    l c.index_mut-p.ensures.value (sym c.is_fresh.ensures ∙ c.if-not-is_fresh.false) (c.in-Ok-false.ensures.ok ∙ ap (λ s. stamps s c.args.moment c.args.lazy (seen g.J.Job.key_of c.index_mut-p.result.now)) c.number-number.ensures) refl in
     let m = mark_at g.J.Job.gives c.args.self.now c.args.cpu c.index_mut-p.result.now l c.index_mut-p.ensures.value c.requires.given in
     let r = subst (λ n. (is_offloaded c.index_mut-p.result.now.mode && releases n c.args.lazy c.args.moment (seen g.J.Job.key_of c.index_mut-p.result.now)) ≡ false) m (sym c.in-Ok-false.ensures.due ∙ c.in-Ok-false.field-0-test) in
     (d.0, d.1, test_at g.J.Job.key_of c.args.self.now c.args.cpu c.index_mut-p.result.now (λ x. is_offloaded x.mode && releases c.args.self.now.qhimark c.args.lazy c.args.moment x) _ l c.index_mut-p.ensures.value r)

@@ -1,7 +1,8 @@
-use Rattle.std.proofs.Common.{◌∙◌, ap, sym, arith, refl, rules}
+use Rattle.std.proofs.Common.{◌∙◌, ap, sym, arith, refl, rules, subst}
 use Rattle.rcu_law.specs.States.{State}
 use Rattle.rcu_law.specs.Steps.{group_looks}
-use Rattle.rcu_world.specs.Members.{is_any}
+use Rattle.rcu_law.specs.Events.{each_cpu}
+use Rattle.rcu_world.specs.Members.{AreLookable, group_step, is_any}
 use Rattle.rcu_world.specs.Views.{state, all_seen}
 use Rattle.rcu_world.proofs.Members.{any_same, each_same, lookable}
 use denote.Param.{param}
@@ -16,7 +17,8 @@ pub returns-clause-answers : goal.returns-clause-answers
 returns-clause-answers g c = (
   sym (any_same (state g.J.Job.key_of c.args.self.now) c.args.group is_any 0 (all_seen g.J.Job.key_of c.args.self.now.processors.items) (omega arith)) ∙ sym c.has_member.ensures ∙ c.if-not-has_member.false,
   ap {B = State} (λ x. record (state g.J.Job.key_of c.args.self.now) { cpus = x })
-      (c.look_members.ensures.looks ∙ each_same (state g.J.Job.key_of c.args.self.now) c.args.group (group_looks c.args.self.now.number) 0 (all_seen g.J.Job.key_of c.args.self.now.processors.items) (omega arith)),
+      (c.look_members.ensures.looks ∙ ap (λ s. each_cpu (group_step c.args.self.now.offloadable.items c.args.self.now.stride c.args.group s) 0 (all_seen g.J.Job.key_of c.args.self.now.processors.items)) c.number-number.ensures
+      ∙ each_same (state g.J.Job.key_of c.args.self.now) c.args.group (group_looks c.args.self.now.board.number) 0 (all_seen g.J.Job.key_of c.args.self.now.processors.items) (omega arith)),
   refl,
 )
 
@@ -24,7 +26,7 @@ pub returns-clause-given : goal.returns-clause-given
 returns-clause-given g c = c.look_members.ensures.given c.args.self.now.qhimark
 
 pub look_members-requires-after_bounds : goal.look_members-requires-after_bounds
-look_members-requires-after_bounds g c κs within = (processor_fits (param 0 g.row.J) (param 1 g.row.J-Receipt) (search rules), (c.requires.stride, lookable (state g.J.Job.key_of c.args.self.now) c.requires.core))
+look_members-requires-after_bounds g c κs within = (processor_fits (param 0 g.row.J) (param 1 g.row.J-Receipt) (search rules), (c.requires.stride, subst (λ s. AreLookable s (all_seen g.J.Job.key_of c.args.self.now.processors.items)) (sym c.number-number.ensures) (lookable (state g.J.Job.key_of c.args.self.now) c.requires.core)))
 
 pub has_member-requires-after_bounds : goal.has_member-requires-after_bounds
 has_member-requires-after_bounds g c κs within = (processor_fits (param 0 g.row.J) (param 1 g.row.J-Receipt) (search rules), c.requires.stride)

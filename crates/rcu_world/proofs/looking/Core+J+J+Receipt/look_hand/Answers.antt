@@ -1,13 +1,14 @@
-use Rattle.std.proofs.Common.{◌∙◌, sym, arith, refl, None, get_or, false, rules}
+use Rattle.std.proofs.Common.{◌∙◌, ap, sym, arith, refl, None, get_or, false, rules}
 use Rattle.rcu_law.specs.Steps.{hand_looks}
+use Rattle.rcu_processor.specs.Views.{seen}
 use Rattle.rcu_world.proofs.Seen.{stepped, given_at, absent}
 use denote.Param.{param}
 use Rattle.rcu_world.proofs.Sizes.{processor_fits, second_fails}
 use Rattle.rcu_world.proofs.looking.Core+J+J+Receipt.look_hand.Goals as goal
 
 pub returns-clause-answers : goal.returns-clause-answers
-returns-clause-answers g c = stepped g.J.Job.key_of c.args.self.now c.args.cpu c.index_mut-p.result.now c.look_hand.new.self (λ x. get_or c.args.self.now.offloadable.items c.args.cpu false) (hand_looks c.args.self.now.number) (λ x. None) c.args.self.now.history.items
-    (omega arith) c.index_mut-p.ensures.value (sym c.is_set.ensures ∙ c.if-not-is_set.false) c.look_hand.ensures.looks refl
+returns-clause-answers g c = stepped g.J.Job.key_of c.args.self.now c.args.cpu c.index_mut-p.result.now c.look_hand.new.self (λ x. get_or c.args.self.now.offloadable.items c.args.cpu false) (hand_looks c.args.self.now.board.number) (λ x. None) c.args.self.now.history.items
+    (omega arith) c.index_mut-p.ensures.value (sym c.is_set.ensures ∙ c.if-not-is_set.false) (c.look_hand.ensures.looks ∙ ap (λ s. hand_looks s (seen g.J.Job.key_of c.index_mut-p.result.now)) c.number-number.ensures) refl
 
 pub returns-clause-given : goal.returns-clause-given
 returns-clause-given g c = given_at g.J.Job.gives c.args.self.now c.args.cpu c.index_mut-p.result.now c.look_hand.new.self (omega arith) c.index_mut-p.ensures.value c.look_hand.ensures.given

@@ -6,25 +6,25 @@ use Rattle.rcu_world.proofs.Passing.{leads_same}
 use Rattle.rcu_world.proofs.worlds.World.driver_turn.Goals as goal
 
 pub returns-then-perform-clause-events : goal.returns-then-perform-clause-events
-returns-then-perform-clause-events g c = driver_ends (state g.J.Job.key_of c.args.self.now.core) _ c.if-number-ne0.true c.perform.ensures.leads.1
+returns-then-perform-clause-events g c = driver_ends (state g.J.Job.key_of c.args.self.now.core) _ c.number-number.result c.number-number.ensures c.if-number-ne0.true c.perform.ensures.leads.1
 
 pub returns-then-perform-clause-answer : goal.returns-then-perform-clause-answer
-returns-then-perform-clause-answer g c = answers_ended (state g.J.Job.key_of c.args.self.now.core) c.if-number-ne0.true (sym c.perform.ensures.enabled ∙ c.if-perform.true)
+returns-then-perform-clause-answer g c = answers_ended (state g.J.Job.key_of c.args.self.now.core) c.number-number.result c.number-number.ensures c.if-number-ne0.true (sym c.perform.ensures.enabled ∙ c.if-perform.true)
 
 pub returns-then-perform-clause-rest : goal.returns-then-perform-clause-rest
 returns-then-perform-clause-rest g c = c.perform.ensures.rest refl c.requires.rest
 
 pub returns-then-number-ne0-clause-events : goal.returns-then-number-ne0-clause-events
-returns-then-number-ne0-clause-events g c = driver_ends (state g.J.Job.key_of c.args.self.now.core) _ c.if-number-ne0.true c.perform.ensures.leads.1
+returns-then-number-ne0-clause-events g c = driver_ends (state g.J.Job.key_of c.args.self.now.core) _ c.number-number.result c.number-number.ensures c.if-number-ne0.true c.perform.ensures.leads.1
 
 pub returns-then-number-ne0-clause-answer : goal.returns-then-number-ne0-clause-answer
 returns-then-number-ne0-clause-answer g c =
     let w = state g.J.Job.key_of c.args.self.now.core in
     let e = sym c.perform.ensures.enabled ∙ c.if-perform.false in
-    answers_waits w _ c.mask_of.result c.if-number-ne0.true c.requires.world.fit.core.board.phase e (leads_same w _ End e c.perform.ensures.leads.1) c.mask_of.ensures
+    answers_waits w _ c.number-number.result c.mask.result c.number-number.ensures c.if-number-ne0.true c.requires.world.fit.core.board.phase e (leads_same w _ End e c.perform.ensures.leads.1) c.mask.ensures
 
 pub returns-then-perform-2-clause-answer : goal.returns-then-perform-2-clause-answer
-returns-then-perform-2-clause-answer g c = answers_started (state g.J.Job.key_of c.args.self.now.core) c.if-number-ne0.false (sym c.perform-2.ensures.enabled ∙ c.if-perform-2.true)
+returns-then-perform-2-clause-answer g c = answers_started (state g.J.Job.key_of c.args.self.now.core) c.number-number.result c.number-number.ensures c.if-number-ne0.false (sym c.perform-2.ensures.enabled ∙ c.if-perform-2.true)
 
 pub returns-then-perform-2-clause-rest : goal.returns-then-perform-2-clause-rest
 returns-then-perform-2-clause-rest g c = c.perform-2.ensures.rest refl c.requires.rest
@@ -33,10 +33,10 @@ pub returns-then-number-self-clause-answer : goal.returns-then-number-self-claus
 returns-then-number-self-clause-answer g c =
     let w = state g.J.Job.key_of c.args.self.now.core in
     let e = sym c.perform-2.ensures.enabled ∙ c.if-perform-2.false in
-    answers_spent w c.if-number-ne0.false e (subst (λ n. w.number < n) (ap (λ s. s.needed) (leads_same w _ Start e c.perform-2.ensures.leads.1)) c.if-number-self.true)
+    answers_spent w c.number-number.result c.number-number.ensures c.if-number-ne0.false e (subst (λ n. c.number-number.result < n) (ap (λ s. s.needed) (leads_same w _ Start e c.perform-2.ensures.leads.1)) c.if-number-self.true)
 
 pub returns-clause-answer : goal.returns-clause-answer
 returns-clause-answer g c =
     let w = state g.J.Job.key_of c.args.self.now.core in
     let e = sym c.perform-2.ensures.enabled ∙ c.if-perform-2.false in
-    answers_idle w c.if-number-ne0.false (subst (λ n. n ≤ w.number) (ap (λ s. s.needed) (leads_same w _ Start e c.perform-2.ensures.leads.1)) c.if-number-self.false)
+    answers_idle w c.number-number.result c.number-number.ensures c.if-number-ne0.false (subst (λ n. n ≤ c.number-number.result) (ap (λ s. s.needed) (leads_same w _ Start e c.perform-2.ensures.leads.1)) c.if-number-self.false)

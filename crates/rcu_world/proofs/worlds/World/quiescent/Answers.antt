@@ -3,7 +3,7 @@ use Rattle.std.proofs.lemmas.Bool.{lt-ltb}
 use Rattle.rcu_law.specs.Events.CoreEvent.{Report}
 use Rattle.rcu_world.specs.Views.{state}
 use Rattle.rcu_world.proofs.Leading.{leads_one}
-use Rattle.rcu_world.proofs.worlds.World.quiescent.Goals.{then-is_set, else-is_set}
+use Rattle.rcu_world.proofs.worlds.World.quiescent.Goals.{then-owes, else-owes}
 use Rattle.rcu_world.proofs.worlds.World.quiescent.Goals as goal
 
 pub returns-clause-events : goal.returns-clause-events
@@ -12,9 +12,9 @@ returns-clause-events g c =
     leads_one w _ (Report c.args.cpu) (lt-ltb c.args.cpu (length w.cpus) c.requires.there) c.in_ok-attempt.ensures.leads.1
 
 pub returns-clause-number : goal.returns-clause-number
-returns-clause-number g c = elim c.if-is_set.branch [
-  | then-is_set w ↦ w.counted-is ∙ sym (ap {A = Bool} {B = Option ℕ} (λ b. cond b (Some c.args.self.now.core.number) None) (sym c.is_set.ensures ∙ w.if-is_set.true))
-  | else-is_set w ↦ w.counted-is ∙ sym (ap {A = Bool} {B = Option ℕ} (λ b. cond b (Some c.args.self.now.core.number) None) (sym c.is_set.ensures ∙ w.if-is_set.false))
+returns-clause-number g c = elim c.if-owes.branch [
+  | then-owes w ↦ w.counted-is ∙ ap Some w.number.ensures ∙ sym (ap {A = Bool} {B = Option ℕ} (λ b. cond b (Some c.args.self.now.core.board.number) None) (sym c.owes.ensures ∙ w.if-owes.true))
+  | else-owes w ↦ w.counted-is ∙ sym (ap {A = Bool} {B = Option ℕ} (λ b. cond b (Some c.args.self.now.core.board.number) None) (sym c.owes.ensures ∙ w.if-owes.false))
 ]
 
 pub returns-clause-rest : goal.returns-clause-rest

@@ -1,0 +1,24 @@
+-- The board of the core, as contracts see it. docs/specification/rules.md, "Quiescent reports"
+use Rattle.std.specs.Prelude.{ℕ, zero, suc, ◌+◌, ◌*◌, ◌%◌, ◌/◌, ◌==◌, ◌<◌, ◌≤◌, Bool, List, [], ◌∷◌}
+use Rattle.rcu_law.specs.Invariant.{owed}
+use Rattle.rcu_numbers.specs.Words.{Board, Owes}
+
+-- the grace-period number, and of each processor whether it owes a report
+pub record GracePeriod : Type 0 where
+  pub number : ℕ
+  pub owing : List Bool
+
+-- there are as many processors, and no other owes a report
+pub record IsBoardOf (processors : ℕ) (word : Board) : Type 0 where
+  pub few : processors ≤ 32
+  pub others : (p : ℕ) → processors ≤ p → p < 32 → ¬ Owes word p
+
+-- the lowest n bits of a mask
+abbrev pub bits : ℕ → ℕ → List Bool
+bits zero mask = []
+bits (suc n) mask = (mask % 2 == 1) ∷ bits n (mask / 2)
+
+-- the mask of the processors that owe a report
+abbrev pub mask_of : List Bool → ℕ
+mask_of [] = 0
+mask_of (b ∷ bs) = owed b + 2 * mask_of bs
