@@ -1,0 +1,4 @@
+pub mod Zips
+pub mod Kept
+pub mod Tickets
+pub mod Ending

@@ -1,0 +1,23 @@
+use Rattle.std.proofs.Common.{◌≡◌, rules, List, ◌∷◌, ◌++◌, [], length, append_assoc, ap, sym, ◌∙◌, subst}
+use Rattle.std.specs.List.{AllZip}
+use Rattle.std.proofs.lemmas.List.{nil_from_length}
+use Rattle.rcu_parts.proofs.Zips.{all_of}
+use Rattle.rcu_threads.specs.Calls.{HasCalled}
+use Rattle.rcu_threads.proofs.calling.join_callers.Given.{Over}
+use Rattle.rcu_threads.proofs.Tickets.{joined_more}
+use Rattle.rcu_threads.proofs.calling.join_callers.Goals as goal
+
+pub loop-thread-preserved : goal.loop-thread-preserved
+loop-thread-preserved g c = let i = c.loop-thread.invariant in let kept = c.in-Ok.ensures in let done = c.loop-thread.yielded in let thread = c.in-Some.thread in let more = c.next.new.self.rest.items in record {
+  order = append_assoc done (thread ∷ []) more ∙ (ap (λ l. done ++ l) (sym c.in-Some.ensures.steps.0) ∙ i.order);
+  whole = i.whole;
+  called = λ none. joined_more g.J.Job.key_of g.J.Job.gives (λ t. t.promise.0.value) done thread c.loop-thread.processors.items c.keep.new.processors.items c.join.result.processor c.loop-thread.tickets.items c.join.result.tickets.items c.keep.new.tickets.items kept.tickets kept.processor c.join.ensures (i.called none);
+}
+
+over : (g : Over) (c : goal.In-None-fault g) → length c.loop-thread.thread-iterator.rest.items ≡ 0
+over g c = search rules
+
+pub returns-in-None-fault-clause-called : goal.returns-in-None-fault-clause-called
+returns-in-None-fault-clause-called g c = let i = c.loop-thread.invariant in let rest = c.loop-thread.thread-iterator.rest.items in
+    subst (λ (l : List _). AllZip (λ thread q. HasCalled g.J.Job.key_of g.J.Job.gives c.loop-thread.tickets.items thread.promise.0.value q) l c.loop-thread.processors.items)
+    (all_of c.loop-thread.yielded rest c.args.crew.threads.items i.order (nil_from_length rest (over g c))) (i.called c.in-None-fault.is)

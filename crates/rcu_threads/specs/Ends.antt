@@ -1,0 +1,21 @@
+-- How a run in threads ends: docs/specification/promises.md, "Headline on the running parts", close, and program.md, "threads".
+use Rattle.std.specs.Prelude.{◌≡◌, ℕ, [], All}
+use Rattle.rcu_jobs.specs.declared.answers.Closed.{Closed}
+use Rattle.rcu_parts.specs.AtClose.{ClosesWith}
+use Rattle.rcu_parts.specs.OneOpen.{Parts, processors_in}
+use Rattle.rcu_parts.specs.SameParts.{AreSameParts}
+
+module _ {J R : Type 0} where
+  -- What was closed are the same parts, however far they came, and the answer is what `close` promises of them.
+  pub record ClosesSame (key_of : J → ℕ) (gives : ℕ → R → Type 0) (parts : Parts J R) (closed : Closed J R) : Type 0 where
+    pub ended : Parts J R
+    pub same : AreSameParts parts ended
+    pub closes : ClosesWith key_of gives ended closed
+
+  -- nothing was accepted yet
+  abbrev pub AreUnused : Parts J R → Type 0
+  AreUnused parts = All (λ p. p.state.accepted ≡ 0) (processors_in parts)
+
+  -- no job is handed back
+  abbrev pub HasNoneBack : Closed J R → Type 0
+  HasNoneBack closed = All (λ jobs. jobs.items ≡ []) closed.back.items
