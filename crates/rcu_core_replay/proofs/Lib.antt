@@ -1,0 +1,4 @@
+pub mod Answering
+pub mod Printing
+pub mod Refusals
+pub mod Showing

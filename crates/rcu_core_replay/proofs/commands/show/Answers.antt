@@ -1,0 +1,17 @@
+use Rattle.std.proofs.Common.{rules, ◌≡◌, ◌∙◌, subst}
+use Rattle.std.specs.Io.KnownBytes.{Appends}
+use Rattle.rcu_world.specs.Views.{state}
+use Rattle.rcu_core_replay.specs.Outcomes.{shown}
+use Rattle.rcu_core_replay.proofs.Showing.{shown_first, shown_more}
+use Rattle.rcu_core_replay.proofs.commands.show.Goals as goal
+
+pub loop-cpu-init : goal.loop-cpu-init
+loop-cpu-init g c = shown_first _ _
+
+pub loop-cpu-preserved : goal.loop-cpu-preserved
+loop-cpu-preserved g c = shown_more _ c.loop-cpu.cpu _ _ _ c.loop-cpu.invariant c.in_ok-show_one.ensures
+
+pub returns : goal.returns
+returns g c =
+    let all : c.loop-cpu.cpu ≡ c.processors-cpu-end.result = search rules in
+    subst (λ n. Appends (g.W.Write.contents c.args.writer.now) (g.W.Write.contents c.loop-cpu.writer) (shown n (state g.J.Job.key_of c.args.world.now.core))) (all ∙ c.processors-cpu-end.ensures) c.loop-cpu.invariant

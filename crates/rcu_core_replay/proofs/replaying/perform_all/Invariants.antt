@@ -1,0 +1,14 @@
+use Rattle.std.proofs.Common.{◌≡◌, ◌+◌, count_by, take}
+use Rattle.std.specs.VecDeque.{deque_len}
+use Rattle.rcu_script.specs.Calls.{is_call}
+use Rattle.rcu_world.specs.Turns.{IsAtRest}
+use Rattle.rcu_world.specs.Views.{state}
+use Rattle.rcu_world.specs.Worlds.{IsWorld}
+use Rattle.rcu_core_replay.proofs.replaying.perform_all.Given as goal
+
+abbrev pub invariant-loop-command : goal.invariant-loop-command
+invariant-loop-command g l = record {
+  world : IsWorld g.J.Job.key_of g.J.Job.gives l.world.core;
+  rest : IsAtRest (state g.J.Job.key_of l.world.core);
+  jobs : deque_len l.jobs + count_by is_call (take l.command-index l.setup.script.items) ≡ count_by is_call l.setup.script.items;
+}
