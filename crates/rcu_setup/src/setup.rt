@@ -17,4 +17,5 @@ pub struct Setup {
     pub script: Vec<Command>,
     pub ghost few_routes: { vec_len routes ≤ 64 },
     pub ghost few_lines: { vec_len script ≤ 50000 },
+    pub ghost few_calls: { calls ≤ 1000 },
 }

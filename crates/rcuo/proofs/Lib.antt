@@ -1,8 +1,9 @@
 pub mod Answering
-pub mod Counting
+pub mod Changing
+pub mod Keeping
 pub mod Known
-pub mod Printing
-pub mod Refusals
-pub mod Showing
+pub mod ShowingParts
 pub mod TakenWords
+pub mod Verbs
 pub mod Whole
+pub mod Writing

@@ -1,6 +1,4 @@
 pub mod Plan
-pub mod FaultLines
-pub mod Calls
-pub mod Lines
+pub mod Changes
 pub mod Outcomes
 pub mod Printed

@@ -1,116 +1,151 @@
--- What each command does, and the line of its answer: docs/specification/tables.md, "Script commands and what they print". The events of a call are those of docs/specification/rules.md, "On the core".
-use Rattle.std.specs.Prelude.{ℕ, zero, suc, ◌≡◌, ◌≤◌, ◌<◌, Bool, true, false, not, if◌then◌else◌, nat_le, List, [], ◌∷◌, ◌++◌, length, take, Option, None, Some, Ok, Err, string_bytes}
-use Rattle.rcu_law.specs.declared.marks.Mark.TheVariants as marks
-use Rattle.rcu_law.specs.Events.{is_enabled}
-use Rattle.rcu_law.specs.Events.CoreEvent.{Ask, LookGroup, Report}
-use Rattle.rcu_law.specs.States.{State, cpu_at, has, is_offloadable, owes}
+-- What each command does to the parts, and the line of its answer: docs/specification/tables.md, "Script commands and what they print". What a call of a part does and answers is its contract in rcu_parts and rcu_control.
+use Rattle.std.specs.Prelude.{ℕ, suc, ◌≡◌, ◌≢◌, ◌≤◌, ◌<◌, ◌++◌, List, [], ◌∷◌, Option, None, Some, Ok, Err, Result, MatchResult, All, Any, length, take, string_bytes, if◌then◌else◌, nat_lt}
+use Rattle.rcu_board.specs.declared.board.Board.{Board}
+use Rattle.rcu_board.specs.declared.view.View.{View}
+use Rattle.rcu_control.specs.Barriers.{OpensBy, PollsBy}
+use Rattle.rcu_control.specs.Control.{Shuts, SwitchesBy}
+use Rattle.rcu_control.specs.Driving.{DrivesBy}
+use Rattle.rcu_control.specs.declared.barrier.Barrier.{Barrier}
+use Rattle.rcu_holdings.specs.Callers.{cpu_lists}
+use Rattle.rcu_jobs.specs.Refusals.{number_of, switch_number}
 use Rattle.rcu_jobs.specs.declared.SwitchFault.{SwitchFault}
-use Rattle.rcu_jobs.specs.Refusals.{switch_number}
+use Rattle.rcu_jobs.specs.declared.Passed.{Passed}
+use Rattle.rcu_jobs.specs.declared.answers.Refused.{Refused}
+use Rattle.rcu_jobs.specs.declared.answers.Ticket.{Ticket}
+use Rattle.rcu_jobs.specs.declared.counts.Counts.{Counts}
+use Rattle.rcu_jobs.specs.declared.turns.GroupTurn.{GroupTurn}
+use Rattle.rcu_jobs.specs.declared.turns.HandTurn.{HandTurn}
+use Rattle.rcu_jobs.specs.declared.turns.Lists.{Lists}
+use Rattle.rcu_jobs.specs.declared.turns.Ticked.{Ticked}
+use Rattle.rcu_lists.specs.declared.pace.Kind.{Kind}
+use Rattle.rcu_lists.specs.declared.pace.Kind.TheVariants.{Plain, Lazy}
+use Rattle.rcu_parts.specs.Calls.{IsAccepted, IsRefusedAs, KeepsAll}
+use Rattle.rcu_parts.specs.Groups.{ShownFor, TurnsGroup, members_of}
+use Rattle.rcu_parts.specs.Hands.{TurnsBy}
+use Rattle.rcu_parts.specs.Processors.{lists_of, view_of}
+use Rattle.rcu_parts.specs.Reports.{Reports}
+use Rattle.rcu_parts.specs.Ticks.{TicksBy}
+use Rattle.rcu_parts.specs.declared.group.Group.{Group}
+use Rattle.rcu_parts.specs.declared.hand.Hand.{Hand}
+use Rattle.rcu_parts.specs.declared.processor.Processor.{Processor}
+use Rattle.rcu_script.specs.Lines.{lists_line}
+use Rattle.rcu_script.specs.declared.lines.Verb.{Verb}
+use Rattle.rcu_script.specs.declared.lines.Verb.TheVariants as verb
+use Rattle.rcu_script.specs.declared.lines.Line.{Line}
+use Rattle.rcu_script.specs.declared.lines.Line.TheVariants as line
 use Rattle.rcu_status.specs.Commas.{with_commas}
-use Rattle.rcu_jobs.specs.declared.Lists.{Lists}
-use Rattle.rcu_status.specs.Line.{line_text}
-use Rattle.rcu_world.specs.GroupTurns.{IsGroupTurn, Made}
-use Rattle.rcu_world.specs.Polls.{poll_events}
-use Rattle.rcu_processor.specs.Shown.{cpu_lists, folk_lists}
-use Rattle.rcu_world.specs.Turns.{AreCounts, Leads, Rooms, barrier_events, call_events, driver_answer, driver_events, hand_events, shuts, switch_answer, tick_events, upto, where_enabled}
-use Rattle.rcuo.specs.declared.lines.Verb.{Verb}
-use Rattle.rcuo.specs.declared.lines.Verb.TheVariants as verb
-use Rattle.rcuo.specs.declared.lines.Line.{Line}
-use Rattle.rcuo.specs.declared.lines.Line.TheVariants as line
+use Rattle.rcuo.specs.Changes.{ChangesAt}
 
--- the command names a processor that isn't there: it is refused by number 6, and nothing happens
-abbrev pub IsNoSuch : State → Verb → ℕ → Line → State → Type 0
-IsNoSuch old v p l new = (length old.cpus ≤ p) × (l ≡ line.Refused v p 6) × (new ≡ old)
+-- There is no place k, so the command is refused by number 6, and nothing changes.
+abbrev pub IsNoSuch : {X : Type 0} → Verb → ℕ → Line → List X → List X → Type 0
+IsNoSuch v k l olds news = (length olds ≤ k) × (l ≡ line.Refused v k 6) × (news ≡ olds)
 
--- why a call isn't accepted: no such processor; else at the limit; else shut; else no room
-abbrev pub call_refusal : State → ℕ → ℕ
-call_refusal w p = if not (has w p) then 6 else if nat_le w.shape.limit (cpu_at w p).count then 4 else if (cpu_at w p).shut then 3 else 2
+-- ---- processors
 
-abbrev pub is_lazy : Verb → Bool
-is_lazy verb.Lazy = true
-is_lazy v = false
+abbrev pub kind_of : Verb → Kind
+kind_of verb.Lazy = Lazy
+kind_of v = Plain
 
--- `call` and `lazy`: the job of this key is accepted with the processor's next number, or it is refused and nothing happens
-abbrev pub IsCall : State → Verb → ℕ → ℕ → ℕ → Line → State → Type 0
-IsCall old v p moment key (line.Number said cpu number) new =
-    (said ≡ v) × (cpu ≡ p) × (number ≡ (cpu_at old p).count) × ((room : Bool) × Leads old (call_events p moment (is_lazy v) key room old) new)
-IsCall old v p moment key (line.Refused said place refusal) new = (said ≡ v) × (place ≡ p) × (refusal ≡ call_refusal old p) × (new ≡ old)
-IsCall old v p moment key l new = ⊥
+module _ {J R : Type 0} (key_of : J → ℕ) where
+  -- what a call answers a job: it is accepted, or refused and nothing is accepted
+  abbrev pub Calls : Verb → ℕ → J → Result Ticket (Refused J) → Processor J R → Processor J R → Type 0
+  Calls v moment job answer p q = MatchResult answer
+      (λ t. IsAccepted moment (kind_of v) (key_of job) job t p.state q.state)
+      (λ r. KeepsAll p.state q.state × IsRefusedAs job r p.state q.state)
 
--- the number of the grace period that a report of a processor would count for
-abbrev pub counted_by : State → ℕ → Option ℕ
-counted_by w p = if owes w p then Some w.number else None
+  -- `call` and `lazy`
+  abbrev pub IsCall : Verb → ℕ → ℕ → J → Line → List (Processor J R) → List (Processor J R) → Type 0
+  IsCall v cpu moment job (line.Number said place number) olds news =
+      (said ≡ v) × (place ≡ cpu) × ChangesAt cpu (λ p q. (t : Ticket) × (t.number ≡ number) × Calls v moment job (Ok t) p q) olds news
+  IsCall v cpu moment job (line.Refused said place refusal) olds news =
+      (said ≡ v) × (place ≡ cpu)
+      × (length olds ≤ cpu → (refusal ≡ 6) × (news ≡ olds))
+      × (cpu < length olds → ChangesAt cpu (λ p q. (r : Refused J) × (number_of r ≡ refusal) × Calls v moment job (Err r) p q) olds news)
+  IsCall v cpu moment job l olds news = ⊥
 
--- `quiet`
-abbrev pub IsQuiet : State → ℕ → Line → State → Type 0
-IsQuiet old p (line.Counted cpu seq) new = (cpu ≡ p) × (counted_by old p ≡ Some seq) × Leads old (Report p ∷ []) new
-IsQuiet old p (line.Nothing cpu) new = (cpu ≡ p) × (counted_by old p ≡ None) × Leads old (Report p ∷ []) new
-IsQuiet old p l new = IsNoSuch old verb.Quiet p l new
+module _ {J R : Type 0} where
+  -- a report of a quiescent state, and what it answers
+  abbrev pub Tells : Option ℕ → Processor J R → Processor J R → Type 0
+  Tells answer p q = KeepsAll p.state q.state × Reports p.state.cpu answer (view_of p.state) (view_of q.state)
 
--- `tick`
-abbrev pub IsTick : State → ℕ → ℕ → Line → State → Type 0
-IsTick old p moment (line.Ran v cpu ran) new =
-    (p < length old.cpus) × (v ≡ verb.Tick) × (cpu ≡ p) × ((rooms : Rooms) × Leads old (tick_events p moment rooms ran old) new)
-IsTick old p moment l new = IsNoSuch old verb.Tick p l new
+  -- `quiet`
+  abbrev pub IsQuiet : ℕ → Line → List (Processor J R) → List (Processor J R) → Type 0
+  IsQuiet cpu (line.Counted place seq) olds news = (place ≡ cpu) × ChangesAt cpu (Tells (Some seq)) olds news
+  IsQuiet cpu (line.Nothing place) olds news = (place ≡ cpu) × ChangesAt cpu (Tells None) olds news
+  IsQuiet cpu l olds news = IsNoSuch verb.Quiet cpu l olds news
 
--- `driver`
-abbrev pub IsDriver : State → Line → State → Type 0
-IsDriver old l new = (l ≡ line.Driver (driver_answer old)) × Leads old (driver_events old) new
+  -- `tick`
+  abbrev pub IsTick : ℕ → ℕ → Line → List (Processor J R) → List (Processor J R) → Type 0
+  IsTick cpu moment (line.Ran v place ran) olds news =
+      (v ≡ verb.Tick) × (place ≡ cpu) × ChangesAt cpu (λ p q. (t : Ticked) × (t.ran ≡ ran) × TicksBy moment t p.state q.state) olds news
+  IsTick cpu moment l olds news = IsNoSuch verb.Tick cpu l olds news
 
--- `group`: there is a group part where the group has a member
-abbrev pub IsGroup : State → ℕ → Line → State → Type 0
-IsGroup old g (line.Group place took gave) new = (is_enabled old (LookGroup g) ≡ true) × (place ≡ g) × Made (IsGroupTurn g (length old.cpus)) old new took gave
-IsGroup old g l new = (is_enabled old (LookGroup g) ≡ false) × (l ≡ line.Refused verb.Group g 6) × (new ≡ old)
+  -- ---- groups and hands
 
--- why a hand's turn or a switch isn't made: no such processor, or one that isn't offloadable
-abbrev pub IsPlaceRefusal : State → ℕ → ℕ → Type 0
-IsPlaceRefusal w p refusal = (fault : SwitchFault) × (switch_answer w p ≡ Err fault) × (refusal ≡ switch_number fault)
+  -- `group`: there is a group's part where the group has an offloadable member
+  abbrev pub IsGroup : ℕ → Line → List (Group J R) → List (Group J R) → Type 0
+  IsGroup number (line.Group place took gave) olds news =
+      (place ≡ number) × ((k : ℕ) × ChangesAt k (λ g h. (g.state.group ≡ number) × ((t : GroupTurn) × (t.took ≡ took) × (t.gave ≡ gave) × TurnsGroup t g.state h.state)) olds news)
+  IsGroup number l olds news = All (λ g. g.state.group ≢ number) olds × (l ≡ line.Refused verb.Group number 6) × (news ≡ olds)
 
--- `hand`
-abbrev pub IsHand : State → ℕ → Line → State → Type 0
-IsHand old p (line.Ran v cpu ran) new = (is_offloadable old p ≡ true) × (v ≡ verb.Hand) × (cpu ≡ p) × Leads old (hand_events p ran old) new
-IsHand old p (line.Refused v place refusal) new = (v ≡ verb.Hand) × (place ≡ p) × IsPlaceRefusal old p refusal × (new ≡ old)
-IsHand old p l new = ⊥
+  -- `hand`, where so many processors are there: those that aren't offloadable have no hand
+  abbrev pub IsHand : ℕ → ℕ → Line → List (Hand J R) → List (Hand J R) → Type 0
+  IsHand n cpu (line.Ran v place ran) olds news =
+      (v ≡ verb.Hand) × (place ≡ cpu) × ((k : ℕ) × ChangesAt k (λ h i. (h.state.cpu ≡ cpu) × ((t : HandTurn) × (t.ran ≡ ran) × TurnsBy t h.state i.state)) olds news)
+  IsHand n cpu l olds news = All (λ h. h.state.cpu ≢ cpu) olds × (l ≡ line.Refused verb.Hand cpu (if nat_lt cpu n then 5 else 6)) × (news ≡ olds)
 
-abbrev pub is_offload : Verb → Bool
-is_offload verb.Offload = true
-is_offload v = false
+-- ---- driver and control
+
+-- `driver`, on a board of so many processors
+abbrev pub IsDriver : ℕ → Line → View → View → Type 0
+IsDriver n (line.Driver t) v w = DrivesBy n t v w
+IsDriver n l v w = ⊥
+
+-- what the word of processor p that says whether it is to be offloaded becomes
+abbrev pub asked_by : Verb → ℕ
+asked_by verb.Offload = 1
+asked_by v = 0
 
 -- `offload` and `deoffload`
-abbrev pub IsSwitch : State → Verb → ℕ → Line → State → Type 0
-IsSwitch old v p (line.Asked said cpu) new = (said ≡ v) × (cpu ≡ p) × (switch_answer old p ≡ Ok tt) × Leads old (where_enabled (Ask p (is_offload v)) old) new
-IsSwitch old v p (line.Refused said place refusal) new = (said ≡ v) × (place ≡ p) × IsPlaceRefusal old p refusal × Leads old (where_enabled (Ask p (is_offload v)) old) new
-IsSwitch old v p l new = ⊥
+abbrev pub IsSwitch : Board → Verb → ℕ → Line → View → View → Type 0
+IsSwitch b v cpu (line.Asked said place) old new = (said ≡ v) × (place ≡ cpu) × SwitchesBy b cpu (asked_by v) (Ok tt) old new
+IsSwitch b v cpu (line.Refused said place refusal) old new =
+    (said ≡ v) × (place ≡ cpu) × ((fault : SwitchFault) × (switch_number fault ≡ refusal) × SwitchesBy b cpu (asked_by v) (Err fault) old new)
+IsSwitch b v cpu l old new = ⊥
 
 -- `barrier`: the new barrier is the one that is open then
-abbrev pub IsBarrier : State → Line → State → Option ℕ → Type 0
-IsBarrier old l new opened = (l ≡ line.Opened) × (opened ≡ Some (length old.barriers)) × Leads old (barrier_events (length old.barriers) (length old.cpus) old) new
+abbrev pub IsBarrier : ℕ → Line → View → View → Option Barrier → Type 0
+IsBarrier n l v w still = (l ≡ line.Opened) × ((b : Barrier) × (still ≡ Some b) × OpensBy n [] (Ok b) v w)
 
--- `poll` of the barrier that is open, if one is: only where it passes with this poll is it open no longer
-abbrev pub IsPoll : State → Option ℕ → Line → State → Option ℕ → Type 0
-IsPoll old opened line.NoBarrier new still = (opened ≡ None) × (still ≡ None) × (new ≡ old)
-IsPoll old opened line.Passed new still = (b : ℕ) × (opened ≡ Some b) × (still ≡ None) × Leads old (poll_events b (length old.cpus) old) new × (new.history ≡ old.history ++ marks.Passed b ∷ [])
-IsPoll old opened line.Waits new still = (b : ℕ) × (opened ≡ Some b) × (still ≡ opened) × Leads old (poll_events b (length old.cpus) old) new × (new.history ≡ old.history)
-IsPoll old opened l new still = ⊥
+-- `poll` of the barrier that is open, if one is: where it has passed it is open no longer
+abbrev pub IsPoll : Option Barrier → Line → View → View → Option Barrier → Type 0
+IsPoll opened line.NoBarrier v w still = (opened ≡ None) × (still ≡ None) × (w ≡ v)
+IsPoll opened line.Passed v w still = (b : Barrier) × (opened ≡ Some b) × (still ≡ None) × ((passed : Passed) × PollsBy b.counts (Some passed) v w)
+IsPoll opened line.Waits v w still = (b : Barrier) × (opened ≡ Some b) × (still ≡ opened) × PollsBy b.counts None v w
+IsPoll opened l v w still = ⊥
 
 -- `shut`: the final counts of all processors
-abbrev pub IsShut : State → Line → State → Type 0
-IsShut old (line.Shut text) new =
-    Leads old (upto shuts (length old.cpus) old) new × ((counts : List ℕ) × AreCounts new (length new.cpus) counts × (string_bytes text ≡ with_commas (take (length new.cpus) counts)))
-IsShut old l new = ⊥
+abbrev pub IsShut : ℕ → Line → View → View → Type 0
+IsShut n (line.Shut text) v w = (counts : Counts) × (counts.n ≡ n) × Shuts n counts v w × (string_bytes text ≡ with_commas (take counts.n counts.counts))
+IsShut n l v w = ⊥
 
--- the line of a list
-unfoldable pub lists_line : ℕ → Lists → List ℕ
-lists_line = line_text
+-- ---- show
 
 abbrev pub group_line : ℕ → Option Lists → List ℕ
 group_line p None = []
 group_line p (Some lists) = lists_line p lists
 
--- `show`: the lines of the first n processors, and of their groups where they are offloadable
-unfoldable pub shown_one : State → ℕ → List ℕ
-shown_one w p = lists_line p (cpu_lists (cpu_at w p)) ++ group_line p (if is_offloadable w p then Some (folk_lists (cpu_at w p)) else None)
+module _ {J R : Type 0} where
+  -- What is shown of processor p by its group: None where no group has it as a member.
+  abbrev pub ShownIn : ℕ → Option Lists → List (Group J R) → Type 0
+  ShownIn p None groups = All (λ g. ShownFor p None (members_of g.state)) groups
+  ShownIn p (Some lists) groups = Any (λ g. ShownFor p (Some lists) (members_of g.state)) groups
 
-unfoldable pub shown : ℕ → State → List ℕ
-shown zero w = []
-shown (suc n) w = shown n w ++ shown_one w n
+  -- the lines of processor k: of its own lists, and of those in its group if it has one
+  abbrev pub ShowsOne : ℕ → Processor J R → List (Group J R) → List ℕ → Type 0
+  ShowsOne k p groups text = (folk : Option Lists) × ShownIn k folk groups × (text ≡ lists_line k (cpu_lists p.state.accepted (lists_of p.state)) ++ group_line k folk)
+
+  -- the lines of the processors k, k + 1, ..
+  unfoldable pub ShowsFrom : ℕ → List (Processor J R) → List (Group J R) → List ℕ → Type 0
+  ShowsFrom k [] groups text = text ≡ []
+  ShowsFrom k (p ∷ ps) groups text = (first rest : List ℕ) × ShowsOne k p groups first × ShowsFrom (suc k) ps groups rest × (text ≡ first ++ rest)

@@ -1,5 +1,7 @@
 -- What the words of the command line name, and what is read: docs/specification/program.md, "Command line".
-use Rattle.std.specs.Prelude.{◌≡◌, ℕ, ◌≤◌, ◌∷◌, [], List, Option, codes, length, ◌++◌, Bool, true, false, ◌<◌, Result, MatchResult, ⊤}
+use Rattle.std.specs.Prelude.{◌≡◌, ℕ, ◌≤◌, ◌∷◌, [], List, Option, codes, length, ◌++◌, Bool, true, false, ◌<◌, ◌*◌, Result, MatchResult, count_by, ⊤}
+use Rattle.rcu_script.specs.Calls.{is_call}
+use Rattle.rcu_setup.specs.declared.setup.Setup.{Setup}
 use Rattle.rcuo.specs.declared.plan.Refusal.{Refusal}
 use Rattle.rcuo.specs.declared.plan.Refusal.TheVariants as refusal
 use Rattle.rcuo.specs.declared.plan.Subcommand.{Subcommand}
@@ -26,6 +28,7 @@ TakesPiece old new text longer most result =
 -- the word that names a subcommand
 abbrev pub word_of : Subcommand → List ℕ
 word_of subcommand.Replay = codes "replay"
+word_of subcommand.Threads = codes "threads"
 
 -- the words are the one word of the subcommand
 abbrev pub Names : List (List ℕ) → Subcommand → Type 0
@@ -33,4 +36,10 @@ Names words s = words ≡ word_of s ∷ []
 
 -- the command line of the program: a subcommand is required, and there are no options
 abbrev pub rcuo : App
-rcuo = with_subcommand (record (new_app (codes "rcuo")) { top = record (new_app (codes "rcuo")).top { no_binary_name = true; subcommand_required = true } }) (new_app (codes "replay")).top
+rcuo = with_subcommand (with_subcommand (record (new_app (codes "rcuo")) { top = record (new_app (codes "rcuo")).top { no_binary_name = true; subcommand_required = true } })
+    (new_app (codes "replay")).top) (new_app (codes "threads")).top
+
+-- how many jobs a run takes: in `replay` one for each call line, in `threads` so many for each processor
+abbrev pub jobs_for : Subcommand → Setup → ℕ
+jobs_for subcommand.Replay setup = count_by is_call setup.script.items
+jobs_for subcommand.Threads setup = setup.calls * setup.shape.processors

@@ -1,56 +1,57 @@
-//! The commands of a script: the call that each makes, and the line of its answer.
+//! The commands of a script: the call of a part that each makes, and the line of its answer.
 
-ghost use Rattle.std.specs.Prelude.{◌≡◌, ◌<◌, ◌≤◌, ◌++◌, ℕ, length, true, false, IfOk, OnOk, None};
+ghost use Rattle.std.specs.Prelude.{◌≡◌, ◌≢◌, ℕ, List, All, IfNone, IfOk, IfSome, OnOk};
 ghost use Rattle.std.specs.Io.KnownBytes.{Appends};
-ghost use Rattle.rcu_world.specs.Turns.{IsAtRest};
-ghost use Rattle.rcu_world.specs.Views.{state};
-ghost use Rattle.rcu_world.specs.Worlds.{IsWorld};
-ghost use Rattle.rcuo.specs.Outcomes.{IsBarrier, IsCall, IsDriver, IsGroup, IsHand, IsPoll, IsQuiet, IsShut, IsSwitch, IsTick, lists_line, shown, shown_one};
-ghost use Rattle.rcuo.specs.declared.lines.Line.TheVariants.{Refused};
+ghost use Rattle.std.specs.List.{AllZip};
+ghost use Rattle.rcu_control.specs.Parts.{control_board, control_seat, control_view, driver_board, driver_seat, driver_view};
+ghost use Rattle.rcu_control.specs.Views.{SamePart};
+ghost use Rattle.rcu_parts.specs.Groups.{SameGroup};
+ghost use Rattle.rcu_parts.specs.Hands.{IsSoundHand, SameHand};
+ghost use Rattle.rcu_parts.specs.Processors.{IsSound, SameProcessor};
+ghost use Rattle.rcuo.specs.Changes.{HoldsAt};
+ghost use Rattle.rcuo.specs.Outcomes.{Calls, IsBarrier, IsCall, IsDriver, IsGroup, IsHand, IsPoll, IsQuiet, IsShut, IsSwitch, IsTick, ShownIn, ShowsFrom, ShowsOne};
 
-use crate::fault::Fault;
-use crate::lines::{Line, Verb, write_text};
-use rcu_jobs::{Job, Lists};
-use rcu_status::{counts, line};
-use rcu_world::World;
+use rcu_jobs::{Job, Lists, Refused, Ticket};
+use rcu_parts::{Barrier, Control, Driver, Group, Hand, Processor};
+use rcu_script::{Fault, Line, Verb, write_lists};
+use rcu_status::counts;
 use std::alloc::Global;
 use std::io::Write;
 
-/// The number of the refusal "there is no such processor" (or group).
-const NO_PROCESSOR: u64 = 6;
-
-/// The number of the refusal "the processor isn't offloadable".
-const NOT_OFFLOADABLE: u64 = 5;
-
-/// The refusal of a command that names something that isn't there.
-fn no_such(verb: Verb, place: u64) -> Line
-    ensures { result ≡ Refused verb place 6 }
+/// A call of either kind.
+fn call_one<J: Job>(
+    processor: &mut Processor<J>,
+    verb: Verb,
+    moment: u64,
+    job: J,
+) -> Result<Ticket, Refused<J>>
+    ensures calls { Calls J.key_of verb moment job result processor.old processor.new }
+    ensures same { SameProcessor processor.old.state processor.new.state }
+    ensures sound { IsSound J.key_of J.gives processor.old.state → IsSound J.key_of J.gives processor.new.state }
 {
-    Line::Refused {
-        verb,
-        place,
-        refusal: NO_PROCESSOR,
+    match verb {
+        Verb::Lazy => processor.call_rcu_lazy(moment, job),
+        _ => processor.call_rcu(moment, job),
     }
 }
 
 /// `call` and `lazy`: the job goes in, or is dropped where it is refused.
-#[tactic(auto, using(crate::proofs::Refusals::no_call))]
-pub fn call<J: Job>(world: &mut World<J>, verb: Verb, cpu: u64, moment: u64, job: J) -> Line
-    requires world { IsWorld J.key_of J.gives world.old.core }
-    requires rest { IsAtRest (state J.key_of world.old.core) }
-    ensures line { IsCall (state J.key_of world.old.core) verb cpu moment (J.key_of job) result (state J.key_of world.new.core) }
-    ensures kept { IsWorld J.key_of J.gives world.new.core }
-    ensures rest { IsAtRest (state J.key_of world.new.core) }
+pub fn call<J: Job>(
+    processors: &mut Vec<Processor<J>>,
+    verb: Verb,
+    cpu: u64,
+    moment: u64,
+    job: J,
+) -> Line
+    ensures line { IsCall J.key_of verb cpu moment job result processors.old.items processors.new.items }
+    ensures same { AllZip (λ p q. SameProcessor p.state q.state) processors.old.items processors.new.items }
+    ensures sound { All (λ p. IsSound J.key_of J.gives p.state) processors.old.items → All (λ p. IsSound J.key_of J.gives p.state) processors.new.items }
 {
-    if cpu >= world.processors() {
-        return no_such(verb, cpu);
+    let place = cpu as usize;
+    if place >= processors.len() {
+        return Line::no_such(verb, cpu);
     }
-    let answer = if verb == Verb::Lazy {
-        world.call_rcu_lazy(cpu, moment, job)
-    } else {
-        world.call_rcu(cpu, moment, job)
-    };
-    match answer {
+    match call_one(&mut processors[place], verb, moment, job) {
         Ok(ticket) => Line::Number {
             verb,
             cpu,
@@ -65,110 +66,117 @@ pub fn call<J: Job>(world: &mut World<J>, verb: Verb, cpu: u64, moment: u64, job
 }
 
 /// `quiet`: a report of a quiescent state.
-pub fn quiet<J: Job>(world: &mut World<J>, cpu: u64) -> Result<Line, Fault>
-    requires world { IsWorld J.key_of J.gives world.old.core }
-    requires rest { IsAtRest (state J.key_of world.old.core) }
-    ensures line { IfOk result (λ line. IsQuiet (state J.key_of world.old.core) cpu line (state J.key_of world.new.core)) }
-    ensures kept { IsWorld J.key_of J.gives world.new.core }
-    ensures rest { IsAtRest (state J.key_of world.new.core) }
+pub fn quiet<J: Job>(processors: &mut Vec<Processor<J>>, cpu: u64) -> Line
+    ensures line { IsQuiet cpu result processors.old.items processors.new.items }
+    ensures same { AllZip (λ p q. SameProcessor p.state q.state) processors.old.items processors.new.items }
+    ensures sound { All (λ p. IsSound J.key_of J.gives p.state) processors.old.items → All (λ p. IsSound J.key_of J.gives p.state) processors.new.items }
 {
-    if cpu >= world.processors() {
-        return Ok(no_such(Verb::Quiet, cpu));
+    let place = cpu as usize;
+    if place >= processors.len() {
+        return Line::no_such(Verb::Quiet, cpu);
     }
-    match world.quiescent(cpu)? {
-        Some(seq) => Ok(Line::Counted { cpu, seq }),
-        None => Ok(Line::Nothing { cpu }),
+    match processors[place].quiescent() {
+        Some(seq) => Line::Counted { cpu, seq },
+        None => Line::Nothing { cpu },
     }
 }
 
 /// `tick`: a processor's turn.
-pub fn tick<J: Job>(world: &mut World<J>, cpu: u64, moment: u64) -> Result<Line, Fault>
-    requires world { IsWorld J.key_of J.gives world.old.core }
-    requires rest { IsAtRest (state J.key_of world.old.core) }
-    ensures line { IfOk result (λ line. IsTick (state J.key_of world.old.core) cpu moment line (state J.key_of world.new.core)) }
-    ensures kept { IsWorld J.key_of J.gives world.new.core }
-    ensures rest { IsAtRest (state J.key_of world.new.core) }
+pub fn tick<J: Job>(processors: &mut Vec<Processor<J>>, cpu: u64, moment: u64) -> Line
+    ensures line { IsTick cpu moment result processors.old.items processors.new.items }
+    ensures same { AllZip (λ p q. SameProcessor p.state q.state) processors.old.items processors.new.items }
+    ensures sound { All (λ p. IsSound J.key_of J.gives p.state) processors.old.items → All (λ p. IsSound J.key_of J.gives p.state) processors.new.items }
 {
-    if cpu >= world.processors() {
-        return Ok(no_such(Verb::Tick, cpu));
+    let place = cpu as usize;
+    if place >= processors.len() {
+        return Line::no_such(Verb::Tick, cpu);
     }
-    let ticked = world.tick(cpu, moment)?;
-    Ok(Line::Ran {
+    let ticked = processors[place].tick(moment);
+    Line::Ran {
         verb: Verb::Tick,
         cpu,
         ran: ticked.ran,
-    })
+    }
 }
 
 /// `driver`: a turn of the driver.
-pub fn driver<J: Job>(world: &mut World<J>) -> Result<Line, Fault>
-    requires world { IsWorld J.key_of J.gives world.old.core }
-    requires rest { IsAtRest (state J.key_of world.old.core) }
-    ensures line { IfOk result (λ line. IsDriver (state J.key_of world.old.core) line (state J.key_of world.new.core)) }
-    ensures kept { IsWorld J.key_of J.gives world.new.core }
-    ensures rest { IsAtRest (state J.key_of world.new.core) }
+pub fn driver(driver: &mut Driver) -> Line
+    ensures line { IsDriver (driver_board driver.old).processors result (driver_view driver.old) (driver_view driver.new) }
+    ensures same { SamePart (driver_board driver.old) (driver_board driver.new) (driver_seat driver.old) (driver_seat driver.new) }
 {
-    Ok(Line::Driver(world.driver_turn()?))
+    Line::Driver(driver.turn())
+}
+
+/// Where the part of a group stands.
+fn place_of_group<J: Job>(groups: &Vec<Group<J>>, number: u64) -> Option<usize>
+    ensures found { IfSome result (λ place. HoldsAt place (λ g. g.state.group ≡ number) groups.now.items) }
+    ensures none { IfNone result (All (λ g. g.state.group ≢ number) groups.now.items) }
+{
+    for place in 0..groups.len() {
+        if groups[place].number() == number {
+            return Some(place);
+        }
+    }
+    None
 }
 
 /// `group`: a group's turn.
-pub fn group<J: Job>(world: &mut World<J>, group: u64) -> Result<Line, Fault>
-    requires world { IsWorld J.key_of J.gives world.old.core }
-    requires rest { IsAtRest (state J.key_of world.old.core) }
-    ensures line { IfOk result (λ line. IsGroup (state J.key_of world.old.core) group line (state J.key_of world.new.core)) }
-    ensures kept { IsWorld J.key_of J.gives world.new.core }
-    ensures rest { IsAtRest (state J.key_of world.new.core) }
+pub fn group<J: Job>(groups: &mut Vec<Group<J>>, number: u64) -> Line
+    ensures line { IsGroup number result groups.old.items groups.new.items }
+    ensures same { AllZip (λ g h. SameGroup g.state h.state) groups.old.items groups.new.items }
 {
-    if !world.has_group(group) {
-        return Ok(no_such(Verb::Group, group));
-    }
-    let turn = world.group_turn(group)?;
-    Ok(Line::Group {
-        group,
+    let Some(place) = place_of_group(groups, number) else {
+        return Line::no_such(Verb::Group, number);
+    };
+    let turn = groups[place].turn();
+    Line::Group {
+        group: number,
         took: turn.took,
         gave: turn.gave,
-    })
+    }
 }
 
-/// `hand`: a hand's turn.
-#[tactic(auto, using(crate::proofs::Refusals::no_hand))]
-pub fn hand<J: Job>(world: &mut World<J>, cpu: u64) -> Result<Line, Fault>
-    requires world { IsWorld J.key_of J.gives world.old.core }
-    requires rest { IsAtRest (state J.key_of world.old.core) }
-    ensures line { IfOk result (λ line. IsHand (state J.key_of world.old.core) cpu line (state J.key_of world.new.core)) }
-    ensures kept { IsWorld J.key_of J.gives world.new.core }
-    ensures rest { IsAtRest (state J.key_of world.new.core) }
+/// Where the part of a processor's hand stands.
+fn place_of_hand<J: Job>(hands: &Vec<Hand<J>>, cpu: u64) -> Option<usize>
+    ensures found { IfSome result (λ place. HoldsAt place (λ h. h.state.cpu ≡ cpu) hands.now.items) }
+    ensures none { IfNone result (All (λ h. h.state.cpu ≢ cpu) hands.now.items) }
 {
-    if cpu >= world.processors() {
-        return Ok(no_such(Verb::Hand, cpu));
+    for place in 0..hands.len() {
+        if hands[place].cpu() == cpu {
+            return Some(place);
+        }
     }
-    if !world.has_hand(cpu) {
-        return Ok(Line::Refused {
-            verb: Verb::Hand,
-            place: cpu,
-            refusal: NOT_OFFLOADABLE,
-        });
-    }
-    let turn = world.hand_turn(cpu)?;
-    Ok(Line::Ran {
+    None
+}
+
+/// `hand`: the turn of a processor's hand. There are `n` processors.
+pub fn hand<J: Job>(hands: &mut Vec<Hand<J>>, n: usize, cpu: u64) -> Line
+    ensures line { IsHand n cpu result hands.old.items hands.new.items }
+    ensures same { AllZip (λ h i. SameHand h.state i.state) hands.old.items hands.new.items }
+    ensures sound { All (λ h. IsSoundHand J.key_of J.gives h.state) hands.old.items → All (λ h. IsSoundHand J.key_of J.gives h.state) hands.new.items }
+{
+    let Some(place) = place_of_hand(hands, cpu) else {
+        if cpu < n as u64 {
+            return Line::not_offloadable(Verb::Hand, cpu);
+        }
+        return Line::no_such(Verb::Hand, cpu);
+    };
+    let turn = hands[place].turn();
+    Line::Ran {
         verb: Verb::Hand,
         cpu,
         ran: turn.ran,
-    })
+    }
 }
 
 /// `offload` and `deoffload`: asks for the switch.
-pub fn switch<J: Job>(world: &mut World<J>, verb: Verb, cpu: u64) -> Line
-    requires world { IsWorld J.key_of J.gives world.old.core }
-    requires rest { IsAtRest (state J.key_of world.old.core) }
-    ensures line { IsSwitch (state J.key_of world.old.core) verb cpu result (state J.key_of world.new.core) }
-    ensures kept { IsWorld J.key_of J.gives world.new.core }
-    ensures rest { IsAtRest (state J.key_of world.new.core) }
+pub fn switch(control: &mut Control, verb: Verb, cpu: u64) -> Line
+    ensures line { IsSwitch (control_board control.old) verb cpu result (control_view control.old) (control_view control.new) }
+    ensures same { SamePart (control_board control.old) (control_board control.new) (control_seat control.old) (control_seat control.new) }
 {
-    let answer = if verb == Verb::Offload {
-        world.offload(cpu)
-    } else {
-        world.deoffload(cpu)
+    let answer = match verb {
+        Verb::Offload => control.offload(cpu),
+        _ => control.deoffload(cpu),
     };
     match answer {
         Ok(()) => Line::Asked { verb, cpu },
@@ -181,84 +189,87 @@ pub fn switch<J: Job>(world: &mut World<J>, verb: Verb, cpu: u64) -> Line
 }
 
 /// `barrier`: opens a barrier, in place of the one that was open.
-pub fn barrier<J: Job>(world: &mut World<J>, opened: &mut Option<u64>) -> Result<Line, Fault>
-    requires world { IsWorld J.key_of J.gives world.old.core }
-    requires rest { IsAtRest (state J.key_of world.old.core) }
-    ensures line { IfOk result (λ line. IsBarrier (state J.key_of world.old.core) line (state J.key_of world.new.core) opened.new) }
-    ensures kept { IsWorld J.key_of J.gives world.new.core }
-    ensures rest { IsAtRest (state J.key_of world.new.core) }
+pub fn barrier(control: &mut Control, opened: &mut Option<Barrier>) -> Line
+    ensures line { IsBarrier (control_board control.old).processors result (control_view control.old) (control_view control.new) opened.new }
+    ensures same { SamePart (control_board control.old) (control_board control.new) (control_seat control.old) (control_seat control.new) }
+    ensures many { IfSome opened.new (λ b. (control_board control.new).processors ≡ b.counts.n) }
 {
-    let Ok(name) = world.barrier(None, &[]) else {
-        // (a barrier without tickets is refused for want of memory alone)
-        return Err(Fault::memory());
+    let Ok(barrier) = control.barrier(&[]) else {
+        // (a barrier without tickets is never refused)
+        unreachable!()
     };
-    *opened = Some(name);
-    Ok(Line::Opened)
+    *opened = Some(barrier);
+    Line::Opened
 }
 
 /// `poll`: asks whether the barrier that is open has passed. If it has, it is open no longer.
-pub fn poll<J: Job>(world: &mut World<J>, opened: &mut Option<u64>) -> Result<Line, Fault>
-    requires world { IsWorld J.key_of J.gives world.old.core }
-    requires rest { IsAtRest (state J.key_of world.old.core) }
-    ensures line { IfOk result (λ line. IsPoll (state J.key_of world.old.core) opened.old line (state J.key_of world.new.core) opened.new) }
-    ensures kept { IsWorld J.key_of J.gives world.new.core }
-    ensures rest { IsAtRest (state J.key_of world.new.core) }
+pub fn poll(control: &mut Control, opened: &mut Option<Barrier>) -> Line
+    requires open { IfSome opened.old (λ b. (control_board control.old).processors ≡ b.counts.n) }
+    ensures line { IsPoll opened.old result (control_view control.old) (control_view control.new) opened.new }
+    ensures same { SamePart (control_board control.old) (control_board control.new) (control_seat control.old) (control_seat control.new) }
+    ensures many { IfSome opened.new (λ b. (control_board control.new).processors ≡ b.counts.n) }
 {
-    let Some(name) = *opened else {
-        return Ok(Line::NoBarrier);
+    let Some(mut barrier) = *opened else {
+        return Line::NoBarrier;
     };
-    if world.poll(name)?.is_none() {
-        return Ok(Line::Waits);
+    match barrier.poll(control) {
+        None => Line::Waits,
+        Some(_) => {
+            *opened = None;
+            Line::Passed
+        }
     }
-    *opened = None;
-    Ok(Line::Passed)
 }
 
 /// `shut`: shuts all processors.
-pub fn shut<J: Job>(alloc: Global, world: &mut World<J>) -> Result<Line, Fault>
-    requires world { IsWorld J.key_of J.gives world.old.core }
-    requires rest { IsAtRest (state J.key_of world.old.core) }
-    ensures line { IfOk result (λ line. IsShut (state J.key_of world.old.core) line (state J.key_of world.new.core)) }
-    ensures kept { IsWorld J.key_of J.gives world.new.core }
-    ensures rest { IsAtRest (state J.key_of world.new.core) }
+pub fn shut(alloc: Global, control: &mut Control) -> Result<Line, Fault>
+    ensures line { IfOk result (λ line. IsShut (control_board control.old).processors line (control_view control.old) (control_view control.new)) }
+    ensures same { SamePart (control_board control.old) (control_board control.new) (control_seat control.old) (control_seat control.new) }
 {
-    let last = world.shut()?;
+    let last = control.shut();
     Ok(Line::Shut(counts(alloc, &last)?))
 }
 
-/// The line of a list.
-#[tactic(auto, unfolding(crate::specs::Outcomes::lists_line))]
-fn show_lists<W: Write>(alloc: Global, cpu: u64, lists: &Lists, writer: &mut W) -> Result<(), Fault>
-    ensures { OnOk result (Appends (W.contents writer.old) (W.contents writer.new) (lists_line cpu lists.now)) }
+/// What is shown of a processor by its group, if it has one.
+fn shown_in<J: Job>(groups: &Vec<Group<J>>, cpu: u64) -> Option<Lists>
+    ensures { ShownIn cpu result groups.now.items }
 {
-    let text = line(alloc, cpu, lists)?;
-    write_text(text.as_str(), writer)
+    for place in 0..groups.len() {
+        if let Some(lists) = groups[place].lists(cpu) {
+            return Some(lists);
+        }
+    }
+    None
 }
 
 /// The lines of one processor.
 fn show_one<J: Job, W: Write>(
     alloc: Global,
-    world: &World<J>,
     cpu: u64,
+    processor: &Processor<J>,
+    groups: &Vec<Group<J>>,
     writer: &mut W,
 ) -> Result<(), Fault>
-    requires { cpu < length (state J.key_of world.now.core).cpus }
-    ensures { OnOk result (Appends (W.contents writer.old) (W.contents writer.new) (shown_one (state J.key_of world.now.core) cpu)) }
+    ensures { OnOk result ((text : List ℕ) × ShowsOne cpu processor.now groups.now.items text × Appends (W.contents writer.old) (W.contents writer.new) text) }
 {
-    show_lists(alloc, cpu, &world.lists(cpu), writer)?;
-    match world.group_lists(cpu) {
-        Some(lists) => show_lists(alloc, cpu, &lists, writer),
+    write_lists(alloc, cpu, &processor.lists(), writer)?;
+    match shown_in(groups, cpu) {
+        Some(lists) => write_lists(alloc, cpu, &lists, writer),
         None => Ok(()),
     }
 }
 
 /// `show`: the lists of each processor, and of its group where it is offloadable.
-pub fn show<J: Job, W: Write>(alloc: Global, world: &World<J>, writer: &mut W) -> Result<(), Fault>
-    requires { IsWorld J.key_of J.gives world.now.core }
-    ensures { OnOk result (Appends (W.contents writer.old) (W.contents writer.new) (shown (length (state J.key_of world.now.core).cpus) (state J.key_of world.now.core))) }
+pub fn show<J: Job, W: Write>(
+    alloc: Global,
+    processors: &Vec<Processor<J>>,
+    groups: &Vec<Group<J>>,
+    writer: &mut W,
+) -> Result<(), Fault>
+    ensures { OnOk result ((text : List ℕ) × ShowsFrom 0 processors.now.items groups.now.items text × Appends (W.contents writer.old) (W.contents writer.new) text) }
 {
-    for cpu in 0..world.processors() {
-        show_one(alloc, world, cpu, writer)?;
+    for cpu in 0..processors.len() {
+        show_one(alloc, cpu as u64, &processors[cpu], groups, writer)?;
     }
     Ok(())
 }

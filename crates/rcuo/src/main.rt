@@ -1,25 +1,29 @@
 //! The program `rcuo`: it replays a script of calls, turns and reports over a runtime of deferred work, and prints
-//! what each call answers. docs/specification/program.md has its surface.
+//! what each call answers; or it runs such a runtime in threads. docs/specification/program.md has its surface.
 #![tactic(auto)]
 
 ghost use Rattle.std.specs.Prelude.{◌≡◌};
 
 mod commands;
-mod fault;
-mod lines;
 mod plan;
+mod printing;
 mod read;
 mod replay;
 #[cfg(test)]
 mod tests;
+mod threading;
 mod versions;
 
-use fault::{Fault, write_fault};
-use plan::{Refusal, read_plan};
+use plan::{Refusal, Subcommand, read_plan};
 use rcu_jobs::BoxedJob;
+use rcu_script::{Fault, write_fault};
 use replay::replay;
 use std::io;
 use std::process::ExitCode;
+use std::rt::Clock;
+use std::sync::Wait;
+use std::thread::Threads;
+use threading::threads;
 use versions::{Retired, versions};
 
 /// The words of the command line after the program's name.
@@ -39,11 +43,14 @@ fn words(rt: &HostRuntime) -> Result<Vec<String>, Refusal> {
 }
 
 /// Does what the words and the setup say. Each version that is retired makes a job, which owns it, drops it, and answers
-/// how many routes it held.
-fn run(rt: &HostRuntime) -> Result<(), Refusal> {
-    let alloc = rt.alloc();
-    let words = words(rt)?;
-    let plan = read_plan(alloc, words.as_slice(), &mut rt.stdin())?;
+/// how many routes it held. `rt` is the runtime of `host`, by what threads need of it.
+fn run<R: Threads + Wait + Clock + Copy + Send + 'static>(
+    host: &HostRuntime,
+    rt: &R,
+) -> Result<(), Refusal> {
+    let alloc = host.alloc();
+    let words = words(host)?;
+    let plan = read_plan(alloc, words.as_slice(), &mut host.stdin())?;
     let mut jobs = Vec::new(alloc);
     for Retired { key, table } in versions(alloc, &plan)? {
         let routes = table.len() as u64;
@@ -58,11 +65,15 @@ fn run(rt: &HostRuntime) -> Result<(), Refusal> {
         )?;
         jobs.push(BoxedJob::<65536>::new(key, call))?;
     }
-    Ok(replay(alloc, &plan, jobs, &mut io::writer(rt))?)
+    let mut writer = io::writer(host);
+    match plan.subcommand {
+        Subcommand::Replay => Ok(replay(alloc, &plan, jobs, &mut writer)?),
+        Subcommand::Threads => Ok(threads(rt, alloc, &plan, jobs, &mut writer)?),
+    }
 }
 
 fn main(rt: HostRuntime) -> ExitCode {
-    match run(&rt) {
+    match run(&rt, &rt) {
         Ok(()) => ExitCode::SUCCESS,
         Err(Refusal::Words(error)) => {
             let _ = rt.eprint(&error);

@@ -5,9 +5,9 @@ ghost use Rattle.clap.specs.Words.{app_of, kind_of};
 ghost use Rattle.rcu_setup.specs.Setup.{setup_of, setup_view};
 ghost use Rattle.rcuo.specs.Plan.{Names, RefusesWords, TakesAtMost, rcuo, word_of};
 
-use crate::fault::Fault;
 use crate::read::read_text;
 use clap::error::ErrorKind;
+use rcu_script::Fault;
 use rcu_setup::{Setup, SetupFault, read_setup};
 use std::alloc::{AllocError, AllocFailed, Global};
 use std::io::Read;
@@ -50,7 +50,10 @@ impl<T: Drop> From<AllocFailed<T>> for Refusal {
 /// The subcommands of the program.
 #[derive(Clone, Copy, Debug, PartialEq, Eq)]
 pub enum Subcommand {
+    /// The script's commands in one thread.
     Replay,
+    /// So many calls of each processor, each part in a thread of its own.
+    Threads,
 }
 
 /// What a run is to do.
@@ -76,7 +79,8 @@ fn command<'a>(alloc: Global) -> Result<clap::Command<'a>, AllocError>
     clap::Command::new(alloc, "rcuo")
         .no_binary_name(true)
         .subcommand_required(true)
-        .subcommand(clap::Command::new(alloc, "replay"))
+        .subcommand(clap::Command::new(alloc, "replay"))?
+        .subcommand(clap::Command::new(alloc, "threads"))
 }
 
 fn subcommand_of(alloc: Global, words: &[String]) -> Result<Subcommand, clap::Error>
@@ -84,8 +88,11 @@ fn subcommand_of(alloc: Global, words: &[String]) -> Result<Subcommand, clap::Er
     ensures err { (s : Subcommand) → Names (map string_bytes words.now) s → IfErr result (λ e. kind_of e ≡ ErrorKind.OutOfMemory) }
     ensures ok { (s : Subcommand) → Names (map string_bytes words.now) s → IfOk result (λ found. found ≡ s) }
 {
-    let _matches = command(alloc)?.try_get_matches_from(words)?;
-    Ok(Subcommand::Replay)
+    let matches = command(alloc)?.try_get_matches_from(words)?;
+    match matches.subcommand_matches("threads") {
+        Some(_) => Ok(Subcommand::Threads),
+        None => Ok(Subcommand::Replay),
+    }
 }
 
 /// The setup that the reader holds.

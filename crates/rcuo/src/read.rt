@@ -3,7 +3,7 @@
 ghost use Rattle.std.specs.Prelude.{◌≡◌, ◌<◌, ◌≤◌, IfOk, IfSome, take, vec_len, length};
 ghost use Rattle.rcuo.specs.Plan.{TakesAtMost, TakesPiece};
 
-use crate::fault::Fault;
+use rcu_script::Fault;
 use std::alloc::Global;
 use std::io::Read;
 

@@ -1,30 +1,26 @@
-//! `rcuo replay`: the commands of a script, one call each, and the totals.
+//! `rcuo replay`: the commands of a script, one call of a part each, and the totals.
 
-ghost use Rattle.std.specs.Prelude.{◌≡◌, ◌<◌, ◌+◌, ℕ, List, IfOk, OnOk, count_by, if◌then◌else◌, true, false, vec_len};
+ghost use Rattle.std.specs.Prelude.{◌≡◌, ℕ, List, IfOk, OnOk, count_by, false, vec_len};
 ghost use Rattle.std.specs.Io.KnownBytes.{Appends};
 ghost use Rattle.std.specs.Option.{is_some};
-ghost use Rattle.std.specs.VecDeque.{deque_len};
-ghost use Rattle.rcuo.specs.Calls.{is_barrier, is_call, is_show};
-ghost use Rattle.rcuo.specs.Printed.{IsAnswer, Prints};
-ghost use Rattle.rcu_world.specs.Turns.{IsAtRest};
-ghost use Rattle.rcu_world.specs.Views.{state};
-ghost use Rattle.rcu_world.specs.Worlds.{IsWorld};
+ghost use Rattle.rcu_parts.specs.OneOpen.{AreOfOneOpen, AreSoundParts};
+ghost use Rattle.rcu_script.specs.Calls.{is_barrier, is_call, is_show};
+ghost use Rattle.rcuo.specs.Printed.{IsAnswer, IsOfParts, KeepsParts, Prints};
 
 use crate::commands::{barrier, call, driver, group, hand, poll, quiet, show, shut, switch, tick};
-use crate::fault::Fault;
-use crate::lines::{Line, Verb, write_line, write_text};
 use crate::plan::Plan;
-use crate::versions::route_of;
+use crate::printing::print_totals;
 use rcu_jobs::{BoxedJob, Job};
+use rcu_parts::{Barrier, Parts, close, open};
+use rcu_script::{Fault, Line, Verb, is_show, job_for, write_line};
 use rcu_setup::Command;
-use rcu_status::totals;
-use rcu_world::World;
 use std::alloc::Global;
 use std::collections::VecDeque;
 use std::io::Write;
 
-/// Runs the commands of the plan's script, one call of the runtime each, and prints for each the line of the answer that
-/// its call gave. Then it closes the runtime and prints the totals. It takes a job for each call line, in order.
+/// Runs the commands of the plan's script over the running parts, one call of a part each, and prints for each the line of
+/// the answer that its call gave. Then it closes the runtime and prints the totals. It takes a job for each call line, in
+/// order.
 ///
 /// # Errors
 ///
@@ -37,118 +33,91 @@ pub fn replay<W: Write>(
 ) -> Result<(), Fault>
     requires jobs { vec_len jobs ≡ count_by is_call plan.now.setup.script.items }
 {
-    let mut world = World::new(alloc, plan.setup.shape)?;
-    perform_all(alloc, &mut world, plan, jobs, writer)?;
-    let Ok((_, closed)) = world.close() else {
+    let mut parts = open(alloc, plan.setup.shape)?;
+    perform_all(alloc, &mut parts, plan, jobs, writer)?;
+    let Ok(closed) = close(alloc, parts) else {
         return Err(Fault::memory());
     };
-    let text = totals(alloc, &closed, true)?;
-    write_text(text.as_str(), writer)?;
-    match writer.flush() {
-        Ok(()) => Ok(()),
-        Err(_) => Err(Fault::CannotWrite),
-    }
+    print_totals(alloc, &closed, true, writer)
 }
 
 /// All commands of the script, in order, until one fails.
 fn perform_all<J: Job<Receipt = u64>, W: Write>(
     alloc: Global,
-    world: &mut World<J>,
+    parts: &mut Parts<J>,
     plan: &Plan,
     jobs: Vec<J>,
     writer: &mut W,
 ) -> Result<(), Fault>
-    requires world { IsWorld J.key_of J.gives world.old.core }
-    requires rest { IsAtRest (state J.key_of world.old.core) }
     requires jobs { vec_len jobs ≡ count_by is_call plan.now.setup.script.items }
-    ensures { IsWorld J.key_of J.gives world.new.core }
+    ensures one { AreOfOneOpen parts.old → AreOfOneOpen parts.new }
+    ensures sound { AreSoundParts J.key_of J.gives parts.old → AreSoundParts J.key_of J.gives parts.new }
 {
     let mut opened = None;
     let mut jobs = VecDeque::from_vec(jobs);
     for command in &plan.setup.script {
         let job = job_for(command, &mut jobs);
-        perform(alloc, world, &mut opened, command, job, writer)?;
+        perform(alloc, parts, &mut opened, command, job, writer)?;
     }
     Ok(())
 }
 
-/// The job of a command: the first that is left where the command is a call.
-fn job_for<J>(command: &Command, jobs: &mut VecDeque<J>) -> Option<J>
-    requires { is_call command.now ≡ true → 0 < deque_len jobs.old }
-    ensures job { is_some result ≡ is_call command.now }
-    ensures left { deque_len jobs.new + (if is_call command.now then 1 else 0) ≡ deque_len jobs.old }
-{
-    match route_of(command) {
-        Some(_) => jobs.pop_front(),
-        None => None,
-    }
-}
-
-/// The line that answers a command other than `show`, with its job if it is a call. `opened` is the name of the barrier
-/// that is open.
-fn answer<J: Job<Receipt = u64>>(
-    alloc: Global,
-    world: &mut World<J>,
-    opened: &mut Option<u64>,
-    command: &Command,
-    job: Option<J>,
-) -> Result<Line, Fault>
-    requires world { IsWorld J.key_of J.gives world.old.core }
-    requires rest { IsAtRest (state J.key_of world.old.core) }
-    requires job { is_some job ≡ is_call command.now }
-    requires line { is_show command.now ≡ false }
-    ensures line { IfOk result (λ line. IsAnswer J.key_of (state J.key_of world.old.core) opened.old command.now job line (state J.key_of world.new.core) opened.new) }
-    ensures barrier { is_barrier command.now ≡ false → opened.new ≡ opened.old }
-    ensures kept { IsWorld J.key_of J.gives world.new.core }
-    ensures rest { IsAtRest (state J.key_of world.new.core) }
-{
-    match (command, job) {
-        (Command::Call { cpu, moment, .. }, Some(job)) => {
-            Ok(call(world, Verb::Call, *cpu, *moment, job))
-        }
-        (Command::Lazy { cpu, moment, .. }, Some(job)) => {
-            Ok(call(world, Verb::Lazy, *cpu, *moment, job))
-        }
-        (Command::Quiet { cpu }, None) => quiet(world, *cpu),
-        (Command::Tick { cpu, moment }, None) => tick(world, *cpu, *moment),
-        (Command::Driver, None) => driver(world),
-        (Command::Group { group: place }, None) => group(world, *place),
-        (Command::Hand { cpu }, None) => hand(world, *cpu),
-        (Command::Offload { cpu }, None) => Ok(switch(world, Verb::Offload, *cpu)),
-        (Command::Deoffload { cpu }, None) => Ok(switch(world, Verb::Deoffload, *cpu)),
-        (Command::Barrier, None) => barrier(world, opened),
-        (Command::Poll, None) => poll(world, opened),
-        (Command::Shut, None) => shut(alloc, world),
-        _ => unreachable!(),
-    }
-}
-
-/// Whether the command is `show`, which alone prints more than one line.
-fn is_show(command: &Command) -> bool
-    ensures { result ≡ is_show command.now }
-{
-    matches!(command, Command::Show)
-}
-
-/// One command, with its job if it is a call, and what it prints. `opened` is the name of the barrier that is open.
+/// One command, with its job if it is a call, and what it prints. `opened` is the barrier that is open.
 fn perform<J: Job<Receipt = u64>, W: Write>(
     alloc: Global,
-    world: &mut World<J>,
-    opened: &mut Option<u64>,
+    parts: &mut Parts<J>,
+    opened: &mut Option<Barrier>,
     command: &Command,
     job: Option<J>,
     writer: &mut W,
 ) -> Result<(), Fault>
-    requires world { IsWorld J.key_of J.gives world.old.core }
-    requires rest { IsAtRest (state J.key_of world.old.core) }
     requires job { is_some job ≡ is_call command.now }
-    ensures prints { OnOk result ((text : List ℕ) × Prints J.key_of (state J.key_of world.old.core) opened.old command.now job text (state J.key_of world.new.core) opened.new × Appends (W.contents writer.old) (W.contents writer.new) text) }
-    ensures kept { IsWorld J.key_of J.gives world.new.core }
-    ensures rest { IsAtRest (state J.key_of world.new.core) }
+    requires ours { IsOfParts parts.old opened.old }
+    ensures prints { OnOk result ((text : List ℕ) × Prints J.key_of parts.old opened.old command.now job text parts.new opened.new × Appends (W.contents writer.old) (W.contents writer.new) text) }
+    ensures kept { KeepsParts J.key_of J.gives parts.old parts.new }
+    ensures ours { IsOfParts parts.new opened.new }
 {
     if is_show(command) {
-        return show(alloc, world, writer);
+        return show(alloc, &parts.processors, &parts.groups, writer);
     }
-    let line = answer(alloc, world, opened, command, job)?;
+    let line = answer(alloc, parts, opened, command, job)?;
     write_line(line, writer)
+}
+
+/// The line that answers a command other than `show`, with its job if it is a call.
+fn answer<J: Job<Receipt = u64>>(
+    alloc: Global,
+    parts: &mut Parts<J>,
+    opened: &mut Option<Barrier>,
+    command: &Command,
+    job: Option<J>,
+) -> Result<Line, Fault>
+    requires job { is_some job ≡ is_call command.now }
+    requires line { is_show command.now ≡ false }
+    requires ours { IsOfParts parts.old opened.old }
+    ensures line { IfOk result (λ line. IsAnswer J.key_of parts.old opened.old command.now job line parts.new opened.new) }
+    ensures barrier { is_barrier command.now ≡ false → opened.new ≡ opened.old }
+    ensures kept { KeepsParts J.key_of J.gives parts.old parts.new }
+    ensures ours { IsOfParts parts.new opened.new }
+{
+    let n = parts.processors.len();
+    match (command, job) {
+        (Command::Call { cpu, moment, .. }, Some(job)) => {
+            Ok(call(&mut parts.processors, Verb::Call, *cpu, *moment, job))
+        }
+        (Command::Lazy { cpu, moment, .. }, Some(job)) => {
+            Ok(call(&mut parts.processors, Verb::Lazy, *cpu, *moment, job))
+        }
+        (Command::Quiet { cpu }, None) => Ok(quiet(&mut parts.processors, *cpu)),
+        (Command::Tick { cpu, moment }, None) => Ok(tick(&mut parts.processors, *cpu, *moment)),
+        (Command::Driver, None) => Ok(driver(&mut parts.driver)),
+        (Command::Group { group: number }, None) => Ok(group(&mut parts.groups, *number)),
+        (Command::Hand { cpu }, None) => Ok(hand(&mut parts.hands, n, *cpu)),
+        (Command::Offload { cpu }, None) => Ok(switch(&mut parts.control, Verb::Offload, *cpu)),
+        (Command::Deoffload { cpu }, None) => Ok(switch(&mut parts.control, Verb::Deoffload, *cpu)),
+        (Command::Barrier, None) => Ok(barrier(&mut parts.control, opened)),
+        (Command::Poll, None) => Ok(poll(&mut parts.control, opened)),
+        (Command::Shut, None) => shut(alloc, &mut parts.control),
+        _ => unreachable!(),
+    }
 }

@@ -1,11 +1,12 @@
-ghost use Rattle.std.specs.Prelude.{◌≡◌};
+ghost use Rattle.std.specs.Prelude.{◌≡◌, IfOk, vec_len};
+ghost use Rattle.rcuo.specs.Plan.{jobs_for};
 
-use crate::fault::Fault;
 use crate::plan::{Plan, Refusal, Subcommand, read_plan};
 use crate::replay::replay;
 use crate::versions::{Retired, versions};
 use rcu_jobs::BoxedJob;
 use rcu_numbers::Shape;
+use rcu_script::Fault;
 use rcu_setup::{Command, Setup, SetupFault};
 use std::alloc::Global;
 use std::io;
@@ -63,7 +64,7 @@ fn fails_at_each_read(rt: HostRuntime) -> Result<(), Fail> {
 #[test]
 fn other_words_are_refused_before_reading(rt: HostRuntime) -> Result<(), Fail> {
     let alloc = rt.alloc();
-    for word in ["threads", "replays", "--help", ""] {
+    for word in ["thread", "replays", "--help", ""] {
         let words = vec![in alloc; String::from_str(alloc, word)?]?;
         let mut reader = Broken { left: 0, taken: 0 };
         let refused = read_plan(alloc, words.as_slice(), &mut reader);
@@ -177,45 +178,75 @@ fn beginning(
     Ok((text, calls))
 }
 
+// A job for each version that is retired, as the program makes them.
+fn jobs_of(alloc: Global, plan: &Plan) -> Result<Vec<BoxedJob<65536>>, Fault>
+    ensures { IfOk result (λ jobs. vec_len jobs ≡ jobs_for plan.now.subcommand plan.now.setup) }
+{
+    let mut jobs = Vec::new(alloc);
+    for Retired { key, table } in versions(alloc, plan)? {
+        let routes = table.len() as u64;
+        let call: Box<dyn FnOnce() -> u64 + Send> = Box::new(
+            alloc,
+            move || -> u64
+                ensures { result ≡ routes }
+            {
+                drop(table);
+                routes
+            },
+        )?;
+        jobs.push(BoxedJob::<65536>::new(key, call))?;
+    }
+    Ok(jobs)
+}
+
+// What the script of a setup prints over the running parts, and what it prints over the core.
+fn texts(alloc: Global, setup: &String) -> Result<(Vec<u8>, Vec<u8>), Fail> {
+    let words = vec![in alloc; String::from_str(alloc, "replay")?]?;
+    let Ok(plan) = read_plan(alloc, words.as_slice(), &mut Cursor::new(setup.as_bytes())) else {
+        return Err("no plan".into());
+    };
+    if plan.subcommand != Subcommand::Replay {
+        return Err("another command".into());
+    }
+    let (Ok(first), Ok(second)) = (jobs_of(alloc, &plan), jobs_of(alloc, &plan)) else {
+        return Err("no jobs".into());
+    };
+    let mut parts = Vec::<u8>::new(alloc);
+    let mut core = Vec::<u8>::new(alloc);
+    if replay(alloc, &plan, first, &mut parts).is_err() {
+        return Err("no replay over the parts".into());
+    }
+    if rcu_core_replay::replay(alloc, &plan.setup, second, &mut core).is_err() {
+        return Err("no replay over the core".into());
+    }
+    Ok((parts, core))
+}
+
+// Whether a text's totals say that so many callbacks ran or came back.
+fn is_whole(alloc: Global, text: &str, calls: u64) -> Result<bool, Fail> {
+    let mut whole = false;
+    for ran in 0..calls.wrapping_add(1) {
+        let back = calls.wrapping_sub(ran);
+        let totals = format!(in alloc; "cpu 0 ran {ran} back {back} ")?;
+        whole = whole || text.contains(totals.as_str());
+    }
+    Ok(whole)
+}
+
 #[test]
 fn scripts_cut_after_each_command(rt: HostRuntime) -> Result<(), Fail> {
     let alloc = rt.alloc();
-    let words = vec![in alloc; String::from_str(alloc, "replay")?]?;
     for (keys, script) in CUT {
         for cut in 0..2 * MOST_COMMANDS {
             let (setup, calls) = beginning(alloc, keys, script, cut / 2, cut % 2 == 1)?;
-            let Ok(plan) = read_plan(alloc, words.as_slice(), &mut Cursor::new(setup.as_bytes()))
-            else {
-                return Err("no plan".into());
-            };
-            let mut jobs = Vec::new(alloc);
-            let Ok(retired) = versions(alloc, &plan) else {
-                return Err("no versions".into());
-            };
-            for Retired { key, table } in retired {
-                let routes = table.len() as u64;
-                let call: Box<dyn FnOnce() -> u64 + Send> = Box::new(
-                    alloc,
-                    move || -> u64
-                        ensures { result ≡ routes }
-                    {
-                        drop(table);
-                        routes
-                    },
-                )?;
-                jobs.push(BoxedJob::<65536>::new(key, call))?;
-            }
-            let mut output = Vec::<u8>::new(alloc);
-            assert!(rt; replay(alloc, &plan, jobs, &mut output).is_ok(), "{setup}");
-            let text = std::str::from_utf8(output.as_slice()).unwrap_or("");
-            let mut whole = false;
-            for ran in 0..calls.wrapping_add(1) {
-                let back = calls.wrapping_sub(ran);
-                let totals = format!(in alloc; "cpu 0 ran {ran} back {back} ")?;
-                whole = whole || text.contains(totals.as_str());
-            }
+            let (parts, core) = texts(alloc, &setup)?;
+            let text = std::str::from_utf8(parts.as_slice()).unwrap_or("");
             assert!(rt;
-                whole,
+                parts.as_slice() == core.as_slice(),
+                "parts and core: {setup}{text}"
+            );
+            assert!(rt;
+                is_whole(alloc, text, calls)?,
                 "what was accepted ran or is handed back: {setup}{text}"
             );
         }

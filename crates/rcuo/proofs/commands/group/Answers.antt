@@ -1,5 +1,29 @@
-use Rattle.std.proofs.Common.{◌∙◌, refl, sym}
+use Rattle.std.proofs.Common.{refl}
+use Rattle.rcu_parts.proofs.GroupLists.{zip_same}
+use Rattle.rcu_parts.proofs.GroupTurns.{same_group}
+use Rattle.rcu_parts.specs.Groups.{SameGroup}
+use Rattle.rcuo.proofs.Changing.{zip_changed}
 use Rattle.rcuo.proofs.commands.group.Goals as goal
 
+pub returns-in_default-clause-same : goal.returns-in_default-clause-same
+returns-in_default-clause-same g c = zip_same (λ x y. SameGroup x.state y.state) (λ x. same_group x.state) c.args.groups.now.items
+
 pub returns-clause-line : goal.returns-clause-line
-returns-clause-line g c = (sym c.has_group.ensures ∙ c.if-not-has_group.false, refl, c.in_ok-turn.ensures.events)
+returns-clause-line g c = let found = c.in-Some.ensures.found in (
+  refl,
+  (
+    c.in-Some.place,
+    record {
+      x = c.index_mut.result.now;
+      y = c.turn-turn.new.self;
+      there = found.0;
+      old = c.index_mut.ensures.value;
+      new = refl;
+      by = (found.1 c.index_mut.result.now c.index_mut.ensures.value, (c.turn-turn.result, refl, refl, c.turn-turn.ensures.turn));
+    },
+  ),
+)
+
+pub returns-clause-same : goal.returns-clause-same
+returns-clause-same g c =
+    zip_changed (λ x y. SameGroup x.state y.state) (λ x. same_group x.state) c.args.groups.now.items c.in-Some.place c.index_mut.result.now c.turn-turn.new.self c.in-Some.ensures.found.0 c.index_mut.ensures.value c.turn-turn.ensures.same

@@ -1,22 +1,41 @@
-use Rattle.std.proofs.Common.{rules, ◌<◌, ◌≤◌, ◌∙◌, length, subst, sym}
-use Rattle.std.specs.Mem.{FitsInMemory}
-use denote.Param.{param}
-use Rattle.rcu_world.specs.contracts.worlds.World as world
-use Rattle.rcu_world.specs.Views.{state}
-use Rattle.rcuo.proofs.Refusals.{no_hand, not_offloadable}
+use Rattle.std.proofs.Common.{arith, refl}
+use Rattle.rcu_parts.proofs.GroupLists.{zip_same}
+use Rattle.rcu_parts.proofs.HandRuns.{same_hand}
+use Rattle.rcu_parts.specs.Hands.{IsSoundHand, SameHand}
+use Rattle.rcuo.proofs.Answering.{no_hand}
+use Rattle.rcuo.proofs.Changing.{all_changed, zip_changed}
 use Rattle.rcuo.proofs.commands.hand.Goals as goal
 
-pub returns-then-not-has_hand-clause-line : goal.returns-then-not-has_hand-clause-line
-returns-then-not-has_hand-clause-line g c =
-    let there : c.args.cpu < length (state g.J.Job.key_of c.args.world.now.core).cpus = search rules in
-    not_offloadable _ c.args.cpu there (sym c.has_hand.ensures ∙ c.if-not-has_hand.true)
+pub returns-then-cpu-n-clause-same : goal.returns-then-cpu-n-clause-same
+returns-then-cpu-n-clause-same g c = zip_same (λ h i. SameHand h.state i.state) (λ h. same_hand h.state) c.args.hands.now.items
 
-pub returns-then-cpu-processors-clause-line : goal.returns-then-cpu-processors-clause-line
-returns-then-cpu-processors-clause-line g c =
-    let gone : length (state g.J.Job.key_of c.args.world.now.core).cpus ≤ c.args.cpu = subst (λ n. n ≤ c.args.cpu) c.processors.ensures c.if-cpu-processors.true in
-    no_hand _ c.args.cpu gone c.no_such.result c.no_such.ensures
+pub returns-in_default-clause-line : goal.returns-in_default-clause-line
+returns-in_default-clause-line g c = no_hand c.args.n c.args.cpu c.args.hands.now.items c.no_such.result (omega arith) c.in_default.ensures.none c.no_such.ensures
 
-pub hand_turn-requires-after_bounds : goal.hand_turn-requires-after_bounds
-hand_turn-requires-after_bounds g c κs within =
-    let fits : FitsInMemory (world.the_row (param 0 g.row.J) (param 1 g.row.J-Receipt)) = search rules in
-    (fits, (c.requires.world, (sym c.has_hand.ensures ∙ c.if-not-has_hand.false, c.requires.rest)))
+pub returns-in_default-clause-same : goal.returns-in_default-clause-same
+returns-in_default-clause-same g c = zip_same (λ h i. SameHand h.state i.state) (λ h. same_hand h.state) c.args.hands.now.items
+
+pub returns-clause-line : goal.returns-clause-line
+returns-clause-line g c = let found = c.in-Some.ensures.found in (
+  refl,
+  refl,
+  (
+    c.in-Some.place,
+    record {
+      x = c.index_mut.result.now;
+      y = c.turn-turn.new.self;
+      there = found.0;
+      old = c.index_mut.ensures.value;
+      new = refl;
+      by = (found.1 c.index_mut.result.now c.index_mut.ensures.value, (c.turn-turn.result, refl, c.turn-turn.ensures.turn));
+    },
+  ),
+)
+
+pub returns-clause-same : goal.returns-clause-same
+returns-clause-same g c =
+    zip_changed (λ h i. SameHand h.state i.state) (λ h. same_hand h.state) c.args.hands.now.items c.in-Some.place c.index_mut.result.now c.turn-turn.new.self c.in-Some.ensures.found.0 c.index_mut.ensures.value c.turn-turn.ensures.same
+
+pub returns-clause-sound : goal.returns-clause-sound
+returns-clause-sound g c =
+    all_changed (λ h. IsSoundHand g.J.Job.key_of g.J.Job.gives h.state) c.args.hands.now.items c.in-Some.place c.index_mut.result.now c.turn-turn.new.self c.in-Some.ensures.found.0 c.index_mut.ensures.value c.turn-turn.ensures.sound

@@ -1,22 +1,5 @@
-use Rattle.std.proofs.Common.{◌∙◌, ap, not, refl}
-use Rattle.rcu_world.specs.Views.{state}
-use Rattle.rcuo.proofs.Answering.{passes_on, waits_on}
+use Rattle.std.proofs.Common.{refl}
 use Rattle.rcuo.proofs.commands.poll.Goals as goal
 
-pub returns-then-is_none-clause-line : goal.returns-then-is_none-clause-line
-returns-then-is_none-clause-line g c = (
-  c.in-Some.name,
-  c.in-Some.is,
-  refl,
-  c.in_ok-poll.ensures.events,
-  waits_on (state g.J.Job.key_of c.args.world.now.core) (state g.J.Job.key_of c.poll.new.self.core) c.in-Some.name c.in_ok-poll.field-0 (c.is_none.ensures ∙ ap not c.if-is_none.true) c.in_ok-poll.ensures.answer,
-)
-
-pub returns-clause-line : goal.returns-clause-line
-returns-clause-line g c = (
-  c.in-Some.name,
-  c.in-Some.is,
-  refl,
-  c.in_ok-poll.ensures.events,
-  passes_on (state g.J.Job.key_of c.args.world.now.core) (state g.J.Job.key_of c.poll.new.self.core) c.in-Some.name c.in_ok-poll.field-0 (c.is_none.ensures ∙ ap not c.if-is_none.false) c.in_ok-poll.ensures.answer,
-)
+pub returns-in-None-clause-line : goal.returns-in-None-clause-line
+returns-in-None-clause-line c = (c.in-Some.barrier, c.in-Some.is, refl, c.in-None.ensures.polls)

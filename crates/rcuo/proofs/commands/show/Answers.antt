@@ -1,17 +1,17 @@
-use Rattle.std.proofs.Common.{rules, ◌≡◌, ◌∙◌, subst}
+use Rattle.std.proofs.Common.{[], ◌≡◌, ◌<◌, ℕ, List, length, arith}
+use Rattle.std.proofs.lemmas.List.{take_all}
 use Rattle.std.specs.Io.KnownBytes.{Appends}
-use Rattle.rcu_world.specs.Views.{state}
-use Rattle.rcuo.specs.Outcomes.{shown}
-use Rattle.rcuo.proofs.Showing.{shown_first, shown_more}
+use Rattle.rcu_script.proofs.Written.{Appends-none}
+use Rattle.rcuo.proofs.ShowingParts.{all_shown, one_shown, shows_none}
 use Rattle.rcuo.proofs.commands.show.Goals as goal
 
 pub loop-cpu-init : goal.loop-cpu-init
-loop-cpu-init g c = shown_first _ _
+loop-cpu-init g c = ([], shows_none c.args.groups.now.items 0, Appends-none (g.W.Write.contents c.args.writer.now))
 
 pub loop-cpu-preserved : goal.loop-cpu-preserved
-loop-cpu-preserved g c = shown_more _ c.loop-cpu.cpu _ _ _ c.loop-cpu.invariant c.in_ok-show_one.ensures
+loop-cpu-preserved g c =
+    one_shown c.args.groups.now.items c.args.processors.now.items c.loop-cpu.cpu c.index.result.now (omega arith) c.index.ensures (g.W.Write.contents c.args.writer.now) (g.W.Write.contents c.loop-cpu.writer) (g.W.Write.contents c.show_one.new.writer) c.loop-cpu.invariant c.in_ok-show_one.ensures
 
 pub returns : goal.returns
 returns g c =
-    let all : c.loop-cpu.cpu ≡ c.processors-cpu-end.result = search rules in
-    subst (λ n. Appends (g.W.Write.contents c.args.writer.now) (g.W.Write.contents c.loop-cpu.writer) (shown n (state g.J.Job.key_of c.args.world.now.core))) (all ∙ c.processors-cpu-end.ensures) c.loop-cpu.invariant
+    all_shown c.args.groups.now.items c.args.processors.now.items c.loop-cpu.cpu (take_all c.loop-cpu.cpu c.args.processors.now.items (omega arith)) (g.W.Write.contents c.args.writer.now) (g.W.Write.contents c.loop-cpu.writer) c.loop-cpu.invariant

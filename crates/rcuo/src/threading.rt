@@ -1,0 +1,39 @@
+//! `rcuo threads`: all parts in threads of their own, and the totals.
+
+ghost use Rattle.std.specs.Prelude.{◌≡◌, ◌*◌, vec_len};
+
+use crate::plan::Plan;
+use crate::printing::print_totals;
+use rcu_jobs::BoxedJob;
+use rcu_parts::open;
+use rcu_script::Fault;
+use rcu_threads::{ThreadsFault, run_in_threads};
+use std::alloc::Global;
+use std::io::Write;
+use std::rt::Clock;
+use std::sync::Wait;
+use std::thread::Threads;
+
+/// Gives each processor `calls` jobs, in rounds, and runs all parts in threads of their own until a barrier has passed that
+/// was opened with all tickets. Then it closes the runtime and prints the totals, without the reports.
+///
+/// # Errors
+///
+/// A thread can't be made, or the barrier is refused; want of memory; the fault of a failed write. All threads that were
+/// started have ended.
+pub fn threads<R: Threads + Wait + Clock + Copy + Send + 'static, W: Write>(
+    rt: &R,
+    alloc: Global,
+    plan: &Plan,
+    jobs: Vec<BoxedJob<65536>>,
+    writer: &mut W,
+) -> Result<(), Fault>
+    requires jobs { vec_len jobs ≡ plan.now.setup.calls * plan.now.setup.shape.processors }
+{
+    let parts = open(alloc, plan.setup.shape)?;
+    match run_in_threads(rt, alloc, parts, jobs) {
+        Ok(closed) => print_totals(alloc, &closed, false, writer),
+        Err(ThreadsFault::Memory) => Err(Fault::memory()),
+        Err(ThreadsFault::CannotRun) => Err(Fault::CannotRun),
+    }
+}
