@@ -7,9 +7,9 @@ use Rattle.std.proofs.lemmas.List.{length-map, map-append}
 use Rattle.std.proofs.lemmas.List.Elements.{All-from_recursion, All-tail, All-head}
 use Rattle.std.proofs.lemmas.List.Kept.{AllPairs-cons}
 use Rattle.rcu_board.specs.Opened.{is_offloadable, numbers_where}
-use Rattle.rcu_parts.specs.GroupLaw.{AreMembers, cpus_of}
+use Rattle.rcu_part_group.specs.GroupLaw.{AreMembers, cpus_of}
 use Rattle.rcu_parts.specs.Openings.{BeginsOutside, TakesMembers, is_member}
-use Rattle.rcu_parts.specs.declared.folk.Folk.{Folk}
+use Rattle.rcu_part_group.specs.declared.folk.Folk.{Folk}
 use Rattle.rcu_parts.proofs.Splitting.{AreGrouped, StartsOutside, where_all, where_few}
 
 -- one list is cut in two at the first that isn't of the group, in one way

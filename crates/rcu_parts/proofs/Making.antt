@@ -17,14 +17,14 @@ use Rattle.rcu_lanes.specs.Ends.{IsNewLane}
 use Rattle.rcu_lanes.specs.declared.ends.Front.{Front}
 use Rattle.rcu_lists.specs.declared.batch.Batch.{Batch}
 use Rattle.rcu_numbers.specs.declared.shape.Shape.{Shape}
-use Rattle.rcu_parts.specs.GroupLaw.{cpus_of}
-use Rattle.rcu_parts.specs.Groups.{IsEmptyFolk, IsNewGroupOf, members_of}
+use Rattle.rcu_part_group.specs.GroupLaw.{cpus_of}
+use Rattle.rcu_part_group.specs.Groups.{IsEmptyFolk, IsNewGroupOf, members_of}
 use Rattle.rcu_parts.specs.OneOpen.{HasHand, members_in, offloadable_in}
 use Rattle.rcu_parts.specs.Openings.{AreFronts, IsFirstGroup, IsFirstHand, IsFirstProcessor, fronts_of, is_member}
-use Rattle.rcu_parts.specs.declared.folk.Folk.{Folk}
-use Rattle.rcu_parts.specs.declared.group.Group.{Group as GroupPart}
-use Rattle.rcu_parts.specs.declared.hand.Hand.{Hand as HandPart}
-use Rattle.rcu_parts.specs.declared.processor.Processor.{Processor as ProcessorPart}
+use Rattle.rcu_part_group.specs.declared.folk.Folk.{Folk}
+use Rattle.rcu_part_group.specs.declared.group.Group.{Group as GroupPart}
+use Rattle.rcu_part_hand.specs.declared.hand.Hand.{Hand as HandPart}
+use Rattle.rcu_part_processor.specs.declared.processor.Processor.{Processor as ProcessorPart}
 use Rattle.rcu_parts.proofs.Zips.{zip_push, range_more}
 
 -- the group whose seat it is

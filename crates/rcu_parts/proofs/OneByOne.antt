@@ -14,14 +14,14 @@ use Rattle.rcu_gathering.proofs.Gathers.{gather_append}
 use Rattle.rcu_gathering.proofs.Lists.{all_cons, all_head, all_none, all_tail}
 use Rattle.rcu_parts.specs.AtClose.{cpu_part, cpu_parts, first_hand, hand_for, hand_part, hands_after, other_hands}
 use Rattle.rcu_parts.specs.Ending.{AreLong, EndsEach, EndsOne, GoesOn, IsReady, MayEnd, all_back, all_ran, all_view, board_at}
-use Rattle.rcu_parts.specs.Hands.{IsSoundHand, hand_board}
+use Rattle.rcu_part_hand.specs.Hands.{IsSoundHand, hand_board}
 use Rattle.rcu_parts.specs.OneOpen.{AreProcessorsFrom, HasHand, HasMember, offloadable_in}
-use Rattle.rcu_parts.specs.Processors.{IsSound, board_of}
+use Rattle.rcu_part_processor.specs.Processors.{IsSound, board_of}
 use Rattle.rcu_parts.specs.Rooms.{FitsCpu}
 use Rattle.rcu_parts.specs.declared.ending.Ending.{Ending}
-use Rattle.rcu_parts.specs.declared.folk.Folk.{Folk}
-use Rattle.rcu_parts.specs.declared.hand.Hand.{Hand}
-use Rattle.rcu_parts.specs.declared.processor.Processor.{Processor}
+use Rattle.rcu_part_group.specs.declared.folk.Folk.{Folk}
+use Rattle.rcu_part_hand.specs.declared.hand.Hand.{Hand}
+use Rattle.rcu_part_processor.specs.declared.processor.Processor.{Processor}
 
 module _ {J R : Type 0} where
   -- ---- the hands and the members that are left

@@ -11,12 +11,12 @@ use Rattle.rcu_holdings.specs.Modes.{first_mode}
 use Rattle.rcu_holdings.specs.declared.caller.Caller.{Caller}
 use Rattle.rcu_holdings.specs.declared.hand.Held.{Held}
 use Rattle.rcu_numbers.specs.declared.shape.Shape.{Shape}
-use Rattle.rcu_parts.specs.Hands.{IsNewHandOf}
-use Rattle.rcu_parts.specs.Opened.{IsEmpty, IsNew}
+use Rattle.rcu_part_hand.specs.Hands.{IsNewHandOf}
+use Rattle.rcu_part_processor.specs.Opened.{IsEmpty, IsNew}
 use Rattle.rcu_parts.specs.Openings.{BeginsOutside, IsFirstHand, IsFirstProcessor, TakesMember, TakesMembers, first_lists}
-use Rattle.rcu_parts.specs.declared.folk.Folk.{Folk}
-use Rattle.rcu_parts.specs.declared.hand.Hand.{Hand}
-use Rattle.rcu_parts.specs.declared.processor.Processor.{Processor}
+use Rattle.rcu_part_group.specs.declared.folk.Folk.{Folk}
+use Rattle.rcu_part_hand.specs.declared.hand.Hand.{Hand}
+use Rattle.rcu_part_processor.specs.declared.processor.Processor.{Processor}
 
 module _ {J : Type 0} where
   pub first_empty : (r o : Bool) (qhimark : ℕ) (lists : Caller J) → holding lists ≡ first_lists r qhimark → r ≡ o → IsEmpty o lists

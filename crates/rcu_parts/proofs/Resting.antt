@@ -20,13 +20,13 @@ use Rattle.rcu_places.proofs.Moves.{placed_all}
 use Rattle.rcu_records.specs.Records.{numbered_record, numbered_records}
 use Rattle.rcu_parts.specs.AtClose.{cpu_part, hand_part}
 use Rattle.rcu_parts.specs.Ending.{AreLong}
-use Rattle.rcu_parts.specs.Hands.{IsSoundHand}
-use Rattle.rcu_parts.specs.Lawful.{IsLawful}
-use Rattle.rcu_parts.specs.Places.{numbered_callback, numbered_callbacks}
-use Rattle.rcu_parts.specs.Processors.{IsSound, lists_of, records_of, view_of}
+use Rattle.rcu_part_hand.specs.Hands.{IsSoundHand}
+use Rattle.rcu_part_processor.specs.Lawful.{IsLawful}
+use Rattle.rcu_part_steps.specs.Places.{numbered_callback, numbered_callbacks}
+use Rattle.rcu_part_processor.specs.Processors.{IsSound, lists_of, records_of, view_of}
 use Rattle.rcu_parts.specs.Rooms.{FitsCpu}
-use Rattle.rcu_parts.specs.declared.hand.Hand.{Hand}
-use Rattle.rcu_parts.specs.declared.processor.Processor.{Processor}
+use Rattle.rcu_part_hand.specs.declared.hand.Hand.{Hand}
+use Rattle.rcu_part_processor.specs.declared.processor.Processor.{Processor}
 
 -- a seat's view has a sight of each word of its board
 pub is_long : (b : Board) (s : Seat) → AtBoard b s → length (view s).seen ≡ words_of b.processors

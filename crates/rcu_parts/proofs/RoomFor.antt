@@ -8,10 +8,10 @@ use Rattle.rcu_gathering.specs.Parts.{CpuPart, hand_ran, hand_taken}
 use Rattle.rcu_parts.specs.AtClose.{cpu_part, cpu_parts, first_hand, hand_for, hands_after, other_hands}
 use Rattle.rcu_holdings.specs.Helds.{taken_by}
 use Rattle.rcu_records.specs.Records.{numbered_record}
-use Rattle.rcu_parts.specs.Places.{numbered_callback}
+use Rattle.rcu_part_steps.specs.Places.{numbered_callback}
 use Rattle.rcu_parts.specs.Rooms.{FitsCpu}
-use Rattle.rcu_parts.specs.declared.hand.Hand.{Hand}
-use Rattle.rcu_parts.specs.declared.processor.Processor.{Processor}
+use Rattle.rcu_part_hand.specs.declared.hand.Hand.{Hand}
+use Rattle.rcu_part_processor.specs.declared.processor.Processor.{Processor}
 use Rattle.rcu_parts.proofs.Zips.{zip_push}
 
 module _ {J R : Type 0} where

@@ -5,15 +5,15 @@ use Rattle.std.proofs.lemmas.List.Sums.{sum_by-cons}
 use Rattle.std.proofs.lemmas.Slice.Zip.{AllZip-long}
 use Rattle.rcu_board.specs.declared.board.Board.{Board}
 use Rattle.rcu_gathering.proofs.Lists.{all_cons, all_head, all_none, all_tail}
-use Rattle.rcu_parts.specs.Groups.{SameFolk, SameGroup, group_board, group_view, members_of}
-use Rattle.rcu_parts.specs.Hands.{SameHand, hand_board, hand_view}
+use Rattle.rcu_part_group.specs.Groups.{SameFolk, SameGroup, group_board, group_view, members_of}
+use Rattle.rcu_part_hand.specs.Hands.{SameHand, hand_board, hand_view}
 use Rattle.rcu_parts.specs.OneOpen.{AreOfOneOpen, AreProcessorsFrom, HasHand, HasMember, Parts, groups_in, hands_in, members_in, offloadable_in, parts_board, processors_in}
-use Rattle.rcu_parts.specs.Processors.{SameProcessor, view_of}
+use Rattle.rcu_part_processor.specs.Processors.{SameProcessor, view_of}
 use Rattle.rcu_parts.specs.SameParts.{AreSameParts}
-use Rattle.rcu_parts.specs.declared.folk.Folk.{Folk}
-use Rattle.rcu_parts.specs.declared.group.Group.{Group}
-use Rattle.rcu_parts.specs.declared.hand.Hand.{Hand}
-use Rattle.rcu_parts.specs.declared.processor.Processor.{Processor}
+use Rattle.rcu_part_group.specs.declared.folk.Folk.{Folk}
+use Rattle.rcu_part_group.specs.declared.group.Group.{Group}
+use Rattle.rcu_part_hand.specs.declared.hand.Hand.{Hand}
+use Rattle.rcu_part_processor.specs.declared.processor.Processor.{Processor}
 use Rattle.rcu_parts.proofs.OneByOne.{counted_in, skipped}
 
 module _ {A B : Type 0} where

@@ -21,17 +21,17 @@ use Rattle.rcu_lanes.specs.Ends.{IsNewLane, items_drawn}
 use Rattle.rcu_lanes.specs.declared.ends.Front.{Front}
 use Rattle.rcu_lists.specs.declared.batch.Batch.{Batch}
 use Rattle.rcu_numbers.specs.declared.shape.Shape.{Shape}
-use Rattle.rcu_parts.specs.GroupLaw.{cpus_of}
-use Rattle.rcu_parts.specs.Groups.{group_board, group_view}
-use Rattle.rcu_parts.specs.Hands.{IsSoundHand, hand_board, hand_view}
+use Rattle.rcu_part_group.specs.GroupLaw.{cpus_of}
+use Rattle.rcu_part_group.specs.Groups.{group_board, group_view}
+use Rattle.rcu_part_hand.specs.Hands.{IsSoundHand, hand_board, hand_view}
 use Rattle.rcu_parts.specs.OneOpen.{AreProcessorsFrom, HasMember, offloadable_in}
 use Rattle.rcu_parts.specs.Openings.{AreFirstProcessors, AreFronts, IsFirstGroup, IsFirstHand, IsFirstProcessor, fronts_of}
-use Rattle.rcu_parts.specs.Places.{AreKeyed}
-use Rattle.rcu_parts.specs.Processors.{IsSound, view_of}
-use Rattle.rcu_parts.specs.declared.folk.Folk.{Folk}
-use Rattle.rcu_parts.specs.declared.group.Group.{Group}
-use Rattle.rcu_parts.specs.declared.hand.Hand.{Hand}
-use Rattle.rcu_parts.specs.declared.processor.Processor.{Processor}
+use Rattle.rcu_part_steps.specs.Places.{AreKeyed}
+use Rattle.rcu_part_processor.specs.Processors.{IsSound, view_of}
+use Rattle.rcu_part_group.specs.declared.folk.Folk.{Folk}
+use Rattle.rcu_part_group.specs.declared.group.Group.{Group}
+use Rattle.rcu_part_hand.specs.declared.hand.Hand.{Hand}
+use Rattle.rcu_part_processor.specs.declared.processor.Processor.{Processor}
 use Rattle.rcu_parts.proofs.Zips.{zip_all, zip_ones}
 
 module _ {J R : Type 0} (shape : Shape) (b : Board) where

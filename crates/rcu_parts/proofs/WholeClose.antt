@@ -27,16 +27,16 @@ use Rattle.rcu_gathering.proofs.Lists.{all_cons, all_head, all_none, all_tail}
 use Rattle.rcu_jobs.specs.declared.answers.Closed.{Closed}
 use Rattle.rcu_parts.specs.AtClose.{ClosesWith, cpu_part, cpu_parts, first_hand, hand_part, hands_after, other_hands, other_views}
 use Rattle.rcu_parts.specs.Ending.{AreLong, AreReportedFrom, EndsEach, IsReady, Settles, all_view, board_at}
-use Rattle.rcu_parts.specs.Groups.{group_board, group_view}
-use Rattle.rcu_parts.specs.Hands.{IsSoundHand, hand_board, hand_view}
+use Rattle.rcu_part_group.specs.Groups.{group_board, group_view}
+use Rattle.rcu_part_hand.specs.Hands.{IsSoundHand, hand_board, hand_view}
 use Rattle.rcu_parts.specs.OneOpen.{AreOfOneOpen, AreProcessorsFrom, AreSoundParts, Parts, HasHand, HasMember, groups_in, hands_in, members_in, offloadable_in, parts_board, processors_in}
-use Rattle.rcu_parts.specs.Processors.{view_of}
+use Rattle.rcu_part_processor.specs.Processors.{view_of}
 use Rattle.rcu_parts.specs.Rooms.{FitsAll, FitsCpu}
 use Rattle.rcu_parts.specs.declared.ending.Ending.{Ending}
-use Rattle.rcu_parts.specs.declared.folk.Folk.{Folk}
-use Rattle.rcu_parts.specs.declared.group.Group.{Group}
-use Rattle.rcu_parts.specs.declared.hand.Hand.{Hand}
-use Rattle.rcu_parts.specs.declared.processor.Processor.{Processor}
+use Rattle.rcu_part_group.specs.declared.folk.Folk.{Folk}
+use Rattle.rcu_part_group.specs.declared.group.Group.{Group}
+use Rattle.rcu_part_hand.specs.declared.hand.Hand.{Hand}
+use Rattle.rcu_part_processor.specs.declared.processor.Processor.{Processor}
 use Rattle.rcu_parts.specs.declared.room.Room.{Room}
 use Rattle.rcu_parts.proofs.OneByOne.{counted_in, skipped}
 use Rattle.rcu_parts.proofs.Resting.{is_long_at}

@@ -7,12 +7,12 @@ use Rattle.rcu_gathering.specs.Closing.{Closes, CpuEnd}
 use Rattle.rcu_gathering.specs.Parts.{CpuPart, HandPart}
 use Rattle.rcu_holdings.specs.Helds.{taken_by}
 use Rattle.rcu_jobs.specs.declared.answers.Closed.{Closed}
-use Rattle.rcu_parts.specs.Groups.{group_view}
-use Rattle.rcu_parts.specs.Hands.{hand_drawn, hand_records, hand_view}
+use Rattle.rcu_part_group.specs.Groups.{group_view}
+use Rattle.rcu_part_hand.specs.Hands.{hand_drawn, hand_records, hand_view}
 use Rattle.rcu_parts.specs.OneOpen.{Parts, groups_in, hands_in, processors_in}
-use Rattle.rcu_parts.specs.Processors.{lists_of, records_of, view_of}
-use Rattle.rcu_parts.specs.declared.hand.Hand.{Hand}
-use Rattle.rcu_parts.specs.declared.processor.Processor.{Processor}
+use Rattle.rcu_part_processor.specs.Processors.{lists_of, records_of, view_of}
+use Rattle.rcu_part_hand.specs.declared.hand.Hand.{Hand}
+use Rattle.rcu_part_processor.specs.declared.processor.Processor.{Processor}
 
 module _ {J R : Type 0} where
   abbrev pub hand_part : Hand J R → HandPart J R

@@ -13,14 +13,14 @@ use Rattle.rcu_gathering.specs.Gathered.{IsSettled, gather}
 use Rattle.rcu_gathering.specs.Parts.{CpuPart, IsAtRest, views_of}
 use Rattle.rcu_jobs.specs.declared.callback.Record.{Record}
 use Rattle.rcu_parts.specs.AtClose.{cpu_parts}
-use Rattle.rcu_parts.specs.Hands.{IsSoundHand, hand_board}
+use Rattle.rcu_part_hand.specs.Hands.{IsSoundHand, hand_board}
 use Rattle.rcu_parts.specs.OneOpen.{AreProcessorsFrom, HasHand, HasMember, offloadable_in}
-use Rattle.rcu_parts.specs.Processors.{IsSound}
+use Rattle.rcu_part_processor.specs.Processors.{IsSound}
 use Rattle.rcu_parts.specs.Rooms.{FitsCpu}
 use Rattle.rcu_parts.specs.declared.ending.Ending.{Ending}
-use Rattle.rcu_parts.specs.declared.folk.Folk.{Folk}
-use Rattle.rcu_parts.specs.declared.hand.Hand.{Hand}
-use Rattle.rcu_parts.specs.declared.processor.Processor.{Processor}
+use Rattle.rcu_part_group.specs.declared.folk.Folk.{Folk}
+use Rattle.rcu_part_hand.specs.declared.hand.Hand.{Hand}
+use Rattle.rcu_part_processor.specs.declared.processor.Processor.{Processor}
 
 -- the views are of seats of a board for n processors
 abbrev pub AreLong : ℕ → List View → Type 0

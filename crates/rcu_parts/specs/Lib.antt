@@ -1,16 +1,3 @@
-pub mod Changes
-pub mod Places
-pub mod Lawful
-pub mod Processors
-pub mod Calls
-pub mod Reports
-pub mod Opened
-pub mod HandLaw
-pub mod Hands
-pub mod Ticks
-pub mod Each
-pub mod GroupLaw
-pub mod Groups
 pub mod OneOpen
 pub mod AtClose
 pub mod Rooms

@@ -8,14 +8,14 @@ use Rattle.rcu_holdings.specs.Callers.{rear_of}
 use Rattle.rcu_holdings.specs.Helds.{front_of as hands_front}
 use Rattle.rcu_holdings.specs.Members.{front_of, rear_of as done_rear}
 use Rattle.rcu_lanes.specs.Ends.{SameLane}
-use Rattle.rcu_parts.specs.Groups.{group_board, group_view, members_of}
-use Rattle.rcu_parts.specs.Hands.{IsSoundHand, hand_board, hand_view}
-use Rattle.rcu_parts.specs.Processors.{IsSound, board_of, view_of}
-use Rattle.rcu_parts.specs.declared.folk.Folk.{Folk}
-use Rattle.rcu_parts.specs.declared.group.Group.{Group}
-use Rattle.rcu_parts.specs.declared.hand.Hand.{Hand}
+use Rattle.rcu_part_group.specs.Groups.{group_board, group_view, members_of}
+use Rattle.rcu_part_hand.specs.Hands.{IsSoundHand, hand_board, hand_view}
+use Rattle.rcu_part_processor.specs.Processors.{IsSound, board_of, view_of}
+use Rattle.rcu_part_group.specs.declared.folk.Folk.{Folk}
+use Rattle.rcu_part_group.specs.declared.group.Group.{Group}
+use Rattle.rcu_part_hand.specs.declared.hand.Hand.{Hand}
 use Rattle.rcu_parts.specs.declared.parts.AllParts.{AllParts}
-use Rattle.rcu_parts.specs.declared.processor.Processor.{Processor}
+use Rattle.rcu_part_processor.specs.declared.processor.Processor.{Processor}
 
 -- all parts, for jobs of type J with receipts of type R
 abbrev pub Parts : Type 0 → Type 0 → Type 0

@@ -15,16 +15,16 @@ use Rattle.rcu_lanes.specs.declared.ends.Front.{Front}
 use Rattle.rcu_lists.specs.Release.{beginning}
 use Rattle.rcu_lists.specs.declared.batch.Batch.{Batch}
 use Rattle.rcu_numbers.specs.declared.shape.Shape.{Shape}
-use Rattle.rcu_parts.specs.GroupLaw.{cpus_of}
-use Rattle.rcu_parts.specs.Groups.{IsEmptyFolk, IsNewGroupOf, members_of}
-use Rattle.rcu_parts.specs.Hands.{IsNewHandOf, hand_drawn, hand_held}
+use Rattle.rcu_part_group.specs.GroupLaw.{cpus_of}
+use Rattle.rcu_part_group.specs.Groups.{IsEmptyFolk, IsNewGroupOf, members_of}
+use Rattle.rcu_part_hand.specs.Hands.{IsNewHandOf, hand_drawn, hand_held}
 use Rattle.rcu_parts.specs.OneOpen.{Parts, groups_in, hands_in, offloadable_in, parts_board, processors_in}
-use Rattle.rcu_parts.specs.Opened.{IsNew}
-use Rattle.rcu_parts.specs.Processors.{lists_of, seat_of}
-use Rattle.rcu_parts.specs.declared.folk.Folk.{Folk}
-use Rattle.rcu_parts.specs.declared.group.Group.{Group}
-use Rattle.rcu_parts.specs.declared.hand.Hand.{Hand}
-use Rattle.rcu_parts.specs.declared.processor.Processor.{Processor}
+use Rattle.rcu_part_processor.specs.Opened.{IsNew}
+use Rattle.rcu_part_processor.specs.Processors.{lists_of, seat_of}
+use Rattle.rcu_part_group.specs.declared.folk.Folk.{Folk}
+use Rattle.rcu_part_group.specs.declared.group.Group.{Group}
+use Rattle.rcu_part_hand.specs.declared.hand.Hand.{Hand}
+use Rattle.rcu_part_processor.specs.declared.processor.Processor.{Processor}
 
 -- Is processor p a member of group g, where so many neighbours make a group? The members are the offloadable ones.
 abbrev pub is_member : ℕ → ℕ → ℕ → ℕ → Bool

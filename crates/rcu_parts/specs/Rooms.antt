@@ -6,8 +6,8 @@ use Rattle.rcu_endings.specs.declared.ended.Ended.{Ended}
 use Rattle.rcu_gathering.specs.Parts.{CpuPart, hand_ran, hand_taken}
 use Rattle.rcu_holdings.specs.Callers.{held_in, put_by}
 use Rattle.rcu_parts.specs.AtClose.{cpu_parts}
-use Rattle.rcu_parts.specs.declared.hand.Hand.{Hand}
-use Rattle.rcu_parts.specs.declared.processor.Processor.{Processor}
+use Rattle.rcu_part_hand.specs.declared.hand.Hand.{Hand}
+use Rattle.rcu_part_processor.specs.declared.processor.Processor.{Processor}
 use Rattle.rcu_parts.specs.declared.room.Room.{Room}
 
 module _ {J R : Type 0} where

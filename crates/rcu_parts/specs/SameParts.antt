@@ -2,10 +2,10 @@
 use Rattle.std.specs.List.{AllZip}
 use Rattle.rcu_control.specs.Parts.{control_board, control_seat, driver_board, driver_seat}
 use Rattle.rcu_control.specs.Views.{SamePart}
-use Rattle.rcu_parts.specs.Groups.{SameGroup}
-use Rattle.rcu_parts.specs.Hands.{SameHand}
+use Rattle.rcu_part_group.specs.Groups.{SameGroup}
+use Rattle.rcu_part_hand.specs.Hands.{SameHand}
 use Rattle.rcu_parts.specs.OneOpen.{Parts, groups_in, hands_in, processors_in}
-use Rattle.rcu_parts.specs.Processors.{SameProcessor}
+use Rattle.rcu_part_processor.specs.Processors.{SameProcessor}
 
 -- Each of these parts is the same part as that in the same place.
 pub record AreSameParts {J R : Type 0} (old new : Parts J R) : Type 0 where

@@ -5,12 +5,12 @@ ghost use Rattle.rcu_parts.specs.AtClose.{ClosesWith};
 ghost use Rattle.rcu_parts.specs.OneOpen.{AreOfOneOpen, AreSoundParts};
 
 use crate::ending::close_in;
-use crate::group::Group;
-use crate::hand::Hand;
 use crate::parts::{AllParts, Parts};
-use crate::processor::Processor;
 use crate::room::Room;
 use rcu_jobs::{Closed, Job};
+use rcu_part_group::Group;
+use rcu_part_hand::Hand;
+use rcu_part_processor::Processor;
 use std::alloc::Global;
 
 /// A runtime that could not be closed for want of memory. Nothing of it moved, and all that is left to do is to try

@@ -6,16 +6,16 @@ ghost use Rattle.rcu_parts.specs.Ending.{all_view, board_at};
 ghost use Rattle.rcu_parts.specs.OneOpen.{AreOfOneOpen, AreSoundParts};
 ghost use Rattle.rcu_parts.specs.Rooms.{FitsAll};
 
-use crate::folk::Folk;
 use crate::gathering::{gather_groups, load_last};
-use crate::hand::{Hand, HandState};
 use crate::parts::{AllParts, Parts};
-use crate::processor::{Processor, ProcessorState};
 use crate::room::Room;
 use rcu_board::{Board, Gathered, Seat, merge};
 use rcu_endings::{Ended, end_local, end_offloadable};
 use rcu_gathering::closing;
 use rcu_jobs::{Closed, Job, Record};
+use rcu_part_group::Folk;
+use rcu_part_hand::{Hand, HandState};
+use rcu_part_processor::{Processor, ProcessorState};
 use std::alloc::Global;
 use std::collections::VecDeque;
 use std::sync::Arc;
@@ -47,11 +47,11 @@ impl<J: Job> Ending<J> {
     ghost use Rattle.rcu_board.specs.Views.{joined};
     ghost use Rattle.rcu_parts.specs.AtClose.{cpu_part, hand_for, hand_part, hands_after};
     ghost use Rattle.rcu_parts.specs.Ending.{EndsEach, EndsOne, GoesOn, IsReady, MayEnd};
-    ghost use Rattle.rcu_parts.specs.Hands.{IsSoundHand, hand_board};
+    ghost use Rattle.rcu_part_hand.specs.Hands.{IsSoundHand, hand_board};
     ghost use Rattle.rcu_parts.specs.OneOpen.{HasHand, HasMember};
-    ghost use Rattle.rcu_parts.specs.Processors.{IsSound, board_of};
+    ghost use Rattle.rcu_part_processor.specs.Processors.{IsSound, board_of};
     ghost use Rattle.rcu_parts.specs.Rooms.{FitsCpu};
-    ghost use Rattle.rcu_parts.specs.declared.processor.Processor.{Processor as One};
+    ghost use Rattle.rcu_part_processor.specs.declared.processor.Processor.{Processor as One};
 
     /// Ends these processors, all that there are.
     fn end_each(
@@ -86,7 +86,7 @@ impl<J: Job> Ending<J> {
         ensures ends { EndsOne J.key_of J.gives (cpu_part processor (hand_for processor hands.old.items)) self.old self.new }
     {
         let room = take_first(rooms);
-        if !processor.state.offloadable {
+        if !processor.is_offloadable() {
             self.end_alone(processor, room);
             return;
         }
@@ -110,7 +110,7 @@ impl<J: Job> Ending<J> {
             ran,
             lists,
             ..
-        } = processor.state;
+        } = rcu_part_processor::into_state(processor);
         let Ended { ran: _, back } = room;
         self.take_in(seat);
         self.keep(end_local::<J>(lists, ran, back));
@@ -140,13 +140,13 @@ impl<J: Job> Ending<J> {
             ran,
             lists,
             ..
-        } = processor.state;
+        } = rcu_part_processor::into_state(processor);
         let HandState {
             seat: hands_seat,
             ran: hands,
             held,
             ..
-        } = hand.state;
+        } = rcu_part_hand::into_state(hand);
         self.take_in(seat);
         self.take_in(hands_seat);
         self.keep(end_offloadable::<J>(lists, folk.member, held, ran, hands, room));

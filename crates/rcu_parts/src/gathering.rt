@@ -7,15 +7,14 @@ ghost use Rattle.rcu_board.specs.Seats.{GatheredAt, SameGathered, gathered_view}
 ghost use Rattle.rcu_board.specs.Words.{bits_of};
 ghost use Rattle.rcu_gathering.specs.Gathered.{gather};
 ghost use Rattle.rcu_parts.specs.Ending.{AreReportedFrom, Settles};
-ghost use Rattle.rcu_parts.specs.Groups.{group_board, group_view, members_of};
+ghost use Rattle.rcu_part_group.specs.Groups.{group_board, group_view, members_of};
 ghost use Rattle.rcu_parts.specs.OneOpen.{members_in};
 
-use crate::folk::Folk;
-use crate::group::Group;
 use rcu_board::{Board, Gathered, merge};
 use rcu_gathering::{reports_by, settle};
 use rcu_jobs::Job;
 use rcu_numbers::BoardWord;
+use rcu_part_group::{Folk, Group, into_parts};
 
 /// Takes in the seat of a group, whose members join the others. There is room.
 fn gather_group<J: Job>(
@@ -35,7 +34,7 @@ fn gather_group<J: Job>(
     ensures len { vec_len members.new ≡ vec_len members.old + length (members_of group.state) }
     ensures room { vec_capacity members.new ≡ vec_capacity members.old }
 {
-    let (seat, folks) = group.into_parts();
+    let (seat, folks) = into_parts(group);
     let (first, others) = folks.into_parts();
     merge(board, all, seat);
     members.push_reserved(first);

@@ -1,39 +1,24 @@
-//! The running parts that hold callbacks: a processor, the group that waits for it, and the hand that runs for it, each
-//! usable from a thread of its own, with no lock (docs/specification/surface.md, "rcu_parts"). Each call is the list of
-//! steps that docs/specification/rules.md, "The calls, step by step" has for it, and nothing else.
+//! All parts of a runtime with no lock, each usable from a thread of its own: `open` makes them, a processor accepts and
+//! reports, its group waits for it, its hand runs for it, and `close` says what became of each callback
+//! (docs/specification/surface.md, "rcu_parts"). Each part has a crate of its own below; a user names this one alone.
 #![tactic(auto)]
 
-mod barrier;
-mod calling;
 mod closing;
 mod ending;
-mod folk;
 mod gathering;
-mod group;
-mod grouping;
-mod hand;
-mod handling;
 mod laws;
 mod opening;
 mod parts;
-mod processor;
-mod reporting;
 mod room;
-mod run;
-mod running;
-mod steps;
-mod ticking;
 
 pub use closing::{AllClosing, Closing, close};
-pub use folk::{Folk, Members};
-pub use group::Group;
-pub use hand::Hand;
 pub use laws::same_parts;
 pub use opening::open;
 pub use parts::{AllParts, Parts};
-pub use processor::Processor;
 pub use rcu_control::{Barrier, Control, Driver, ReadsTurns};
-pub use reporting::Reading;
+pub use rcu_part_group::{Folk, Group, Members};
+pub use rcu_part_hand::Hand;
+pub use rcu_part_processor::{Processor, Reading};
 
 #[cfg(test)]
 mod tests;

@@ -1,9 +1,9 @@
 //! All parts of one open.
 
-use crate::group::Group;
-use crate::hand::Hand;
-use crate::processor::Processor;
 use rcu_control::{Control, Driver};
+use rcu_part_group::Group;
+use rcu_part_hand::Hand;
+use rcu_part_processor::Processor;
 
 /// The parts of one open (docs/specification/surface.md, "rcu_parts"), each for a thread of its own. `close` asks for them
 /// all, in the same order.

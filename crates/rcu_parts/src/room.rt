@@ -1,16 +1,16 @@
 //! The room that `close` finds before anything moves.
 
-ghost use Rattle.std.specs.Prelude.{◌≡◌, IfOk, drop, length};
+ghost use Rattle.std.specs.Prelude.{◌≡◌, IfOk, Option, drop, length};
 ghost use Rattle.std.specs.List.{AllZip};
-ghost use Rattle.rcu_gathering.specs.Parts.{hand_ran};
+ghost use Rattle.rcu_gathering.specs.Parts.{HandPart, hand_ran, hand_taken};
 ghost use Rattle.rcu_parts.specs.AtClose.{cpu_part, cpu_parts, first_hand, hand_for, hands_after};
 ghost use Rattle.rcu_parts.specs.Rooms.{FitsAll, FitsCpu};
 
-use crate::folk::Folk;
-use crate::hand::Hand;
-use crate::processor::Processor;
 use rcu_endings::Ended;
 use rcu_jobs::{Job, Record};
+use rcu_part_group::Folk;
+use rcu_part_hand::Hand;
+use rcu_part_processor::Processor;
 use std::alloc::{AllocError, Global};
 
 /// Room for what is left of all processors.
@@ -56,7 +56,7 @@ fn find_ends<J: Job>(
     let mut next = 0;
     for processor in processors.iter() {
         let (ran, left) = ran_by_hand(processor, hands, next);
-        ends.push(processor.find_end(alloc, ran)?)?;
+        ends.push(find_end(alloc, processor, ran)?)?;
         next = left;
     }
     Ok(ends)
@@ -72,7 +72,7 @@ fn ran_by_hand<J: Job>(
     ensures ran { result.0 ≡ length (hand_ran (hand_for processor.now (drop before hands.now.items))) }
     ensures left { drop result.1 hands.now.items ≡ hands_after processor.now (drop before hands.now.items) }
 {
-    if !processor.state.offloadable {
+    if !processor.is_offloadable() {
         return (0, before);
     }
     let ran = ran_by(hands, before);
@@ -87,23 +87,22 @@ fn ran_by<J: Job>(hands: &Vec<Hand<J>>, place: usize) -> usize
     ensures { result ≡ length (hand_ran (first_hand (drop place hands.now.items))) }
 {
     match hands.get(place) {
-        Some(hand) => hand.state.ran.len(),
+        Some(hand) => hand.ran(),
         None => 0,
     }
 }
 
-impl<J: Job> Processor<J> {
-    ghost use Rattle.std.specs.Prelude.{Option};
-    ghost use Rattle.rcu_gathering.specs.Parts.{HandPart, hand_taken};
-
-    /// Room for what is left of this processor and of its hand, which ran so many callbacks.
-    fn find_end(&self, alloc: Global, hands: usize) -> Result<Ended<J, J::Receipt>, AllocError>
-        ensures { IfOk result (λ room. (hand : Option (HandPart J J.Receipt)) → length (hand_ran hand) ≡ hands → length (hand_taken hand) ≡ hands → FitsCpu (cpu_part self.now hand) room) }
-    {
-        let Some(records) = self.state.ran.len().checked_add(hands) else {
-            return Err(AllocError);
-        };
-        let jobs = (self.state.accepted as usize).saturating_sub(records);
-        Ended::with_room(alloc, records, jobs)
-    }
+/// Room for what is left of this processor and of its hand, which ran so many callbacks.
+fn find_end<J: Job>(
+    alloc: Global,
+    processor: &Processor<J>,
+    hands: usize,
+) -> Result<Ended<J, J::Receipt>, AllocError>
+    ensures { IfOk result (λ room. (hand : Option (HandPart J J.Receipt)) → length (hand_ran hand) ≡ hands → length (hand_taken hand) ≡ hands → FitsCpu (cpu_part processor.now hand) room) }
+{
+    let Some(records) = processor.ran().checked_add(hands) else {
+        return Err(AllocError);
+    };
+    let jobs = (processor.accepted() as usize).saturating_sub(records);
+    Ended::with_room(alloc, records, jobs)
 }

@@ -6,7 +6,7 @@ ghost use Rattle.rcu_board.specs.Seats.{view, AtBoard};
 ghost use Rattle.rcu_board.specs.declared.board.Role.{Role};
 ghost use Rattle.rcu_control.specs.Views.{IsBare};
 ghost use Rattle.rcu_lanes.specs.Ends.{items_put};
-ghost use Rattle.rcu_parts.specs.Opened.{IsEmpty};
+ghost use Rattle.rcu_part_processor.specs.Opened.{IsEmpty};
 
 use super::*;
 use rcu_board::{Board, Role, Seat, Seats, need, open_board};

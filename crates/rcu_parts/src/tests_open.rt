@@ -42,7 +42,7 @@ fn each_offloadable_one_has_a_hand(rt: HostRuntime) -> Result<(), Fail> {
     let parts = opened(rt.alloc(), 0b1010).expect(&rt, "parts");
     assert_eq!(rt; parts.hands.len(), 2);
     for (hand, cpu) in parts.hands.iter().zip([1, 3].iter()) {
-        assert_eq!(rt; hand.state.cpu, *cpu);
+        assert_eq!(rt; hand.cpu(), *cpu);
     }
     Ok(())
 }
@@ -52,7 +52,7 @@ fn each_group_has_its_members(rt: HostRuntime) -> Result<(), Fail> {
     let parts = opened(rt.alloc(), 0b1010).expect(&rt, "parts");
     assert_eq!(rt; parts.groups.len(), 2);
     let first = parts.groups.first().expect(&rt, "group 0");
-    assert_eq!(rt; first.state.group, 0);
+    assert_eq!(rt; first.number(), 0);
     assert_eq!(rt; first.lists(0), None);
     assert_eq!(rt; first.lists(1), Some(EMPTY_MEMBER));
     assert_eq!(rt; first.lists(3), None);
@@ -64,7 +64,7 @@ fn a_group_may_have_two_members(rt: HostRuntime) -> Result<(), Fail> {
     let parts = opened(rt.alloc(), 0b1100).expect(&rt, "parts");
     assert_eq!(rt; parts.groups.len(), 1);
     let group = parts.groups.first().expect(&rt, "group 1");
-    assert_eq!(rt; group.state.group, 1);
+    assert_eq!(rt; group.number(), 1);
     assert_eq!(rt; group.lists(1), None);
     assert_eq!(rt; group.lists(2), Some(EMPTY_MEMBER));
     assert_eq!(rt; group.lists(3), Some(EMPTY_MEMBER));

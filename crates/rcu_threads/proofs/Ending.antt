@@ -15,12 +15,12 @@ use Rattle.rcu_places.specs.Places.{Accepted}
 use Rattle.rcu_gathering.specs.Parts.{CpuPart, accepted_entry, accepted_list}
 use Rattle.rcu_jobs.specs.declared.answers.Closed.{Closed}
 use Rattle.rcu_parts.specs.AtClose.{ClosesWith, cpu_part, cpu_parts, hand_for, hands_after, other_views}
-use Rattle.rcu_parts.specs.Hands.{IsSoundHand}
+use Rattle.rcu_part_hand.specs.Hands.{IsSoundHand}
 use Rattle.rcu_parts.specs.OneOpen.{AreSoundParts, Parts, hands_in, processors_in}
-use Rattle.rcu_parts.specs.Processors.{IsSound, SameProcessor, view_of}
+use Rattle.rcu_part_processor.specs.Processors.{IsSound, SameProcessor, view_of}
 use Rattle.rcu_parts.specs.SameParts.{AreSameParts}
-use Rattle.rcu_parts.specs.declared.hand.Hand.{Hand}
-use Rattle.rcu_parts.specs.declared.processor.Processor.{Processor}
+use Rattle.rcu_part_hand.specs.declared.hand.Hand.{Hand}
+use Rattle.rcu_part_processor.specs.declared.processor.Processor.{Processor}
 use Rattle.rcu_threads.specs.Ends.{AreUnused, HasNoneBack}
 use Rattle.rcu_threads.specs.Parts.{HandStays}
 use Rattle.rcu_threads.specs.Runs.{HasRun, HaveRun}

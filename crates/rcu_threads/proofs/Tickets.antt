@@ -15,9 +15,9 @@ use Rattle.rcu_board.specs.Views.{seen_at}
 use Rattle.rcu_board.specs.Words.{halt_word, turns_word}
 use Rattle.rcu_board.specs.declared.view.View.{View}
 use Rattle.rcu_jobs.specs.declared.answers.Ticket.{Ticket}
-use Rattle.rcu_parts.specs.Processors.{IsSound, SameProcessor}
-use Rattle.rcu_parts.specs.declared.processor.Processor.{Processor}
-use Rattle.rcu_parts.proofs.TickRuns.{same_processor, same_processor_again}
+use Rattle.rcu_part_processor.specs.Processors.{IsSound, SameProcessor}
+use Rattle.rcu_part_processor.specs.declared.processor.Processor.{Processor}
+use Rattle.rcu_part_processor.proofs.TickRuns.{same_processor, same_processor_again}
 use Rattle.rcu_parts.proofs.Zips.{zip_push}
 use Rattle.rcu_threads.proofs.Zips.{zip_chain, zip_imp}
 use Rattle.rcu_threads.specs.Calls.{AreTickets, HasCalled, ticket}

@@ -2,8 +2,8 @@
 use Rattle.std.specs.Prelude.{ℕ, ◌<◌, ◌≤◌, List}
 use Rattle.std.specs.List.{Contains}
 use Rattle.rcu_jobs.specs.declared.answers.Ticket.{Ticket}
-use Rattle.rcu_parts.specs.Processors.{IsSound, SameProcessor}
-use Rattle.rcu_parts.specs.declared.processor.Processor.{Processor}
+use Rattle.rcu_part_processor.specs.Processors.{IsSound, SameProcessor}
+use Rattle.rcu_part_processor.specs.declared.processor.Processor.{Processor}
 
 abbrev pub ticket : ℕ → ℕ → Ticket
 ticket cpu number = record { cpu = cpu; number = number }

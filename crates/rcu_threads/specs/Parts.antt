@@ -3,12 +3,12 @@ use Rattle.std.specs.Prelude.{◌≡◌, ℕ, Option, Some, None}
 use Rattle.rcu_control.specs.Parts.{driver_board, driver_seat}
 use Rattle.rcu_control.specs.Views.{SamePart}
 use Rattle.rcu_control.specs.declared.driver.Driver.{Driver}
-use Rattle.rcu_parts.specs.Groups.{SameGroup}
-use Rattle.rcu_parts.specs.Hands.{IsSoundHand, SameHand}
-use Rattle.rcu_parts.specs.Processors.{IsSound, SameProcessor}
-use Rattle.rcu_parts.specs.declared.group.Group.{Group}
-use Rattle.rcu_parts.specs.declared.hand.Hand.{Hand}
-use Rattle.rcu_parts.specs.declared.processor.Processor.{Processor}
+use Rattle.rcu_part_group.specs.Groups.{SameGroup}
+use Rattle.rcu_part_hand.specs.Hands.{IsSoundHand, SameHand}
+use Rattle.rcu_part_processor.specs.Processors.{IsSound, SameProcessor}
+use Rattle.rcu_part_group.specs.declared.group.Group.{Group}
+use Rattle.rcu_part_hand.specs.declared.hand.Hand.{Hand}
+use Rattle.rcu_part_processor.specs.declared.processor.Processor.{Processor}
 
 -- the same driver of its open
 abbrev pub DriverStays : Driver → Driver → Type 0

@@ -8,8 +8,8 @@ use Rattle.rcu_control.specs.Parts.{control_board, control_seat, control_view}
 use Rattle.rcu_control.specs.Views.{SamePart}
 use Rattle.rcu_jobs.specs.declared.answers.Ticket.{Ticket}
 use Rattle.rcu_parts.specs.OneOpen.{Parts, groups_in, hands_in, processors_in}
-use Rattle.rcu_parts.specs.Processors.{IsSound, SameProcessor}
-use Rattle.rcu_parts.specs.declared.processor.Processor.{Processor}
+use Rattle.rcu_part_processor.specs.Processors.{IsSound, SameProcessor}
+use Rattle.rcu_part_processor.specs.declared.processor.Processor.{Processor}
 use Rattle.rcu_threads.specs.Parts.{DriverStays, GroupStays, HandStays}
 
 -- The view has seen the turn word of each ticket's processor past the ticket's number: its callback has run.

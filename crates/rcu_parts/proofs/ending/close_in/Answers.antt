@@ -6,11 +6,11 @@ use Rattle.rcu_board.specs.Seats.{gathered_view}
 use Rattle.rcu_control.specs.Parts.{control_board, control_view, driver_view}
 use Rattle.rcu_holdings.proofs.Sizes.{in_struct}
 use Rattle.rcu_parts.specs.AtClose.{cpu_parts}
-use Rattle.rcu_parts.specs.Groups.{group_board}
+use Rattle.rcu_part_group.specs.Groups.{group_board}
 use Rattle.rcu_parts.specs.declared.ending.Ending.{Ending}
-use Rattle.rcu_parts.specs.contracts.group.Group as group_row
-use Rattle.rcu_parts.specs.contracts.hand.Hand as hand_row
-use Rattle.rcu_parts.specs.contracts.processor.Processor as row
+use Rattle.rcu_part_group.specs.contracts.group.Group as group_row
+use Rattle.rcu_part_hand.specs.contracts.hand.Hand as hand_row
+use Rattle.rcu_part_processor.specs.contracts.processor.Processor as row
 use Rattle.rcu_parts.proofs.WholeClose.{as_many_hands, closes_with, first_ready, gathered_all, two_views, weighs_all}
 use Rattle.rcu_parts.proofs.ending.close_in.Goals as goal
 

@@ -3,7 +3,7 @@ use Rattle.std.specs.Mem.{FitsInMemory}
 use denote.Param.{param}
 use Rattle.rcu_holdings.proofs.Sizes.{in_struct}
 use Rattle.rcu_parts.proofs.Passing.{all_passed}
-use Rattle.rcu_parts.specs.contracts.group.Group as row
+use Rattle.rcu_part_group.specs.contracts.group.Group as row
 use Rattle.rcu_parts.proofs.gathering.gather_group.Given.{Over}
 use Rattle.rcu_parts.proofs.gathering.gather_group.Goals.{Start}
 use Rattle.rcu_parts.proofs.gathering.gather_group.Goals as goal

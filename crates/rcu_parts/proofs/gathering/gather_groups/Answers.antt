@@ -9,10 +9,10 @@ use Rattle.rcu_gathering.proofs.Gathers.{gather_append}
 use Rattle.rcu_gathering.proofs.Lists.{all_head, all_tail}
 use Rattle.rcu_holdings.proofs.Sizes.{in_struct}
 use Rattle.rcu_parts.proofs.Passing.{all_passed, one_passed}
-use Rattle.rcu_parts.specs.Groups.{group_board, group_view, members_of}
+use Rattle.rcu_part_group.specs.Groups.{group_board, group_view, members_of}
 use Rattle.rcu_parts.specs.OneOpen.{members_in}
-use Rattle.rcu_parts.specs.declared.group.Group.{Group}
-use Rattle.rcu_parts.specs.contracts.group.Group as row
+use Rattle.rcu_part_group.specs.declared.group.Group.{Group}
+use Rattle.rcu_part_group.specs.contracts.group.Group as row
 use Rattle.rcu_parts.proofs.gathering.gather_groups.Goals as goal
 
 pub loop-group-init : goal.loop-group-init

@@ -1,7 +1,7 @@
 use Rattle.std.proofs.Common.{◌≡◌, ◌+◌, ◌≤◌, ◌++◌, [], length, map, vec_len, vec_capacity, All}
 use Rattle.rcu_board.specs.Seats.{GatheredAt, SameGathered, gathered_view}
 use Rattle.rcu_gathering.specs.Gathered.{gather}
-use Rattle.rcu_parts.specs.Groups.{group_board, group_view}
+use Rattle.rcu_part_group.specs.Groups.{group_board, group_view}
 use Rattle.rcu_parts.specs.OneOpen.{members_in}
 use Rattle.rcu_parts.proofs.gathering.gather_groups.Given as goal
 

@@ -7,14 +7,14 @@ use Rattle.std.proofs.lemmas.List.{length-map, nil_from_length}
 use Rattle.rcu_board.specs.Opened.{IsNewGroup, SeatForEach, has_offloadable, numbers_where}
 use Rattle.rcu_board.specs.declared.board.Board.{Board}
 use Rattle.rcu_holdings.proofs.Sizes.{in_struct}
-use Rattle.rcu_parts.specs.GroupLaw.{cpus_of, folks_in}
+use Rattle.rcu_part_group.specs.GroupLaw.{cpus_of, folks_in}
 use Rattle.rcu_parts.specs.OneOpen.{members_in}
 use Rattle.rcu_parts.specs.Openings.{IsFirstGroup}
-use Rattle.rcu_parts.specs.contracts.folk.Folk as folk
-use Rattle.rcu_parts.specs.contracts.folk.Members as members
-use Rattle.rcu_parts.specs.contracts.group.Group as group
-use Rattle.rcu_parts.specs.declared.folk.Folk.{Folk}
-use Rattle.rcu_parts.specs.declared.group.Group.{Group}
+use Rattle.rcu_part_group.specs.contracts.folk.Folk as folk
+use Rattle.rcu_part_group.specs.contracts.folk.Members as members
+use Rattle.rcu_part_group.specs.contracts.group.Group as group
+use Rattle.rcu_part_group.specs.declared.folk.Folk.{Folk}
+use Rattle.rcu_part_group.specs.declared.group.Group.{Group}
 use Rattle.rcu_parts.proofs.Grouped.{are_members, group_begins, group_taken}
 use Rattle.rcu_parts.proofs.Making.{empty_parts, group_made, group_of_role, grouped_more, groups_more}
 use Rattle.rcu_parts.proofs.Splitting.{AreGrouped, all_groups}

@@ -3,8 +3,8 @@ use Rattle.std.specs.Prelude.{All}
 use Rattle.std.specs.Arc.{arc_value}
 use Rattle.std.specs.List.{AllZip}
 use Rattle.rcu_board.specs.Opened.{IsNewGroup, SeatForEach, has_offloadable, numbers_where}
-use Rattle.rcu_parts.specs.GroupLaw.{cpus_of}
-use Rattle.rcu_parts.specs.Groups.{IsEmptyFolk}
+use Rattle.rcu_part_group.specs.GroupLaw.{cpus_of}
+use Rattle.rcu_part_group.specs.Groups.{IsEmptyFolk}
 use Rattle.rcu_parts.specs.OneOpen.{members_in}
 use Rattle.rcu_parts.specs.Openings.{IsFirstGroup}
 use Rattle.rcu_parts.proofs.Splitting.{AreGrouped}

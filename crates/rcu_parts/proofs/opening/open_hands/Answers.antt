@@ -14,12 +14,12 @@ use Rattle.rcu_lanes.specs.Ends.{items_drawn}
 use Rattle.rcu_lanes.specs.declared.ends.Front.{Front}
 use Rattle.rcu_lists.specs.contracts.batch.Batch as batch
 use Rattle.rcu_lists.specs.declared.batch.Batch.{Batch}
-use Rattle.rcu_parts.specs.GroupLaw.{cpus_of}
-use Rattle.rcu_parts.specs.Groups.{IsEmptyFolk}
+use Rattle.rcu_part_group.specs.GroupLaw.{cpus_of}
+use Rattle.rcu_part_group.specs.Groups.{IsEmptyFolk}
 use Rattle.rcu_parts.specs.Openings.{IsFirstHand, fronts_of}
-use Rattle.rcu_parts.specs.contracts.folk.Folk as folk
-use Rattle.rcu_parts.specs.contracts.hand.Hand as hand
-use Rattle.rcu_parts.specs.declared.folk.Folk.{Folk}
+use Rattle.rcu_part_group.specs.contracts.folk.Folk as folk
+use Rattle.rcu_part_hand.specs.contracts.hand.Hand as hand
+use Rattle.rcu_part_group.specs.declared.folk.Folk.{Folk}
 use Rattle.rcu_parts.proofs.Making.{hands_more, made_more}
 use Rattle.rcu_parts.proofs.Zips.{all_of, seat_and_rest, seats_over}
 use Rattle.rcu_parts.proofs.opening.open_hands.Given.{Over}

@@ -4,8 +4,8 @@ use Rattle.std.specs.Arc.{arc_value}
 use Rattle.std.specs.List.{AllZip}
 use Rattle.rcu_board.specs.Opened.{IsNewHand, SeatForEach, is_offloadable, numbers_where}
 use Rattle.rcu_lanes.specs.Ends.{items_drawn}
-use Rattle.rcu_parts.specs.GroupLaw.{cpus_of}
-use Rattle.rcu_parts.specs.Groups.{IsEmptyFolk}
+use Rattle.rcu_part_group.specs.GroupLaw.{cpus_of}
+use Rattle.rcu_part_group.specs.Groups.{IsEmptyFolk}
 use Rattle.rcu_parts.specs.OneOpen.{HasHand}
 use Rattle.rcu_parts.specs.Openings.{IsFirstHand, fronts_of}
 use Rattle.rcu_parts.proofs.opening.open_hands.Given as goal

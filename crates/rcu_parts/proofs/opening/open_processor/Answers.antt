@@ -7,8 +7,8 @@ use Rattle.rcu_board.specs.declared.board.Board.{Board}
 use Rattle.rcu_holdings.proofs.Sizes.{in_struct}
 use Rattle.rcu_holdings.specs.contracts.caller.Caller as caller
 use Rattle.rcu_lists.specs.contracts.batch.Batch as batch
-use Rattle.rcu_parts.specs.contracts.processor.Processor as row
-use Rattle.rcu_parts.proofs.Beginnings.{offloads_at}
+use Rattle.rcu_part_processor.specs.contracts.processor.Processor as row
+use Rattle.rcu_part_processor.proofs.Beginnings.{offloads_at}
 use Rattle.rcu_parts.proofs.Openings.{first_empty, first_processor}
 use Rattle.rcu_parts.proofs.opening.open_processor.Given.{Over}
 use Rattle.rcu_parts.proofs.opening.open_processor.Goals as goal

@@ -5,8 +5,8 @@ use denote.Param.{param}
 use Rattle.rcu_board.specs.Opened.{InOrder, IsNewProcessor}
 use Rattle.rcu_lists.specs.contracts.batch.Batch as batch
 use Rattle.rcu_parts.specs.Openings.{IsFirstProcessor}
-use Rattle.rcu_parts.specs.contracts.processor.Processor as row
-use Rattle.rcu_parts.proofs.Beginnings.{offloads_at}
+use Rattle.rcu_part_processor.specs.contracts.processor.Processor as row
+use Rattle.rcu_part_processor.proofs.Beginnings.{offloads_at}
 use Rattle.rcu_parts.proofs.Making.{fronts_more, fronts_same, processors_more}
 use Rattle.rcu_parts.proofs.Zips.{seat_taken}
 use Rattle.rcu_parts.proofs.opening.open_processors.Given.{Over}

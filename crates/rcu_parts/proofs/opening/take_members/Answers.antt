@@ -1,4 +1,4 @@
-use Rattle.rcu_parts.specs.GroupLaw.{folks_in}
+use Rattle.rcu_part_group.specs.GroupLaw.{folks_in}
 use Rattle.rcu_parts.proofs.Openings.{taking_first, taking_last, taking_next}
 use Rattle.rcu_parts.proofs.opening.take_members.Goals as goal
 

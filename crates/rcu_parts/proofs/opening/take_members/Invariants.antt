@@ -1,6 +1,6 @@
 use Rattle.std.proofs.Common.{◌≡◌, ◌/◌, ◌++◌, length}
 use Rattle.std.specs.Prelude.{All}
-use Rattle.rcu_parts.specs.GroupLaw.{folks_in}
+use Rattle.rcu_part_group.specs.GroupLaw.{folks_in}
 use Rattle.rcu_parts.proofs.opening.take_members.Given as goal
 
 abbrev pub invariant-loop-folk : goal.invariant-loop-folk

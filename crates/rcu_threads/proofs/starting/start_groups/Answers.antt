@@ -2,7 +2,7 @@ use Rattle.std.proofs.Common.{◌≡◌, length, rules, ap}
 use Rattle.std.specs.Mem.{FitsInMemory}
 use denote.Param.{param}
 use denote.Builtin.{u64 as receipt}
-use Rattle.rcu_parts.specs.contracts.group.Group as row
+use Rattle.rcu_part_group.specs.contracts.group.Group as row
 use Rattle.rcu_threads.proofs.Zips.{all_started, started_more}
 use Rattle.rcu_threads.proofs.starting.start_groups.Goals as goal
 

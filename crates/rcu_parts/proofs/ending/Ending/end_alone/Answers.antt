@@ -1,12 +1,18 @@
-use Rattle.std.proofs.Common.{rules, ◌∙◌, None, [], ◌∷◌, ◌++◌, map, ap, refl, arith}
+use Rattle.std.proofs.Common.{rules, ◌∙◌, ◌≤◌, None, [], ◌∷◌, ◌++◌, map, ap, refl, sym, arith, length}
+use Rattle.std.proofs.Math.Path.{subst}
+use Rattle.std.specs.Vec.{vec_capacity}
 use Rattle.std.specs.Mem.{FitsInMemory}
 use Rattle.std.proofs.lemmas.List.{map-append}
 use denote.Param.{param}
+use Rattle.rcu_board.specs.Seats.{view}
+use Rattle.rcu_board.specs.Views.{joined}
+use Rattle.rcu_endings.specs.Ends.{EndsWith}
 use Rattle.rcu_holdings.proofs.Sizes.{in_struct}
+use Rattle.rcu_holdings.specs.Callers.{held_in, holding}
 use Rattle.rcu_parts.specs.AtClose.{cpu_part}
 use Rattle.rcu_parts.specs.Ending.{all_back, all_ran, all_view, board_at}
-use Rattle.rcu_parts.specs.Processors.{board_of}
-use Rattle.rcu_parts.specs.contracts.processor.Processor as row
+use Rattle.rcu_part_processor.specs.Processors.{board_of}
+use Rattle.rcu_part_processor.specs.contracts.processor.Processor as row
 use Rattle.rcu_parts.proofs.Resting.{one_long, rests_alone}
 use Rattle.rcu_parts.proofs.ending.Ending.end_alone.Given.{Over}
 use Rattle.rcu_parts.proofs.ending.Ending.end_alone.Goals.{Start}
@@ -18,21 +24,32 @@ processor_fits g c = search rules
 pub end_local-requires-after_bounds : goal.end_local-requires-after_bounds
 end_local-requires-after_bounds g c κs within =
     let r = c.requires.room in
-    (in_struct _ _ _ (in_struct _ _ _ (processor_fits g c.before.before.before)), ((c.args.processor.state.local c.requires.alone).1, (r.empty.no_job, (let e = r.enough in let j = r.empty.for_jobs in omega (arith, e, j)))))
+    let s = c.into_state-seat.ensures in
+    let b = vec_capacity c.args.room.back in (
+      in_struct _ _ _ (in_struct _ _ _ (processor_fits g c.before.before.before.before.before)),
+      (
+        (c.into_state-seat.result.local (ap (λ p. p.offloadable) s ∙ c.requires.alone)).1,
+        (r.empty.no_job, subst (λ p. length (held_in (holding p.lists)) ≤ b) (sym s) (let e = r.enough in let j = r.empty.for_jobs in omega (arith, e, j))),
+      ),
+    )
 
 pub returns-clause-ends : goal.returns-clause-ends
 returns-clause-ends g c =
     let k = c.keep.ensures in
     let t = c.take_in.ensures in
     let e = c.end_local.ensures in
+    let s = c.into_state-seat.ensures in
     let p = cpu_part c.args.processor None in
     record {
       end = record { part = p; ran = c.end_local.result.ran.items; back = c.end_local.result.back.items };
       part = refl;
       at_rest = rests_alone g.J.Job.key_of g.J.Job.gives c.args.processor c.requires.sound;
-      ended = e.ends;
-      view = ap all_view k.others ∙ t.view;
+      ended = subst (λ q. EndsWith g.J.Job.key_of g.J.Job.gives q.ran.items [] (holding q.lists) [] [] c.end_local.result.ran.items c.end_local.result.back.items) s e.ends;
+      view = ap all_view k.others ∙ (t.view ∙ ap (λ q. joined (all_view c.args.self.now) (view q.seat)) s);
       long = one_long (board_at c.args.self.now) (board_of c.args.processor.state) c.args.processor.state.seat c.requires.board c.args.processor.state.here;
       ran = ap (map (λ v. v.items)) k.ran ∙ (map-append (λ v. v.items) c.take_in.new.self.ran.items (c.end_local.result.ran ∷ []) ∙ ap (λ x. all_ran x ++ c.end_local.result.ran.items ∷ []) t.others);
       back = ap (map (λ v. v.items)) k.back ∙ (map-append (λ v. v.items) c.take_in.new.self.back.items (c.end_local.result.back ∷ []) ∙ ap (λ x. all_back x ++ c.end_local.result.back.items ∷ []) t.others);
     }
+
+pub into_state-seat-requires-after_bounds : goal.into_state-seat-requires-after_bounds
+into_state-seat-requires-after_bounds g c κs within = (processor_fits g c, in_struct _ _ _ (processor_fits g c))

@@ -2,9 +2,9 @@ use Rattle.std.proofs.Common.{length, arith}
 use Rattle.std.specs.Mem.{FitsInMemory}
 use Rattle.std.proofs.lemmas.List.{nil_from_length}
 use denote.Param.{param}
-use Rattle.rcu_parts.specs.contracts.folk.Folk as folk_row
-use Rattle.rcu_parts.specs.contracts.hand.Hand as hand_row
-use Rattle.rcu_parts.specs.contracts.processor.Processor as row
+use Rattle.rcu_part_group.specs.contracts.folk.Folk as folk_row
+use Rattle.rcu_part_hand.specs.contracts.hand.Hand as hand_row
+use Rattle.rcu_part_processor.specs.contracts.processor.Processor as row
 use Rattle.rcu_parts.proofs.OneByOne.{all_ended, none_ended, now_first, one_more_ended}
 use Rattle.rcu_parts.proofs.ending.Ending.end_each.Goals as goal
 

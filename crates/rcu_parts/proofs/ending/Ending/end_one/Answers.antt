@@ -1,11 +1,11 @@
-use Rattle.std.proofs.Common.{rules, ◌≡◌, None}
+use Rattle.std.proofs.Common.{rules, ◌≡◌, ◌∙◌, None, sym}
 use Rattle.std.specs.Mem.{FitsInMemory}
 use denote.Param.{param}
 use Rattle.rcu_parts.specs.Ending.{board_at}
-use Rattle.rcu_parts.specs.Hands.{IsSoundHand, hand_board}
-use Rattle.rcu_parts.specs.contracts.folk.Folk as folk_row
-use Rattle.rcu_parts.specs.contracts.hand.Hand as hand_row
-use Rattle.rcu_parts.specs.contracts.processor.Processor as row
+use Rattle.rcu_part_hand.specs.Hands.{IsSoundHand, hand_board}
+use Rattle.rcu_part_group.specs.contracts.folk.Folk as folk_row
+use Rattle.rcu_part_hand.specs.contracts.hand.Hand as hand_row
+use Rattle.rcu_part_processor.specs.contracts.processor.Processor as row
 use Rattle.rcu_parts.proofs.OneByOne.{first_board, first_has_hand, first_member, first_of_hands, first_room, first_sound, may_end, none_for, one_for, ready_alone, ready_with}
 use Rattle.rcu_parts.proofs.ending.Ending.end_one.Goals as goal
 
@@ -19,21 +19,21 @@ end_alone-requires-after_bounds g c κs within =
       (
         may_end k s r.0 c.args.processor r.1 _ _ _ c.args.self.now r.2,
         (
-          c.if-not-processor.true,
+          (sym c.is_offloadable.ensures ∙ c.if-not-is_offloadable.true),
           (
             first_board k s r.0 c.args.processor r.1 _ _ _ c.args.self.now r.2,
             (
               first_sound k s r.0 c.args.processor r.1 _ _ _ c.args.self.now r.2,
-              first_room k s r.0 c.args.processor r.1 _ _ _ _ c.take_first-room.result c.args.self.now None r.2 c.take_first-room.ensures (none_for c.args.processor _ c.if-not-processor.true),
+              first_room k s r.0 c.args.processor r.1 _ _ _ _ c.take_first-room.result c.args.self.now None r.2 c.take_first-room.ensures (none_for c.args.processor _ (sym c.is_offloadable.ensures ∙ c.if-not-is_offloadable.true)),
             ),
           ),
         ),
       ),
     )
 
-pub returns-then-not-processor-clause-ready : goal.returns-then-not-processor-clause-ready
-returns-then-not-processor-clause-ready g c k rest i =
-    ready_alone g.J.Job.key_of g.J.Job.gives k c.args.processor rest _ _ _ _ c.take_first-room.result c.args.self.now c.end_alone.new.self i c.end_alone.ensures.goes_on c.take_first-room.ensures c.if-not-processor.true
+pub returns-then-not-is_offloadable-clause-ready : goal.returns-then-not-is_offloadable-clause-ready
+returns-then-not-is_offloadable-clause-ready g c k rest i =
+    ready_alone g.J.Job.key_of g.J.Job.gives k c.args.processor rest _ _ _ _ c.take_first-room.result c.args.self.now c.end_alone.new.self i c.end_alone.ensures.goes_on c.take_first-room.ensures (sym c.is_offloadable.ensures ∙ c.if-not-is_offloadable.true)
 
 pub end_with_hand-requires-after_bounds : goal.end_with_hand-requires-after_bounds
 end_with_hand-requires-after_bounds g c κs within =
@@ -58,14 +58,14 @@ end_with_hand-requires-after_bounds g c κs within =
               (
                 first_of_hands k s (λ d. hand_board d.state ≡ board_at x) c.take_first-hand.result _ _ c.take_first-hand.ensures i.hands_at,
                 (
-                  first_member k s r.0 p r.1 c.take_first-member.result _ _ _ _ x i c.if-not-processor.false c.take_first-member.ensures,
+                  first_member k s r.0 p r.1 c.take_first-member.result _ _ _ _ x i (sym c.is_offloadable.ensures ∙ c.if-not-is_offloadable.false) c.take_first-member.ensures,
                   (
                     first_has_hand k s r.0 p r.1 c.take_first-member.result _ _ c.take_first-hand.result _ _ _ x i c.take_first-member.ensures c.take_first-hand.ensures,
                     (
                       first_sound k s r.0 p r.1 _ _ _ x i,
                       (
                         first_of_hands k s (λ d. IsSoundHand k s d.state) c.take_first-hand.result _ _ c.take_first-hand.ensures i.hands_sound,
-                        first_room k s r.0 p r.1 _ _ _ _ c.take_first-room.result x _ i c.take_first-room.ensures (one_for p c.take_first-hand.result _ _ c.if-not-processor.false c.take_first-hand.ensures),
+                        first_room k s r.0 p r.1 _ _ _ _ c.take_first-room.result x _ i c.take_first-room.ensures (one_for p c.take_first-hand.result _ _ (sym c.is_offloadable.ensures ∙ c.if-not-is_offloadable.false) c.take_first-hand.ensures),
                       ),
                     ),
                   ),
@@ -80,4 +80,4 @@ end_with_hand-requires-after_bounds g c κs within =
 pub returns-clause-ready : goal.returns-clause-ready
 returns-clause-ready g c k rest i =
     ready_with g.J.Job.key_of g.J.Job.gives k c.args.processor rest c.take_first-member.result _ _ c.take_first-hand.result _ _ _ _ c.take_first-room.result c.args.self.now c.end_with_hand.new.self i c.end_with_hand.ensures.goes_on
-    c.take_first-room.ensures c.if-not-processor.false c.take_first-member.ensures c.take_first-hand.ensures
+    c.take_first-room.ensures (sym c.is_offloadable.ensures ∙ c.if-not-is_offloadable.false) c.take_first-member.ensures c.take_first-hand.ensures

@@ -1,17 +1,23 @@
-use Rattle.std.proofs.Common.{rules, ◌∙◌, Some, [], ◌∷◌, ◌++◌, map, ap, refl}
+use Rattle.std.proofs.Common.{rules, ◌≡◌, ◌∙◌, ◌≤◌, ◌+◌, Some, [], ◌∷◌, ◌++◌, map, ap, refl, sym, length}
+use Rattle.std.proofs.Math.Path.{subst, subst₂}
 use Rattle.std.specs.Mem.{FitsInMemory}
 use Rattle.std.proofs.lemmas.List.{map-append}
 use denote.Param.{param}
 use Rattle.rcu_board.specs.Seats.{view}
 use Rattle.rcu_board.specs.Views.{joined}
+use Rattle.rcu_endings.specs.Ends.{EndsWith, HasRoom}
 use Rattle.rcu_holdings.proofs.Sizes.{in_struct}
+use Rattle.rcu_holdings.specs.Callers.{held_in, holding, put_by, rear_of}
+use Rattle.rcu_holdings.specs.Helds.{drawn_by, front_of as hands_front, taken_by}
+use Rattle.rcu_holdings.specs.Members.{front_of, rear_of as done_rear}
+use Rattle.rcu_lanes.specs.Ends.{SameLane}
 use Rattle.rcu_parts.specs.AtClose.{cpu_part, hand_part}
 use Rattle.rcu_parts.specs.Ending.{all_back, all_ran, all_view, board_at}
-use Rattle.rcu_parts.specs.Hands.{hand_board}
-use Rattle.rcu_parts.specs.Processors.{board_of}
-use Rattle.rcu_parts.specs.contracts.folk.Folk as folk_row
-use Rattle.rcu_parts.specs.contracts.hand.Hand as hand_row
-use Rattle.rcu_parts.specs.contracts.processor.Processor as row
+use Rattle.rcu_part_hand.specs.Hands.{hand_board}
+use Rattle.rcu_part_processor.specs.Processors.{board_of}
+use Rattle.rcu_part_group.specs.contracts.folk.Folk as folk_row
+use Rattle.rcu_part_hand.specs.contracts.hand.Hand as hand_row
+use Rattle.rcu_part_processor.specs.contracts.processor.Processor as row
 use Rattle.rcu_parts.proofs.Resting.{both_long, rests_with}
 use Rattle.rcu_parts.proofs.ending.Ending.end_with_hand.Given.{Over}
 use Rattle.rcu_parts.proofs.ending.Ending.end_with_hand.Goals.{Start}
@@ -29,23 +35,53 @@ hand_fits g c = c.requires-raw.1.1.1.1.1.1.0
 pub end_offloadable-requires-after_bounds : goal.end_offloadable-requires-after_bounds
 end_offloadable-requires-after_bounds g c κs within =
     let r = c.requires.room in
-    (in_struct _ _ _ (in_struct _ _ _ (processor_fits g c.before.before.before.before.before)), (in_struct _ _ _ (folk_fits g c.before.before.before.before.before), (in_struct _ _ _ (in_struct _ _ _ (hand_fits g c.before.before.before.before.before)), (c.requires.member.lane, (c.requires.hand.lane, (r.jobs, r.empty, r.enough))))))
+    let m = c.args.folk.member in
+    let s = sym c.into_state-seat.ensures in
+    let t = sym c.into_state-hands_seat.ensures in
+    let start = c.before.before.before.before.before.before.before.before.before in (
+      in_struct _ _ _ (in_struct _ _ _ (processor_fits g start)),
+      (
+        in_struct _ _ _ (folk_fits g start),
+        (
+          in_struct _ _ _ (in_struct _ _ _ (hand_fits g start)),
+          (
+            subst (λ p. SameLane (front_of m) (rear_of p.lists)) s c.requires.member.lane,
+            (
+              subst (λ h. SameLane (hands_front h.held) (done_rear m)) t c.requires.hand.lane,
+              (
+                r.jobs,
+                subst₂ (λ p h. HasRoom (length p.ran.items + length h.ran.items) r.jobs c.args.room) s t r.empty,
+                subst₂ (λ p h. length (put_by (holding p.lists)) + length (held_in (holding p.lists)) ≤ length (taken_by h.held) + r.jobs) s t r.enough,
+              ),
+            ),
+          ),
+        ),
+      ),
+    )
 
 pub returns-clause-ends : goal.returns-clause-ends
 returns-clause-ends g c =
     let k = c.keep.ensures in
     let t = c.take_in.ensures in
     let u = c.take_in-2.ensures in
+    let s = c.into_state-seat.ensures in
+    let f = c.into_state-hands_seat.ensures in
     let p = cpu_part c.args.processor (Some (hand_part c.args.hand)) in
     record {
       end = record { part = p; ran = c.end_offloadable.result.ran.items; back = c.end_offloadable.result.back.items };
       part = refl;
       at_rest = rests_with g.J.Job.key_of g.J.Job.gives c.args.processor c.args.hand (c.requires.hand.cpu ∙ c.requires.member.cpu) c.requires.sound c.requires.hand_sound;
-      ended = c.end_offloadable.ensures.ends;
-      view = ap all_view k.others ∙ (u.view ∙ ap (λ w. joined w (view c.args.hand.state.seat)) t.view);
+      ended = subst₂ (λ p h. EndsWith g.J.Job.key_of g.J.Job.gives p.ran.items h.ran.items (holding p.lists) (taken_by h.held) (drawn_by h.held) c.end_offloadable.result.ran.items c.end_offloadable.result.back.items) s f c.end_offloadable.ensures.ends;
+      view = ap all_view k.others ∙ (u.view ∙ (ap (λ w. joined w (view c.into_state-hands_seat.result.seat)) t.view ∙ subst₂ (λ p h. joined (joined (all_view c.args.self.now) (view c.into_state-seat.result.seat)) (view c.into_state-hands_seat.result.seat) ≡ joined (joined (all_view c.args.self.now) (view p.seat)) (view h.seat)) s f refl));
       long = both_long (board_at c.args.self.now) (board_of c.args.processor.state) (hand_board c.args.hand.state) c.args.processor.state.seat c.args.hand.state.seat c.requires.board c.requires.hand_board c.args.processor.state.here c.args.hand.state.here;
       ran = ap (map (λ v. v.items)) k.ran ∙ (map-append (λ v. v.items) c.take_in-2.new.self.ran.items (c.end_offloadable.result.ran ∷ [])
           ∙ (ap (λ x. all_ran x ++ c.end_offloadable.result.ran.items ∷ []) u.others ∙ ap (λ x. all_ran x ++ c.end_offloadable.result.ran.items ∷ []) t.others));
       back = ap (map (λ v. v.items)) k.back ∙ (map-append (λ v. v.items) c.take_in-2.new.self.back.items (c.end_offloadable.result.back ∷ [])
           ∙ (ap (λ x. all_back x ++ c.end_offloadable.result.back.items ∷ []) u.others ∙ ap (λ x. all_back x ++ c.end_offloadable.result.back.items ∷ []) t.others));
     }
+
+pub into_state-seat-requires-after_bounds : goal.into_state-seat-requires-after_bounds
+into_state-seat-requires-after_bounds g c κs within = (processor_fits g c, in_struct _ _ _ (processor_fits g c))
+
+pub into_state-hands_seat-requires-after_bounds : goal.into_state-hands_seat-requires-after_bounds
+into_state-hands_seat-requires-after_bounds g c κs within = (hand_fits g c.before.before, in_struct _ _ _ (hand_fits g c.before.before))

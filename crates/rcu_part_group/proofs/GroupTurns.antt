@@ -1,0 +1,229 @@
+-- How a group keeps its law, and what its turn comes to.
+use Rattle.std.proofs.Common.{◌≡◌, ◌⊎◌, inl, inr, ℕ, ◌<◌, ◌≤◌, Bool, true, false, IsTrue, cond, List, [], ◌∷◌, ◌++◌, map, length, length-append, append-nil, append_assoc, Option, Some, None, IfSome, ap, sym, ◌∙◌, refl, subst, arith}
+use Rattle.std.specs.List.{All, AllPairs, AllZip}
+use Rattle.std.proofs.lemmas.List.{append_cancel_left}
+use Rattle.std.proofs.lemmas.List.Elements.{All-nil, All-cons, All-tail, All-append, All-weaker, length_all_zip}
+use Rattle.rcu_board.specs.Plays.{looked, stamp_own, touched}
+use Rattle.rcu_board.specs.Seats.{NeverFalls}
+use Rattle.rcu_board.specs.Views.{seen_at, sight}
+use Rattle.rcu_board.specs.Words.{needed_word}
+use Rattle.rcu_board.specs.declared.view.View.{View}
+use Rattle.rcu_control.proofs.Stepping.{same_again}
+use Rattle.rcu_control.specs.Views.{IsBare, KeepsLists}
+use Rattle.rcu_holdings.specs.Aims.{AreUpTo, is_up_to, aim, wanted, looked as list_looked}
+use Rattle.rcu_holdings.specs.declared.member.TheConstants.{MOST_BATCHES}
+use Rattle.rcu_holdings.specs.Members.{Relay, relay, TakesIn, Gives, Loads, Hands}
+use Rattle.rcu_holdings.proofs.Aims.{up-raised, look-needed}
+use Rattle.rcu_holdings.specs.declared.member.Member.{Member}
+use Rattle.rcu_jobs.specs.declared.callback.Callback.{Callback}
+use Rattle.rcu_lists.specs.Labels.{Labelled, Done, Bare, marked, callbacks_of, carries}
+use Rattle.rcu_numbers.specs.Words.{number_of}
+use Rattle.rcu_part_group.specs.Each.{Sums}
+use Rattle.rcu_part_group.specs.GroupLaw.{AreMembers, IsLawfulGroup, relay_of}
+use Rattle.rcu_part_group.specs.Groups.{GivesTo, IsEmptyFolk, LooksAt, LooksAtAll, PassesOn, SameFolk, SameGroup, TakesFrom, held_of, members_of}
+use Rattle.rcu_part_group.specs.declared.folk.Folk.{Folk}
+use Rattle.rcu_part_group.specs.declared.group.GroupState.{GroupState}
+use Rattle.rcu_part_group.proofs.GroupLists.{each_all, each_zip, greatest_upto, zip_map, zip_again, zip_same}
+
+-- what holds of each
+always : {A : Type 0} (xs : List A) → All (λ (x : A). Unit {0}) xs
+always xs k d low = tt
+
+-- the number wanted, where some callback waits for it
+wants_upto : (t aimed : ℕ) (b : Bool) → IfSome (cond b (Some aimed) None) (λ n. n ≤ t) → b ≡ true → aimed ≤ t
+wants_upto t aimed true h e = h
+wants_upto t aimed false h e = (let f : true ≡ false = sym e in cc)
+
+-- a look, and an ask
+bare_looked : (r : ℕ) (v w : View) → KeepsLists (looked r v) w → IsBare v → IsBare w
+bare_looked r v w k b = record { own = k.own ∙ ap (map (stamp_own (number_of r))) b.own; claims = k.claims ∙ b.claims; running = k.running ∙ b.running }
+
+module _ {J : Type 0} where
+  -- ---- one member
+
+  -- lists that only get callbacks with no number, or lose done ones
+  bare_upto : (s : ℕ) (cs : List (Callback J)) → AreUpTo s (marked Bare cs)
+  bare_upto s [] = All-nil (λ (x : Labelled J). IsTrue (is_up_to s x.label))
+  bare_upto s (c ∷ cs) = All-cons (λ (x : Labelled J). IsTrue (is_up_to s x.label)) (record { label = Bare; callback = c }) (marked Bare cs) refl (bare_upto s cs)
+
+  takes_upto : (s most took : ℕ) (o n : Relay J) → TakesIn most took o n → AreUpTo s o.list → AreUpTo s n.list
+  takes_upto s most took o n t h = subst (λ (xs : List (Labelled J)). AreUpTo s xs) (sym t.list) (All-append (λ (x : Labelled J). IsTrue (is_up_to s x.label)) o.list (marked Bare t.joining) h (bare_upto s t.joining))
+
+  left_upto : (s : ℕ) (xs ys : List (Labelled J)) → AreUpTo s (xs ++ ys) → AreUpTo s ys
+  left_upto s [] ys h = h
+  left_upto s (x ∷ xs) ys h = left_upto s xs ys (All-tail (λ (z : Labelled J). IsTrue (is_up_to s z.label)) x (xs ++ ys) h)
+
+  loads_upto : (s most : ℕ) (o n : Relay J) → (n ≡ o) ⊎ Loads most o n → AreUpTo s o.list → AreUpTo s n.list
+  loads_upto s most o n (inl e) h = subst (λ (r : Relay J). AreUpTo s r.list) (sym e) h
+  loads_upto s most o n (inr l) h = left_upto s (marked Done n.out) n.list (subst (λ (xs : List (Labelled J)). AreUpTo s xs) l.front h)
+
+  hands_list : (gave : ℕ) (o n : Relay J) → Hands gave o n → n.list ≡ o.list
+  hands_list gave o n (inl p) = ap (λ (r : Relay J). r.list) p.1
+  hands_list gave o n (inr p) = ap (λ (r : Relay J). r.list) p.1
+
+  gives_upto : (s most gave : ℕ) (o n : Relay J) → Gives most gave o n → AreUpTo s o.list → AreUpTo s n.list
+  gives_upto s most gave o n g h = subst (λ (xs : List (Labelled J)). AreUpTo s xs) (sym (hands_list gave g.between n g.hands)) (loads_upto s most o g.between g.loads h)
+
+  -- what isn't changed
+  takes_advanced : (most took : ℕ) (o n : Relay J) → TakesIn most took o n → n.advanced ≡ o.advanced
+  takes_advanced most took o n t = ap (λ (r : Relay J). r.advanced) t.others
+
+  loads_keeps : (most : ℕ) (o n : Relay J) → (n ≡ o) ⊎ Loads most o n → (n.advanced ≡ o.advanced) × (n.received ≡ o.received) × (n.put ≡ o.put)
+  loads_keeps most o n (inl e) = (ap (λ (r : Relay J). r.advanced) e, ap (λ (r : Relay J). r.received) e, ap (λ (r : Relay J). r.put) e)
+  loads_keeps most o n (inr l) = (ap (λ (r : Relay J). r.advanced) l.others, ap (λ (r : Relay J). r.received) l.others, ap (λ (r : Relay J). r.put) l.others)
+
+  -- what was put, so many
+  hands_put : (gave : ℕ) (o n : Relay J) → Hands gave o n → (given : List (Callback J)) × (n.put ≡ o.put ++ given) × (length given ≡ gave) × (n.received ≡ o.received) × (n.advanced ≡ o.advanced)
+  hands_put gave o n (inl p) = (o.out, ap (λ (r : Relay J). r.put) p.1, sym p.0, ap (λ (r : Relay J). r.received) p.1, ap (λ (r : Relay J). r.advanced) p.1)
+  hands_put gave o n (inr p) = ([], ap (λ (r : Relay J). r.put) p.1 ∙ sym (append-nil o.put), sym p.0, ap (λ (r : Relay J). r.received) p.1, ap (λ (r : Relay J). r.advanced) p.1)
+
+  gives_put : (most gave : ℕ) (o n : Relay J) → Gives most gave o n → (given : List (Callback J)) × (n.put ≡ o.put ++ given) × (length given ≡ gave) × (n.received ≡ o.received) × (n.advanced ≡ o.advanced)
+  gives_put most gave o n g = let k = loads_keeps most o g.between g.loads in let h = hands_put gave g.between n g.hands in
+      (h.0, h.1 ∙ ap (λ l. l ++ h.0) k.2, h.2, h.3 ∙ k.1, h.4 ∙ k.0)
+
+  -- no more than a processor accepts
+  pub gives_few : (most gave : ℕ) (m n : Member J) → Gives most gave (relay m) (relay n) → gave ≤ 1000000
+  gives_few most gave m n g = let p = gives_put most gave (relay m) (relay n) g in let r = relay n in
+      omega (arith, n.few, ap length n.order, length-append r.put (r.out ++ (callbacks_of r.list ++ r.drawn)), ap length p.1, length-append (relay m).put p.0, p.2)
+
+  -- ---- places
+
+  passes : (m n : Folk J) (got given : List (Callback J)) → (relay_of n).received ≡ (relay_of m).received ++ got → (relay_of n).put ≡ (relay_of m).put ++ given → PassesOn m n
+  passes m n got given received put = record {
+    got = got;
+    given = given;
+    received = received;
+    put = put;
+    order = append_cancel_left (relay_of m).put (held_of m ++ got) (given ++ held_of n)
+        (sym (append_assoc (relay_of m).put (held_of m) got) ∙ (ap (λ l. l ++ got) (sym m.member.order) ∙ (sym received ∙ (n.member.order ∙ (ap (λ l. l ++ held_of n) put ∙ append_assoc (relay_of m).put given (held_of n))))));
+  }
+
+  passes_again : (l m n : Folk J) → PassesOn l m → PassesOn m n → PassesOn l n
+  passes_again l m n a b = passes l n (a.got ++ b.got) (a.given ++ b.given)
+      (b.received ∙ (ap (λ cs. cs ++ b.got) a.received ∙ append_assoc (relay_of l).received a.got b.got))
+      (b.put ∙ (ap (λ cs. cs ++ b.given) a.put ∙ append_assoc (relay_of l).put a.given b.given))
+
+  takes_passes : (took : ℕ) (m n : Folk J) → TakesFrom took m n → PassesOn m n
+  takes_passes took m n t = passes m n t.takes.got [] t.takes.received (ap (λ (r : Relay J). r.put) t.takes.others ∙ sym (append-nil (relay_of m).put))
+
+  looks_passes : (seen : ℕ) (wants : Option ℕ) (m n : Folk J) → LooksAt seen wants m n → PassesOn m n
+  looks_passes seen wants m n l = passes m n [] [] (ap (λ (r : Relay J). r.received) l.list ∙ sym (append-nil (relay_of m).received)) (ap (λ (r : Relay J). r.put) l.list ∙ sym (append-nil (relay_of m).put))
+
+  gives_passes : (blimit gave : ℕ) (m n : Folk J) → GivesTo blimit gave m n → PassesOn m n
+  gives_passes blimit gave m n g = let p = gives_put blimit gave (relay_of m) (relay_of n) g.gives in passes m n [] p.0 (p.3 ∙ sym (append-nil (relay_of m).received)) p.1
+
+  pub takes_places : (took : ℕ) (ms ns : List (Folk J)) → Sums TakesFrom took ms ns → AllZip PassesOn ms ns
+  takes_places took ms ns s = each_zip TakesFrom PassesOn takes_passes s.each ms ns s.elements
+
+  pub looks_places : (seen : ℕ) (most : Option ℕ) (ms ns : List (Folk J)) → LooksAtAll seen most ms ns → AllZip PassesOn ms ns
+  looks_places seen most ms ns l = each_zip (LooksAt seen) PassesOn (looks_passes seen) l.wants ms ns l.members
+
+  pub gives_places : (blimit gave : ℕ) (ms ns : List (Folk J)) → Sums (GivesTo blimit) gave ms ns → AllZip PassesOn ms ns
+  gives_places blimit gave ms ns s = each_zip (GivesTo blimit) PassesOn (gives_passes blimit) s.each ms ns s.elements
+
+  -- ---- the same members
+
+  same_folk_again : (l m n : Folk J) → SameFolk l m → SameFolk m n → SameFolk l n
+  same_folk_again l m n a b = record { cpu = b.cpu ∙ a.cpu; front = b.front ∙ a.front; rear = b.rear ∙ a.rear }
+
+  same_folks_again : (ls ms ns : List (Folk J)) → AllZip SameFolk ls ms → AllZip SameFolk ms ns → AllZip SameFolk ls ns
+  same_folks_again ls ms ns a b = zip_again SameFolk same_folk_again ls ms ns a b
+
+  pub takes_same : (took : ℕ) (ms ns : List (Folk J)) → Sums TakesFrom took ms ns → AllZip SameFolk ms ns
+  takes_same took ms ns s = each_zip TakesFrom SameFolk (λ n x y r. r.same) s.each ms ns s.elements
+
+  pub looks_same : (seen : ℕ) (most : Option ℕ) (ms ns : List (Folk J)) → LooksAtAll seen most ms ns → AllZip SameFolk ms ns
+  looks_same seen most ms ns l = each_zip (LooksAt seen) SameFolk (λ n x y r. r.same) l.wants ms ns l.members
+
+  pub gives_same : (blimit gave : ℕ) (ms ns : List (Folk J)) → Sums (GivesTo blimit) gave ms ns → AllZip SameFolk ms ns
+  gives_same blimit gave ms ns s = each_zip (GivesTo blimit) SameFolk (λ n x y r. r.same) s.each ms ns s.elements
+
+  members_kept : (ms ns : List (Folk J)) → AllZip SameFolk ms ns → AreMembers ms → AreMembers ns
+  members_kept ms ns s a = record {
+    few = let f = a.few in omega (arith, length_all_zip SameFolk ms ns s);
+    rising = subst (λ (ps : List ℕ). AllPairs (λ p q. p < q) ps) (sym (zip_map SameFolk (λ (m : Folk J). m.cpu) (λ x y r. r.cpu) ms ns s)) a.rising;
+  }
+
+  -- ---- over several steps
+
+  pub places_again : (ls ms ns : List (Folk J)) → AllZip PassesOn ls ms → AllZip PassesOn ms ns → AllZip PassesOn ls ns
+  places_again ls ms ns a b = zip_again PassesOn passes_again ls ms ns a b
+
+  pub same_group_again : (p q r : GroupState J) → SameGroup p q → SameGroup q r → SameGroup p r
+  same_group_again p q r a b = record {
+    part = same_again _ _ _ _ _ _ a.part b.part;
+    group = b.group ∙ a.group;
+    blimit = b.blimit ∙ a.blimit;
+    members = same_folks_again (members_of p) (members_of q) (members_of r) a.members b.members;
+  }
+
+  pub folks_same : (ms : List (Folk J)) → AllZip SameFolk ms ms
+  folks_same ms = zip_same SameFolk (λ m. record { cpu = refl; front = refl; rear = refl }) ms
+
+  pub places_same : (ms : List (Folk J)) → AllZip PassesOn ms ms
+  places_same ms = zip_same PassesOn (λ m. record { got = []; given = []; received = sym (append-nil (relay_of m).received); put = sym (append-nil (relay_of m).put); order = append-nil (held_of m) }) ms
+
+  pub same_group : (p : GroupState J) → SameGroup p p
+  same_group p = record { part = record { board = refl; seat = record { role = refl; table = refl; weight = refl } }; group = refl; blimit = refl; members = folks_same (members_of p) }
+
+  -- ---- the law
+
+  -- a step on a word that no member waits for
+  pub lawful_later : (n i x : ℕ) (v w : View) (ms : List (Folk J)) → w ≡ touched i x v → NeverFalls n v w → IsLawfulGroup v ms → IsLawfulGroup w ms
+  lawful_later n i x v w ms e later l = record {
+    bare = record { own = ap (λ (u : View). u.own) e ∙ l.bare.own; claims = ap (λ (u : View). u.claims) e ∙ l.bare.claims; running = ap (λ (u : View). u.running) e ∙ l.bare.running };
+    members_are = l.members_are;
+    looked = All-weaker (λ (m : Folk J). (relay_of m).advanced ≤ sight v) (λ (m : Folk J). (relay_of m).advanced ≤ sight w) (λ m le. let b = later.board in omega arith) ms l.looked;
+    needed = All-weaker (λ (m : Folk J). AreUpTo (seen_at v needed_word) (relay_of m).list) (λ (m : Folk J). AreUpTo (seen_at w needed_word) (relay_of m).list)
+        (λ m up. up-raised (seen_at v needed_word) (seen_at w needed_word) (relay_of m).list later.needed up) ms l.needed;
+  }
+
+  pub lawful_takes : (v : View) (took : ℕ) (ms ns : List (Folk J)) → Sums TakesFrom took ms ns → IsLawfulGroup v ms → IsLawfulGroup v ns
+  lawful_takes v took ms ns s l = record {
+    bare = l.bare;
+    members_are = members_kept ms ns (takes_same took ms ns s) l.members_are;
+    looked = each_all TakesFrom (λ _. Unit {0}) (λ m. (relay_of m).advanced ≤ sight v) (λ m. (relay_of m).advanced ≤ sight v)
+        (λ n x y r t h. omega (arith, h, takes_advanced MOST_BATCHES n (relay_of x) (relay_of y) r.takes)) s.each ms ns s.elements (always s.each) l.looked;
+    needed = each_all TakesFrom (λ _. Unit {0}) (λ m. AreUpTo (seen_at v needed_word) (relay_of m).list) (λ m. AreUpTo (seen_at v needed_word) (relay_of m).list)
+        (λ n x y r t h. takes_upto (seen_at v needed_word) MOST_BATCHES n (relay_of x) (relay_of y) r.takes h) s.each ms ns s.elements (always s.each) l.needed;
+  }
+
+  pub lawful_gives : (v : View) (blimit gave : ℕ) (ms ns : List (Folk J)) → Sums (GivesTo blimit) gave ms ns → IsLawfulGroup v ms → IsLawfulGroup v ns
+  lawful_gives v blimit gave ms ns s l = record {
+    bare = l.bare;
+    members_are = members_kept ms ns (gives_same blimit gave ms ns s) l.members_are;
+    looked = each_all (GivesTo blimit) (λ _. Unit {0}) (λ m. (relay_of m).advanced ≤ sight v) (λ m. (relay_of m).advanced ≤ sight v)
+        (λ n x y r t h. let p = gives_put blimit n (relay_of x) (relay_of y) r.gives in omega (arith, h, p.4)) s.each ms ns s.elements (always s.each) l.looked;
+    needed = each_all (GivesTo blimit) (λ _. Unit {0}) (λ m. AreUpTo (seen_at v needed_word) (relay_of m).list) (λ m. AreUpTo (seen_at v needed_word) (relay_of m).list)
+        (λ n x y r t h. gives_upto (seen_at v needed_word) blimit n (relay_of x) (relay_of y) r.gives h) s.each ms ns s.elements (always s.each) l.needed;
+  }
+
+  -- what a look makes of one list
+  looks_upto : (seen s t : ℕ) (wants : Option ℕ) (m n : Folk J) → s ≤ t → LooksAt seen wants m n → IfSome wants (λ k. k ≤ t) → AreUpTo s (relay_of m).list → AreUpTo t (relay_of n).list
+  looks_upto seen s t wants m n le l below h =
+      let xs = (relay_of m).list in
+      let wanted_below : IfSome (wanted seen xs) (λ k. k ≤ t) = subst (λ (o : Option ℕ). IfSome o (λ k. k ≤ t)) l.wants_is below in
+      subst (λ (r : Relay J). AreUpTo t r.list) (sym l.list)
+      (look-needed seen t xs (wants_upto t (aim seen xs) (carries (aim seen xs) (list_looked seen xs)) wanted_below) (up-raised s t xs le h))
+
+  pub lawful_looks : (r seen : ℕ) (v w : View) (most : Option ℕ) (ms ns : List (Folk J)) → KeepsLists (looked r v) w → sight w ≡ seen → seen_at v needed_word ≤ seen_at w needed_word
+      → IfSome most (λ n. n ≤ seen_at w needed_word) → LooksAtAll seen most ms ns → IsLawfulGroup v ms → IsLawfulGroup w ns
+  lawful_looks r seen v w most ms ns k at later below a l = record {
+    bare = bare_looked r v w k l.bare;
+    members_are = members_kept ms ns (looks_same seen most ms ns a) l.members_are;
+    looked = each_all (LooksAt seen) (λ _. Unit {0}) (λ m. (relay_of m).advanced ≤ sight v) (λ m. (relay_of m).advanced ≤ sight w)
+        (λ n x y q t h. omega (arith, at, ap (λ (z : Relay J). z.advanced) q.list)) a.wants ms ns a.members (always a.wants) l.looked;
+    needed = each_all (LooksAt seen) (λ n. IfSome n (λ k. k ≤ seen_at w needed_word)) (λ m. AreUpTo (seen_at v needed_word) (relay_of m).list) (λ m. AreUpTo (seen_at w needed_word) (relay_of m).list)
+        (λ n x y q t h. looks_upto seen (seen_at v needed_word) (seen_at w needed_word) n x y later q t h) a.wants ms ns a.members
+        (greatest_upto (seen_at w needed_word) most a.wants a.greatest below) l.needed;
+  }
+
+  -- before any step
+  pub lawful_first : (v : View) (ms : List (Folk J)) → IsBare v → AreMembers ms → All (λ (m : Folk J). IsEmptyFolk m) ms → IsLawfulGroup v ms
+  lawful_first v ms bare members empty = record {
+    bare = bare;
+    members_are = members;
+    looked = All-weaker (λ (m : Folk J). IsEmptyFolk m) (λ (m : Folk J). (relay_of m).advanced ≤ sight v) (λ m e. omega (arith, ap (λ (r : Relay J). r.advanced) e)) ms empty;
+    needed = All-weaker (λ (m : Folk J). IsEmptyFolk m) (λ (m : Folk J). AreUpTo (seen_at v needed_word) (relay_of m).list)
+        (λ m e. subst (λ (r : Relay J). AreUpTo (seen_at v needed_word) r.list) (sym e) (All-nil (λ (x : Labelled J). IsTrue (is_up_to (seen_at v needed_word) x.label)))) ms empty;
+  }

@@ -1,0 +1,2 @@
+pub mod GroupLists
+pub mod GroupTurns

@@ -1,0 +1,15 @@
+use Rattle.std.proofs.Common.{length, ap, arith}
+use Rattle.rcu_part_group.specs.Groups.{waiting_of}
+use Rattle.rcu_part_group.proofs.GroupLists.{sum_next, sum_behind}
+use Rattle.rcu_part_group.proofs.folk.Members.waiting.Goals as goal
+
+pub loop-folk-preserved : goal.loop-folk-preserved
+loop-folk-preserved g c = let l = c.loop-folk in let i = l.invariant in let e = c.waiting-waiting.ensures in record {
+  so_far = sum_next waiting_of c.args.self.now.others.items c.deref-folk-items.result.now l.folk-index c.waiting-waiting.result l.waiting c.folk-item.result
+      c.deref-folk-items.ensures.value c.loop-folk-test.true c.folk-item.is e.waits i.so_far;
+  small = let before = i.small in let few = e.few in omega arith;
+}
+
+pub returns : goal.returns
+returns g c = let l = c.loop-folk in let s = c.args.self.now in
+    sum_behind waiting_of s.first s.others.items l.folk-index c.waiting-first.result l.waiting (omega (arith, ap length c.deref-folk-items.ensures.value, c.loop-folk-test.false)) c.waiting-first.ensures.waits l.invariant.so_far

@@ -1,0 +1,28 @@
+use Rattle.std.proofs.Common.{rules, refl}
+use Rattle.std.specs.Mem.{FitsInMemory}
+use denote.Param.{param}
+use Rattle.rcu_holdings.proofs.Sizes.{in_struct}
+use Rattle.rcu_part_group.specs.contracts.group.Group as row
+use Rattle.rcu_board.specs.Seats.{view}
+use Rattle.rcu_part_group.specs.GroupLaw.{folks_in}
+use Rattle.rcu_part_group.proofs.GroupTurns.{gives_same, lawful_gives}
+use Rattle.rcu_part_group.proofs.group.Group.give.Goals as goal
+
+pub invariant_of-state : goal.invariant_of-state
+invariant_of-state g c = let s = c.args.self.now.state in record {
+  here = s.here;
+  role = s.role;
+  lawful = lawful_gives (view s.seat) s.blimit c.give.result (folks_in s.members) (folks_in c.give.new.self) c.give.ensures s.lawful;
+}
+
+pub returns-clause-same : goal.returns-clause-same
+returns-clause-same g c = let s = c.args.self.now.state in record {
+  part = record { board = refl; seat = record { role = refl; table = refl; weight = refl } };
+  group = refl;
+  blimit = refl;
+  members = gives_same s.blimit c.give.result (folks_in s.members) (folks_in c.give.new.self) c.give.ensures;
+}
+
+pub give-requires : goal.give-requires
+give-requires g c = let h : FitsInMemory (row.the_row (param 0 g.row.J) (param 1 g.row.J-Receipt)) = search rules in
+    (in_struct _ _ _ (in_struct _ _ _ h), c.args.self.now.state.lawful.members_are.few)

@@ -1,0 +1,23 @@
+use Rattle.std.proofs.Common.{rules}
+use Rattle.std.specs.Mem.{FitsInMemory}
+use denote.Param.{param}
+use Rattle.rcu_holdings.proofs.Sizes.{in_struct}
+use Rattle.rcu_part_group.specs.contracts.group.Group as row
+use Rattle.rcu_part_group.specs.Groups.{members_of}
+use Rattle.rcu_part_group.proofs.GroupTurns.{same_group_again, takes_places, looks_places, gives_places, places_again}
+use Rattle.rcu_part_group.proofs.group.Group.turn.Goals as goal
+
+pub returns-clause-same : goal.returns-clause-same
+returns-clause-same g c = let p = c.args.self.now.state in let q = c.take_in-took.new.self.state in let r = c.look.new.self.state in let s = c.give-gave.new.self.state in
+    same_group_again p r s (same_group_again p q r c.take_in-took.ensures.same c.look.ensures.same) c.give-gave.ensures.same
+
+pub returns-clause-places : goal.returns-clause-places
+returns-clause-places g c = let p = c.args.self.now.state in let q = c.take_in-took.new.self.state in let r = c.look.new.self.state in let s = c.give-gave.new.self.state in
+    let a = c.take_in-took.ensures.takes in let b = c.look.ensures.looks in let d = c.give-gave.ensures.gives in
+    places_again (members_of p) (members_of r) (members_of s)
+    (places_again (members_of p) (members_of q) (members_of r) (takes_places c.take_in-took.result (members_of p) (members_of q) a.members) (looks_places b.word.seq b.most (members_of q) (members_of r) b.members))
+    (gives_places r.blimit c.give-gave.result (members_of r) (members_of s) d.members)
+
+pub waiting-held-requires : goal.waiting-held-requires
+waiting-held-requires g c = let h : FitsInMemory (row.the_row (param 0 g.row.J) (param 1 g.row.J-Receipt)) = search rules in
+    (in_struct _ _ _ (in_struct _ _ _ h), c.give-gave.new.self.state.lawful.members_are.few)

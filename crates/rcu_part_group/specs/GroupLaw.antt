@@ -1,0 +1,48 @@
+-- What a group's part keeps between its calls: docs/specification/rules.md, "Groups", and definitions.md, "The running
+-- parts: views".
+use Rattle.std.specs.Prelude.{ℕ, ◌≤◌, ◌<◌, List, ◌∷◌, map, length, All}
+use Rattle.std.specs.List.{AllPairs}
+use Rattle.rcu_board.specs.Views.{seen_at, sight}
+use Rattle.rcu_board.specs.Words.{needed_word}
+use Rattle.rcu_board.specs.declared.view.View.{View}
+use Rattle.rcu_control.specs.Views.{IsBare}
+use Rattle.rcu_holdings.specs.Aims.{AreUpTo}
+use Rattle.rcu_holdings.specs.Members.{Relay, relay}
+use Rattle.rcu_numbers.specs.declared.shape.TheConstants.{MOST_PROCESSORS}
+use Rattle.rcu_part_group.specs.declared.folk.Folk.{Folk}
+use Rattle.rcu_part_group.specs.declared.folk.Members.{Members}
+
+module _ {J : Type 0} where
+  -- what a group holds of one member
+  abbrev pub relay_of : Folk J → Relay J
+  relay_of m = relay m.member
+
+  -- all members, in order
+  abbrev pub folks_in : Members J → List (Folk J)
+  folks_in ms = ms.first ∷ ms.others.items
+
+  -- the processors of the members
+  abbrev pub cpus_of : List (Folk J) → List ℕ
+  cpus_of members = map (λ m. m.cpu) members
+
+  -- no list was advanced by a number above s
+  abbrev pub AreAdvancedTo : ℕ → List (Folk J) → Type 0
+  AreAdvancedTo s members = All (λ m. (relay_of m).advanced ≤ s) members
+
+  -- no number that is waited for in a list is above s
+  abbrev pub AreWaitingTo : ℕ → List (Folk J) → Type 0
+  AreWaitingTo s members = All (λ m. AreUpTo s (relay_of m).list) members
+
+  -- The members of a group: in rising order of processors, no more than there can be.
+  pub record AreMembers (members : List (Folk J)) : Type 0 where
+    pub few : length members ≤ MOST_PROCESSORS
+    pub rising : AllPairs (λ p q. p < q) (cpus_of members)
+
+  -- The view of a group, and its members.
+  pub record IsLawfulGroup (v : View) (members : List (Folk J)) : Type 0 where
+    -- it accepts nothing and claims nothing
+    pub bare : IsBare v
+    pub members_are : AreMembers members
+    -- each list was advanced by what a look showed, and each number that is waited for was asked for
+    pub looked : AreAdvancedTo (sight v) members
+    pub needed : AreWaitingTo (seen_at v needed_word) members

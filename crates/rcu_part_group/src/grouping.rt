@@ -1,0 +1,206 @@
+//! The turn of a group.
+
+ghost use Rattle.std.specs.Prelude.{◌≡◌, ◌+◌, ◌≤◌, [], ◌∷◌, IfSome, length, sum_by};
+ghost use Rattle.std.specs.List.{AllZip};
+ghost use Rattle.rcu_board.specs.Roles.{MayNeed};
+ghost use Rattle.rcu_board.specs.Seats.{view, AtBoard, SameSeat, NeverFalls};
+ghost use Rattle.rcu_board.specs.Views.{seen_at, sight, tally};
+ghost use Rattle.rcu_board.specs.Words.{board_word, needed_word};
+ghost use Rattle.rcu_control.specs.Views.{KeepsLists};
+ghost use Rattle.rcu_numbers.specs.declared.sequence.TheConstants.{GREATEST_NUMBER};
+ghost use Rattle.rcu_numbers.specs.declared.shape.TheConstants.{MOST_CALLBACKS, MOST_PROCESSORS};
+ghost use Rattle.rcu_part_group.specs.Each.{IsGreatest, Sums};
+ghost use Rattle.rcu_part_group.specs.GroupLaw.{AreAdvancedTo, AreWaitingTo, folks_in, relay_of};
+ghost use Rattle.rcu_part_group.specs.Groups.{AsksFor, GivesTo, GivesToAll, LooksAt, LooksAtAll, LooksOnce, PassesOn, SameGroup, ShownFor, TakesFrom, TakesInAll, TurnsGroup, group_view, members_of, waiting_of};
+
+use crate::folk::{Folk, Members};
+use crate::group::Group;
+use rcu_board::{Board, Seat, need};
+use rcu_jobs::{GroupTurn, Job, Lists};
+use rcu_part_steps::watch;
+
+impl<J: Drop> Folk<J> {
+    // Draws what came of the member. Answers how many callbacks.
+    fn take_in(&mut self) -> u64
+        ensures takes { TakesFrom result self.old self.new }
+        ensures few { result ≤ MOST_CALLBACKS }
+    {
+        self.member.take_in()
+    }
+
+    // Looks at the member's list by the number seen. Answers the number that it wants.
+    fn look(&mut self, seen: u64) -> Option<u64>
+        requires later { (relay_of self.old).advanced ≤ seen }
+        requires small { seen ≤ GREATEST_NUMBER }
+        ensures { LooksAt seen result self.old self.new }
+    {
+        self.member.look(seen)
+    }
+
+    // Gives what is done to the member's hand. Answers how many callbacks.
+    fn give(&mut self, blimit: u64) -> u64
+        ensures gives { GivesTo blimit result self.old self.new }
+        ensures few { result ≤ MOST_CALLBACKS }
+    {
+        self.member.give(blimit)
+    }
+
+    // How many callbacks of the member wait in batches.
+    fn waiting(&self) -> u64
+        ensures waits { result ≡ waiting_of self.now }
+        ensures few { result ≤ MOST_CALLBACKS }
+    {
+        self.member.held()
+    }
+}
+
+// The greater of two numbers, or the one that is there.
+fn greatest(first: Option<u64>, second: Option<u64>) -> Option<u64>
+    ensures { IsGreatest result (first ∷ second ∷ []) }
+{
+    match (first, second) {
+        (Some(x), Some(y)) => Some(if x < y { y } else { x }),
+        (Some(x), None) => Some(x),
+        (None, y) => y,
+    }
+}
+
+impl<J: Drop> Members<J> {
+    // Draws what came of all members. Answers how many callbacks.
+    fn take_in(&mut self) -> u64
+        requires { length (folks_in self.old) ≤ MOST_PROCESSORS }
+        ensures { Sums TakesFrom result (folks_in self.old) (folks_in self.new) }
+    {
+        let first = self.first.take_in();
+        let mut took = 0;
+        for folk in self.others.iter_mut() {
+            took += folk.take_in();
+        }
+        first + took
+    }
+
+    // Looks at the lists of all members by the number seen. Answers the greatest number that one of them wants.
+    fn look(&mut self, seen: u64) -> Option<u64>
+        requires later { AreAdvancedTo seen (folks_in self.old) }
+        requires small { seen ≤ GREATEST_NUMBER }
+        ensures { LooksAtAll seen result (folks_in self.old) (folks_in self.new) }
+    {
+        let first = self.first.look(seen);
+        let mut most = first;
+        for folk in self.others.iter_mut() {
+            let wanted = folk.look(seen);
+            most = greatest(most, wanted);
+        }
+        most
+    }
+
+    // Gives what is done to the hands of all members. Answers how many callbacks.
+    fn give(&mut self, blimit: u64) -> u64
+        requires { length (folks_in self.old) ≤ MOST_PROCESSORS }
+        ensures { Sums (GivesTo blimit) result (folks_in self.old) (folks_in self.new) }
+    {
+        let first = self.first.give(blimit);
+        let mut gave = 0;
+        for folk in self.others.iter_mut() {
+            gave += folk.give(blimit);
+        }
+        first + gave
+    }
+
+    // How many callbacks of all members wait in batches.
+    fn waiting(&self) -> u64
+        requires { length (folks_in self.now) ≤ MOST_PROCESSORS }
+        ensures { result ≡ sum_by waiting_of (folks_in self.now) }
+    {
+        let first = self.first.waiting();
+        let mut waiting = 0;
+        for folk in &self.others {
+            waiting += folk.waiting();
+        }
+        first + waiting
+    }
+
+    /// What is shown of the list for processor `p`; None where that isn't a member.
+    pub(crate) fn lists(&self, p: u64) -> Option<Lists>
+        ensures { ShownFor p result (folks_in self.now) }
+    {
+        if self.first.cpu == p {
+            return Some(self.first.member.lists());
+        }
+        for folk in &self.others {
+            if folk.cpu == p {
+                return Some(folk.member.lists());
+            }
+        }
+        None
+    }
+}
+
+// Asks for the number `most`, if it is there.
+fn want(board: &Board, seat: &mut Seat, most: Option<u64>)
+    requires board { AtBoard board.now seat.old }
+    requires who { MayNeed seat.old.role }
+    ensures same { SameSeat seat.old seat.new }
+    ensures asks { AsksFor most (view seat.old) (view seat.new) }
+    ensures lists { KeepsLists (view seat.old) (view seat.new) }
+    ensures later { NeverFalls board.now.processors (view seat.old) (view seat.new) }
+    ensures sight { sight (view seat.new) ≡ sight (view seat.old) }
+    ensures fresh { tally (view seat.new) board_word ≡ tally (view seat.old) board_word }
+    ensures needed { IfSome most (λ n. n ≤ seen_at (view seat.new) needed_word) }
+{
+    if let Some(seq) = most {
+        need(board, seat, seq);
+    }
+}
+
+impl<J: Job> Group<J> {
+    // The draws of a turn. Answers how many callbacks were drawn.
+    fn take_in(&mut self) -> u64
+        ensures same { SameGroup self.old.state self.new.state }
+        ensures takes { TakesInAll result self.old.state self.new.state }
+    {
+        self.state.members.take_in()
+    }
+
+    // The look of a turn, and its ask.
+    fn look(&mut self)
+        ensures same { SameGroup self.old.state self.new.state }
+        ensures looks { LooksOnce self.old.state self.new.state }
+        ensures fresh { tally (group_view self.new.state) board_word ≡ tally (group_view self.old.state) board_word + 1 }
+    {
+        let state = &mut self.state;
+        let seen = watch(&state.board, &mut state.seat).seq();
+        let most = state.members.look(seen);
+        want(&state.board, &mut state.seat, most);
+    }
+
+    // What a turn gives. Answers how many callbacks were put on done lanes.
+    fn give(&mut self) -> u64
+        ensures same { SameGroup self.old.state self.new.state }
+        ensures gives { GivesToAll result self.old.state self.new.state }
+    {
+        let state = &mut self.state;
+        state.members.give(state.blimit)
+    }
+
+    /// A turn: for each member batches are drawn, each joined to the end of its list; then one look, by which each list
+    /// is advanced and accelerated, and one ask for the greatest number that is wanted; then for each member up to
+    /// `blimit` done callbacks go to its hand as one batch. What is refused waits for the next turn.
+    pub fn turn(&mut self) -> GroupTurn
+        ensures same { SameGroup self.old.state self.new.state }
+        ensures turn { TurnsGroup result self.old.state self.new.state }
+
+        // What each member held, and then what was drawn of it, is what was given and then what it holds.
+        ensures places { AllZip PassesOn (members_of self.old.state) (members_of self.new.state) }
+
+        // Each number that is waited for was asked for.
+        ensures needed { AreWaitingTo (seen_at (group_view self.new.state) needed_word) (members_of self.new.state) }
+        ensures fresh { tally (group_view self.new.state) board_word ≡ tally (group_view self.old.state) board_word + 1 }
+    {
+        let took = self.take_in();
+        self.look();
+        let gave = self.give();
+        let held = self.state.members.waiting();
+        GroupTurn { took, gave, held }
+    }
+}

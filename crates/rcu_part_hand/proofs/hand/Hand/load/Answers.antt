@@ -1,0 +1,41 @@
+use Rattle.std.proofs.Common.{◌≡◌, ◌∙◌, sym, refl}
+use Rattle.rcu_holdings.specs.Helds.{drawn_by, held_by}
+use Rattle.rcu_holdings.specs.declared.hand.Fetched.TheVariants.{Got, Empty, Again}
+use Rattle.rcu_part_hand.proofs.HandRuns.{fetched, hand_sound_drawn}
+use Rattle.rcu_part_hand.proofs.hand.Hand.load.Goals as goal
+
+pub returns-in-Got-clause-loads : goal.returns-in-Got-clause-loads
+returns-in-Got-clause-loads g c = let s = c.args.self.now.state in let e = c.fetch.ensures in
+    let f = fetched (c.fetch.result ≡ Got) (held_by s.held) (held_by c.fetch.new.self) (drawn_by s.held) (drawn_by c.fetch.new.self) e.held e.drawn in
+    record { batch = f.0; drawn = f.1; held = f.2; only = f.3; view = refl; records = refl }
+
+pub returns-in-Got-clause-sound : goal.returns-in-Got-clause-sound
+returns-in-Got-clause-sound g c = let s = c.args.self.now.state in let e = c.fetch.ensures in
+    let f = fetched (c.fetch.result ≡ Got) (held_by s.held) (held_by c.fetch.new.self) (drawn_by s.held) (drawn_by c.fetch.new.self) e.held e.drawn in
+    hand_sound_drawn g.J.Job.key_of g.J.Job.gives (drawn_by s.held) (drawn_by c.fetch.new.self) f.0 s.ran.items f.1
+
+pub returns-in-Empty-clause-loads : goal.returns-in-Empty-clause-loads
+returns-in-Empty-clause-loads g c = let s = c.args.self.now.state in let e = c.fetch.ensures in
+    let f = fetched (c.fetch.result ≡ Got) (held_by s.held) (held_by c.fetch.new.self) (drawn_by s.held) (drawn_by c.fetch.new.self) e.held e.drawn in
+    record { batch = f.0; drawn = f.1; held = f.2; only = f.3; view = refl; records = refl }
+
+pub returns-in-Empty-clause-sound : goal.returns-in-Empty-clause-sound
+returns-in-Empty-clause-sound g c = let s = c.args.self.now.state in let e = c.fetch.ensures in
+    let f = fetched (c.fetch.result ≡ Got) (held_by s.held) (held_by c.fetch.new.self) (drawn_by s.held) (drawn_by c.fetch.new.self) e.held e.drawn in
+    hand_sound_drawn g.J.Job.key_of g.J.Job.gives (drawn_by s.held) (drawn_by c.fetch.new.self) f.0 s.ran.items f.1
+
+pub returns-in-Empty-clause-none : goal.returns-in-Empty-clause-none
+returns-in-Empty-clause-none g c n seen = ((c.fetch.ensures.none (λ e. (let f : Empty ≡ Got = sym c.in-Empty.is ∙ e in cc))).1, refl)
+
+pub returns-in-Again-clause-loads : goal.returns-in-Again-clause-loads
+returns-in-Again-clause-loads g c = let s = c.args.self.now.state in let e = c.fetch.ensures in
+    let f = fetched (c.fetch.result ≡ Got) (held_by s.held) (held_by c.fetch.new.self) (drawn_by s.held) (drawn_by c.fetch.new.self) e.held e.drawn in
+    record { batch = f.0; drawn = f.1; held = f.2; only = f.3; view = refl; records = refl }
+
+pub returns-in-Again-clause-sound : goal.returns-in-Again-clause-sound
+returns-in-Again-clause-sound g c = let s = c.args.self.now.state in let e = c.fetch.ensures in
+    let f = fetched (c.fetch.result ≡ Got) (held_by s.held) (held_by c.fetch.new.self) (drawn_by s.held) (drawn_by c.fetch.new.self) e.held e.drawn in
+    hand_sound_drawn g.J.Job.key_of g.J.Job.gives (drawn_by s.held) (drawn_by c.fetch.new.self) f.0 s.ran.items f.1
+
+pub returns-in-Again-clause-none : goal.returns-in-Again-clause-none
+returns-in-Again-clause-none g c n seen = ((c.fetch.ensures.none (λ e. (let f : Again ≡ Got = sym c.in-Again.is ∙ e in cc))).1, refl)

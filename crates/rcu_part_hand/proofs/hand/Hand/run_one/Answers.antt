@@ -1,0 +1,79 @@
+use Rattle.std.proofs.Common.{◌≡◌, ℕ, ◌≤◌, List, [], ◌∷◌, ◌++◌, inl, inr, ◌∙◌, ap, sym, subst, refl, arith}
+use Rattle.rcu_board.specs.Roles.{cpu_of_role}
+use Rattle.rcu_board.specs.Seats.{view}
+use Rattle.rcu_board.specs.Views.{sight}
+use Rattle.rcu_board.specs.declared.view.Claim.{Claim}
+use Rattle.rcu_holdings.specs.Helds.{drawn_by, held_by, taken_by}
+use Rattle.rcu_holdings.specs.Lanes.{drawn_calls}
+use Rattle.rcu_jobs.specs.declared.callback.Callback.{Callback}
+use Rattle.rcu_numbers.specs.Numbers.{snap_of}
+use Rattle.rcu_board.specs.Words.{turns_word}
+use Rattle.rcu_part_steps.specs.Changes.{Claims, StepsOnly}
+use Rattle.rcu_part_steps.proofs.Turning.{steps_more, steps_none}
+use Rattle.rcu_part_hand.proofs.HandRuns.{hand_kept, hand_ran, hand_sound_kept, hand_sound_ran, ran_none, ran_one, same_first, not_none}
+use Rattle.rcu_part_hand.proofs.hand.Hand.run_one.Goals as goal
+
+pub returns-in_default-clause-not : goal.returns-in_default-clause-not
+returns-in_default-clause-not g c = (0, ran_none 0 c.args.seen c.args.self.now.state _ refl refl refl c.requires.seen (steps_none _ _ _ refl), λ n. (c.in_default.ensures.first, omega arith))
+
+pub returns-then-snap-seen-clause-not : goal.returns-then-snap-seen-clause-not
+returns-then-snap-seen-clause-not g c = let f = c.in-Some.ensures.first in
+    (0, ran_none 0 c.args.seen c.args.self.now.state _ refl refl refl c.requires.seen (steps_none _ _ _ refl), λ n. (c.in-Some.first.now, f.0, f.1, inl (omega (arith, c.if-snap-seen.true, c.snap.ensures.value), omega arith)))
+
+pub returns-in_default-reserve-clause-not : goal.returns-in_default-reserve-clause-not
+returns-in_default-reserve-clause-not g c = let f = c.in-Some.ensures.first in
+    (0, ran_none 0 c.args.seen c.args.self.now.state _ refl refl c.reserve.ensures.items c.requires.seen (steps_none _ _ _ refl), λ n. (not_none c.in-Some.first.now f.0 (held_by c.args.self.now.state.held) f.1, omega arith))
+
+pub returns-in_default-reserve-clause-sound : goal.returns-in_default-reserve-clause-sound
+returns-in_default-reserve-clause-sound g c = hand_sound_kept g.J.Job.key_of g.J.Job.gives (drawn_by c.args.self.now.state.held) (drawn_by c.args.self.now.state.held) c.args.self.now.state.ran.items c.reserve.new.self.items refl c.reserve.ensures.items
+
+pub invariant_of-state-then-not-take : goal.invariant_of-state-then-not-take
+invariant_of-state-then-not-take g c = let s = c.args.self.now.state in let e = c.if-not-take.ensures in record {
+  here = e.same.table ∙ s.here;
+  role = e.same.role ∙ s.role;
+  lawful = hand_kept s.cpu (view s.seat) _ s.ran.items _ (taken_by s.held) (e.lost refl).0 c.reserve.ensures.items s.lawful;
+}
+
+pub returns-then-not-take-clause-not : goal.returns-then-not-take-clause-not
+returns-then-not-take-clause-not g c = let f = c.in-Some.ensures.first in let l = c.if-not-take.ensures.lost refl in
+    (1, ran_none 1 c.args.seen c.args.self.now.state _ refl refl c.reserve.ensures.items (l.1 ∙ c.requires.seen) c.if-not-take.ensures.only, λ n. (c.in-Some.first.now, f.0, f.1, inr (l.2, refl)))
+
+pub returns-then-not-take-clause-sound : goal.returns-then-not-take-clause-sound
+returns-then-not-take-clause-sound g c = hand_sound_kept g.J.Job.key_of g.J.Job.gives (drawn_by c.args.self.now.state.held) (drawn_by c.args.self.now.state.held) c.args.self.now.state.ran.items c.reserve.new.self.items refl c.reserve.ensures.items
+
+pub run_claimed-record-requires-clause-runs : goal.run_claimed-record-requires-clause-runs
+run_claimed-record-requires-clause-runs g c κs within =
+    let s = c.args.self.now.state in let e = c.if-not-take.ensures in let w = e.won refl in
+    let first = same_first c.in-Some.first.now c.in-Some-take.callback c.in-Some.ensures.first.0 (held_by c.take-2.new.self) (sym c.in-Some.ensures.first.1 ∙ c.in-Some-take.ensures.first) in
+    let at : ℕ → ℕ → ℕ → List Claim = λ p k x. record { cpu = p; number = k; sight = x } ∷ [] in
+    w.running ∙ (ap (λ (x : ℕ). at s.cpu c.in-Some.first.now.number x) (sym w.sights) ∙ (ap (λ (x : Callback g.row.J.Denot). at s.cpu x.number (sight (view c.take.new.seat))) first
+    ∙ ap (λ (p : ℕ). at p c.in-Some-take.callback.number (sight (view c.take.new.seat))) (sym (ap cpu_of_role (e.same.role ∙ s.role)))))
+
+pub push_reserved-requires : goal.push_reserved-requires
+push_reserved-requires g c = omega (arith, c.in-Ok.ensures.ok, c.reserve.ensures.len)
+
+pub invariant_of-state-2 : goal.invariant_of-state-2
+invariant_of-state-2 g c =
+    let s = c.args.self.now.state in let e = c.if-not-take.ensures in let w = e.won refl in let r = c.run_claimed-record.ensures in
+    let first = same_first c.in-Some.first.now c.in-Some-take.callback c.in-Some.ensures.first.0 (held_by c.take-2.new.self) (sym c.in-Some.ensures.first.1 ∙ c.in-Some-take.ensures.first) in
+    let won : Claims s.cpu c.in-Some-take.callback.number (view s.seat) (view c.take.new.seat) = subst (λ (x : Callback g.row.J.Denot). Claims s.cpu x.number (view s.seat) (view c.take.new.seat)) first w in
+    let over : snap_of c.in-Some-take.callback.stamp ≤ c.args.seen = omega (arith, c.if-snap-seen.false, c.snap.ensures.value, ap (λ (x : Callback g.row.J.Denot). snap_of x.stamp) first) in record {
+      here = r.same.table ∙ (e.same.table ∙ s.here);
+      role = r.same.role ∙ (e.same.role ∙ s.role);
+      lawful = hand_ran s.cpu c.args.seen (view s.seat) (view c.take.new.seat) (view c.run_claimed-record.new.seat) s.ran.items c.push_reserved.new.self.items (taken_by s.held) (taken_by c.take-2.new.self)
+          c.in-Some-take.callback c.run_claimed-record.result won r.ends c.requires.seen (c.push_reserved.ensures.items ∙ ap (λ rs. rs ++ c.run_claimed-record.result ∷ []) c.reserve.ensures.items) c.in-Some-take.ensures.taken r.record r.ready over s.lawful;
+    }
+
+pub returns-clause-ran : goal.returns-clause-ran
+returns-clause-ran g c = let s = c.args.self.now.state in let e = c.if-not-take.ensures in let w = e.won refl in let r = c.run_claimed-record.ensures in
+    let drawn : drawn_by c.take-2.new.self ≡ drawn_by s.held = ap (λ f. drawn_calls f) c.in-Some-take.ensures.front in
+    ran_one c.args.seen s _ c.in-Some-take.callback c.run_claimed-record.result c.in-Some-take.ensures.first drawn (c.push_reserved.ensures.items ∙ ap (λ rs. rs ++ c.run_claimed-record.result ∷ []) c.reserve.ensures.items) r.record r.ready
+    (r.ends.sights ∙ (w.sights ∙ c.requires.seen))
+    (steps_more (turns_word s.cpu) 1 1 (view s.seat) (view c.take.new.seat) (view c.run_claimed-record.new.seat) e.only
+    (subst (λ (p : ℕ). StepsOnly (turns_word p) 1 (view c.take.new.seat) (view c.run_claimed-record.new.seat)) (ap cpu_of_role (e.same.role ∙ s.role)) r.only))
+
+pub returns-clause-sound : goal.returns-clause-sound
+returns-clause-sound g c = let s = c.args.self.now.state in
+    let drawn : drawn_by c.take-2.new.self ≡ drawn_by s.held = ap (λ f. drawn_calls f) c.in-Some-take.ensures.front in
+    hand_sound_ran g.J.Job.key_of g.J.Job.gives (drawn_by s.held) (drawn_by c.take-2.new.self) (taken_by s.held) (held_by c.take-2.new.self) c.in-Some-take.callback s.ran.items c.push_reserved.new.self.items c.run_claimed-record.result
+    (s.held.order ∙ ap (λ l. taken_by s.held ++ l) c.in-Some-take.ensures.first) drawn (c.push_reserved.ensures.items ∙ ap (λ rs. rs ++ c.run_claimed-record.result ∷ []) c.reserve.ensures.items) c.run_claimed-record.ensures.given

@@ -1,0 +1,33 @@
+use Rattle.std.proofs.Common.{◌∙◌, ap, refl, arith}
+use Rattle.rcu_board.specs.Words.{board_word}
+use Rattle.rcu_board.specs.Views.{sight}
+use Rattle.rcu_board.specs.declared.view.View.{View}
+use Rattle.rcu_part_hand.proofs.HandRuns.{looked_once, ran_none}
+use Rattle.rcu_part_steps.proofs.Turning.{steps_none}
+use Rattle.rcu_part_hand.proofs.hand.Hand.turn.Goals as goal
+
+pub returns-in-Some-clause-turn : goal.returns-in-Some-clause-turn
+returns-in-Some-clause-turn g c = let a = c.look-seen.ensures in let b = c.load.ensures in let q = c.load.new.self.state in record {
+  seen = c.look-seen.result;
+  tried = 0;
+  first = c.look-seen.new.self.state;
+  second = q;
+  looks = a.looks;
+  loads = b.loads;
+  ran = ran_none 0 c.look-seen.result q q refl refl refl (ap (λ (v : View). sight v) b.loads.view ∙ a.looks.sight) (steps_none _ _ _ refl);
+  stop = c.in-Some.ensures.none 0 c.look-seen.result;
+}
+
+pub returns-in-Some-clause-sound : goal.returns-in-Some-clause-sound
+returns-in-Some-clause-sound g c = λ sound. c.load.ensures.sound (c.look-seen.ensures.sound sound)
+
+pub returns-clause-sound : goal.returns-clause-sound
+returns-clause-sound g c = λ sound. c.run_held.ensures.sound (c.load.ensures.sound (c.look-seen.ensures.sound sound))
+
+pub returns-in-Some-clause-fresh : goal.returns-in-Some-clause-fresh
+returns-in-Some-clause-fresh g c = let a = c.look-seen.ensures.looks in let b = c.load.ensures.loads in
+    looked_once c.args.self.now.state c.look-seen.new.self.state c.load.new.self.state c.look-seen.result a b
+
+pub returns-clause-fresh : goal.returns-clause-fresh
+returns-clause-fresh g c = let a = c.look-seen.ensures.looks in let b = c.load.ensures.loads in let r = c.run_held.ensures.ran in
+    (r.1.steps.others board_word (λ e. absurd (omega (arith, e)))).steps ∙ looked_once c.args.self.now.state c.look-seen.new.self.state c.load.new.self.state c.look-seen.result a b

@@ -1,0 +1,123 @@
+-- What contracts see of a hand's part, and what its turn does: docs/specification/rules.md, "The calls, step by step", `Hand::turn`.
+use Rattle.std.specs.Prelude.{◌≡◌, ◌≢◌, ℕ, ◌+◌, ◌*◌, ◌<◌, List, [], ◌∷◌, ◌++◌, length, All}
+use Rattle.std.proofs.Common.{◌⊎◌}
+use Rattle.std.specs.Arc.{arc_value}
+use Rattle.rcu_board.specs.Seats.{view}
+use Rattle.rcu_board.specs.Views.{seen_at, sight}
+use Rattle.rcu_board.specs.Plays.{looked}
+use Rattle.rcu_board.specs.Words.{bits_of, turns_word}
+use Rattle.rcu_board.specs.declared.board.Board.{Board as Table}
+use Rattle.rcu_board.specs.declared.board.Seat.{Seat}
+use Rattle.rcu_holdings.specs.declared.hand.Held.{Held}
+use Rattle.rcu_numbers.specs.Words.{Board}
+use Rattle.rcu_numbers.specs.declared.shape.Shape.{Shape}
+use Rattle.rcu_board.specs.declared.view.View.{View}
+use Rattle.rcu_control.specs.Views.{SamePart}
+use Rattle.rcu_holdings.specs.Helds.{front_of, drawn_by, held_by}
+use Rattle.rcu_jobs.specs.Records.{Given}
+use Rattle.rcu_jobs.specs.declared.HandTurn.{HandTurn}
+use Rattle.rcu_jobs.specs.declared.Stop.{Stop}
+use Rattle.rcu_jobs.specs.declared.Stop.TheVariants.{Limit, Again, Empty, Turn, Memory}
+use Rattle.rcu_jobs.specs.declared.callback.Callback.{Callback}
+use Rattle.rcu_jobs.specs.declared.callback.Record.{Record}
+use Rattle.rcu_lanes.specs.Ends.{SameFront}
+use Rattle.rcu_numbers.specs.Numbers.{snap_of}
+use Rattle.rcu_records.specs.Records.{numbered_records}
+use Rattle.rcu_part_steps.specs.Changes.{StepsOnly}
+use Rattle.rcu_part_steps.specs.Places.{AreKeyed, numbered_callbacks}
+use Rattle.rcu_part_hand.specs.declared.hand.HandState.{HandState}
+
+module _ {J R : Type 0} where
+  abbrev pub hand_board : HandState J R → Table
+  hand_board h = arc_value h.board
+
+  abbrev pub hand_view : HandState J R → View
+  hand_view h = view h.seat
+
+  abbrev pub hand_records : HandState J R → List (Record R)
+  hand_records h = h.ran.items
+
+  -- all that it drew, and of that what it holds
+  abbrev pub hand_drawn : HandState J R → List (Callback J)
+  hand_drawn h = drawn_by h.held
+
+  abbrev pub hand_held : HandState J R → List (Callback J)
+  hand_held h = held_by h.held
+
+  -- the same part of the same open: its seat, its lane, its number and its limit
+  pub record SameHand (p q : HandState J R) : Type 0 where
+    pub part : SamePart (hand_board p) (hand_board q) p.seat q.seat
+    pub lane : SameFront (front_of p.held) (front_of q.held)
+    pub cpu : q.cpu ≡ p.cpu
+    pub blimit : q.blimit ≡ p.blimit
+
+  -- What a hand knows of jobs: where each callback that it drew has its job's key, each receipt is as the relation wants it.
+  abbrev pub IsSoundHand : (J → ℕ) → (ℕ → R → Type 0) → HandState J R → Type 0
+  IsSoundHand key_of gives h = AreKeyed key_of (hand_drawn h) → Given gives (hand_records h)
+
+  -- The first n of what it held were run, each under a claim that was won at the board sight `seen`, and left a record
+  -- each; so many claims were tried.
+  pub record Ran (n tried seen : ℕ) (p q : HandState J R) : Type 0 where
+    pub calls : List (Callback J)
+    pub records : List (Record R)
+    pub many : length records ≡ n
+    pub held : hand_held p ≡ calls ++ hand_held q
+    pub drawn : hand_drawn q ≡ hand_drawn p
+    pub more : hand_records q ≡ hand_records p ++ records
+    pub same : numbered_callbacks calls ≡ numbered_records records
+    pub ready : All (λ r. r.ready ≡ seen) records
+    pub sight : sight (hand_view q) ≡ seen
+    pub steps : StepsOnly (turns_word p.cpu) (tried + n) (hand_view p) (hand_view q)
+
+  -- why the first of what it holds doesn't run: its wait isn't over at the number seen, or its claim was lost, as its turn
+  -- word is another
+  abbrev pub IsNotItsTurn : ℕ → ℕ → ℕ → HandState J R → Type 0
+  IsNotItsTurn ran tried seen h = (c : Callback J) × (rest : List (Callback J)) × (hand_held h ≡ c ∷ rest)
+      × (((seen < snap_of c.stamp) × (tried ≡ ran)) ⊎ ((seen_at (hand_view h) (turns_word h.cpu) ≢ 2 * c.number) × (tried ≡ ran + 1)))
+
+  -- why no more were run, once `ran` were and so many claims were tried
+  abbrev pub StopsAt : Stop → ℕ → ℕ → ℕ → HandState J R → Type 0
+  StopsAt Limit ran tried seen h = (ran ≡ h.blimit) × (tried ≡ ran)
+  StopsAt Again ran tried seen h = (hand_held h ≡ []) × (tried ≡ ran)
+  StopsAt Empty ran tried seen h = (hand_held h ≡ []) × (tried ≡ ran)
+  StopsAt Turn ran tried seen h = IsNotItsTurn ran tried seen h
+  StopsAt Memory ran tried seen h = (hand_held h ≢ []) × (tried ≡ ran)
+
+  -- one look, which found the number `seen`
+  pub record Looks (seen : ℕ) (p q : HandState J R) : Type 0 where
+    pub word : Board
+    pub number : seen ≡ word.seq
+    pub step : hand_view q ≡ looked (bits_of word) (hand_view p)
+    pub sight : sight (hand_view q) ≡ seen
+    pub held : hand_held q ≡ hand_held p
+    pub drawn : hand_drawn q ≡ hand_drawn p
+    pub records : hand_records q ≡ hand_records p
+
+  -- a batch was drawn where none was held
+  pub record Loads (p q : HandState J R) : Type 0 where
+    pub batch : List (Callback J)
+    pub drawn : hand_drawn q ≡ hand_drawn p ++ batch
+    pub held : hand_held q ≡ hand_held p ++ batch
+    pub only : hand_held p ≢ [] → batch ≡ []
+    pub view : hand_view q ≡ hand_view p
+    pub records : hand_records q ≡ hand_records p
+
+  -- A turn: a look, a draw at most, and then the first ones of what is held run.
+  pub record TurnsBy (answer : HandTurn) (p q : HandState J R) : Type 0 where
+    pub seen : ℕ
+    pub tried : ℕ
+    pub first : HandState J R
+    pub second : HandState J R
+    pub looks : Looks seen p first
+    pub loads : Loads first second
+    pub ran : Ran answer.ran tried seen second q
+    pub stop : StopsAt answer.stop answer.ran tried seen q
+
+  -- the hand of processor cpu of a board, with its seat and what it holds: it ran nothing
+  pub record IsNewHandOf (shape : Shape) (b : Table) (cpu : ℕ) (s : Seat) (held : Held J) (h : HandState J R) : Type 0 where
+    pub board : hand_board h ≡ b
+    pub seat : h.seat ≡ s
+    pub held_is : h.held ≡ held
+    pub cpu_is : h.cpu ≡ cpu
+    pub limit : h.blimit ≡ shape.blimit
+    pub ran : hand_records h ≡ []

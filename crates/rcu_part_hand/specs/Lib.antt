@@ -1,0 +1,2 @@
+pub mod HandLaw
+pub mod Hands

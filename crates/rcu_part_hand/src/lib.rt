@@ -1,0 +1,10 @@
+//! A hand's part: it runs the callbacks that the group gives it, for an offloadable processor, each under a claim of its
+//! number (docs/specification/surface.md, "rcu_parts", and docs/specification/rules.md, "The calls, step by step").
+//! `rcu_parts` hands on `Hand`; what takes a hand apart is for its `close`.
+#![tactic(auto)]
+
+mod hand;
+mod handling;
+mod run;
+
+pub use hand::{Hand, HandState, into_state};

@@ -1,0 +1,49 @@
+-- What the opening of a barrier changes of a processor's view.
+use Rattle.std.proofs.Common.{◌≡◌, ◌≢◌, ℕ, ◌<◌, List, [], append-nil, ap, sym, ◌∙◌, refl, subst, arith}
+use Rattle.std.specs.Prelude.{bit_or}
+use Rattle.rcu_numbers.specs.Words.{all_of, number_of}
+use Rattle.rcu_board.specs.Plays.{urged}
+use Rattle.rcu_board.specs.Seats.{view, accepted_of, first_accepted, first_fresh, fresh_of}
+use Rattle.rcu_board.specs.Views.{seen_at, sight, fresh_count}
+use Rattle.rcu_board.specs.Words.{accepts_word, board_word, needed_word, urge_word}
+use Rattle.rcu_board.specs.declared.board.Role.TheVariants.{Processor}
+use Rattle.rcu_board.specs.declared.board.Seat.{Seat}
+use Rattle.rcu_board.specs.declared.view.View.{View}
+use Rattle.rcu_control.specs.Barriers.{Opens, CountsItsOwn, count_at}
+use Rattle.rcu_control.specs.Views.{IsNoneOf, Untouched}
+use Rattle.rcu_control.specs.declared.barrier.Barrier.{Barrier}
+use Rattle.rcu_control.proofs.Stepping.{untouched, untouched_again}
+use Rattle.rcu_holdings.specs.Aims.{AreUpTo}
+use Rattle.rcu_holdings.specs.Callers.{Holding, put_by}
+use Rattle.rcu_jobs.specs.declared.Counts.{Counts}
+use Rattle.rcu_jobs.specs.declared.callback.Record.{Record}
+use Rattle.rcu_part_steps.specs.Changes.{Tells}
+use Rattle.rcu_part_processor.specs.Lawful.{IsLawful}
+use Rattle.rcu_part_processor.proofs.Moving.{kept_by_moves}
+
+urged_leaves : (i x y j : ℕ) (v w : View) → j ≢ i → w ≡ urged i x y v → Untouched j v w
+urged_leaves i x y j v w ne e = subst (λ (u : View). Untouched j v u) (sym e) (let o = untouched i j x v ne in record { seen = o.seen; steps = o.steps })
+
+-- the board sight and what is needed stay
+opens_leaves : (n : ℕ) (b : Barrier) (v w : View) → Opens n b v w → (j : ℕ) → j ≢ urge_word n → IsNoneOf accepts_word n j → Untouched j v w
+opens_leaves n b v w o j ne none = untouched_again j v o.between w (o.reads.steps.others j none)
+    (urged_leaves (urge_word n) (seen_at w (urge_word n)) (bit_or (seen_at w (urge_word n)) (all_of n)) j o.between w ne o.urges)
+
+opens_tells : (n : ℕ) (b : Barrier) (v w : View) → Opens n b v w → Tells v w
+opens_tells n b v w o = let k = o.reads.steps.lists in record {
+  accepted = ap accepted_of o.urges ∙ ap first_accepted k.own;
+  fresh = ap fresh_of o.urges ∙ ap first_fresh k.own;
+  claims = ap (λ (u : View). u.claims) o.urges ∙ k.claims;
+  running = ap (λ (u : View). u.running) o.urges ∙ k.running;
+}
+
+pub opens_law : {J R : Type 0} → (cpu count n : ℕ) (b : Barrier) (v w : View) (ran : List (Record R)) (h : Holding J) → Opens n b v w → IsLawful cpu count v ran h → IsLawful cpu count w ran h
+opens_law cpu count n b v w ran h o l =
+    let board = opens_leaves n b v w o board_word (λ e. absurd (omega (arith, e))) (λ p low e. absurd (omega (arith, e))) in
+    let needed = opens_leaves n b v w o needed_word (λ e. absurd (omega (arith, e))) (λ p low e. absurd (omega (arith, e))) in
+    let same : sight w ≡ sight v = ap number_of board.seen in
+    kept_by_moves cpu count v w ran h h [] (opens_tells n b v w o) (sym (append-nil (put_by h))) refl (let z = l.looked in omega (arith, same)) (subst (λ (s : ℕ). AreUpTo s h.own) (sym needed.seen) l.needed) l
+
+-- the count of the processor that reads is its own
+pub own_is_exact : {J R : Type 0} → (n cpu count : ℕ) (counts : Counts) (s : Seat) (ran : List (Record R)) (h : Holding J) → CountsItsOwn n counts s → cpu < n → s.role ≡ Processor cpu → IsLawful cpu count (view s) ran h → count_at counts cpu ≡ count
+own_is_exact n cpu count counts s ran h own low is l = own cpu low is ∙ (let long = l.counted in let none = ap fresh_count l.stamped in omega arith)

@@ -1,0 +1,81 @@
+-- How a processor's part keeps its law over steps.
+use Rattle.std.proofs.Common.{◌≡◌, ℕ, ◌+◌, ◌≤◌, List, [], ◌∷◌, ◌++◌, map, length, length-append, ap, sym, ◌∙◌, subst, arith, append_assoc}
+use Rattle.std.proofs.Math.Logic.{∥∥₁_map, ∥∥₁_elim}
+use Rattle.std.proofs.Props.{props}
+use Rattle.std.proofs.lemmas.List.{map-append, length-map, append_cancel_left}
+use Rattle.rcu_board.specs.Seats.{NeverFalls, accepted_of}
+use Rattle.rcu_board.specs.Views.{seen_at}
+use Rattle.rcu_board.specs.Words.{needed_word}
+use Rattle.rcu_board.specs.declared.view.Accepted.{Accepted as Entry}
+use Rattle.rcu_board.specs.declared.view.View.{View}
+use Rattle.rcu_holdings.specs.Aims.{AreUpTo}
+use Rattle.rcu_holdings.specs.Callers.{Holding, held_in, put_by, passed_on}
+use Rattle.rcu_holdings.proofs.Aims.{up-raised}
+use Rattle.rcu_jobs.specs.declared.callback.Callback.{Callback}
+use Rattle.rcu_jobs.specs.declared.callback.Record.{Record}
+use Rattle.rcu_places.specs.Places.{Placed, Numbered, with_number}
+use Rattle.rcu_places.proofs.Moves.{placed_accepts, placed_all, placed_puts}
+use Rattle.rcu_records.specs.Records.{numbered_records}
+use Rattle.rcu_part_steps.specs.Changes.{Keeps, Tells, Enters, entry}
+use Rattle.rcu_part_processor.specs.Lawful.{IsLawful}
+use Rattle.rcu_part_steps.specs.Places.{numbered_callback, numbered_callbacks, accepted_entry, accepted_list}
+
+module _ {J : Type 0} where
+  -- the callbacks that are put and held, once one more was accepted and some were put
+  placed_after : (entries : List Entry) (ran : List Numbered) (put held put' held' batch : List (Callback J)) (c : Callback J)
+      → c.number ≡ length entries → put' ≡ put ++ batch → put' ++ held' ≡ (put ++ held) ++ c ∷ []
+      → Placed (map accepted_entry entries) ran (numbered_callbacks put) (numbered_callbacks held)
+      → Placed (map accepted_entry (entries ++ entry c.key c.stamp ∷ [])) ran (numbered_callbacks put') (numbered_callbacks held')
+  placed_after entries ran put held put' held' batch c number more all p =
+      let k = numbered_callback {J = J} in
+      let x = accepted_entry (entry c.key c.stamp) in
+      let same : with_number (length (map accepted_entry entries)) x ≡ k c = ap (λ (j : ℕ). with_number j x) (length-map entries accepted_entry ∙ sym number) in
+      let first = placed_accepts (map accepted_entry entries) ran (map k put) (map k held) x p in
+      let rest : batch ++ held' ≡ held ++ c ∷ [] = append_cancel_left put (batch ++ held') (held ++ c ∷ [])
+      (sym (append_assoc put batch held') ∙ (ap (λ (l : List (Callback J)). l ++ held') (sym more) ∙ (all ∙ append_assoc put held (c ∷ [])))) in
+      let split : map k held ++ k c ∷ [] ≡ map k batch ++ map k held' = sym (map-append k held (c ∷ [])) ∙ (ap (map k) (sym rest) ∙ map-append k batch held') in
+      let second : Placed (map accepted_entry entries ++ x ∷ []) ran (map k put) (map k batch ++ map k held')
+      = subst (Placed (map accepted_entry entries ++ x ∷ []) ran (map k put)) (ap (λ (y : Numbered). map k held ++ y ∷ []) same ∙ split) first in
+      let third = placed_puts (map accepted_entry entries ++ x ∷ []) ran (map k put) (map k batch) (map k held') second in
+      subst (λ (ps : List Numbered). Placed (map accepted_entry (entries ++ entry c.key c.stamp ∷ [])) ran ps (map k held')) (sym (map-append k put batch) ∙ ap (map k) (sym more))
+      (subst (λ (as' : List _). Placed as' ran (map k put ++ map k batch) (map k held')) (sym (map-append accepted_entry entries (entry c.key c.stamp ∷ []))) third)
+
+module _ {J R : Type 0} where
+  -- steps that change no accepted number and no claim
+  pub kept_by_tells : (cpu n m : ℕ) (v w : View) (ran : List (Record R)) (h : Holding J) → Tells v w → NeverFalls m v w → IsLawful cpu n v ran h → IsLawful cpu n w ran h
+  kept_by_tells cpu n m v w ran h k later l = record {
+    counted = ap length k.accepted ∙ l.counted;
+    stamped = k.fresh ∙ l.stamped;
+    rests = k.running ∙ l.rests;
+    places = subst (λ (as' : List Entry). ∥ Placed (map accepted_entry as') (numbered_records ran) (numbered_callbacks (put_by h)) (numbered_callbacks (held_in h)) ∥₁) (sym k.accepted) l.places;
+    claims = k.claims ∙ l.claims;
+    ripe = l.ripe;
+    looked = let z = l.looked in let y = later.board in omega arith;
+    needed = up-raised (seen_at v needed_word) (seen_at w needed_word) h.own later.needed l.needed;
+  }
+
+  pub kept_by_keeps : (cpu n m : ℕ) (v w : View) (ran : List (Record R)) (h : Holding J) → Keeps v w → NeverFalls m v w → IsLawful cpu n v ran h → IsLawful cpu n w ran h
+  kept_by_keeps cpu n m v w ran h k later l = kept_by_tells cpu n m v w ran h (record { accepted = k.accepted; fresh = k.fresh; claims = k.claims; running = k.running }) later l
+
+  -- one more was accepted, and placed
+  pub kept_by_enters : (cpu n m : ℕ) (v w : View) (ran : List (Record R)) (h h' : Holding J) (batch : List (Callback J)) (c : Callback J)
+      → c.number ≡ n → Enters c.key c.stamp v w → NeverFalls m v w → put_by h' ≡ put_by h ++ batch → passed_on h' ≡ passed_on h ++ c ∷ [] → h'.advanced ≡ h.advanced → ((s : ℕ) → AreUpTo s h.own → AreUpTo s h'.own)
+      → IsLawful cpu n v ran h → IsLawful cpu (n + 1) w ran h'
+  kept_by_enters cpu n m v w ran h h' batch c number e later more all advanced up l = record {
+    counted = ap length e.accepted ∙ (length-append (accepted_of v) (entry c.key c.stamp ∷ []) ∙ ap (λ (j : ℕ). j + 1) l.counted);
+    stamped = e.fresh;
+    rests = e.running ∙ l.rests;
+    places = ∥∥₁_map l.places (λ p.
+        subst (λ (as' : List Entry). Placed (map accepted_entry as') (numbered_records ran) (numbered_callbacks (put_by h')) (numbered_callbacks (held_in h'))) (sym e.accepted)
+        (placed_after (accepted_of v) (numbered_records ran) (put_by h) (held_in h) (put_by h') (held_in h') batch c (number ∙ sym l.counted) more all p));
+    claims = e.claims ∙ l.claims;
+    ripe = l.ripe;
+    looked = let z = l.looked in let y = later.board in omega (arith, advanced);
+    needed = up (seen_at w needed_word) (up-raised (seen_at v needed_word) (seen_at w needed_word) h.own later.needed l.needed);
+  }
+
+  -- no more was put and is held than was accepted
+  pub few_passed : (cpu n : ℕ) (v : View) (ran : List (Record R)) (h : Holding J) → IsLawful cpu n v ran h → length (passed_on h) ≤ n
+  few_passed cpu n v ran h l = ∥∥₁_elim l.places (hlevel props) (λ p.
+      let all = placed_all (accepted_list v) (numbered_records ran) (numbered_callbacks (put_by h)) (numbered_callbacks (held_in h)) p in
+      omega (arith, all, length-append (put_by h) (held_in h), length-map (accepted_of v) accepted_entry, length-map (put_by h) (numbered_callback {J = J}), length-map (held_in h) (numbered_callback {J = J}), l.counted))

@@ -1,0 +1,10 @@
+pub mod Keeping
+pub mod Bounds
+pub mod Taking
+pub mod Beginnings
+pub mod Moving
+pub mod Heeding
+pub mod TickRuns
+pub mod TickLaws
+pub mod CatchingUp
+pub mod Barring

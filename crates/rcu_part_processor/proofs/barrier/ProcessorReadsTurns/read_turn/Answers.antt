@@ -1,0 +1,18 @@
+use Rattle.std.proofs.Common.{◌∙◌}
+use Rattle.rcu_board.specs.Seats.{view}
+use Rattle.rcu_board.specs.Words.{turns_word}
+use Rattle.rcu_holdings.specs.Callers.{holding}
+use Rattle.rcu_part_processor.proofs.Keeping.{kept_by_tells}
+use Rattle.rcu_part_steps.proofs.Telling.{tells_touched}
+use Rattle.rcu_part_processor.proofs.barrier.ProcessorReadsTurns.read_turn.Goals as goal
+
+pub invariant_of-state : goal.invariant_of-state
+invariant_of-state g c = let s = c.args.self.now.state in let e = c.turn_of.ensures in let v = view s.seat in let w = view c.turn_of.new.seat in record {
+  here = e.same.table ∙ s.here;
+  role = e.same.role ∙ s.role;
+  there = s.there;
+  bit = s.bit;
+  local = s.local;
+  small = s.small;
+  lawful = kept_by_tells s.cpu s.accepted _ v w s.ran.items (holding s.lists) (tells_touched (turns_word c.args.p) c.turn_of.result v w e.view) e.later s.lawful;
+}

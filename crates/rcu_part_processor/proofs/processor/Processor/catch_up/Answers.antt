@@ -1,0 +1,85 @@
+use Rattle.std.proofs.Common.{max, ap, sym, ◌∙◌, refl, rules, arith}
+use Rattle.std.specs.Arc.{arc_value}
+use Rattle.std.specs.Mem.{FitsInMemory}
+use denote.Param.{param}
+use Rattle.rcu_board.specs.Plays.{looked, touched}
+use Rattle.rcu_board.specs.Seats.{view}
+use Rattle.rcu_board.specs.Views.{seen_at}
+use Rattle.rcu_board.specs.Words.{bits_of, needed_word}
+use Rattle.rcu_board.specs.declared.view.View.{View}
+use Rattle.rcu_holdings.specs.Aims.{wanted}
+use Rattle.rcu_holdings.specs.Callers.{Holding, holding}
+use Rattle.rcu_holdings.proofs.Aims.{up-raised}
+use Rattle.rcu_holdings.proofs.Sizes.{in_struct}
+use Rattle.rcu_part_processor.specs.contracts.processor.Processor as row
+use Rattle.rcu_part_processor.proofs.CatchingUp.{asked_for, asks_none, asks_one, caught_law, caught_local, caught_passes}
+use Rattle.rcu_part_processor.proofs.Taking.{sound_moved}
+use Rattle.rcu_part_steps.proofs.Telling.{sight_touched, tells_again, tells_looked, tells_touched}
+use Rattle.rcu_part_processor.proofs.processor.Processor.catch_up.Goals as goal
+
+pub look-requires : goal.look-requires
+look-requires g c = let h : FitsInMemory (row.the_row (param 0 g.row.J) (param 1 g.row.J-Receipt)) = search rules in
+    let s = c.args.self.now.state in let e = c.watch.ensures in let z = s.lawful.looked in let y = e.later.board in
+    (in_struct _ _ _ (in_struct _ _ _ h), (omega (arith, e.sight.0, c.seq-seen.ensures.same), omega (arith, e.sight.1, c.seq-seen.ensures.same)))
+
+pub invariant_of-state : goal.invariant_of-state
+invariant_of-state g c = let s = c.args.self.now.state in let e = c.watch.ensures in let n = c.need.ensures in let l = c.in-Some.ensures in
+    let u = view c.watch.new.seat in let w = view c.need.new.seat in let y = n.later in let z = e.later in record {
+      here = n.same.table ∙ (e.same.table ∙ s.here);
+      role = n.same.role ∙ (e.same.role ∙ s.role);
+      there = s.there;
+      bit = s.bit;
+      local = caught_local c.seq-seen.result s.offloadable (holding s.lists) (holding c.look.new.self) l.list s.local;
+      small = s.small;
+      lawful = caught_law s.cpu s.accepted c.seq-seen.result (view s.seat) w s.ran.items (holding s.lists) (holding c.look.new.self)
+          (tells_again (view s.seat) u w (tells_looked (bits_of c.watch.result) (view s.seat) u s.lawful.stamped e.view) (tells_touched needed_word (max c.need.result c.in-Some.number) u w n.view))
+          l.list l.places (let a = y.board in omega (arith, a, e.sight.0, c.seq-seen.ensures.same))
+          (l.needed (seen_at w needed_word) (up-raised (seen_at (view s.seat) needed_word) (seen_at w needed_word) (holding s.lists).own (let a = y.needed in let b = z.needed in omega arith) s.lawful.needed)
+          (asked_for (arc_value s.board) c.watch.new.seat c.need.result c.in-Some.number w (e.same.table ∙ s.here) n.view)) s.lawful;
+    }
+
+pub invariant_of-state-in_default : goal.invariant_of-state-in_default
+invariant_of-state-in_default g c = let s = c.args.self.now.state in let e = c.watch.ensures in let l = c.in_default.ensures in
+    let w = view c.watch.new.seat in let z = e.later in record {
+      here = e.same.table ∙ s.here;
+      role = e.same.role ∙ s.role;
+      there = s.there;
+      bit = s.bit;
+      local = caught_local c.seq-seen.result s.offloadable (holding s.lists) (holding c.look.new.self) l.list s.local;
+      small = s.small;
+      lawful = caught_law s.cpu s.accepted c.seq-seen.result (view s.seat) w s.ran.items (holding s.lists) (holding c.look.new.self)
+          (tells_looked (bits_of c.watch.result) (view s.seat) w s.lawful.stamped e.view)
+          l.list l.places (omega (arith, e.sight.0, c.seq-seen.ensures.same))
+          (l.needed (seen_at w needed_word) (up-raised (seen_at (view s.seat) needed_word) (seen_at w needed_word) (holding s.lists).own z.needed s.lawful.needed) tt) s.lawful;
+    }
+
+pub returns-in-Some-clause-catches_up : goal.returns-in-Some-clause-catches_up
+returns-in-Some-clause-catches_up g c = let s = c.args.self.now.state in let e = c.watch.ensures in let n = c.need.ensures in let l = c.in-Some.ensures in record {
+  word = c.watch.result;
+  number = c.seq-seen.ensures.same;
+  asks = asks_one (wanted c.seq-seen.result (holding s.lists).own) c.need.result c.in-Some.number (looked (bits_of c.watch.result) (view s.seat)) (view c.need.new.seat) (sym l.wanted)
+      (n.view ∙ ap (λ (v : View). touched needed_word (max c.need.result c.in-Some.number) v) e.view);
+  lists = l.list;
+  records = refl;
+}
+
+pub returns-in-Some-clause-sight : goal.returns-in-Some-clause-sight
+returns-in-Some-clause-sight g c = let s = c.args.self.now.state in let e = c.watch.ensures in let n = c.need.ensures in
+    (sight_touched needed_word (max c.need.result c.in-Some.number) (view c.watch.new.seat) (view c.need.new.seat) (λ z. absurd (omega (arith, z))) n.view ∙ (sym e.sight.0 ∙ sym c.seq-seen.ensures.same), ap (λ (h : Holding g.row.J.Denot). h.advanced) c.in-Some.ensures.list)
+
+pub returns-in-Some-clause-sound : goal.returns-in-Some-clause-sound
+returns-in-Some-clause-sound g c = let s = c.args.self.now.state in let l = c.in-Some.ensures in
+    sound_moved g.J.Job.key_of g.J.Job.gives s _ (caught_passes c.seq-seen.result (holding s.lists) (holding c.look.new.self) l.list l.places) refl
+
+pub returns-in_default-clause-catches_up : goal.returns-in_default-clause-catches_up
+returns-in_default-clause-catches_up g c = let s = c.args.self.now.state in let e = c.watch.ensures in let l = c.in_default.ensures in record {
+  word = c.watch.result;
+  number = c.seq-seen.ensures.same;
+  asks = asks_none (wanted c.seq-seen.result (holding s.lists).own) (looked (bits_of c.watch.result) (view s.seat)) (view c.watch.new.seat) (sym l.wanted) e.view;
+  lists = l.list;
+  records = refl;
+}
+
+pub returns-in_default-clause-sound : goal.returns-in_default-clause-sound
+returns-in_default-clause-sound g c = let s = c.args.self.now.state in let l = c.in_default.ensures in
+    sound_moved g.J.Job.key_of g.J.Job.gives s _ (caught_passes c.seq-seen.result (holding s.lists) (holding c.look.new.self) l.list l.places) refl

@@ -1,0 +1,19 @@
+use Rattle.std.proofs.Common.{◌∙◌}
+use Rattle.std.specs.Int.{from_bool}
+use Rattle.rcu_board.specs.Seats.{view}
+use Rattle.rcu_board.specs.Words.{halt_word}
+use Rattle.rcu_holdings.specs.Callers.{holding}
+use Rattle.rcu_part_processor.proofs.Keeping.{kept_by_tells}
+use Rattle.rcu_part_steps.proofs.Telling.{tells_touched}
+use Rattle.rcu_part_processor.proofs.processor.Processor.is_halted.Goals as goal
+
+pub invariant_of-state : goal.invariant_of-state
+invariant_of-state g c = let s = c.args.self.now.state in let e = c.halted.ensures in let v = view s.seat in let w = view c.halted.new.seat in record {
+  here = e.same.table ∙ s.here;
+  role = e.same.role ∙ s.role;
+  there = s.there;
+  bit = s.bit;
+  local = s.local;
+  small = s.small;
+  lawful = kept_by_tells s.cpu s.accepted _ v w s.ran.items (holding s.lists) (tells_touched halt_word (from_bool c.halted.result) v w e.view) e.later s.lawful;
+}

@@ -1,0 +1,134 @@
+use Rattle.std.proofs.Common.{ℕ, ◌<◌, ◌≤◌, List, [], ◌∷◌, ◌++◌, ◌∙◌, ap, sym, subst, refl, rules, arith}
+use Rattle.std.specs.Mem.{FitsInMemory}
+use Rattle.std.specs.Prelude.{IsTrue}
+use Rattle.std.proofs.lemmas.List.Elements.{All-rest}
+use denote.Param.{param}
+use Rattle.rcu_board.specs.Roles.{cpu_of_role}
+use Rattle.rcu_board.specs.Seats.{NeverFalls, view}
+use Rattle.rcu_board.specs.Views.{seen_at, sight}
+use Rattle.rcu_board.specs.Words.{turns_word}
+use Rattle.rcu_board.specs.declared.board.Board.{Board}
+use Rattle.rcu_board.specs.declared.view.Claim.{Claim}
+use Rattle.rcu_board.proofs.Facts.{never_falls_again}
+use Rattle.std.specs.Arc.{arc_value}
+use Rattle.rcu_holdings.specs.Aims.{AreUpTo, is_up_to}
+use Rattle.rcu_holdings.specs.Callers.{Holding, held_in, holding, put_by}
+use Rattle.rcu_holdings.proofs.Sizes.{in_struct}
+use Rattle.rcu_jobs.specs.declared.callback.Callback.{Callback}
+use Rattle.rcu_jobs.specs.declared.callback.Record.{Record}
+use Rattle.rcu_lists.specs.Labels.{Done, Labelled}
+use Rattle.rcu_numbers.specs.Numbers.{snap_of}
+use Rattle.rcu_part_steps.specs.Changes.{Claims, StepsOnly}
+use Rattle.rcu_part_processor.specs.Lawful.{IsLawful}
+use Rattle.rcu_part_processor.specs.contracts.processor.Processor as row
+use Rattle.rcu_part_processor.proofs.Keeping.{kept_by_keeps}
+use Rattle.rcu_part_processor.proofs.Moving.{kept_by_runs}
+use Rattle.rcu_part_processor.proofs.Taking.{sound_same}
+use Rattle.rcu_part_processor.proofs.TickRuns.{done_none, done_one, done_some, same_done, sound_ran}
+use Rattle.rcu_part_steps.proofs.Turning.{steps_more, steps_none}
+use Rattle.rcu_part_processor.proofs.processor.Processor.run_one.Goals as goal
+
+pub first-requires : goal.first-requires
+first-requires g c = let h : FitsInMemory (row.the_row (param 0 g.row.J) (param 1 g.row.J-Receipt)) = search rules in in_struct _ _ _ (in_struct _ _ _ h)
+
+pub invariant_of-state : goal.invariant_of-state
+invariant_of-state g c = let s = c.args.self.now.state in record { here = s.here; role = s.role; there = s.there; bit = s.bit; local = s.local; small = s.small; lawful = s.lawful }
+
+pub returns-in_default-clause-not : goal.returns-in_default-clause-not
+returns-in_default-clause-not g c = (0, done_none 0 c.args.seen c.args.self.now.state _ refl refl (steps_none _ _ _ refl) (omega arith), λ n. (c.in_default.ensures.first, omega arith))
+
+pub invariant_of-state-in_default-reserve : goal.invariant_of-state-in_default-reserve
+invariant_of-state-in_default-reserve g c = let s = c.args.self.now.state in record {
+  here = s.here;
+  role = s.role;
+  there = s.there;
+  bit = s.bit;
+  local = s.local;
+  small = s.small;
+  lawful = subst (λ (rs : List (Record g.row.J-Receipt.Denot)). IsLawful s.cpu s.accepted (view s.seat) rs (holding s.lists)) (sym c.reserve.ensures.items) s.lawful;
+}
+
+pub returns-in_default-reserve-clause-not : goal.returns-in_default-reserve-clause-not
+returns-in_default-reserve-clause-not g c = let f = c.in-Some.ensures.first in
+    (0, done_none 0 c.args.seen c.args.self.now.state _ refl c.reserve.ensures.items (steps_none _ _ _ refl) (omega arith), λ n. (done_some c.in-Some.first.now f.0 (holding c.args.self.now.state.lists).own f.1, omega arith))
+
+pub returns-in_default-reserve-clause-sound : goal.returns-in_default-reserve-clause-sound
+returns-in_default-reserve-clause-sound g c = sound_same g.J.Job.key_of g.J.Job.gives c.args.self.now.state _ refl c.reserve.ensures.items
+
+pub invariant_of-state-then-not-take : goal.invariant_of-state-then-not-take
+invariant_of-state-then-not-take g c = let s = c.args.self.now.state in let e = c.if-not-take.ensures in record {
+  here = e.same.table ∙ s.here;
+  role = e.same.role ∙ s.role;
+  there = s.there;
+  bit = s.bit;
+  local = s.local;
+  small = s.small;
+  lawful = subst (λ (rs : List (Record g.row.J-Receipt.Denot)). IsLawful s.cpu s.accepted (view c.take.new.seat) rs (holding s.lists)) (sym c.reserve.ensures.items)
+      (kept_by_keeps s.cpu s.accepted _ (view s.seat) (view c.take.new.seat) s.ran.items (holding s.lists) (e.lost refl).0 e.later s.lawful);
+}
+
+pub returns-then-not-take-clause-not : goal.returns-then-not-take-clause-not
+returns-then-not-take-clause-not g c = let s = c.args.self.now.state in let f = c.in-Some.ensures.first in let e = c.if-not-take.ensures in let l = e.lost refl in (
+  1,
+  done_none 1 c.args.seen s _ refl c.reserve.ensures.items e.only (subst (λ (b : Board). s.cpu < b.processors → seen_at (view s.seat) (turns_word s.cpu) ≤ seen_at (view c.take.new.seat) (turns_word s.cpu)) c.deref.ensures (e.later.turns s.cpu) s.there),
+  λ n. (refl, (c.in-Some.first.now, f.0, f.1, l.2)),
+)
+
+pub returns-then-not-take-clause-sight : goal.returns-then-not-take-clause-sight
+returns-then-not-take-clause-sight g c = ((c.if-not-take.ensures.lost refl).1 ∙ c.requires.seen.0, c.requires.seen.1)
+
+pub returns-then-not-take-clause-sound : goal.returns-then-not-take-clause-sound
+returns-then-not-take-clause-sound g c = sound_same g.J.Job.key_of g.J.Job.gives c.args.self.now.state _ refl c.reserve.ensures.items
+
+pub take-requires-2 : goal.take-requires-2
+take-requires-2 g c = let h : FitsInMemory (row.the_row (param 0 g.row.J) (param 1 g.row.J-Receipt)) = search rules in in_struct _ _ _ (in_struct _ _ _ h)
+
+pub unreachable-requires : goal.unreachable-requires
+unreachable-requires g c = let f = c.in-Some.ensures.first in done_some c.in-Some.first.now f.0 (holding c.args.self.now.state.lists).own f.1 c.in_default-take.ensures.taken.0
+
+pub run_claimed-record-requires-clause-runs : goal.run_claimed-record-requires-clause-runs
+run_claimed-record-requires-clause-runs g c κs within =
+    let s = c.args.self.now.state in let e = c.if-not-take.ensures in let w = e.won refl in
+    let first = same_done c.in-Some.first.now c.in-Some-take.callback c.in-Some.ensures.first.0 (holding c.take-2.new.self).own (sym c.in-Some.ensures.first.1 ∙ c.in-Some-take.ensures.taken.0) in
+    let at : ℕ → ℕ → ℕ → List Claim = λ p k x. record { cpu = p; number = k; sight = x } ∷ [] in
+    w.running ∙ (ap (λ (x : ℕ). at s.cpu c.in-Some.first.now.number x) (sym w.sights) ∙ (ap (λ (x : Callback g.row.J.Denot). at s.cpu x.number (sight (view c.take.new.seat))) first
+    ∙ ap (λ (p : ℕ). at p c.in-Some-take.callback.number (sight (view c.take.new.seat))) (sym (ap cpu_of_role (e.same.role ∙ s.role)))))
+
+pub invariant_of-state-2 : goal.invariant_of-state-2
+invariant_of-state-2 g c =
+    let s = c.args.self.now.state in let e = c.if-not-take.ensures in let w = e.won refl in let r = c.run_claimed-record.ensures in let t = c.in-Some-take.ensures in
+    let x = c.in-Some-take.callback in let h = holding s.lists in let h' = holding c.take-2.new.self in
+    let first = same_done c.in-Some.first.now x c.in-Some.ensures.first.0 h'.own (sym c.in-Some.ensures.first.1 ∙ t.taken.0) in
+    let won : Claims s.cpu x.number (view s.seat) (view c.take.new.seat) = subst (λ (y : Callback g.row.J.Denot). Claims s.cpu y.number (view s.seat) (view c.take.new.seat)) first w in
+    let n = (arc_value s.board).processors in
+    let later : NeverFalls n (view s.seat) (view c.take.new.seat) = subst (λ (b : Board). NeverFalls b.processors (view s.seat) (view c.take.new.seat)) c.deref.ensures e.later in
+    let later2 : NeverFalls n (view c.take.new.seat) (view c.run_claimed-record.new.seat) = subst (λ (b : Board). NeverFalls b.processors (view c.take.new.seat) (view c.run_claimed-record.new.seat)) c.deref-2.ensures r.later in
+    let over : snap_of x.stamp ≤ c.args.seen = let a = t.graced in let b = c.requires.seen.1 in omega arith in
+    let less : (m : ℕ) → AreUpTo m h.own → AreUpTo m h'.own = λ m up. All-rest (λ (y : Labelled g.row.J.Denot). IsTrue (is_up_to m y.label)) (record { label = Done; callback = x }) h'.own h.own t.taken.0 up in record {
+      here = r.same.table ∙ (e.same.table ∙ s.here);
+      role = r.same.role ∙ (e.same.role ∙ s.role);
+      there = s.there;
+      bit = s.bit;
+      local = λ is. let l = s.local is in (ap (λ (o : Holding g.row.J.Denot). o.mode) t.taken.1 ∙ l.0, ap put_by t.taken.1 ∙ l.1);
+      small = s.small;
+      lawful = kept_by_runs s.cpu s.accepted n c.args.seen (view s.seat) (view c.take.new.seat) (view c.run_claimed-record.new.seat) s.ran.items c.push_reserved.new.self.items h h' x c.run_claimed-record.result
+          won r.ends (never_falls_again n (view s.seat) (view c.take.new.seat) (view c.run_claimed-record.new.seat) later later2) c.requires.seen.0
+          (c.push_reserved.ensures.items ∙ ap (λ rs. rs ++ c.run_claimed-record.result ∷ []) c.reserve.ensures.items) (ap put_by t.taken.1) t.places (ap (λ (o : Holding g.row.J.Denot). o.advanced) t.taken.1) less r.record r.ready over s.lawful;
+    }
+
+pub returns-clause-ran : goal.returns-clause-ran
+returns-clause-ran g c = let s = c.args.self.now.state in let e = c.if-not-take.ensures in let r = c.run_claimed-record.ensures in let t = c.in-Some-take.ensures in
+    let u = view c.take.new.seat in let w = view c.run_claimed-record.new.seat in
+    let first : seen_at (view s.seat) (turns_word s.cpu) ≤ seen_at u (turns_word s.cpu) = subst (λ (b : Board). s.cpu < b.processors → seen_at (view s.seat) (turns_word s.cpu) ≤ seen_at u (turns_word s.cpu)) c.deref.ensures (e.later.turns s.cpu) s.there in
+    let second : seen_at u (turns_word s.cpu) ≤ seen_at w (turns_word s.cpu) = subst (λ (b : Board). s.cpu < b.processors → seen_at u (turns_word s.cpu) ≤ seen_at w (turns_word s.cpu)) c.deref-2.ensures (r.later.turns s.cpu) s.there in
+    done_one c.args.seen s _ c.in-Some-take.callback c.run_claimed-record.result t.taken.0 t.taken.1 (c.push_reserved.ensures.items ∙ ap (λ rs. rs ++ c.run_claimed-record.result ∷ []) c.reserve.ensures.items) r.record r.ready
+    (steps_more (turns_word s.cpu) 1 1 (view s.seat) u w e.only (subst (λ (p : ℕ). StepsOnly (turns_word p) 1 u w) (ap cpu_of_role (e.same.role ∙ s.role)) r.only)) (omega (arith, first, second))
+
+pub returns-clause-sight : goal.returns-clause-sight
+returns-clause-sight g c = let w = c.if-not-take.ensures.won refl in
+    (c.run_claimed-record.ensures.ends.sights ∙ (w.sights ∙ c.requires.seen.0), ap (λ (o : Holding g.row.J.Denot). o.advanced) c.in-Some-take.ensures.taken.1 ∙ c.requires.seen.1)
+
+pub returns-clause-sound : goal.returns-clause-sound
+returns-clause-sound g c = let s = c.args.self.now.state in let t = c.in-Some-take.ensures in let h = holding s.lists in let h' = holding c.take-2.new.self in
+    sound_ran g.J.Job.key_of g.J.Job.gives s _ c.in-Some-take.callback c.run_claimed-record.result (put_by h) (held_in h') (ap (λ l. put_by h ++ l) t.places) (ap (λ l. l ++ held_in h') (ap put_by t.taken.1))
+    (c.push_reserved.ensures.items ∙ ap (λ rs. rs ++ c.run_claimed-record.result ∷ []) c.reserve.ensures.items) c.run_claimed-record.ensures.given

@@ -1,0 +1,65 @@
+use Rattle.std.proofs.Common.{◌≡◌, ℕ, true, false, ap, sym, ◌∙◌, refl, subst, rules, arith, ◌/◌}
+use Rattle.std.specs.Mem.{FitsInMemory}
+use denote.Param.{param}
+use Rattle.rcu_board.specs.Plays.{touched}
+use Rattle.rcu_board.specs.Seats.{view}
+use Rattle.rcu_board.specs.Views.{seen_at}
+use Rattle.rcu_board.specs.Words.{turns_word}
+use Rattle.rcu_board.specs.declared.view.View.{View}
+use Rattle.rcu_board.proofs.Facts.{seen-touched, words-of-processor}
+use Rattle.rcu_holdings.specs.Callers.{Holding, holding, passed_on, put_by}
+use Rattle.rcu_holdings.specs.Modes.{is_deoffloading, settled}
+use Rattle.rcu_holdings.specs.Safe.{AreBelow}
+use Rattle.rcu_holdings.proofs.Sizes.{in_struct}
+use Rattle.rcu_part_processor.specs.contracts.processor.Processor as row
+use Rattle.rcu_part_processor.proofs.Heeding.{settled_law}
+use Rattle.rcu_part_processor.proofs.Taking.{sound_moved}
+use Rattle.rcu_part_steps.proofs.Telling.{sight_touched, tells_touched}
+use Rattle.rcu_part_processor.proofs.processor.Processor.settle.Goals as goal
+
+pub mode-requires : goal.mode-requires
+mode-requires g c = let h : FitsInMemory (row.the_row (param 0 g.row.J) (param 1 g.row.J-Receipt)) = search rules in in_struct _ _ _ (in_struct _ _ _ h)
+
+pub settle-requires : goal.settle-requires
+settle-requires g c = let h : FitsInMemory (row.the_row (param 0 g.row.J) (param 1 g.row.J-Receipt)) = search rules in in_struct _ _ _ (in_struct _ _ _ h)
+
+pub invariant_of-state : goal.invariant_of-state
+invariant_of-state g c = let s = c.args.self.now.state in let e = c.turn_of-turn.ensures in let h = holding s.lists in record {
+  here = e.same.table ∙ s.here;
+  role = e.same.role ∙ s.role;
+  there = s.there;
+  bit = s.bit;
+  local = λ is. (let f : true ≡ false = sym c.requires.offloadable ∙ is in cc);
+  small = s.small;
+  lawful = settled_law s.cpu s.accepted _ (view s.seat) (view c.turn_of-turn.new.seat) s.ran.items h (holding c.settle.new.self) (settled h.left c.turn_of-turn.result h.mode)
+      (tells_touched (turns_word s.cpu) c.turn_of-turn.result (view s.seat) (view c.turn_of-turn.new.seat) e.view) e.later c.settle.ensures.settled s.lawful;
+}
+
+pub invariant_of-state-else-is_leaving : goal.invariant_of-state-else-is_leaving
+invariant_of-state-else-is_leaving g c = let s = c.args.self.now.state in record { here = s.here; role = s.role; there = s.there; bit = s.bit; local = s.local; small = s.small; lawful = s.lawful }
+
+pub returns-then-is_leaving-clause-settles : goal.returns-then-is_leaving-clause-settles
+returns-then-is_leaving-clause-settles g c = let s = c.args.self.now.state in let e = c.turn_of-turn.ensures in let h = holding s.lists in let turn = c.turn_of-turn.result in let w = view c.turn_of-turn.new.seat in
+    let found : turn ≡ seen_at w (turns_word s.cpu) = sym (ap (λ (v : View). seen_at v (turns_word s.cpu)) e.view ∙ seen-touched s.seat (turns_word s.cpu) turn (let i = words-of-processor s.seat s.cpu s.role in omega arith)) in
+    let leaving : is_deoffloading h.mode ≡ true = sym (c.is_leaving.ensures ∙ ap is_deoffloading c.mode.ensures) ∙ c.if-is_leaving.true in record {
+      leaving = λ yes. (e.view ∙ ap (λ (t : ℕ). touched (turns_word s.cpu) t (view s.seat)) found, c.settle.ensures.settled ∙ ap (λ (t : ℕ). record h { mode = settled h.left t h.mode }) found);
+      others = λ no. (let f : true ≡ false = sym leaving ∙ no in cc);
+      local = λ was is. subst (λ (t : ℕ). AreBelow (t / 2) (put_by (holding c.settle.new.self))) found (c.settle.ensures.local was is);
+      records = refl;
+    }
+
+pub returns-then-is_leaving-clause-sight : goal.returns-then-is_leaving-clause-sight
+returns-then-is_leaving-clause-sight g c = let s = c.args.self.now.state in let e = c.turn_of-turn.ensures in
+    (sight_touched (turns_word s.cpu) c.turn_of-turn.result (view s.seat) (view c.turn_of-turn.new.seat) (λ z. absurd (omega (arith, z))) e.view, ap (λ (h : Holding g.row.J.Denot). h.advanced) c.settle.ensures.settled)
+
+pub returns-then-is_leaving-clause-sound : goal.returns-then-is_leaving-clause-sound
+returns-then-is_leaving-clause-sound g c = sound_moved g.J.Job.key_of g.J.Job.gives c.args.self.now.state _ (ap (λ (h : Holding g.row.J.Denot). passed_on h) c.settle.ensures.settled) refl
+
+pub returns-else-is_leaving-clause-settles : goal.returns-else-is_leaving-clause-settles
+returns-else-is_leaving-clause-settles g c = let h = holding c.args.self.now.state.lists in
+    let stays : is_deoffloading h.mode ≡ false = sym (c.is_leaving.ensures ∙ ap is_deoffloading c.mode.ensures) ∙ c.if-is_leaving.false in record {
+      leaving = λ yes. (let f : true ≡ false = sym yes ∙ stays in cc);
+      others = λ no. (refl, refl);
+      local = λ was is. (let f : true ≡ false = sym is ∙ was in cc);
+      records = refl;
+    }

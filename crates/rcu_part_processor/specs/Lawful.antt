@@ -1,0 +1,34 @@
+-- What a processor's part keeps between its calls: docs/specification/definitions.md, "Places", over whole histories.
+use Rattle.std.specs.Prelude.{◌≡◌, ℕ, ◌≤◌, Bool, false, None, List, [], map, length}
+use Rattle.rcu_board.specs.Seats.{accepted_of, fresh_of}
+use Rattle.rcu_board.specs.Views.{seen_at, sight}
+use Rattle.rcu_board.specs.Words.{needed_word}
+use Rattle.rcu_board.specs.declared.view.View.{View}
+use Rattle.rcu_holdings.specs.Aims.{AreUpTo}
+use Rattle.rcu_holdings.specs.Callers.{Holding, held_in, put_by}
+use Rattle.rcu_jobs.specs.declared.callback.Record.{Record}
+use Rattle.rcu_jobs.specs.declared.turns.Mode.TheVariants.{Local}
+use Rattle.rcu_places.specs.Places.{Placed}
+use Rattle.rcu_records.specs.Records.{numbered_records, AreRipe}
+use Rattle.rcu_part_steps.specs.Places.{numbered_callbacks, accepted_list, claim_of}
+
+-- Between calls of processor `cpu`, which accepted so many: its view, its records and its lists.
+pub record IsLawful {J R : Type 0} (cpu accepted : ℕ) (v : View) (ran : List (Record R)) (h : Holding J) : Type 0 where
+  -- the count is the length of the accepted list, each of which has its stamp
+  pub counted : length (accepted_of v) ≡ accepted
+  pub stamped : fresh_of v ≡ None
+  -- no claim runs
+  pub rests : v.running ≡ []
+  -- what was accepted is what was claimed and put on the lane, in some order, and then what the lists hold
+  pub places : ∥ Placed (accepted_list v) (numbered_records ran) (numbered_callbacks (put_by h)) (numbered_callbacks (held_in h)) ∥₁
+  -- the records are those of the claims, each with the claim's board sight, by which its wait was over
+  pub claims : v.claims ≡ map (claim_of cpu) ran
+  pub ripe : AreRipe ran
+  -- no look is later than the sight
+  pub looked : h.advanced ≤ sight v
+  -- each number that its own list waits for was asked for
+  pub needed : AreUpTo (seen_at v needed_word) h.own
+
+-- A processor that isn't offloadable is Local, and put nothing on a lane.
+abbrev pub StaysLocal : {J : Type 0} → Bool → Holding J → Type 0
+StaysLocal offloadable h = offloadable ≡ false → (h.mode ≡ Local) × (put_by h ≡ [])

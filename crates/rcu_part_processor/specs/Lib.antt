@@ -1,0 +1,5 @@
+pub mod Lawful
+pub mod Processors
+pub mod Calls
+pub mod Opened
+pub mod Ticks

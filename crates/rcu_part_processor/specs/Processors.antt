@@ -1,0 +1,45 @@
+-- What contracts see of a processor's part.
+use Rattle.std.specs.Prelude.{◌≡◌, ℕ, List}
+use Rattle.std.specs.Arc.{arc_value}
+use Rattle.rcu_board.specs.Seats.{view}
+use Rattle.rcu_board.specs.declared.board.Board.{Board}
+use Rattle.rcu_board.specs.declared.board.Seat.{Seat}
+use Rattle.rcu_board.specs.declared.view.View.{View}
+use Rattle.rcu_control.specs.Views.{SamePart}
+use Rattle.rcu_holdings.specs.Callers.{Holding, holding, passed_on, rear_of}
+use Rattle.rcu_jobs.specs.Records.{Given}
+use Rattle.rcu_jobs.specs.declared.callback.Record.{Record}
+use Rattle.rcu_lanes.specs.Ends.{SameRear}
+use Rattle.rcu_part_steps.specs.Places.{AreKeyed}
+use Rattle.rcu_part_processor.specs.declared.processor.ProcessorState.{ProcessorState}
+
+module _ {J R : Type 0} where
+  abbrev pub board_of : ProcessorState J R → Board
+  board_of p = arc_value p.board
+
+  abbrev pub seat_of : ProcessorState J R → Seat
+  seat_of p = p.seat
+
+  abbrev pub view_of : ProcessorState J R → View
+  view_of p = view p.seat
+
+  abbrev pub lists_of : ProcessorState J R → Holding J
+  lists_of p = holding p.lists
+
+  abbrev pub records_of : ProcessorState J R → List (Record R)
+  records_of p = p.ran.items
+
+  -- the same part of the same open: its seat, its lane, its number, its kind and its limits
+  pub record SameProcessor (p q : ProcessorState J R) : Type 0 where
+    pub part : SamePart (board_of p) (board_of q) p.seat q.seat
+    pub lane : SameRear (rear_of p.lists) (rear_of q.lists)
+    pub cpu : q.cpu ≡ p.cpu
+    pub offloadable : q.offloadable ≡ p.offloadable
+    pub limit : q.limit ≡ p.limit
+    pub blimit : q.blimit ≡ p.blimit
+
+  -- What a processor knows of jobs: each callback that it put on its lane or holds has its job's key, and each receipt is as
+  -- the relation wants it for its record's key.
+  pub record IsSound (key_of : J → ℕ) (gives : ℕ → R → Type 0) (p : ProcessorState J R) : Type 0 where
+    pub keyed : AreKeyed key_of (passed_on (lists_of p))
+    pub given : Given gives (records_of p)

@@ -1,0 +1,39 @@
+//! Barriers opened by a processor, and the turn words that it reads for one.
+
+ghost use Rattle.std.specs.Prelude.{◌≡◌};
+ghost use Rattle.rcu_control.specs.Barriers.{Opens, count_at};
+ghost use Rattle.rcu_part_processor.specs.Calls.{KeepsAll};
+ghost use Rattle.rcu_part_processor.specs.Processors.{SameProcessor, IsSound, board_of, view_of};
+
+use crate::processor::Processor;
+use rcu_board::turn_of;
+use rcu_control::{Barrier, ReadsTurns, open_barrier};
+use rcu_jobs::Job;
+
+impl<J: Job> Processor<J> {
+    /// Opens a barrier for what each processor has accepted when its count is read, and then urges every processor to
+    /// release its bypass list. Of its own processor each callback is counted that it has accepted.
+    pub fn barrier(&mut self) -> Barrier
+        ensures same { SameProcessor self.old.state self.new.state }
+        ensures keeps { KeepsAll self.old.state self.new.state }
+        ensures opens { Opens (board_of self.old.state).processors result (view_of self.old.state) (view_of self.new.state) }
+        ensures own { count_at result.counts self.new.state.cpu ≡ self.new.state.accepted }
+        ensures sound { IsSound J.key_of J.gives self.old.state → IsSound J.key_of J.gives self.new.state }
+    {
+        let state = &mut self.state;
+        open_barrier(&state.board, &mut state.seat)
+    }
+}
+
+impl<J: Job> ReadsTurns for Processor<J> {
+    ghost use Rattle.rcu_part_processor.specs.Processors.{board_of, seat_of};
+
+    ghost board_of = { λ p. board_of p.state };
+
+    ghost seat_of = { λ p. seat_of p.state };
+
+    fn read_turn(&mut self, p: u64) -> u64 {
+        let state = &mut self.state;
+        turn_of(&state.board, &mut state.seat, p)
+    }
+}

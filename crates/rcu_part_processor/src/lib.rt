@@ -1,0 +1,15 @@
+//! A processor's part: it accepts callbacks, reports quiescent states, opens barriers, and runs the callbacks of its own
+//! list in its tick (docs/specification/surface.md, "rcu_parts"). Each call is the list of steps that
+//! docs/specification/rules.md, "The calls, step by step" has for it, and nothing else. `rcu_parts` hands on `Processor` and
+//! `Reading`; what takes a processor apart is for its `close`.
+#![tactic(auto)]
+
+mod barrier;
+mod calling;
+mod processor;
+mod reporting;
+mod run;
+mod ticking;
+
+pub use processor::{Processor, ProcessorState, into_state};
+pub use reporting::Reading;

@@ -1,0 +1,63 @@
+//! The loop of a processor. It alone may wait.
+
+ghost use Rattle.std.specs.Prelude.{◌≡◌};
+ghost use Rattle.std.specs.Int.{from_bool};
+ghost use Rattle.rcu_board.specs.Plays.{touched};
+ghost use Rattle.rcu_board.specs.Words.{halt_word};
+ghost use Rattle.rcu_part_processor.specs.Calls.{KeepsAll};
+ghost use Rattle.rcu_part_processor.specs.Processors.{SameProcessor, IsSound, view_of};
+
+use crate::processor::Processor;
+use rcu_board::halted;
+use rcu_control::Pauses;
+use rcu_jobs::Job;
+use std::rt::Clock;
+use std::sync::Wait;
+
+impl<J: Job> Processor<J> {
+    /// Whether the runtime was halted.
+    fn is_halted(&mut self) -> bool
+        ensures same { SameProcessor self.old.state self.new.state }
+        ensures keeps { KeepsAll self.old.state self.new.state }
+        ensures view { view_of self.new.state ≡ touched halt_word (from_bool result) (view_of self.old.state) }
+        ensures sound { IsSound J.key_of J.gives self.old.state → IsSound J.key_of J.gives self.new.state }
+    {
+        let state = &mut self.state;
+        halted(&state.board, &mut state.seat)
+    }
+
+    /// Reports and ticks once, unless the runtime was halted. Answers whether a report was counted or a callback ran.
+    fn turn_unless_halted(&mut self, moment: u64) -> Option<bool>
+        ensures same { SameProcessor self.old.state self.new.state }
+        ensures count { self.new.state.accepted ≡ self.old.state.accepted }
+        ensures sound { IsSound J.key_of J.gives self.old.state → IsSound J.key_of J.gives self.new.state }
+    {
+        if self.is_halted() {
+            return None;
+        }
+        let counted = self.quiescent().is_some();
+        let ticked = self.tick(moment);
+        Some(counted || ticked.ran > 0)
+    }
+
+    /// Reports and ticks until the runtime is halted, at the moments 1, 2, .. (the greatest `u64` is repeated), and gives
+    /// the processor back. Between turns that did nothing it pauses.
+    pub fn run<R: Wait + Clock>(self, rt: &R) -> Processor<J>
+        ensures same { SameProcessor self.state result.state }
+        ensures count { result.state.accepted ≡ self.state.accepted }
+        ensures sound { IsSound J.key_of J.gives self.state → IsSound J.key_of J.gives result.state }
+    {
+        let mut processor = self;
+        let mut pauses = Pauses::new();
+        let mut moment: u64 = 1;
+        for _ in rt.forever() {
+            match processor.turn_unless_halted(moment) {
+                None => return processor,
+                Some(true) => pauses.start_over(),
+                Some(false) => pauses.pause(rt),
+            }
+            moment = moment.saturating_add(1);
+        }
+        unreachable!()
+    }
+}

@@ -1,0 +1,146 @@
+//! The tick of a processor.
+
+ghost use Rattle.std.specs.Prelude.{◌≡◌, ℕ, ◌+◌, ◌≤◌, true, IfNone, IfSome};
+ghost use Rattle.rcu_holdings.specs.Modes.{is_deoffloading};
+ghost use Rattle.rcu_board.specs.Views.{sight};
+ghost use Rattle.rcu_part_processor.specs.Processors.{SameProcessor, IsSound, lists_of, view_of};
+ghost use Rattle.rcu_part_processor.specs.Ticks.{CatchesUp, Heeds, Settles, RanDone, StopsTick, TicksBy, IsFresh, IsLocalOnceRun, RunsNoneOffloaded};
+
+use crate::processor::Processor;
+use rcu_board::{asked, heard, need, turn_of};
+use rcu_jobs::{Job, Mode, Stop, Ticked};
+use rcu_part_steps::{run_claimed, take, watch};
+
+/// Whether the turn word is read in a tick.
+fn is_leaving(mode: Mode) -> bool
+    ensures { result ≡ is_deoffloading mode }
+{
+    match mode {
+        Mode::Deoffloading => true,
+        _ => false,
+    }
+}
+
+impl<J: Job> Processor<J> {
+    // The tick's look: the own list is advanced by the number seen and accelerated, and what it waits for is asked for.
+    fn catch_up(&mut self) -> u64
+        ensures same { SameProcessor self.old.state self.new.state }
+        ensures catches_up { CatchesUp result self.old.state self.new.state }
+        ensures sight { (sight (view_of self.new.state) ≡ result) × ((lists_of self.new.state).advanced ≡ result) }
+        ensures count { self.new.state.accepted ≡ self.old.state.accepted }
+        ensures sound { IsSound J.key_of J.gives self.old.state → IsSound J.key_of J.gives self.new.state }
+    {
+        let state = &mut self.state;
+        let seen = watch(&state.board, &mut state.seat).seq();
+        if let Some(number) = state.lists.look(seen) {
+            need(&state.board, &mut state.seat, number);
+        }
+        seen
+    }
+
+    // Reads what is asked of the processor and whether it was urged, releases the bypass list where that is due, and
+    // changes the mode as asked.
+    fn heed(&mut self, moment: u64)
+        requires offloadable { self.old.state.offloadable ≡ true }
+        ensures same { SameProcessor self.old.state self.new.state }
+        ensures heeds { Heeds moment self.old.state self.new.state }
+        ensures sight { (sight (view_of self.new.state) ≡ sight (view_of self.old.state)) × ((lists_of self.new.state).advanced ≡ (lists_of self.old.state).advanced) }
+        ensures count { self.new.state.accepted ≡ self.old.state.accepted }
+        ensures sound { IsSound J.key_of J.gives self.old.state → IsSound J.key_of J.gives self.new.state }
+    {
+        let state = &mut self.state;
+        let on = asked(&state.board, &mut state.seat);
+        let urged = heard(&state.board, &mut state.seat);
+        state.lists.release(moment, !on, urged);
+        state.lists.switch(on, state.accepted);
+    }
+
+    // In Deoffloading, reads the turn word, by which the mode becomes Local.
+    fn settle(&mut self)
+        requires offloadable { self.old.state.offloadable ≡ true }
+        ensures same { SameProcessor self.old.state self.new.state }
+        ensures settles { Settles self.old.state self.new.state }
+        ensures sight { (sight (view_of self.new.state) ≡ sight (view_of self.old.state)) × ((lists_of self.new.state).advanced ≡ (lists_of self.old.state).advanced) }
+        ensures count { self.new.state.accepted ≡ self.old.state.accepted }
+        ensures sound { IsSound J.key_of J.gives self.old.state → IsSound J.key_of J.gives self.new.state }
+    {
+        let state = &mut self.state;
+        if is_leaving(state.lists.mode()) {
+            let turn = turn_of(&state.board, &mut state.seat, state.cpu);
+            state.lists.settle(turn);
+        }
+    }
+
+    // Runs the first callback of done, or says why not. The number `seen` is that of the tick's look.
+    fn run_one(&mut self, seen: u64) -> Option<Stop>
+        requires seen { (sight (view_of self.old.state) ≡ seen) × ((lists_of self.old.state).advanced ≡ seen) }
+        ensures same { SameProcessor self.old.state self.new.state }
+        ensures ran { IfNone result (RanDone 1 1 seen self.old.state self.new.state) }
+        ensures not { IfSome result (λ stop. (tried : ℕ) × RanDone 0 tried seen self.old.state self.new.state × ((n : ℕ) → StopsTick stop n (n + tried) self.new.state)) }
+        ensures sight { (sight (view_of self.new.state) ≡ seen) × ((lists_of self.new.state).advanced ≡ seen) }
+        ensures count { self.new.state.accepted ≡ self.old.state.accepted }
+        ensures sound { IsSound J.key_of J.gives self.old.state → IsSound J.key_of J.gives self.new.state }
+    {
+        let state = &mut self.state;
+        let Some(first) = state.lists.first() else {
+            return Some(Stop::Empty);
+        };
+        let number = first.number;
+        let Ok(()) = state.ran.reserve(1) else {
+            return Some(Stop::Memory);
+        };
+        if !take(&state.board, &mut state.seat, state.cpu, number) {
+            return Some(Stop::Turn);
+        }
+        let Some(callback) = state.lists.take() else {
+            unreachable!()
+        };
+        let record = run_claimed(&state.board, &mut state.seat, callback, seen);
+        state.ran.push_reserved(record);
+        None
+    }
+
+    // Runs the first callbacks of done, at most `blimit`.
+    fn run_done(&mut self, seen: u64) -> Ticked
+        requires seen { (sight (view_of self.old.state) ≡ seen) × ((lists_of self.old.state).advanced ≡ seen) }
+        ensures same { SameProcessor self.old.state self.new.state }
+        ensures ran { (tried : ℕ) × RanDone result.ran tried seen self.old.state self.new.state × StopsTick result.stop result.ran tried self.new.state }
+        ensures few { result.ran ≤ self.old.state.blimit }
+        ensures count { self.new.state.accepted ≡ self.old.state.accepted }
+        ensures sound { IsSound J.key_of J.gives self.old.state → IsSound J.key_of J.gives self.new.state }
+    {
+        let blimit = self.state.blimit;
+        for ran in 0..blimit {
+            if let Some(stop) = self.run_one(seen) {
+                return Ticked { ran, stop };
+            }
+        }
+        Ticked {
+            ran: blimit,
+            stop: Stop::Limit,
+        }
+    }
+
+    /// A tick, at a moment of the caller's clock: one look, by which the own list is advanced and accelerated, and what it
+    /// waits for is asked for. An offloadable processor then releases its bypass list where that is due, and changes its
+    /// mode as it is asked. Then the first callbacks that are done run, at most `blimit`, each after room for its record
+    /// was found and its claim was won; it stops at the first that can't run.
+    pub fn tick(&mut self, moment: u64) -> Ticked
+        ensures same { SameProcessor self.old.state self.new.state }
+        ensures ticks { TicksBy moment result self.old.state self.new.state }
+        ensures few { result.ran ≤ self.old.state.blimit }
+        ensures count { self.new.state.accepted ≡ self.old.state.accepted }
+        ensures fresh { IsFresh self.old.state self.new.state }
+        ensures local { IsLocalOnceRun self.old.state self.new.state }
+        ensures none { RunsNoneOffloaded result.ran self.old.state self.new.state }
+        ensures sound { IsSound J.key_of J.gives self.old.state → IsSound J.key_of J.gives self.new.state }
+    {
+        let seen = self.catch_up();
+        if !self.state.offloadable {
+            return self.run_done(seen);
+        }
+        self.heed(moment);
+        self.settle();
+        self.run_done(seen)
+    }
+}

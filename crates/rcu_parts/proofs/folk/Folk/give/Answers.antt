@@ -1,5 +1,0 @@
-use Rattle.rcu_parts.proofs.GroupTurns.{gives_few}
-use Rattle.rcu_parts.proofs.folk.Folk.give.Goals as goal
-
-pub returns-clause-few : goal.returns-clause-few
-returns-clause-few g c = gives_few c.args.blimit c.give.result c.args.self.now.member c.give.new.self c.give.ensures.gives
