@@ -1,5 +1,5 @@
 -- What the calls of a world answer, as the lines of the commands say it.
-use Rattle.std.proofs.Common.{◌≡◌, ℕ, ◌<◌, ◌&&◌, length, [], ◌∷◌, ◌++◌, true, false, nat_le, nat_lt, arith, Bool, not, Option, Some, None, Result, Ok, Err, IfOk, IfErr, OnOk, OnErr, ◌∙◌, ap, refl, sym, subst, true≢false}
+use Rattle.std.proofs.Common.{◌≡◌, ℕ, ◌<◌, ◌&&◌, length, [], ◌∷◌, ◌++◌, true, false, nat_le, nat_lt, arith, Bool, not, Option, Some, None, Result, Ok, Err, IfOk, IfErr, OnOk, OnErr, refl, sym, subst, true≢false}
 use Rattle.std.proofs.lemmas.Bool.Decides.{nat_tests}
 use Rattle.std.specs.Option.{is_some}
 use Rattle.rcu_jobs.specs.declared.Passed.{Passed}
@@ -12,8 +12,6 @@ use Rattle.rcu_law.specs.declared.marks.Mark.TheVariants as marks
 use Rattle.rcu_world.specs.Polls.{IsPollAnswer}
 use Rattle.rcu_world.specs.Ready.{IsRefusal}
 use Rattle.rcu_world.specs.Turns.{Leads, call_events, where_enabled}
-use Rattle.rcu_setup.specs.declared.line.Command.{Command}
-use Rattle.rcu_script.specs.Calls.{is_call}
 use Rattle.rcu_script.specs.contracts.lines.Verb.{the_type}
 use Rattle.rcu_script.specs.declared.lines.Verb.{Verb}
 use Rattle.rcu_script.specs.declared.lines.Verb.TheVariants as verb

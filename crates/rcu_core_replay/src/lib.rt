@@ -1,6 +1,6 @@
 //! A script over the core: each command is a turn call of one `World`, and prints the line of what that call answers. The
-//! program runs its scripts over the running parts, and its tests compare the two texts (docs/specification/program.md,
-//! "replay").
+//! program `rcuo` runs its scripts over the running parts, and `rcuo_core` over the core by this crate; both must write the
+//! same (docs/specification/program.md, "replay").
 #![tactic(auto)]
 
 mod commands;

@@ -4,9 +4,9 @@ use Rattle.std.proofs.lemmas.Bool.Decides.{nat_tests}
 use Rattle.rcu_jobs.specs.declared.answers.Refused.{Refused}
 use Rattle.rcu_jobs.specs.declared.answers.Ticket.{Ticket}
 use Rattle.rcu_lists.specs.declared.pace.Kind.{Kind}
-use Rattle.rcu_parts.specs.Calls.{IsAccepted, IsRefusedAs, KeepsAll}
-use Rattle.rcu_parts.specs.declared.hand.Hand.{Hand}
-use Rattle.rcu_parts.specs.declared.processor.Processor.{Processor}
+use Rattle.rcu_part_processor.specs.Calls.{IsAccepted, IsRefusedAs, KeepsAll}
+use Rattle.rcu_part_hand.specs.declared.hand.Hand.{Hand}
+use Rattle.rcu_part_processor.specs.declared.processor.Processor.{Processor}
 use Rattle.rcu_script.specs.declared.lines.Line.{Line}
 use Rattle.rcu_script.specs.declared.lines.Line.TheVariants.{Refused as refused_by}
 use Rattle.rcu_script.specs.declared.lines.Verb.{Verb}

@@ -9,18 +9,18 @@ use Rattle.rcu_control.specs.declared.control.Control.{Control}
 use Rattle.rcu_control.specs.declared.driver.Driver.{Driver}
 use Rattle.rcu_board.specs.declared.board.Board.{Board}
 use Rattle.rcu_board.specs.declared.board.Seat.{Seat}
-use Rattle.rcu_parts.specs.Groups.{SameGroup}
-use Rattle.rcu_parts.specs.Hands.{IsSoundHand, SameHand}
-use Rattle.rcu_parts.specs.OneOpen.{AreSoundParts, Parts, groups_in, hands_in, processors_in}
-use Rattle.rcu_parts.specs.Processors.{IsSound, SameProcessor}
+use Rattle.rcu_part_group.specs.Groups.{SameGroup}
+use Rattle.rcu_part_hand.specs.Hands.{IsSoundHand, SameHand}
+use Rattle.rcu_parts.specs.OneOpen.{Parts, groups_in, hands_in, processors_in}
+use Rattle.rcu_part_processor.specs.Processors.{IsSound, SameProcessor}
 use Rattle.rcu_parts.specs.SameParts.{AreSameParts}
-use Rattle.rcu_parts.specs.declared.group.Group.{Group}
-use Rattle.rcu_parts.specs.declared.hand.Hand.{Hand}
-use Rattle.rcu_parts.specs.declared.processor.Processor.{Processor}
-use Rattle.rcu_parts.proofs.GroupLists.{zip_same}
-use Rattle.rcu_parts.proofs.GroupTurns.{same_group}
-use Rattle.rcu_parts.proofs.HandRuns.{same_hand}
-use Rattle.rcu_parts.proofs.TickRuns.{same_processor}
+use Rattle.rcu_part_group.specs.declared.group.Group.{Group}
+use Rattle.rcu_part_hand.specs.declared.hand.Hand.{Hand}
+use Rattle.rcu_part_processor.specs.declared.processor.Processor.{Processor}
+use Rattle.rcu_part_group.proofs.GroupLists.{zip_same}
+use Rattle.rcu_part_group.proofs.GroupTurns.{same_group}
+use Rattle.rcu_part_hand.proofs.HandRuns.{same_hand}
+use Rattle.rcu_part_processor.proofs.TickRuns.{same_processor}
 use Rattle.rcuo.specs.Printed.{KeepsParts}
 
 same_part : (b : Board) (s : Seat) → SamePart b b s s

@@ -1,9 +1,7 @@
 pub mod Answering
 pub mod Changing
 pub mod Keeping
-pub mod Known
 pub mod ShowingParts
 pub mod TakenWords
 pub mod Verbs
-pub mod Whole
 pub mod Writing

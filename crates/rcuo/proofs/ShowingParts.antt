@@ -1,16 +1,16 @@
 -- What `show` writes, one list and one processor further.
-use Rattle.std.proofs.Common.{◌≡◌, ℕ, suc, ◌+◌, ◌<◌, min, get_or, take, arith, [], ◌∷◌, ◌++◌, ◌∙◌, ap, sym, subst, refl, append-nil, append_assoc, List, Option, Some, None, Result, OnOk, length}
+use Rattle.std.proofs.Common.{◌≡◌, ℕ, suc, ◌+◌, ◌<◌, get_or, take, arith, [], ◌∷◌, ◌++◌, ◌∙◌, ap, sym, subst, refl, append-nil, append_assoc, List, Option, Some, None, Result, OnOk, length}
 use Rattle.std.proofs.lemmas.List.{length-take, take_more}
 use Rattle.std.proofs.lemmas.Result.{on_ok_weaker}
 use Rattle.std.specs.Io.KnownBytes.{Appends}
 use Rattle.rcu_holdings.specs.Callers.{cpu_lists}
-use Rattle.rcu_parts.specs.Processors.{lists_of}
-use Rattle.rcu_parts.specs.declared.group.Group.{Group}
-use Rattle.rcu_parts.specs.declared.processor.Processor.{Processor}
+use Rattle.rcu_part_processor.specs.Processors.{lists_of}
+use Rattle.rcu_part_group.specs.declared.group.Group.{Group}
+use Rattle.rcu_part_processor.specs.declared.processor.Processor.{Processor}
 use Rattle.rcu_jobs.specs.declared.Lists.{Lists}
 use Rattle.rcu_script.proofs.Written.{Appends-append}
 use Rattle.rcu_script.specs.Lines.{lists_line}
-use Rattle.rcuo.specs.Outcomes.{ShowsFrom, ShowsOne, ShownIn, group_line}
+use Rattle.rcuo.specs.Outcomes.{ShowsFrom, ShowsOne, ShownIn}
 
 module _ {J R : Type 0} (groups : List (Group J R)) where
   pub shows_none : (k : ℕ) → ShowsFrom k [] groups []

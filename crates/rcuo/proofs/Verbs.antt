@@ -1,5 +1,5 @@
 -- What a verb that isn't this one says.
-use Rattle.std.proofs.Common.{◌≡◌, ◌≢◌, ℕ, refl}
+use Rattle.std.proofs.Common.{◌≡◌, ◌≢◌, refl}
 use Rattle.rcu_lists.specs.declared.pace.Kind.TheVariants.{Plain}
 use Rattle.rcu_script.specs.declared.lines.Verb.{Verb}
 use Rattle.rcu_script.specs.declared.lines.Verb.TheVariants as verb

@@ -1,5 +1,5 @@
 -- What a command prints, as it is written.
-use Rattle.std.proofs.Common.{◌≡◌, ℕ, ◌++◌, true, false, codes, List, Option, OnOk, Result, refl, sym, subst, true≢false, ◌∙◌}
+use Rattle.std.proofs.Common.{◌≡◌, ℕ, ◌++◌, true, false, codes, List, Option, OnOk, Result, refl, sym, true≢false, ◌∙◌}
 use Rattle.std.proofs.lemmas.Result.{on_ok_weaker}
 use Rattle.std.specs.Io.KnownBytes.{Appends}
 use Rattle.rcu_control.specs.declared.barrier.Barrier.{Barrier}

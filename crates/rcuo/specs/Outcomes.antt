@@ -19,15 +19,15 @@ use Rattle.rcu_jobs.specs.declared.turns.Lists.{Lists}
 use Rattle.rcu_jobs.specs.declared.turns.Ticked.{Ticked}
 use Rattle.rcu_lists.specs.declared.pace.Kind.{Kind}
 use Rattle.rcu_lists.specs.declared.pace.Kind.TheVariants.{Plain, Lazy}
-use Rattle.rcu_parts.specs.Calls.{IsAccepted, IsRefusedAs, KeepsAll}
-use Rattle.rcu_parts.specs.Groups.{ShownFor, TurnsGroup, members_of}
-use Rattle.rcu_parts.specs.Hands.{TurnsBy}
-use Rattle.rcu_parts.specs.Processors.{lists_of, view_of}
-use Rattle.rcu_parts.specs.Reports.{Reports}
-use Rattle.rcu_parts.specs.Ticks.{TicksBy}
-use Rattle.rcu_parts.specs.declared.group.Group.{Group}
-use Rattle.rcu_parts.specs.declared.hand.Hand.{Hand}
-use Rattle.rcu_parts.specs.declared.processor.Processor.{Processor}
+use Rattle.rcu_part_processor.specs.Calls.{IsAccepted, IsRefusedAs, KeepsAll}
+use Rattle.rcu_part_group.specs.Groups.{ShownFor, TurnsGroup, members_of}
+use Rattle.rcu_part_hand.specs.Hands.{TurnsBy}
+use Rattle.rcu_part_processor.specs.Processors.{lists_of, view_of}
+use Rattle.rcu_part_steps.specs.Reports.{Reports}
+use Rattle.rcu_part_processor.specs.Ticks.{TicksBy}
+use Rattle.rcu_part_group.specs.declared.group.Group.{Group}
+use Rattle.rcu_part_hand.specs.declared.hand.Hand.{Hand}
+use Rattle.rcu_part_processor.specs.declared.processor.Processor.{Processor}
 use Rattle.rcu_script.specs.Lines.{lists_line}
 use Rattle.rcu_script.specs.declared.lines.Verb.{Verb}
 use Rattle.rcu_script.specs.declared.lines.Verb.TheVariants as verb

@@ -1,5 +1,5 @@
--- What the words of the command line name, and what is read: docs/specification/program.md, "Command line".
-use Rattle.std.specs.Prelude.{◌≡◌, ℕ, ◌≤◌, ◌∷◌, [], List, Option, codes, length, ◌++◌, Bool, true, false, ◌<◌, ◌*◌, Result, MatchResult, count_by, ⊤}
+-- What the words of the command line name: docs/specification/program.md, "Command line".
+use Rattle.std.specs.Prelude.{◌≡◌, ℕ, ◌∷◌, [], List, codes, true, ◌*◌, count_by}
 use Rattle.rcu_script.specs.Calls.{is_call}
 use Rattle.rcu_setup.specs.declared.setup.Setup.{Setup}
 use Rattle.rcuo.specs.declared.plan.Refusal.{Refusal}
@@ -7,23 +7,12 @@ use Rattle.rcuo.specs.declared.plan.Refusal.TheVariants as refusal
 use Rattle.rcuo.specs.declared.plan.Subcommand.{Subcommand}
 use Rattle.rcuo.specs.declared.plan.Subcommand.TheVariants as subcommand
 use Rattle.clap.specs.Words.{App, new_app, with_subcommand}
-use Rattle.std.specs.Io.KnownBytes.{Consumes, IsAtEnd}
 
 -- the words were refused
 abbrev pub RefusesWords : Refusal → Type 0
 RefusesWords (refusal.Words e) = Unit {0}
 RefusesWords refusal.NoText = Unit {0}
 RefusesWords (refusal.Fault f) = ⊥
-
--- no more than so many bytes were taken from what a reader had
-abbrev pub TakesAtMost : ℕ → Option (List ℕ) → Option (List ℕ) → Type 0
-TakesAtMost most old new = (bytes : List ℕ) × Consumes old new bytes × (length bytes ≤ most)
-
--- a piece was taken, which an `Ok` adds to the text; a false says that the end was met
-abbrev pub TakesPiece : {E : Type 0} → Option (List ℕ) → Option (List ℕ) → List ℕ → List ℕ → ℕ → Result Bool E → Type 0
-TakesPiece old new text longer most result =
-    (bytes : List ℕ) × Consumes old new bytes × (length bytes ≤ most)
-    × MatchResult result (λ more. (longer ≡ text ++ bytes) × (more ≡ false → IsAtEnd new) × (more ≡ true → 0 < length bytes)) (λ _. ⊤)
 
 -- the word that names a subcommand
 abbrev pub word_of : Subcommand → List ℕ

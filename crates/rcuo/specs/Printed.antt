@@ -1,8 +1,8 @@
 -- What a command prints: docs/specification/program.md, "replay"
-use Rattle.std.specs.Prelude.{ℕ, ◌≡◌, List, ◌++◌, length, Bool, true, false, Option, None, Some, IfSome, codes}
+use Rattle.std.specs.Prelude.{ℕ, ◌≡◌, List, ◌++◌, length, true, false, Option, None, Some, IfSome, codes}
 use Rattle.rcu_control.specs.Parts.{control_view, driver_board, driver_view}
 use Rattle.rcu_control.specs.declared.barrier.Barrier.{Barrier}
-use Rattle.rcu_parts.specs.OneOpen.{AreOfOneOpen, AreSoundParts, Parts, groups_in, hands_in, parts_board, processors_in}
+use Rattle.rcu_parts.specs.OneOpen.{AreSoundParts, Parts, groups_in, hands_in, parts_board, processors_in}
 use Rattle.rcu_parts.specs.SameParts.{AreSameParts}
 use Rattle.rcu_script.specs.Calls.{is_barrier, is_show}
 use Rattle.rcu_script.specs.Lines.{line_text}

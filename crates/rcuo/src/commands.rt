@@ -5,9 +5,9 @@ ghost use Rattle.std.specs.Io.KnownBytes.{Appends};
 ghost use Rattle.std.specs.List.{AllZip};
 ghost use Rattle.rcu_control.specs.Parts.{control_board, control_seat, control_view, driver_board, driver_seat, driver_view};
 ghost use Rattle.rcu_control.specs.Views.{SamePart};
-ghost use Rattle.rcu_parts.specs.Groups.{SameGroup};
-ghost use Rattle.rcu_parts.specs.Hands.{IsSoundHand, SameHand};
-ghost use Rattle.rcu_parts.specs.Processors.{IsSound, SameProcessor};
+ghost use Rattle.rcu_part_group.specs.Groups.{SameGroup};
+ghost use Rattle.rcu_part_hand.specs.Hands.{IsSoundHand, SameHand};
+ghost use Rattle.rcu_part_processor.specs.Processors.{IsSound, SameProcessor};
 ghost use Rattle.rcuo.specs.Changes.{HoldsAt};
 ghost use Rattle.rcuo.specs.Outcomes.{Calls, IsBarrier, IsCall, IsDriver, IsGroup, IsHand, IsPoll, IsQuiet, IsShut, IsSwitch, IsTick, ShownIn, ShowsFrom, ShowsOne};
 

@@ -7,7 +7,6 @@ ghost use Rattle.std.specs.Prelude.{◌≡◌};
 mod commands;
 mod plan;
 mod printing;
-mod read;
 mod replay;
 #[cfg(test)]
 mod tests;
@@ -17,6 +16,7 @@ mod versions;
 use plan::{Refusal, Subcommand, read_plan};
 use rcu_jobs::BoxedJob;
 use rcu_script::{Fault, write_fault};
+use rcu_versions::Retired;
 use replay::replay;
 use std::io;
 use std::process::ExitCode;
@@ -24,7 +24,7 @@ use std::rt::Clock;
 use std::sync::Wait;
 use std::thread::Threads;
 use threading::threads;
-use versions::{Retired, versions};
+use versions::versions;
 
 /// The words of the command line after the program's name.
 fn words(rt: &HostRuntime) -> Result<Vec<String>, Refusal> {

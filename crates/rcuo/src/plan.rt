@@ -1,22 +1,17 @@
 //! What a run is to do: the subcommand that the words name, and the setup that is read.
 
-ghost use Rattle.std.specs.Prelude.{◌≡◌, ◌≢◌, ◌≤◌, ◌∷◌, [], IfOk, IfErr, IfSome, Ok, Some, codes, map, option_map, string_bytes};
+ghost use Rattle.std.specs.Prelude.{◌≡◌, ◌≢◌, IfErr, IfOk, IfSome, Ok, map, string_bytes};
 ghost use Rattle.clap.specs.Words.{app_of, kind_of};
 ghost use Rattle.rcu_setup.specs.Setup.{setup_of, setup_view};
-ghost use Rattle.rcuo.specs.Plan.{Names, RefusesWords, TakesAtMost, rcuo, word_of};
+ghost use Rattle.rcu_reading.specs.Reading.{TakesAtMost};
+ghost use Rattle.rcuo.specs.Plan.{Names, RefusesWords, rcuo};
 
-use crate::read::read_text;
 use clap::error::ErrorKind;
+use rcu_reading::{MOST_READ, setup_of};
 use rcu_script::Fault;
-use rcu_setup::{Setup, SetupFault, read_setup};
+use rcu_setup::Setup;
 use std::alloc::{AllocError, AllocFailed, Global};
 use std::io::Read;
-
-/// The most bytes that are read of a setup: one more than a setup may have.
-pub const MOST_READ: usize = 1048577;
-
-/// How much is read at once.
-const PIECE: usize = 4096;
 
 /// Why there is no plan.
 #[derive(Debug, Drop)]
@@ -92,21 +87,6 @@ fn subcommand_of(alloc: Global, words: &[String]) -> Result<Subcommand, clap::Er
     match matches.subcommand_matches("threads") {
         Some(_) => Ok(Subcommand::Threads),
         None => Ok(Subcommand::Replay),
-    }
-}
-
-/// The setup that the reader holds.
-fn setup_of<R: Read>(alloc: Global, reader: &mut R) -> Result<Setup, Fault>
-    ensures most { TakesAtMost MOST_READ (R.remaining reader.old) (R.remaining reader.new) }
-    ensures exact { IfSome (R.remaining reader.old) (λ bytes. IfOk result (λ setup. setup_of bytes ≡ Ok (setup_view setup))) }
-{
-    let bytes = read_text(alloc, reader, MOST_READ, PIECE)?;
-    let Ok(text) = std::str::from_utf8(bytes.as_slice()) else {
-        return Err(Fault::Setup(SetupFault::NotToml));
-    };
-    match read_setup(alloc, text) {
-        Ok(setup) => Ok(setup),
-        Err(fault) => Err(Fault::Setup(fault)),
     }
 }
 

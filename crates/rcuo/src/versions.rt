@@ -1,183 +1,24 @@
-//! Retiring of the route table: docs/specification/program.md, "Route table".
+//! The versions of the route table that a plan's run retires: docs/specification/program.md, "Route table".
 
-ghost use Rattle.std.specs.Prelude.{◌≡◌, ◌≤◌, ◌+◌, ◌*◌, ◌%◌, ◌<◌, IfOk, OnOk, count_by, length, vec_len};
-ghost use Rattle.indexmap.specs.IndexMap.{index_map_len};
-ghost use Rattle.rcu_script.specs.Calls.{is_call};
+ghost use Rattle.std.specs.Prelude.{◌≡◌, IfOk, vec_len};
 ghost use Rattle.rcuo.specs.Plan.{jobs_for};
 
 use crate::plan::{Plan, Subcommand};
-use indexmap::IndexMap;
-use rcu_script::{Fault, route_of};
-use rcu_setup::Command;
+use rcu_script::Fault;
+use rcu_versions::{Retired, versions_by_rounds, versions_by_script};
 use std::alloc::Global;
-use std::mem;
-
-/// A version of the route table: the hop of each name.
-pub type Version = IndexMap<String, u32>;
-
-/// How far apart the keys of two versions are.
-const KEY_STEP: u64 = 65536;
-
-/// A version that is retired. Its key is the version's number times 65536, plus the number of its routes.
-#[derive(Drop)]
-pub struct Retired {
-    pub key: u64,
-    pub table: Version,
-    pub ghost promised: { index_map_len table ≡ key % 65536 },
-}
-
-/// Sets a route. A name that is there keeps its place.
-fn set_route(alloc: Global, version: &mut Version, name: &str, hop: u32) -> Result<(), Fault>
-    ensures { OnOk result (index_map_len version.new ≤ index_map_len version.old + 1) }
-{
-    let name = String::from_str(alloc, name)?;
-    version.insert(name, hop)?;
-    Ok(())
-}
-
-/// A copy with one route set.
-fn next_version(alloc: Global, version: &Version, name: &str, hop: u32) -> Result<Version, Fault>
-    ensures { IfOk result (λ v. index_map_len v ≤ index_map_len version.now + 1) }
-{
-    let mut copy = version.clone()?;
-    set_route(alloc, &mut copy, name, hop)?;
-    Ok(copy)
-}
-
-/// How many bytes a route of this name takes, by the count of [`Retiring`].
-fn route_bytes(name: &str) -> u64 {
-    ROUTE_BYTES.saturating_add(name.len() as u64)
-}
-
-/// Version 0, which the setup's routes make, and how many bytes it takes.
-fn first_version(alloc: Global, routes: &[(String, u32)]) -> Result<(Version, u64), Fault>
-    ensures { IfOk result (λ v. index_map_len v.0 ≤ length routes.now) }
-{
-    let mut version = Version::new(alloc);
-    let mut bytes = 0u64;
-    for (name, hop) in routes {
-        set_route(alloc, &mut version, name.as_str(), *hop)?;
-        bytes = bytes.saturating_add(route_bytes(name.as_str()));
-    }
-    Ok((version, bytes))
-}
-
-/// How many bytes all versions of a run may take, by the count of [`Retiring`]. A setup may ask for far more than a machine
-/// has, as each call line copies the whole table.
-const MOST_BYTES: u64 = 1 << 30;
-
-/// How many bytes a route takes beside its name, at most: its place in the map, with what a list keeps spare.
-const ROUTE_BYTES: u64 = 128;
-
-/// The current version, and those that were retired before it.
-#[derive(Drop)]
-struct Retiring {
-    current: Version,
-    /// How many bytes the current version takes, by the count of its routes and names.
-    bytes: u64,
-    /// How many bytes the next versions may take in all.
-    left: u64,
-    retired: Vec<Retired>,
-}
-
-impl Retiring {
-    /// Makes the next version, with one route set, and retires the current one. Its growth is refused where all versions
-    /// would take more than [`MOST_BYTES`].
-    fn retire(&mut self, alloc: Global, name: &str, hop: u32) -> Result<(), Fault>
-        requires small { index_map_len self.old.current < 65536 }
-        requires few { vec_len self.old.retired < 65536 }
-        ensures more { OnOk result (vec_len self.new.retired ≡ vec_len self.old.retired + 1) }
-        ensures small { OnOk result (index_map_len self.new.current ≤ index_map_len self.old.current + 1) }
-        ensures spent { OnOk result (self.new.left + self.new.bytes ≡ self.old.left) }
-    {
-        let bytes = self.bytes.saturating_add(route_bytes(name));
-        let Some(left) = self.left.checked_sub(bytes) else {
-            return Err(Fault::memory());
-        };
-        let next = next_version(alloc, &self.current, name, hop)?;
-        let key = self.retired.len() as u64 * KEY_STEP + self.current.len() as u64;
-        let table = mem::replace(&mut self.current, next);
-        self.retired.push(Retired { key, table })?;
-        self.bytes = bytes;
-        self.left = left;
-        Ok(())
-    }
-}
-
-/// Those that a script's call lines retire, one each, in order.
-fn retire_by_script(alloc: Global, retiring: &mut Retiring, script: &[Command]) -> Result<(), Fault>
-    requires none { vec_len retiring.old.retired ≡ 0 }
-    requires small { index_map_len retiring.old.current ≤ 64 }
-    requires few { length script.now ≤ 50000 }
-    ensures { OnOk result (vec_len retiring.new.retired ≡ count_by is_call script.now) }
-{
-    for command in script {
-        if let Some((name, hop)) = route_of(command) {
-            retiring.retire(alloc, name, hop)?;
-        }
-    }
-    Ok(())
-}
-
-/// Those that one round of `threads` retires: for each processor `P` one, whose next version sets route `cP` to the
-/// round's number.
-fn retire_round(
-    alloc: Global,
-    retiring: &mut Retiring,
-    processors: u64,
-    round: u64,
-) -> Result<(), Fault>
-    requires processors { processors ≤ 32 }
-    requires round { round < 1000 }
-    requires few { vec_len retiring.old.retired ≤ 32 * round }
-    requires small { index_map_len retiring.old.current ≤ 64 + vec_len retiring.old.retired }
-    ensures more { OnOk result (vec_len retiring.new.retired ≡ vec_len retiring.old.retired + processors) }
-    ensures small { OnOk result (index_map_len retiring.new.current ≤ 64 + vec_len retiring.new.retired) }
-{
-    for cpu in 0..processors {
-        let name = format!(in alloc; "c{cpu}")?;
-        retiring.retire(alloc, name.as_str(), round as u32)?;
-    }
-    Ok(())
-}
-
-/// Those that all rounds of `threads` retire, in order.
-fn retire_by_rounds(
-    alloc: Global,
-    retiring: &mut Retiring,
-    processors: u64,
-    calls: u64,
-) -> Result<(), Fault>
-    requires processors { processors ≤ 32 }
-    requires calls { calls ≤ 1000 }
-    requires none { vec_len retiring.old.retired ≡ 0 }
-    requires small { index_map_len retiring.old.current ≤ 64 }
-    ensures { OnOk result (vec_len retiring.new.retired ≡ calls * processors) }
-{
-    for round in 0..calls {
-        retire_round(alloc, retiring, processors, round)?;
-    }
-    Ok(())
-}
 
 /// The versions of the route table that are retired, in order: in `replay` one for each call line of the script, in
 /// `threads` one for each call of each processor.
+///
+/// # Errors
+///
+/// Want of memory, also where all versions would take more than a budget of 1 GiB.
 pub fn versions(alloc: Global, plan: &Plan) -> Result<Vec<Retired>, Fault>
     ensures { IfOk result (λ retired. vec_len retired ≡ jobs_for plan.now.subcommand plan.now.setup) }
 {
-    let setup = &plan.setup;
-    let (current, bytes) = first_version(alloc, setup.routes.as_slice())?;
-    let mut retiring = Retiring {
-        current,
-        bytes,
-        left: MOST_BYTES,
-        retired: Vec::new(alloc),
-    };
     match plan.subcommand {
-        Subcommand::Replay => retire_by_script(alloc, &mut retiring, setup.script.as_slice())?,
-        Subcommand::Threads => {
-            retire_by_rounds(alloc, &mut retiring, setup.shape.processors, setup.calls)?;
-        }
+        Subcommand::Replay => versions_by_script(alloc, &plan.setup),
+        Subcommand::Threads => versions_by_rounds(alloc, &plan.setup),
     }
-    Ok(retiring.retired)
 }

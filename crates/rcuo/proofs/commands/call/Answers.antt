@@ -1,7 +1,7 @@
 use Rattle.std.proofs.Common.{arith, refl, sym}
-use Rattle.rcu_parts.proofs.GroupLists.{zip_same}
-use Rattle.rcu_parts.proofs.TickRuns.{same_processor}
-use Rattle.rcu_parts.specs.Processors.{IsSound, SameProcessor}
+use Rattle.rcu_part_group.proofs.GroupLists.{zip_same}
+use Rattle.rcu_part_processor.proofs.TickRuns.{same_processor}
+use Rattle.rcu_part_processor.specs.Processors.{IsSound, SameProcessor}
 use Rattle.rcuo.proofs.Changing.{all_changed, zip_changed}
 use Rattle.rcuo.proofs.commands.call.Goals as goal
 

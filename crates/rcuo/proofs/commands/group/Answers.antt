@@ -1,7 +1,7 @@
 use Rattle.std.proofs.Common.{refl}
-use Rattle.rcu_parts.proofs.GroupLists.{zip_same}
-use Rattle.rcu_parts.proofs.GroupTurns.{same_group}
-use Rattle.rcu_parts.specs.Groups.{SameGroup}
+use Rattle.rcu_part_group.proofs.GroupLists.{zip_same}
+use Rattle.rcu_part_group.proofs.GroupTurns.{same_group}
+use Rattle.rcu_part_group.specs.Groups.{SameGroup}
 use Rattle.rcuo.proofs.Changing.{zip_changed}
 use Rattle.rcuo.proofs.commands.group.Goals as goal
 

@@ -1,7 +1,7 @@
 use Rattle.std.proofs.Common.{arith, refl}
-use Rattle.rcu_parts.proofs.GroupLists.{zip_same}
-use Rattle.rcu_parts.proofs.HandRuns.{same_hand}
-use Rattle.rcu_parts.specs.Hands.{IsSoundHand, SameHand}
+use Rattle.rcu_part_group.proofs.GroupLists.{zip_same}
+use Rattle.rcu_part_hand.proofs.HandRuns.{same_hand}
+use Rattle.rcu_part_hand.specs.Hands.{IsSoundHand, SameHand}
 use Rattle.rcuo.proofs.Answering.{no_hand}
 use Rattle.rcuo.proofs.Changing.{all_changed, zip_changed}
 use Rattle.rcuo.proofs.commands.hand.Goals as goal

@@ -1,7 +1,7 @@
-use Rattle.std.proofs.Common.{◌≡◌, ◌≢◌, ◌<◌, length, ap, sym, ◌∙◌, subst, arith}
+use Rattle.std.proofs.Common.{◌≢◌, ◌<◌, length, ap, sym, ◌∙◌, subst, arith}
 use Rattle.std.proofs.lemmas.List.{take_all}
 use Rattle.std.proofs.lemmas.List.Elements.{All-more, All-same}
-use Rattle.rcu_parts.specs.declared.hand.Hand.{Hand}
+use Rattle.rcu_part_hand.specs.declared.hand.Hand.{Hand}
 use Rattle.rcuo.proofs.Changing.{same_item}
 use Rattle.rcuo.proofs.commands.place_of_hand.Goals as goal
 

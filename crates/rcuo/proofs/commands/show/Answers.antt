@@ -1,6 +1,5 @@
-use Rattle.std.proofs.Common.{[], ◌≡◌, ◌<◌, ℕ, List, length, arith}
+use Rattle.std.proofs.Common.{[], arith}
 use Rattle.std.proofs.lemmas.List.{take_all}
-use Rattle.std.specs.Io.KnownBytes.{Appends}
 use Rattle.rcu_script.proofs.Written.{Appends-none}
 use Rattle.rcuo.proofs.ShowingParts.{all_shown, one_shown, shows_none}
 use Rattle.rcuo.proofs.commands.show.Goals as goal

@@ -1,8 +1,8 @@
-use Rattle.std.proofs.Common.{◌≡◌, ◌<◌, None, length, sym, subst, arith}
+use Rattle.std.proofs.Common.{None, sym, subst, arith}
 use Rattle.std.proofs.lemmas.List.{take_all}
 use Rattle.std.proofs.lemmas.List.Elements.{All-more, All-same}
-use Rattle.rcu_parts.specs.Groups.{ShownFor, members_of}
-use Rattle.rcu_parts.specs.declared.group.Group.{Group}
+use Rattle.rcu_part_group.specs.Groups.{ShownFor, members_of}
+use Rattle.rcu_part_group.specs.declared.group.Group.{Group}
 use Rattle.rcuo.proofs.commands.shown_in.Goals as goal
 
 pub returns-in-Some : goal.returns-in-Some

@@ -1,6 +1,6 @@
 use Rattle.std.proofs.Common.{None, take}
 use Rattle.std.specs.List.{All}
-use Rattle.rcu_parts.specs.Groups.{ShownFor, members_of}
+use Rattle.rcu_part_group.specs.Groups.{ShownFor, members_of}
 use Rattle.rcuo.proofs.commands.shown_in.Given as goal
 
 abbrev pub invariant-loop-place : goal.invariant-loop-place

@@ -2,9 +2,9 @@ use Rattle.std.proofs.Common.{◌∙◌, sym}
 use Rattle.std.specs.Mem.{FitsInMemory}
 use denote.Builtin.{u64 as receipt}
 use denote.Param.{param}
-use Rattle.rcu_parts.specs.contracts.group.Group as group_row
-use Rattle.rcu_parts.specs.contracts.hand.Hand as hand_row
-use Rattle.rcu_parts.specs.contracts.processor.Processor as processor_row
+use Rattle.rcu_part_group.specs.contracts.group.Group as group_row
+use Rattle.rcu_part_hand.specs.contracts.hand.Hand as hand_row
+use Rattle.rcu_part_processor.specs.contracts.processor.Processor as processor_row
 use Rattle.rcuo.proofs.Keeping.{all_kept}
 use Rattle.rcuo.proofs.Writing.{line_written, lists_written}
 use Rattle.rcuo.proofs.replay.perform.Goals as goal

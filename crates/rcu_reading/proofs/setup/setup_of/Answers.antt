@@ -1,0 +1,15 @@
+use Rattle.std.proofs.Common.{rules, ◌≡◌, List, ℕ, ◌<◌, length, arith, true, Err, nat_lt, ap, sym, ◌∙◌}
+use Rattle.std.proofs.lemmas.Option.{IfSome_then}
+use Rattle.std.proofs.lemmas.Bool.Decides.{nat_tests}
+use Rattle.rcu_setup.specs.Setup.{setup_of, setup_view}
+use Rattle.rcu_setup.specs.Faults.{not_toml}
+use Rattle.rcu_reading.proofs.Whole.{whole}
+use Rattle.rcu_reading.proofs.setup.setup_of.Goals as goal
+
+too_long : (xs : List ℕ) → 1048576 < length xs → setup_of xs ≡ Err not_toml
+too_long xs h = let t : nat_lt 1048576 (length xs) ≡ true = grind (arith, nat_tests) in rw t
+
+pub returns-in-Ok-read_setup-clause-exact : goal.returns-in-Ok-read_setup-clause-exact
+returns-in-Ok-read_setup-clause-exact g c =
+    let text_is : c.in-Ok.text.now ≡ c.as_slice.result.now = search rules in
+    IfSome_then (g.R.Read.remaining c.args.reader.now) c.in_ok-bytes.ensures.whole (λ bytes is. whole 1048576 setup_of not_toml too_long bytes (setup_view c.in-Ok-read_setup.setup) (ap setup_of (sym (text_is ∙ c.as_slice.ensures.value ∙ is)) ∙ c.in-Ok-read_setup.ensures))

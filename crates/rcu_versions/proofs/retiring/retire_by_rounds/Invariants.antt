@@ -1,0 +1,10 @@
+use Rattle.std.proofs.Common.{◌≡◌, ◌≤◌, ◌+◌, ◌*◌, vec_len}
+use Rattle.indexmap.specs.IndexMap.{index_map_len}
+use Rattle.rcu_versions.proofs.retiring.retire_by_rounds.Given as goal
+
+abbrev pub invariant-loop-round : goal.invariant-loop-round
+invariant-loop-round l = record {
+  many : vec_len l.retiring.retired ≡ l.round * l.processors;
+  few : vec_len l.retiring.retired ≤ 32 * l.round;
+  small : index_map_len l.retiring.current ≤ 64 + vec_len l.retiring.retired;
+}

@@ -1,0 +1,55 @@
+//! One version of the route table.
+
+ghost use Rattle.std.specs.Prelude.{◌≤◌, ◌+◌, IfOk, OnOk, length};
+ghost use Rattle.indexmap.specs.IndexMap.{index_map_len};
+
+use indexmap::IndexMap;
+use rcu_script::Fault;
+use std::alloc::Global;
+
+/// A version of the route table: the hop of each name.
+pub type Version = IndexMap<String, u32>;
+
+/// How many bytes a route takes beside its name, at most: its place in the map, with what a list keeps spare.
+const ROUTE_BYTES: u64 = 128;
+
+/// How many bytes a route of this name takes, at most.
+pub fn route_bytes(name: &str) -> u64 {
+    ROUTE_BYTES.saturating_add(name.len() as u64)
+}
+
+/// Sets a route. A name that is there keeps its place.
+fn set_route(alloc: Global, version: &mut Version, name: &str, hop: u32) -> Result<(), Fault>
+    ensures { OnOk result (index_map_len version.new ≤ index_map_len version.old + 1) }
+{
+    let name = String::from_str(alloc, name)?;
+    version.insert(name, hop)?;
+    Ok(())
+}
+
+/// A copy with one route set.
+pub fn next_version(
+    alloc: Global,
+    version: &Version,
+    name: &str,
+    hop: u32,
+) -> Result<Version, Fault>
+    ensures { IfOk result (λ v. index_map_len v ≤ index_map_len version.now + 1) }
+{
+    let mut copy = version.clone()?;
+    set_route(alloc, &mut copy, name, hop)?;
+    Ok(copy)
+}
+
+/// Version 0, which the setup's routes make, and how many bytes it takes, by the count of [`route_bytes`].
+pub fn first_version(alloc: Global, routes: &[(String, u32)]) -> Result<(Version, u64), Fault>
+    ensures { IfOk result (λ v. index_map_len v.0 ≤ length routes.now) }
+{
+    let mut version = Version::new(alloc);
+    let mut bytes = 0u64;
+    for (name, hop) in routes {
+        set_route(alloc, &mut version, name.as_str(), *hop)?;
+        bytes = bytes.saturating_add(route_bytes(name.as_str()));
+    }
+    Ok((version, bytes))
+}
