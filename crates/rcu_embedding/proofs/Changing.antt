@@ -1,0 +1,24 @@
+-- What the change of one item does to a whole list.
+use Rattle.std.proofs.Common.{◌≡◌, ℕ, zero, suc, ◌<◌, List, [], ◌∷◌, ◌++◌, length, get_or, set, take, drop, All, arith, subst, sym}
+use Rattle.std.proofs.lemmas.List.Elements.{All-get_or, All-set}
+use Rattle.std.specs.List.{AllZip}
+use Rattle.rcu_part_group.proofs.GroupLists.{written, zip_again, zip_same}
+
+module _ {X : Type 0} where
+  -- a relation that holds of each item and itself holds place by place, where it holds of the item that changes
+  pub zip_changed : (S : X → X → Type 0) → ((x : X) → S x x) → (xs : List X) (k : ℕ) (x y : X) → k < length xs → x ≡ get_or xs k x → S x y → AllZip S xs (set xs k y)
+  zip_changed S same [] k x y there is s = absurd (let z : ⊥ = omega (arith, there) in z)
+  zip_changed S same (a ∷ xs) zero x y there is s = (subst (λ z. S z y) is s, zip_same S same xs)
+  zip_changed S same (a ∷ xs) (suc k) x y there is s = (same a, zip_changed S same xs k x y (omega (arith, there)) is s)
+
+  -- what holds of each item still does, where it is kept by the item that changes
+  pub all_changed : (P : X → Type 0) (xs : List X) (k : ℕ) (x y : X) → k < length xs → x ≡ get_or xs k x → (P x → P y) → All P xs → All P (set xs k y)
+  all_changed P xs k x y there is keeps all = All-set P xs k y (keeps (subst P (sym is) (All-get_or P xs k x there all))) all
+
+  -- and where it holds over two steps, of a list that changed before
+  pub zip_next : (S : X → X → Type 0) → ((x : X) → S x x) → ((x y z : X) → S x y → S y z → S x z) → (olds xs : List X) (k : ℕ) (x y : X) → AllZip S olds xs → k < length xs → x ≡ get_or xs k x → S x y → AllZip S olds (set xs k y)
+  zip_next S same again olds xs k x y before there is s = zip_again S again olds xs (set xs k y) before (zip_changed S same xs k x y there is s)
+
+  -- What a loop over all items of a `Vec` leaves in it.
+  pub left_by : (P : List X → Type 0) (xs ys : List X) (n : ℕ) → length xs ≡ length ys → n ≡ length ys → P xs → P (take n (xs ++ drop (length xs) ys))
+  left_by P xs ys n same many p = subst P (sym (written xs ys n same many)) p

@@ -1,0 +1,4 @@
+pub mod Accounting
+pub mod Changing
+pub mod Going
+pub mod Rows

@@ -1,0 +1,5 @@
+pub mod Rows
+pub mod Receipts
+pub mod Tables
+pub mod Keeping
+pub mod Ends
