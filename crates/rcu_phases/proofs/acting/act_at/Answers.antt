@@ -1,0 +1,15 @@
+use Rattle.std.proofs.Common.{arith}
+use Rattle.rcu_part_group.proofs.GroupLists.{zip_same}
+use Rattle.rcu_part_processor.proofs.TickRuns.{same_processor}
+use Rattle.rcu_part_processor.specs.Processors.{IsSound, SameProcessor}
+use Rattle.rcu_phases.proofs.Changing.{all_changed, zip_changed}
+use Rattle.rcu_phases.proofs.acting.act_at.Goals as goal
+
+pub returns-then-cpu-len-clause-same : goal.returns-then-cpu-len-clause-same
+returns-then-cpu-len-clause-same g c = zip_same (λ p q. SameProcessor p.state q.state) (λ p. same_processor p.state) c.args.processors.now.items
+
+pub returns-clause-same : goal.returns-clause-same
+returns-clause-same g c = zip_changed (λ p q. SameProcessor p.state q.state) (λ p. same_processor p.state) c.args.processors.now.items c.args.cpu c.index_mut.result.now c.act_one.new.processor (omega arith) c.index_mut.ensures.value c.act_one.ensures.same
+
+pub returns-clause-sound : goal.returns-clause-sound
+returns-clause-sound g c = all_changed (λ p. IsSound g.J.Job.key_of g.J.Job.gives p.state) c.args.processors.now.items c.args.cpu c.index_mut.result.now c.act_one.new.processor (omega arith) c.index_mut.ensures.value c.act_one.ensures.sound

@@ -1,0 +1,16 @@
+use Rattle.std.proofs.Common.{arith, refl, rules}
+use Rattle.rcu_part_group.proofs.GroupTurns.{same_group}
+use Rattle.rcu_part_group.specs.Groups.{SameGroup}
+use Rattle.rcu_phases.proofs.Changing.{zip_changed}
+use Rattle.rcu_phases.proofs.Keeping.{groups_again, groups_none}
+use Rattle.rcu_phases.proofs.turning.turn_each_group.Goals as goal
+
+pub loop-place-init : goal.loop-place-init
+loop-place-init g c = record { same = groups_none c.args.groups.now.items; long = refl }
+
+pub loop-place-preserved : goal.loop-place-preserved
+loop-place-preserved g c = let i = c.loop-place.invariant in let groups = c.loop-place.groups.items in
+    let turned = zip_changed (λ x y. SameGroup x.state y.state) (λ x. same_group x.state) groups c.loop-place.place c.index_mut.result.now c.turn.new.self (omega arith) c.index_mut.ensures.value c.turn.ensures.same in record {
+      same = groups_again _ groups _ i.same turned;
+      long = search rules;
+    }

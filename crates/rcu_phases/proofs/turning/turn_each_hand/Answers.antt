@@ -1,0 +1,17 @@
+use Rattle.std.proofs.Common.{arith, refl, rules}
+use Rattle.rcu_part_hand.proofs.HandRuns.{same_hand}
+use Rattle.rcu_part_hand.specs.Hands.{IsSoundHand, SameHand}
+use Rattle.rcu_phases.proofs.Changing.{all_changed, zip_changed}
+use Rattle.rcu_phases.proofs.Keeping.{hands_again, hands_none}
+use Rattle.rcu_phases.proofs.turning.turn_each_hand.Goals as goal
+
+pub loop-place-init : goal.loop-place-init
+loop-place-init g c = record { keeps = hands_none g.J.Job.key_of g.J.Job.gives c.args.hands.now.items; long = refl }
+
+pub loop-place-preserved : goal.loop-place-preserved
+loop-place-preserved g c = let i = c.loop-place.invariant in let hands = c.loop-place.hands.items in
+    let same = zip_changed (λ h i. SameHand h.state i.state) (λ h. same_hand h.state) hands c.loop-place.place c.index_mut.result.now c.turn.new.self (omega arith) c.index_mut.ensures.value c.turn.ensures.same in
+    let sound = all_changed (λ h. IsSoundHand g.J.Job.key_of g.J.Job.gives h.state) hands c.loop-place.place c.index_mut.result.now c.turn.new.self (omega arith) c.index_mut.ensures.value c.turn.ensures.sound in record {
+      keeps = hands_again g.J.Job.key_of g.J.Job.gives _ hands _ i.keeps (record { same = same; sound = sound });
+      long = search rules;
+    }

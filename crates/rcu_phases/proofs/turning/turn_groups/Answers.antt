@@ -1,0 +1,8 @@
+use Rattle.rcu_phases.proofs.Keeping.{groups_again, groups_none}
+use Rattle.rcu_phases.proofs.turning.turn_groups.Goals as goal
+
+pub loop-init : goal.loop-init
+loop-init g c = groups_none c.args.groups.items
+
+pub loop-preserved : goal.loop-preserved
+loop-preserved g c = groups_again c.args.groups.items c.loop.groups.items c.turn_each_group.new.groups.items c.loop.invariant c.turn_each_group.ensures

@@ -1,0 +1,8 @@
+use Rattle.rcu_phases.proofs.Keeping.{hands_again, hands_none}
+use Rattle.rcu_phases.proofs.turning.turn_hands.Goals as goal
+
+pub loop-init : goal.loop-init
+loop-init g c = hands_none g.J.Job.key_of g.J.Job.gives c.args.hands.items
+
+pub loop-preserved : goal.loop-preserved
+loop-preserved g c = hands_again g.J.Job.key_of g.J.Job.gives c.args.hands.items c.loop.hands.items c.turn_each_hand.new.hands.items c.loop.invariant c.turn_each_hand.ensures
