@@ -23,6 +23,7 @@ fn boxed(rt: &HostRuntime, key: u64) -> Result<BoxedJob<KEY>, Fail> {
     Ok(BoxedJob::<65536>::new(key, call))
 }
 
+// The row `cut-core`, with boxed jobs: the events end between a claim and its finish, and the job counts as run.
 #[test]
 fn boxed_jobs_run(rt: HostRuntime) -> Result<(), Fail> {
     let shape = Shape::new(1, 0, 1, 10, 100, 10).ok_or("no shape")?;
@@ -50,7 +51,6 @@ fn boxed_jobs_run(rt: HostRuntime) -> Result<(), Fail> {
     for answer in &answers {
         assert!(rt; matches!(answer, Answer::Done));
     }
-    // the claim still runs: its job counts as run
     let Ok((marks, closed)) = world.close() else {
         return Err(Fail::from("no room"));
     };
