@@ -4,7 +4,7 @@ ghost use Rattle.std.specs.Prelude.{◌≡◌, ◌≤◌, ◌+◌, ◌*◌, ◌%
 ghost use Rattle.indexmap.specs.IndexMap.{index_map_len};
 ghost use Rattle.rcu_script.specs.Calls.{is_call};
 
-use crate::table::{Version, first_version, next_version, route_bytes};
+use crate::table::{Version, added_bytes, first_version, next_version};
 use rcu_script::{Fault, route_of};
 use rcu_setup::{Command, Setup};
 use std::alloc::Global;
@@ -60,7 +60,7 @@ impl Retiring {
         ensures small { OnOk result (index_map_len self.new.current ≤ index_map_len self.old.current + 1) }
         ensures spent { OnOk result (self.new.left + self.new.bytes ≡ self.old.left) }
     {
-        let bytes = self.bytes.saturating_add(route_bytes(name));
+        let bytes = self.bytes.saturating_add(added_bytes(&self.current, name));
         let Some(left) = self.left.checked_sub(bytes) else {
             return Err(Fault::memory());
         };

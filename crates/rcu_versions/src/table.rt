@@ -14,8 +14,17 @@ pub type Version = IndexMap<String, u32>;
 const ROUTE_BYTES: u64 = 128;
 
 /// How many bytes a route of this name takes, at most.
-pub fn route_bytes(name: &str) -> u64 {
+fn route_bytes(name: &str) -> u64 {
     ROUTE_BYTES.saturating_add(name.len() as u64)
+}
+
+/// How many bytes more than this version the one with this route takes, at most. A name that is there takes its place.
+pub fn added_bytes(version: &Version, name: &str) -> u64 {
+    if version.contains_key(name) {
+        0
+    } else {
+        route_bytes(name)
+    }
 }
 
 /// Sets a route. A name that is there keeps its place.
