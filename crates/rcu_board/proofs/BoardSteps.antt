@@ -1,6 +1,6 @@
 -- The steps on the board word keep the rule.
 use Rattle.rcu_board.specs.Views.{Every, total, seen_at, sight, accepted_count, fresh_count, claimed, runs, cpus, one_if_equal, own_count, driver_count}
-use Rattle.rcu_board.specs.Laws.{BoardRule, ViewAlone, IsBoard, BoardLawInView, Reported}
+use Rattle.rcu_board.specs.Laws.{OddEquals, BoardRule, ViewAlone, IsBoard, BoardLawInView, Reported}
 use Rattle.rcu_board.specs.Words.{accepts_word, turns_word, asks_word}
 use Rattle.rcu_board.specs.Plays.{SeatState, touched, with_stamp, stamp_own, looked, Looking, report_own, reported, Reporting, Driving}
 use Rattle.std.proofs.Common.{◌≡◌, ◌≢◌, ℕ, ◌+◌, ◌*◌, ◌%◌, ◌/◌, ◌<◌, ◌≤◌, Bool, true, cond, eqb, Option, Some, None, List, [], ◌∷◌, map, length, get_or, sym, refl, ap, ◌∙◌, subst, arith, length-set, get_or-set_other, get_or-set_same, length-append}
@@ -47,13 +47,13 @@ alone_touched n v w i x t live weight drives seen steps owns stamps sights runni
   running = running;
 }
 
-pub beside_touched : (i x : ℕ) (v w : View) → w.weight ≡ v.weight → w.drives ≡ v.drives → w.controls ≡ v.controls → w.seen ≡ v.seen → cpus w.own ≡ cpus v.own
+pub beside_touched : (i x : ℕ) (v w : View) → w.weight ≡ v.weight → w.drives ≡ v.drives → w.controls ≡ v.controls → w.seen ≡ v.seen → w.merged ≡ v.merged → cpus w.own ≡ cpus v.own
     → (i ≢ 0 → (y : ℕ) → Every (λ (o : Own). Reported y o.cpu o.reports) v.own → Every (λ (o : Own). Reported y o.cpu o.reports) w.own)
     → ((p : ℕ) → i ≢ accepts_word p → (y : ℕ) → Every (λ (o : Own). o.cpu ≡ p → y / 2 ≡ accepted_count o) v.own → Every (λ (o : Own). o.cpu ≡ p → y / 2 ≡ accepted_count o) w.own)
     → ((p : ℕ) → i ≢ turns_word p → (y : ℕ) → Every (λ (c : Claim). c.cpu ≡ p → y ≡ 2 * c.number + 1) v.running → Every (λ (c : Claim). c.cpu ≡ p → y ≡ 2 * c.number + 1) w.running)
     → ((p : ℕ) → i ≢ turns_word p → ((k : ℕ) → claimed p k w ≡ claimed p k v) × (runs p w ≡ runs p v))
     → OtherWords i v (touched i x w)
-beside_touched i x v w weight drives controls seen own reports counts running claims =
+beside_touched i x v w weight drives controls seen merged own reports counts running claims =
     let same : (j : ℕ) → i ≢ j → seen_at (touched i x w) j ≡ seen_at v j = λ j ne. seen_else w i x j (λ e. ne (sym e)) ∙ ap (λ (l : List ℕ). get_or l j 0) seen in record {
       weight = weight;
       drives = drives;
@@ -61,7 +61,7 @@ beside_touched i x v w weight drives controls seen own reports counts running cl
       own = own;
       board = λ ne y t. let e = ap number_of (same 0 ne) in record { sight = omega (arith, t.sight, e); driver = λ d. e ∙ t.driver (sym drives ∙ d); reports = reports ne y t.reports };
       needed = λ ne. same 1 ne;
-      accepts = λ p ne y t. let e = same (accepts_word p) ne in record { sight = omega (arith, t.sight, e); odd_sight = λ odd. e ∙ t.odd_sight (ap (λ (z : ℕ). z % 2) (sym e) ∙ odd); count = counts p ne y t.count; shut = λ c. ap (λ (z : ℕ). z % 2) e ∙ t.shut (sym controls ∙ c) };
+      accepts = λ p ne y t. let e = same (accepts_word p) ne in record { sight = omega (arith, t.sight, e); odd_sight = λ odd. e ∙ t.odd_sight (ap (λ (z : ℕ). z % 2) (sym e) ∙ odd); count = counts p ne y t.count; shut = λ c. ap (λ (z : ℕ). z % 2) e ∙ t.shut (sym controls ∙ c); merged = subst (Every (OddEquals p y)) (sym merged) t.merged };
       turns = λ p ne y t. let e = same (turns_word p) ne in record { sight = omega (arith, t.sight, e); running = running p ne y t.running };
       asks = λ p ne y t c. same (asks_word p) ne ∙ t (sym controls ∙ c);
       claims = claims;
@@ -112,7 +112,7 @@ module _ (n seats slots id : ℕ) (m : SeatState) (live : 0 < m.0.weight) where
         keeps,
         tt,
         moved n seats s o id v w at 0 x (omega arith) lawful
-            (beside_touched 0 x v v' refl refl refl refl (cpus-map f (λ u. refl) v.own) (λ _. same_reports) (λ p _. same_counts p) (λ p _ y h. h) (λ p _. ((λ k. refl), refl)))
+            (beside_touched 0 x v v' refl refl refl refl refl (cpus-map f (λ u. refl) v.own) (λ _. same_reports) (λ p _. same_counts p) (λ p _ y h. h) (λ p _. ((λ k. refl), refl)))
             (here_board n id s.views x x w o.board.word mine (λ k u _ _ _ h. h)),
         record { view = refl; word = o.board.word; later = later; driver = b.driver },
       )
@@ -185,7 +185,7 @@ module _ (n seats slots id : ℕ) (m : SeatState) (live : 0 < m.0.weight) (o : O
         keeps,
         tt,
         moved n seats s k id v w at 0 y (omega arith) lawful
-            (beside_touched 0 x v v' refl refl refl refl (cpus-map f (λ u. refl) v.own) (λ no. absurd (no refl)) (λ q _. same_counts q) (λ q _ z h. h) (λ q _. ((λ j. refl), refl)))
+            (beside_touched 0 x v v' refl refl refl refl refl (cpus-map f (λ u. refl) v.own) (λ no. absurd (no refl)) (λ q _. same_counts q) (λ q _ z h. h) (λ q _. ((λ j. refl), refl)))
             (here_board n id s.views x y w (clear_board x p small near k.board.word) mine others),
         record {
           view = refl;
@@ -212,7 +212,7 @@ module _ (n seats slots id : ℕ) (m : SeatState) (live : 0 < m.0.weight) (drive
       (every (λ (c : Claim). c.sight ≤ sight v) (λ (c : Claim). c.sight ≤ sight (touched 0 z v)) (λ c h. omega arith) v.claims t.claims) t.running
 
   drive_beside : (z : ℕ) → OtherWords 0 m.0 (touched 0 z m.0)
-  drive_beside z = beside_touched 0 z m.0 m.0 refl refl refl refl refl (λ no. absurd (no refl)) (λ q _ y h. h) (λ q _ y h. h) (λ q _. ((λ j. refl), refl))
+  drive_beside z = beside_touched 0 z m.0 m.0 refl refl refl refl refl refl (λ no. absurd (no refl)) (λ q _ y h. h) (λ q _ y h. h) (λ q _. ((λ j. refl), refl))
 
   pub drive_allowed : seq ≤ number_of new → (IsBoard (packed seq 0) → IsBoard new) → ((q r : ℕ) → q < n → Reported (packed seq 0) q r → Reported new q r)
       → Allows (BoardRule n seats) slots id m 0 (λ y. either (eqb y (packed seq 0)) new y) (Driving (step slots 0 (packed seq 0) new none) m)

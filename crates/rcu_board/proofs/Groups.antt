@@ -1,6 +1,6 @@
 -- Seats that are made and joined keep the rule.
 use Rattle.rcu_board.specs.Views.{one_if, control_count, joined_word, joined_words, given_control, with_control, Every, total, seen_at, sight, accepted_count, one_if_claim, one_if_on, claimed, runs, cpus, one_if_equal, own_count, driver_count, spent, joined_tallies, joined, given_plain, plain, rest_own, first_own, given_own, with_own}
-use Rattle.rcu_board.specs.Laws.{AskLawInView, Each, BoardRule, ViewAlone, BoardLawInView, AcceptLawInView, TurnLawInView, Reported}
+use Rattle.rcu_board.specs.Laws.{OddEquals, AskLawInView, Each, BoardRule, ViewAlone, BoardLawInView, AcceptLawInView, TurnLawInView, Reported}
 use Rattle.rcu_board.specs.Words.{words_of, is_asks, asks_word, accepts_word, turns_word}
 use Rattle.std.proofs.Common.{◌≡◌, ℕ, zero, suc, ◌+◌, ◌-◌, ◌*◌, ◌%◌, ◌/◌, ◌<◌, ◌≤◌, Bool, true, false, cond, ◌||◌, List, [], ◌∷◌, ◌++◌, length, get_or, set, sym, refl, ap, ◌∙◌, subst, ⊎_elim, ◌⊎◌, inl, inr, arith, max}
 use mathlib.Core.Option.{some}
@@ -15,7 +15,7 @@ use Rattle.rcu_board.specs.declared.view.Claim.{Claim}
 use Rattle.rcu_board.specs.declared.view.Accepted.{Accepted}
 use Rattle.rcu_board.proofs.Asks.{no_true, accepts_not, turns_not, asks_is}
 use Rattle.rcu_board.proofs.Turns.{turn_counts, turn_law}
-use Rattle.rcu_board.proofs.Views.{every, every_nil, every_append, total-append, total-set, two_of, each_set}
+use Rattle.rcu_board.proofs.Views.{every, every_nil, every_more, every_append, total-append, total-set, two_of, each_set}
 
 -- a word of two joined views
 pub joined-word-at : (second : Bool) (k i j : ℕ) (xs ys : List ℕ) → length xs ≡ length ys → i < length xs → j ≡ k + i → get_or (joined_words k second xs ys) i 0 ≡ joined_word j second (get_or xs i 0) (get_or ys i 0)
@@ -117,9 +117,11 @@ joins n seats id other v w live live' s k at apart at' =
       accept = λ p low. let x : ℕ = get_or s.words (accepts_word p) 0 in let hv = k.accept p low id v at in let hw = k.accept p low other w there in let e = g (accepts_word p) (accepts_not p) (omega arith) in each (AcceptLawInView p x) (k.accept p low) record {
         sight = let a = hv.sight in let c = hw.sight in omega arith;
         odd_sight = λ odd. e ∙ one_of (seen_at v (accepts_word p)) (seen_at w (accepts_word p)) x hv.odd_sight hw.odd_sight hv.sight hw.sight (ap (λ (z : ℕ). z % 2) (sym e) ∙ odd);
+        merged = every_more (OddEquals p x) v.seen (w.seen ∷ (v.merged ++ w.merged)) hv.odd_sight
+            (every_more (OddEquals p x) w.seen (v.merged ++ w.merged) hw.odd_sight (every_append (OddEquals p x) v.merged w.merged hv.merged hw.merged));
         count = every_append (λ (o : Own). o.cpu ≡ p → x / 2 ≡ accepted_count o) v.own w.own hv.count hw.count;
         shut = λ c. ap (λ (z : ℕ). z % 2) e ∙ parity (seen_at v (accepts_word p)) (seen_at w (accepts_word p)) x hv.odd_sight hw.odd_sight hv.sight hw.sight (⊎_elim (λ t. inl (hv.shut t)) (λ t. inr (hw.shut t)) (or_split v.controls w.controls c));
-      } record { sight = omega arith; odd_sight = λ odd. absurd (omega arith); count = every_nil (λ (o : Own). o.cpu ≡ p → x / 2 ≡ accepted_count o); shut = λ d. absurd (no_true d) };
+      } record { sight = omega arith; odd_sight = λ odd. absurd (omega arith); merged = every_nil (OddEquals p x); count = every_nil (λ (o : Own). o.cpu ≡ p → x / 2 ≡ accepted_count o); shut = λ d. absurd (no_true d) };
       turn = λ p low. turn_law _ _ _ (let t = turn_counts _ _ _ (k.turn p low) in record {
         once = λ j. sum (claimed p j) (total-append (one_if_claim p j) v.claims w.claims) refl ∙ t.once j;
         one = sum (runs p) (total-append (one_if_on p) v.running w.running) refl ∙ t.one;
@@ -215,8 +217,8 @@ module _ (n seats id : ℕ) (v : View) (lo ro : List Own) (lc rc : Bool) (big : 
     };
     needed = let x : ℕ = get_or s.words 1 0 in let h = k.needed id v at in each (λ u. seen_at u 1 ≤ x) k.needed h h;
     accept = λ p low. let x : ℕ = get_or s.words (accepts_word p) 0 in let h = k.accept p low id v at in each (AcceptLawInView p x) (k.accept p low)
-        (record { sight = h.sight; odd_sight = h.odd_sight; count = lefts (λ (o : Own). o.cpu ≡ p → x / 2 ≡ accepted_count o) h.count; shut = λ c. h.shut (left_flag c) })
-        (record { sight = h.sight; odd_sight = h.odd_sight; count = rights (λ (o : Own). o.cpu ≡ p → x / 2 ≡ accepted_count o) h.count; shut = λ c. h.shut (right_flag c) });
+        (record { sight = h.sight; odd_sight = h.odd_sight; merged = h.merged; count = lefts (λ (o : Own). o.cpu ≡ p → x / 2 ≡ accepted_count o) h.count; shut = λ c. h.shut (left_flag c) })
+        (record { sight = h.sight; odd_sight = h.odd_sight; merged = h.merged; count = rights (λ (o : Own). o.cpu ≡ p → x / 2 ≡ accepted_count o) h.count; shut = λ c. h.shut (right_flag c) });
     turn = λ p low. turn_law _ _ _ (let h = turn_counts _ _ _ (k.turn p low) in record { once = λ j. sum (claimed p j) (omega arith) ∙ h.once j; one = sum (runs p) (omega arith) ∙ h.one }) (let x : ℕ = get_or s.words (turns_word p) 0 in let h = (k.turn p low).in_views id v at in each (TurnLawInView p x) ((k.turn p low).in_views)
         (record { sight = h.sight; running = h.running })
         (record { sight = h.sight; running = every_nil (λ (c : Claim). c.cpu ≡ p → x ≡ 2 * c.number + 1) }));

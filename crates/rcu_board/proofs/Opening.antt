@@ -1,6 +1,6 @@
 -- The words of a new board keep the rule.
 use Rattle.rcu_board.specs.Views.{one_if, no_steps, first_word, first_from, Every, total, seen_at, sight, accepted_count, cpus, one_if_equal, new_own, new_owns, opening_view, new_owns_between, first_own, rest_own, claimed}
-use Rattle.rcu_board.specs.Laws.{AskLawInView, Each, BoardRule, ViewAlone, BoardLawInView, AcceptLawInView, TurnLawInView, Reported}
+use Rattle.rcu_board.specs.Laws.{OddEquals, AskLawInView, Each, BoardRule, ViewAlone, BoardLawInView, AcceptLawInView, TurnLawInView, Reported}
 use Rattle.rcu_board.specs.Words.{words_of, is_asks, cpu_of, accepts_word, turns_word, asks_word}
 use Rattle.std.proofs.Common.{◌≡◌, ℕ, zero, suc, ◌+◌, ◌-◌, ◌*◌, ◌/◌, ◌<◌, ◌≤◌, Bool, true, false, cond, ltb, le-ltb, List, [], ◌∷◌, length, get_or, set, sym, refl, ap, ◌∙◌, subst, arith, take, get_or-set_other, get_or-set_same, length-set, length-take-le, get_or-take}
 use Rattle.std.proofs.lemmas.List.{length-replicate}
@@ -102,6 +102,7 @@ opens n offloadable seats ws few some_seats began = let v : View = opening_view 
       accept = λ p low. let x : ℕ = get_or ws (accepts_word p) 0 in let z = acc p low in let e = none_seen (accepts_word p) (accepts_not p) (omega arith) in all (AcceptLawInView p x) record {
         sight = omega arith;
         odd_sight = λ odd. omega arith;
+        merged = every_nil (OddEquals p x);
         count = every_new (λ (o : Own). o.cpu ≡ p → x / 2 ≡ accepted_count o) (λ q _. omega arith) 0 n;
         shut = λ _. omega arith;
       };

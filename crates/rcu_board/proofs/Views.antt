@@ -23,6 +23,10 @@ module _ {A : Type 0} where
   unfolding Every
   every_nil P = tt
 
+  pub every_more : (P : A → Type 0) (x : A) (l : List A) → P x → Every P l → Every P (x ∷ l)
+  unfolding Every
+  every_more P x l a b = (a, b)
+
   pub every_one : (P : A → Type 0) (x : A) → P x → Every P (x ∷ [])
   unfolding Every
   every_one P x h = (h, tt)

@@ -72,7 +72,7 @@ module _ (n slots id : ℕ) (m : SeatState) (live : 0 < m.0.weight) where
           let idle : Idle s.views = λ j u e. (k.alone j u e).no_seat in let w = k.seats.weight in
           let all : (f : View → ℕ) → f spent ≡ 0 → total f s.views ≡ f m.0 = λ f z. whole f z s.views id m.0 at idle (w ∙ sym heavy) in
           let commanding : m.0.controls ≡ true = flagged m.0.controls (sym (all control_count refl) ∙ k.seats.control) in
-          subst (λ (q : ℕ). GatheredAcceptLaw q x m.0) same (record { once = sym (all (own_count p) refl) ∙ k.seats.processor p low; counts = a.count; shut = a.shut commanding; final = a.odd_sight });
+          subst (λ (q : ℕ). GatheredAcceptLaw q x m.0) same (record { once = sym (all (own_count p) refl) ∙ k.seats.processor p low; counts = a.count; shut = a.shut commanding; final = a.odd_sight; merged = a.merged });
     },
   )
 
@@ -92,7 +92,7 @@ module _ (n seats slots id : ℕ) (m : SeatState) (live : 0 < m.0.weight) where
         keeps,
         tt,
         moved n seats s k id v w at 0 x (omega arith) lawful
-            (beside_touched 0 x v v refl refl refl refl refl (λ no. absurd (no refl)) (λ p _ y h. h) (λ p _ y h. h) (λ p _. ((λ k. refl), refl)))
+            (beside_touched 0 x v v refl refl refl refl refl refl (λ no. absurd (no refl)) (λ p _ y h. h) (λ p _ y h. h) (λ p _. ((λ k. refl), refl)))
             (here_board n id s.views x x w k.board.word mine (λ k u _ _ _ h. h)),
         record {
           view = refl;

@@ -1,6 +1,6 @@
 -- The steps on the other words keep the rule.
 use Rattle.rcu_board.specs.Views.{one_if, Every, total, seen_at, sight, accepted_count, fresh_count, one_if_claim, one_if_on, claimed, runs, cpus, one_if_equal, own_count, control_count}
-use Rattle.rcu_board.specs.Laws.{BoardRule, ViewAlone, AcceptLawInView, TurnLawInView, Reported}
+use Rattle.rcu_board.specs.Laws.{OddEquals, BoardRule, ViewAlone, AcceptLawInView, TurnLawInView, Reported}
 use Rattle.rcu_board.specs.Words.{urge_word, accepts_word, turns_word, asks_word, cpu_of}
 use Rattle.rcu_board.specs.Plays.{SeatState, touched, Loading, Switching, Needing, accept_own, accepted, Accepting, Counting, Shutting, claim_of, claiming, Claiming, finished, Finishing, urged, Urging, Hearing}
 use Rattle.std.proofs.Common.{◌≡◌, ◌≢◌, ℕ, zero, suc, ◌+◌, ◌*◌, ◌%◌, ◌/◌, ◌^◌, ◌<◌, ◌≤◌, Bool, true, cond, eqb, ltb, None, List, [], ◌∷◌, ◌++◌, map, length, get_or, set, sym, refl, ap, ◌∙◌, subst, arith, eq-eqb, ne_eqb, max}
@@ -55,12 +55,12 @@ module _ (n seats : ℕ) (s : State ℕ View) (k : BoardRule n seats s) (id : �
   loaded = let x : ℕ = get_or s.words i 0 in let t = k.alone id v at in let w : View = touched i x v in
       let now : seen_at w i ≡ x = now_seen x v refl in
       moved n seats s k id v w at i x near (still_alone x v refl refl refl refl refl t.stamps t.claims t.running)
-      (beside_touched i x v v refl refl refl refl refl (λ _ y h. h) (λ p _ y h. h) (λ p _ y h. h) (λ p _. ((λ j. refl), refl)))
+      (beside_touched i x v v refl refl refl refl refl refl (λ _ y h. h) (λ p _ y h. h) (λ p _ y h. h) (λ p _. ((λ j. refl), refl)))
       record {
         board = λ e. absurd (not_board e);
         needed = λ e. (omega (arith, ap (λ (j : ℕ). seen_at w j) e, now), omega arith);
         accepts = λ p low e. let here : seen_at w (accepts_word p) ≡ x = ap (λ (j : ℕ). seen_at w j) (sym e) ∙ now in let old = subst (λ (j : ℕ). AcceptLawInView p (get_or s.words j 0) v) (sym e) (k.accept p low id v at) in
-            (record { sight = omega (arith, here); odd_sight = λ _. here; count = old.count; shut = λ _. ap (λ (z : ℕ). z % 2) here }, λ _ u _ _ _ h. h);
+            (record { sight = omega (arith, here); odd_sight = λ _. here; merged = old.merged; count = old.count; shut = λ _. ap (λ (z : ℕ). z % 2) here }, λ _ u _ _ _ h. h);
         turns = λ p low e. let here : seen_at w (turns_word p) ≡ x = ap (λ (j : ℕ). seen_at w j) (sym e) ∙ now in let old = subst (λ (j : ℕ). TurnLawInView p (get_or s.words j 0) v) (sym e) ((k.turn p low).in_views id v at) in
             (record { sight = omega (arith, here); running = old.running }, (λ _ u _ _ _ h. h), same_turning p x w refl refl (subst (λ (j : ℕ). TurnCounts p (get_or s.words j 0) s.views) (sym e) (turn_counts _ _ _ (k.turn p low))));
         asks = λ p low e. let here : seen_at w (asks_word p) ≡ x = ap (λ (j : ℕ). seen_at w j) (sym e) ∙ now in
@@ -71,7 +71,7 @@ module _ (n seats : ℕ) (s : State ℕ View) (k : BoardRule n seats s) (id : �
   -- a store of 0 or 1 in a word of control's
   pub stored : v.controls ≡ true → i ≢ 1 → ((p : ℕ) → i ≢ accepts_word p) → ((p : ℕ) → i ≢ turns_word p) → (y : ℕ) → y < 2 → BoardRule n seats (after s i y id (touched i y v))
   stored mine a b c y bit = let t = k.alone id v at in moved n seats s k id v (touched i y v) at i y near (still_alone y v refl refl refl refl refl t.stamps t.claims t.running)
-      (beside_touched i y v v refl refl refl refl refl (λ _ z h. h) (λ p _ z h. h) (λ p _ z h. h) (λ p _. ((λ j. refl), refl)))
+      (beside_touched i y v v refl refl refl refl refl refl (λ _ z h. h) (λ p _ z h. h) (λ p _ z h. h) (λ p _. ((λ j. refl), refl)))
       record { board = λ e. absurd (not_board e); needed = λ e. absurd (a e); accepts = λ p _ e. absurd (b p e); turns = λ p _ e. absurd (c p e); asks = λ p low e. (bit, (λ _. ap (λ (j : ℕ). seen_at (touched i y v) j) (sym e) ∙ now_seen y v refl), λ j u ne there nt _ its. absurd (one_control j u ne there mine its)); halt = λ _. bit }
 
 -- ---- loads and stores
@@ -111,7 +111,7 @@ module _ (n seats slots id : ℕ) (m : SeatState) (live : 0 < m.0.weight) where
         keeps,
         tt,
         moved n seats s k id v w at 1 y (omega arith) (still_alone n seats s k id v at live 1 (λ e. omega arith) (omega arith) y v refl refl refl refl refl t.stamps t.claims t.running)
-            (beside_touched 1 y v v refl refl refl refl refl (λ _ z h. h) (λ p _ z h. h) (λ p _ z h. h) (λ p _. ((λ j. refl), refl)))
+            (beside_touched 1 y v v refl refl refl refl refl refl (λ _ z h. h) (λ p _ z h. h) (λ p _ z h. h) (λ p _. ((λ j. refl), refl)))
             record { board = λ e. absurd (omega arith); needed = λ _. (omega (arith, now), omega arith); accepts = λ p _ e. absurd (omega arith); turns = λ p _ e. absurd (omega arith); asks = λ p _ e. absurd (omega arith); halt = λ e. absurd (omega arith) },
         record { view = refl; later = k.needed id v at },
       )
@@ -159,10 +159,12 @@ module _ (n seats slots id : ℕ) (m : SeatState) (live : 0 < m.0.weight) (p : �
       let half : y / 2 ≡ x / 2 = omega arith in
       let count : (u : View) → Every (λ (o : Own). o.cpu ≡ p → x / 2 ≡ accepted_count o) u.own → Every (λ (o : Own). o.cpu ≡ p → y / 2 ≡ accepted_count o) u.own
       = λ u. every (λ (o : Own). o.cpu ≡ p → x / 2 ≡ accepted_count o) (λ (o : Own). o.cpu ≡ p → y / 2 ≡ accepted_count o) (λ o h e. half ∙ h e) u.own in
-      let mine : AcceptLawInView p y w = record { sight = omega arith; odd_sight = λ _. now; count = count v a.count; shut = λ _. ap (λ (z : ℕ). z % 2) now } in
+      let stays : (u : View) → Every (OddEquals p x) u.merged → Every (OddEquals p y) u.merged = λ u. every (OddEquals p x) (OddEquals p y) (λ l h odd. let e = h odd in omega arith) u.merged in
+      let mine : AcceptLawInView p y w = record { sight = omega arith; odd_sight = λ _. now; merged = stays v a.merged; count = count v a.count; shut = λ _. ap (λ (z : ℕ). z % 2) now } in
       let others : OtherViews n id s.views (AcceptLawInView p x) (AcceptLawInView p y) = λ j u ne there nt h. record {
         sight = let e = h.sight in omega arith;
         odd_sight = λ odd. let e = h.odd_sight odd in omega arith;
+        merged = stays u h.merged;
         count = count u h.count;
         shut = λ its. absurd (one_control n seats s k id v at live i off near j u ne there commanding its);
       } in (
@@ -170,7 +172,7 @@ module _ (n seats slots id : ℕ) (m : SeatState) (live : 0 < m.0.weight) (p : �
         keeps,
         tt,
         subst (λ (z : ℕ). BoardRule n seats (after s i z id w)) (sym (or_one x)) (moved n seats s k id v w at i y near (still_alone n seats s k id v at live i off near y v refl refl refl refl refl t.stamps t.claims t.running)
-            (beside_touched i y v v refl refl refl refl refl (λ _ z h. h) (λ p _ z h. h) (λ p _ z h. h) (λ p _. ((λ j. refl), refl)))
+            (beside_touched i y v v refl refl refl refl refl refl (λ _ z h. h) (λ p _ z h. h) (λ p _ z h. h) (λ p _. ((λ j. refl), refl)))
             (here_accepts n seats s k id v at live p low y w mine others)),
         record { view = refl; later = a.sight },
       )
@@ -187,15 +189,19 @@ module _ (n seats slots id : ℕ) (m : SeatState) (live : 0 < m.0.weight) (p : �
       exchanged x (2 * c) y (λ z. (w : View) × (b : Act ℕ) × Valid s.homes m.1 b × BoardRule n seats (stepped s i z id m.1 w b) × Accepting (step slots i (2 * c) y (some key)) m x (w, carried_after m.1 b))
       (λ hit. let f : Own → Own = accept_own key in let v' : View = record v { own = map f v.own } in let w : View = accepted i y key v in
       let now : seen_at w i ≡ y = now_seen n seats s k id v at live i off near y v' refl in
+      let stays : (u : View) → Every (OddEquals p x) u.merged → Every (OddEquals p y) u.merged
+      = λ u. every (OddEquals p x) (OddEquals p y) (λ l h odd. let e = h odd in absurd (omega (arith, ap (λ (z : ℕ). z % 2) e))) u.merged in
       let mine : AcceptLawInView p y w = record {
         sight = omega arith;
         odd_sight = λ odd. absurd (omega (arith, ap (λ (z : ℕ). z % 2) now));
+        merged = stays v a.merged;
         shut = λ _. ap (λ (z : ℕ). z % 2) now;
         count = subst (λ (l : List Own). Every (λ (u : Own). u.cpu ≡ p → y / 2 ≡ accepted_count u) (map f l)) (sym only) (every_one (λ (u : Own). u.cpu ≡ p → y / 2 ≡ accepted_count u) (f o) (λ _. omega arith));
       } in
       let others : OtherViews n id s.views (AcceptLawInView p x) (AcceptLawInView p y) = λ j u ne there nt h. record {
         sight = let e = h.sight in omega arith;
         odd_sight = λ odd. let e = h.odd_sight odd in absurd (omega (arith, ap (λ (z : ℕ). z % 2) e));
+        merged = stays u h.merged;
         shut = λ its. let e = h.shut its in omega arith;
         count = let no = not_own o.cpu u.own (let e = two_of (own_count o.cpu) s.views id j v u (λ z. ne (sym z)) at there in let g = k.seats.processor o.cpu near_own in omega arith) in
             every_own (λ (q : ℕ). q ≢ o.cpu) (λ (q : Own). q.cpu ≡ p → x / 2 ≡ accepted_count q) (λ (q : Own). q.cpu ≡ p → y / 2 ≡ accepted_count q) (λ q z _ e. absurd (z (e ∙ sym is))) u.own no h.count;
@@ -208,7 +214,7 @@ module _ (n seats slots id : ℕ) (m : SeatState) (live : 0 < m.0.weight) (p : �
             (cpus-map f (λ u. refl) v.own)
             (every_map (λ (u : Own). Every (λ (b : Accepted). b.stamp ≤ sight v) u.accepted) (λ (u : Own). Every (λ (b : Accepted). b.stamp ≤ sight v) u.accepted) f (λ u h. h) v.own t.stamps)
             t.claims t.running)
-            (beside_touched i y v v' refl refl refl refl (cpus-map f (λ u. refl) v.own)
+            (beside_touched i y v v' refl refl refl refl refl (cpus-map f (λ u. refl) v.own)
             (λ _ z. every_map (λ (u : Own). Reported z u.cpu u.reports) (λ (u : Own). Reported z u.cpu u.reports) f (λ u h. h) v.own)
             (λ q away z _. subst (λ (l : List Own). Every (λ (u : Own). u.cpu ≡ q → z / 2 ≡ accepted_count u) (map f l)) (sym only)
             (every_one (λ (u : Own). u.cpu ≡ q → z / 2 ≡ accepted_count u) (f o) (λ e. absurd (away (omega arith)))))
@@ -277,7 +283,7 @@ module _ (n seats slots id : ℕ) (m : SeatState) (live : 0 < m.0.weight) (p : �
             (still_alone n seats s k id v at live i off near y v' refl refl refl refl refl t.stamps
             (every_append (λ (d : Claim). d.sight ≤ sight v) v.claims (c ∷ []) t.claims (every_one (λ (d : Claim). d.sight ≤ sight v) c (omega arith)))
             (every_one (λ (d : Claim). 0 < claimed d.cpu d.number v') c (let f = total-append (one_if_claim p q) v.claims (c ∷ []) in let g = claim_here p q c refl refl in omega arith)))
-            (beside_touched i y v v' refl refl refl refl refl (λ _ z h. h) (λ q _ z h. h)
+            (beside_touched i y v v' refl refl refl refl refl refl (λ _ z h. h) (λ q _ z h. h)
             (λ r away z _. every_one (λ (d : Claim). d.cpu ≡ r → z ≡ 2 * d.number + 1) c (λ e. absurd (away (omega arith))))
             (λ r away. let apart : p ≢ r = λ e. away (omega arith) in (
               (λ j. let f = total-append (one_if_claim r j) v.claims (c ∷ []) in let g = claim_other p r j c refl apart in omega arith),
@@ -310,7 +316,7 @@ module _ (n seats slots id : ℕ) (m : SeatState) (live : 0 < m.0.weight) (p : �
         tt,
         subst (λ (z : ℕ). BoardRule n seats (after s i z id w)) fits (moved n seats s k id v w at i y near
             (still_alone n seats s k id v at live i off near y v' refl refl refl refl refl t.stamps t.claims (every_nil (λ (d : Claim). 0 < claimed d.cpu d.number v')))
-            (beside_touched i y v v' refl refl refl refl refl (λ _ z h. h) (λ q _ z h. h)
+            (beside_touched i y v v' refl refl refl refl refl refl (λ _ z h. h) (λ q _ z h. h)
             (λ r away z _. every_nil (λ (d : Claim). d.cpu ≡ r → z ≡ 2 * d.number + 1))
             (λ r away. ((λ j. refl), (let f : runs r v ≡ total (one_if_on r) (c ∷ []) = ap (total (one_if_on r)) runs_it in let g = on_other p r c is (λ e. away (omega arith)) in omega arith))))
             (here_turns n seats s k id v at live p low y w mine others next)),
@@ -324,7 +330,7 @@ module _ (n seats slots id : ℕ) (m : SeatState) (live : 0 < m.0.weight) (i : �
   urge_goes s k at y left = let v : View = m.0 in let x : ℕ = get_or s.words i 0 in let v' : View = record v { left = left } in let t = k.alone id v at in
       moved n seats s k id v (urged i x left v) at i y (omega arith)
       (still_alone n seats s k id v at live i (λ e. omega arith) (omega arith) x v' refl refl refl refl refl t.stamps t.claims t.running)
-      (beside_touched i x v v' refl refl refl refl refl (λ _ z h. h) (λ p _ z h. h) (λ p _ z h. h) (λ p _. ((λ j. refl), refl)))
+      (beside_touched i x v v' refl refl refl refl refl refl (λ _ z h. h) (λ p _ z h. h) (λ p _ z h. h) (λ p _. ((λ j. refl), refl)))
       record {
         board = λ e. absurd (omega arith);
         needed = λ e. absurd (omega arith);

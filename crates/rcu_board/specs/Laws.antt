@@ -42,6 +42,10 @@ NeededLaw x views = Each views (λ v. seen_at v needed_word ≤ x)
 
 -- ---- accept law: x is A_p
 
+-- "a sight that is odd equals it", where these are the sights of a seat
+abbrev pub OddEquals : ℕ → ℕ → List ℕ → Type 0
+OddEquals p x seen = slice_index seen (accepts_word p) % 2 ≡ 1 → slice_index seen (accepts_word p) ≡ x
+
 pub record AcceptLawInView (p x : ℕ) (v : View) : Type 0 where
   -- "A_p is twice the length of p's accepted list, plus 1 once shut."
   pub count : Every (λ o. o.cpu ≡ p → x / 2 ≡ accepted_count o) v.own
@@ -49,7 +53,9 @@ pub record AcceptLawInView (p x : ℕ) (v : View) : Type 0 where
   pub shut : v.controls ≡ true → seen_at v (accepts_word p) % 2 ≡ x % 2
   -- "No sight of A_p is above it, and a sight that is odd equals it."
   pub sight : seen_at v (accepts_word p) ≤ x
-  pub odd_sight : seen_at v (accepts_word p) % 2 ≡ 1 → seen_at v (accepts_word p) ≡ x
+  pub odd_sight : OddEquals p x v.seen
+  -- and so does one that a seat had before it was merged
+  pub merged : Every (OddEquals p x) v.merged
 
 abbrev pub AcceptLaw : ℕ → ℕ → List View → Type 0
 AcceptLaw p x views = Each views (AcceptLawInView p x)

@@ -5,7 +5,7 @@ use Rattle.atomic_table.specs.Table.{Me, Step}
 use Rattle.rcu_numbers.specs.Words.{number_of, packed, owes_of}
 use Rattle.rcu_board.specs.Words.{cpu_of, accepts_word}
 use Rattle.rcu_board.specs.Views.{Every, seen_at, sight, own_count, claimed, runs, accepted_count}
-use Rattle.rcu_board.specs.Laws.{IsBoard, Reported}
+use Rattle.rcu_board.specs.Laws.{IsBoard, OddEquals, Reported}
 use Rattle.rcu_board.specs.declared.view.Accepted.{Accepted}
 use Rattle.rcu_board.specs.declared.view.Own.{Own}
 use Rattle.rcu_board.specs.declared.view.Claim.{Claim}
@@ -161,12 +161,13 @@ pub record LastTurning (st : Step ℕ) (m : SeatState) (r : ℕ) (n : SeatState)
   pub later : seen_at m.0 st.word ≤ r
   pub settled : m.0.weight ≡ all_seats → GatheredTurnLaw (cpu_of st.word) r m.0
 
--- the view has p's accepted list once, x is twice its length, plus 1 where control's sight is odd
+-- the view has p's accepted list once, x is twice its length, plus 1 where control's sight is odd; and each odd sight is x, its own and those of all the seats that became one
 pub record GatheredAcceptLaw (p x : ℕ) (v : View) : Type 0 where
   pub once : own_count p v ≡ 1
   pub counts : Every (λ (o : Own). o.cpu ≡ p → x / 2 ≡ accepted_count o) v.own
   pub shut : seen_at v (accepts_word p) % 2 ≡ x % 2
-  pub final : seen_at v (accepts_word p) % 2 ≡ 1 → seen_at v (accepts_word p) ≡ x
+  pub final : OddEquals p x v.seen
+  pub merged : Every (OddEquals p x) v.merged
 
 pub record LastCounting (st : Step ℕ) (m : SeatState) (r : ℕ) (n : SeatState) : Type 0 where
   pub view : n ≡ (touched st.word r m.0, m.1)

@@ -112,6 +112,7 @@ new_view n offloadable weight drives controls own = record {
   seen = first_words offloadable n;
   steps = no_steps (words_of n);
   left = 0;
+  merged = [];
 }
 
 -- the one view of a new board, from which all others are split
@@ -163,7 +164,7 @@ joined_tallies [] ys = ys
 joined_tallies (x ∷ xs) [] = x ∷ xs
 joined_tallies (x ∷ xs) (y ∷ ys) = (x + y) ∷ joined_tallies xs ys
 
--- what one seat knows that takes in another: the lists joined, the greater sights, the tallies added
+-- what one seat knows that takes in another: the lists joined, the greater sights, the tallies added; and what each of the two had seen
 abbrev pub joined : View → View → View
 joined v w = record v {
   weight = v.weight + w.weight;
@@ -174,8 +175,9 @@ joined v w = record v {
   running = v.running ++ w.running;
   seen = joined_words 0 w.controls v.seen w.seen;
   steps = joined_tallies v.steps w.steps;
+  merged = v.seen ∷ w.seen ∷ (v.merged ++ w.merged);
 }
 
 -- and what the other is left with
 abbrev pub spent : View
-spent = record { weight = 0; drives = false; controls = false; own = []; claims = []; running = []; seen = []; steps = []; left = 0 }
+spent = record { weight = 0; drives = false; controls = false; own = []; claims = []; running = []; seen = []; steps = []; left = 0; merged = [] }

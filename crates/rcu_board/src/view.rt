@@ -47,4 +47,6 @@ pub struct View {
     pub steps: LinkedList<u64>,
     /// What the seat's last step on the urge word left there.
     pub left: u64,
+    /// Of each merge that it came from: what either of the two seats had last read or written at each word.
+    pub merged: LinkedList<LinkedList<u64>>,
 }

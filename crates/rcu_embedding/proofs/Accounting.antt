@@ -9,7 +9,6 @@ use Rattle.rcu_control.specs.Parts.{control_view}
 use Rattle.rcu_endings.specs.Ends.{keys_of}
 use Rattle.rcu_gathering.proofs.Lists.{all_head, all_imp, all_map, all_mapped, all_tail}
 use Rattle.rcu_gathering.specs.Closing.{ClosesAs, CpuEnd, processors_of, seats_of}
-use Rattle.rcu_gathering.specs.Gathered.{gather}
 use Rattle.rcu_gathering.specs.Parts.{CpuPart, accepted_entry, accepted_list}
 use Rattle.rcu_jobs.specs.Records.{Given}
 use Rattle.rcu_jobs.specs.declared.answers.Closed.{Closed}
@@ -26,9 +25,9 @@ use Rattle.rcu_embedding.specs.declared.retired.Freed.{Freed}
 use Rattle.rcu_embedding.specs.declared.retired.RetiredTable.{RetiredTable}
 
 -- as many as a processor accepted ran or are handed back
-one_end : (all : View) (views processors : List View) (p : Cpu) (c : CpuPart RetiredTable Freed) (e : CpuEnd RetiredTable Freed) → c.view ≡ view_of p.state → e.part ≡ c → ClosesAs retired_generation IsFreed all views processors e
+one_end : (views processors : List View) (p : Cpu) (c : CpuPart RetiredTable Freed) (e : CpuEnd RetiredTable Freed) → c.view ≡ view_of p.state → e.part ≡ c → ClosesAs retired_generation IsFreed views processors e
     → length e.ran + length e.back ≡ p.state.accepted
-one_end all views processors p c e at part h =
+one_end views processors p c e at part h =
     let accepted = accepted_list e.part.view in
     let view : e.part.view ≡ view_of p.state = ap (λ (x : CpuPart RetiredTable Freed). x.view) part ∙ at in
     let many : length accepted ≡ p.state.accepted = ap (λ (w : View). length (accepted_list w)) view ∙ (length-map (accepted_of (view_of p.state)) accepted_entry ∙ p.state.lawful.counted) in
@@ -39,17 +38,17 @@ one_end all views processors p c e at part h =
     let within = h.end.within in
     omega (arith, many, left, keys, back, jobs, within)
 
-each_end : (all : View) (views processors : List View) (es : List (CpuEnd RetiredTable Freed)) (ps : List Cpu) (hs : List (Hand RetiredTable Freed)) → map (λ e. e.part) es ≡ cpu_parts ps hs → All (ClosesAs retired_generation IsFreed all views processors) es
+each_end : (views processors : List View) (es : List (CpuEnd RetiredTable Freed)) (ps : List Cpu) (hs : List (Hand RetiredTable Freed)) → map (λ e. e.part) es ≡ cpu_parts ps hs → All (ClosesAs retired_generation IsFreed views processors) es
     → sum_by (λ e. length e.ran) es + sum_by (λ e. length e.back) es ≡ accepted_in ps
-each_end all views processors [] [] hs same h = refl
-each_end all views processors [] (p ∷ ps) hs same h = absurd (let long = ap (λ (l : List (CpuPart RetiredTable Freed)). length l) same in omega (arith, long))
-each_end all views processors (e ∷ es) [] hs same h = absurd (let long = ap (λ (l : List (CpuPart RetiredTable Freed)). length l) same in omega (arith, long))
-each_end all views processors (e ∷ es) (p ∷ ps) hs same h =
+each_end views processors [] [] hs same h = refl
+each_end views processors [] (p ∷ ps) hs same h = absurd (let long = ap (λ (l : List (CpuPart RetiredTable Freed)). length l) same in omega (arith, long))
+each_end views processors (e ∷ es) [] hs same h = absurd (let long = ap (λ (l : List (CpuPart RetiredTable Freed)). length l) same in omega (arith, long))
+each_end views processors (e ∷ es) (p ∷ ps) hs same h =
     let first = ap (λ (l : List (CpuPart RetiredTable Freed)). get_or l 0 e.part) same in
     let rest = ap (λ (l : List (CpuPart RetiredTable Freed)). drop 1 l) same in
-    let Closes = ClosesAs retired_generation IsFreed all views processors in
-    let one = one_end all views processors p (cpu_part p (hand_for p hs)) e refl first (all_head Closes e es h) in
-    let more = each_end all views processors es ps (hands_after p hs) rest (all_tail Closes e es h) in
+    let Closes = ClosesAs retired_generation IsFreed views processors in
+    let one = one_end views processors p (cpu_part p (hand_for p hs)) e refl first (all_head Closes e es h) in
+    let more = each_end views processors es ps (hands_after p hs) rest (all_tail Closes e es h) in
     let ran = sum_by-cons (λ (e : CpuEnd RetiredTable Freed). length e.ran) e es in
     let back = sum_by-cons (λ (e : CpuEnd RetiredTable Freed). length e.back) e es in
     let accepted = sum_by-cons (λ (p : Cpu). p.state.accepted) p ps in
@@ -72,7 +71,7 @@ module _ (parts : Parts RetiredTable Freed) (closed : Closed RetiredTable Freed)
   pub none_lost : left_in closed ≡ accepted_in (processors_in parts)
   none_lost =
       let views = control_view parts.control ∷ (other_views parts ++ seats_of c.ends) in
-      let each = each_end (gather (control_view parts.control) (other_views parts ++ seats_of c.ends)) views (processors_of c.ends) c.ends (processors_in parts) (hands_in parts) c.parts_are c.closes in
+      let each = each_end views (processors_of c.ends) c.ends (processors_in parts) (hands_in parts) c.parts_are c.closes in
       let ran = summed (λ v. v.items) (λ (e : CpuEnd RetiredTable Freed). e.ran) closed.ran.items c.ends c.ran in
       let back = summed (λ v. v.items) (λ (e : CpuEnd RetiredTable Freed). e.back) closed.back.items c.ends c.back in
       omega (arith, each, ran, back)
@@ -81,8 +80,7 @@ module _ (parts : Parts RetiredTable Freed) (closed : Closed RetiredTable Freed)
   pub have_receipts : HaveReceipts closed
   have_receipts =
       let views = control_view parts.control ∷ (other_views parts ++ seats_of c.ends) in
-      let all = gather (control_view parts.control) (other_views parts ++ seats_of c.ends) in
       let P = λ (records : List (Record Freed)). Given IsFreed records in
-      let each = all_imp (ClosesAs retired_generation IsFreed all views (processors_of c.ends)) (λ e. P e.ran) c.ends (λ e h. h.end.given) c.closes in
+      let each = all_imp (ClosesAs retired_generation IsFreed views (processors_of c.ends)) (λ e. P e.ran) c.ends (λ e h. h.end.given) c.closes in
       let lists = all_mapped P (λ (e : CpuEnd RetiredTable Freed). e.ran) c.ends each in
       all_map P (λ v. v.items) closed.ran.items (subst (All P) (sym c.ran) lists)

@@ -5,7 +5,7 @@ use native.Mathlib.Decide.{ℕ_discrete}
 use Rattle.std.specs.List.{All}
 use Rattle.std.proofs.lemmas.Bool.Decides.{nat_tests}
 use Rattle.std.proofs.lemmas.List.{length-map}
-use Rattle.rcu_board.specs.Laws.{Reported}
+use Rattle.rcu_board.specs.Laws.{OddEquals, Reported}
 use Rattle.rcu_board.specs.Plays.{GatheredAcceptLaw, GatheredBoardLaw, GatheredTurnLaw}
 use Rattle.rcu_board.specs.Seats.{accepted_of, first_accepted, first_fresh, first_reports, fresh_of, reports_of}
 use Rattle.rcu_board.specs.Views.{Every, accepted_count, claimed, cpus, fresh_count, one_if_claim, seen_at, total}
@@ -28,7 +28,7 @@ use Rattle.rcu_gathering.specs.Closing.{Closes, ClosesAs, CpuEnd, HaveEnded, IsG
 use Rattle.rcu_gathering.specs.Gathered.{gather}
 use Rattle.rcu_gathering.specs.Parts.{CpuPart, HandClaims, HandPart, IsAtRest, accepted_entry, accepted_list, claim_of, hand_ran, hand_views, views_of}
 use Rattle.rcu_gathering.proofs.Claims.{cpu_at, no_claims, row_at}
-use Rattle.rcu_gathering.proofs.Gathers.{gather_claims, gather_each, gather_sights}
+use Rattle.rcu_gathering.proofs.Gathers.{gather_claims, gather_each, gather_seen, gather_sights}
 use Rattle.rcu_gathering.proofs.Lists.{all_none, all_cons, all_head, all_imp, all_both, all_left, all_map, all_mapped, all_right, all_tail, every_all}
 
 -- ---- the grace period
@@ -125,7 +125,7 @@ module _ {J R : Type 0} (key_of : J → ℕ) (gives : ℕ → R → Type 0) (n x
       let b = no_claims k j (v ∷ others) h.nothing in
       let c = row_at key_of gives k j 0 k es d lt (omega arith) h.row h.at_rest in omega arith
 
-  closes_at : (k : ℕ) (d : CpuEnd J R) → k < length es → ClosesAs key_of gives Whole Views (processors_of es) (get_or es k d)
+  closes_at : (k : ℕ) (d : CpuEnd J R) → k < length es → ClosesAs key_of gives Views (processors_of es) (get_or es k d)
   closes_at k d lt =
       let e = get_or es k d in
       let near : k < n = (let z = h.all in omega arith) in
@@ -158,8 +158,10 @@ module _ {J R : Type 0} (key_of : J → ℕ) (gives : ℕ → R → Type 0) (n x
             (λ w many. graced r.stamp r.ready number (reports_of w) ripe low many) enough) end.ripe seen;
         turns = subst (λ (p : ℕ). All (λ (w : View). seen_at w (turns_word p) / 2 ≤ length e.ran) Views) (sym cpu)
             (all_imp (λ (w : View). seen_at w (turns_word k) ≤ seen_at Whole (turns_word k)) (λ (w : View). seen_at w (turns_word k) / 2 ≤ length e.ran) Views (λ w low. let t = turn.1 in omega (arith, low, t, long)) sights);
-        shut = subst (λ (p : ℕ). seen_at Whole (accepts_word p) % 2 ≡ 1 → seen_at Whole (accepts_word p) / 2 ≡ length (accepted_list e.part.view)) (sym cpu)
-            (λ odd. ap (λ (a : ℕ). a / 2) (count.1.final odd) ∙ (accepted ∙ sym (length-map (accepted_of e.part.view) accepted_entry)));
+        shut = subst (λ (p : ℕ). All (λ (w : View). seen_at w (accepts_word p) % 2 ≡ 1 → seen_at w (accepts_word p) / 2 ≡ length (accepted_list e.part.view)) Views) (sym cpu)
+            (all_imp (λ (w : View). OddEquals k count.0 w.seen) (λ (w : View). seen_at w (accepts_word k) % 2 ≡ 1 → seen_at w (accepts_word k) / 2 ≡ length (accepted_list e.part.view)) Views
+            (λ w equal odd. ap (λ (a : ℕ). a / 2) (equal odd) ∙ (accepted ∙ sym (length-map (accepted_of e.part.view) accepted_entry)))
+            (gather_seen (OddEquals k count.0) v (others ++ seats_of es) count.1.final count.1.merged));
       }
 
   pub closes : Closes key_of gives v others es

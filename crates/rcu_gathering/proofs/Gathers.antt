@@ -56,6 +56,20 @@ gather_sights n i near grows v (w ∷ ws) long =
     let b = joined-second v w i (lv ∙ sym lw) (omega arith) grows in
     all_cons S v (w ∷ ws) (omega arith) (all_cons S w ws (omega arith) (all_tail S (joined v w) ws t))
 
+-- what is said of the sights of the whole, and of those that it keeps from merges, is said of those of each
+every_merged : (P : List ℕ → Type 0) (v : View) (ws : List View) → Every P (gather v ws).merged → Every P v.merged
+unfolding Every
+every_merged P v [] h = h
+every_merged P v (w ∷ ws) h = every_left P v.merged w.merged (every_merged P (joined v w) ws h).1.1
+
+pub gather_seen : (P : List ℕ → Type 0) (v : View) (ws : List View) → P (gather v ws).seen → Every P (gather v ws).merged → All (λ (w : View). P w.seen) (v ∷ ws)
+unfolding Every
+gather_seen P v [] a b = all_cons (λ (w : View). P w.seen) v [] a (all_none (λ (w : View). P w.seen))
+gather_seen P v (w ∷ ws) a b =
+    let S : View → Type 0 = λ u. P u.seen in
+    let kept = every_merged P (joined v w) ws b in
+    all_cons S v (w ∷ ws) kept.0 (all_cons S w ws kept.1.0 (all_tail S (joined v w) ws (gather_seen P (joined v w) ws a b)))
+
 -- the tallies add up
 tallies_at : (xs ys : List ℕ) (i : ℕ) → get_or (joined_tallies xs ys) i 0 ≡ get_or xs i 0 + get_or ys i 0
 tallies_at [] ys i = omega arith

@@ -2,7 +2,7 @@
 use Rattle.std.proofs.Common.{◌≡◌, ◌≢◌, ℕ, ◌+◌, ◌*◌, ◌/◌, ◌%◌, ◌<◌, ◌≤◌, cond, ltb, List, sym, ap, ◌∙◌, subst, arith, below_more}
 use mathlib.Core.Logic.{dite}
 use native.Mathlib.Decide.{ℕ_discrete}
-use Rattle.rcu_board.specs.Laws.{IsBoard, Reported}
+use Rattle.rcu_board.specs.Laws.{IsBoard, OddEquals, Reported}
 use Rattle.rcu_board.specs.Plays.{GatheredAcceptLaw, GatheredBoardLaw, GatheredTurnLaw, touched}
 use Rattle.rcu_board.specs.Views.{Every, accepted_count, claimed, cpus, one_if_claim, one_if_equal, one_if_on, own_count, runs, seen_at, total}
 use Rattle.rcu_board.specs.Words.{accepts_word, turns_word}
@@ -25,12 +25,13 @@ turn_law_same p x u v claims running l = record {
   runs = sym (ap (total (one_if_on p)) running) ∙ l.runs;
 }
 
-pub accept_law_same : (p x : ℕ) (u v : View) → u.own ≡ v.own → seen_at u (accepts_word p) ≡ seen_at v (accepts_word p) → GatheredAcceptLaw p x u → GatheredAcceptLaw p x v
-accept_law_same p x u v own seen l = record {
+pub accept_law_same : (p x : ℕ) (u v : View) → u.own ≡ v.own → u.merged ≡ v.merged → seen_at u (accepts_word p) ≡ seen_at v (accepts_word p) → GatheredAcceptLaw p x u → GatheredAcceptLaw p x v
+accept_law_same p x u v own merged seen l = record {
   once = sym (ap (λ (os : List Own). total (one_if_equal p) (cpus os)) own) ∙ l.once;
   counts = subst (Every (λ (o : Own). o.cpu ≡ p → x / 2 ≡ accepted_count o)) own l.counts;
   shut = ap (λ (s : ℕ). s % 2) (sym seen) ∙ l.shut;
   final = λ odd. sym seen ∙ l.final (ap (λ (s : ℕ). s % 2) seen ∙ odd);
+  merged = subst (Every (OddEquals p x)) merged l.merged;
 }
 
 pub board_law_same : (x : ℕ) (u v : View) → u.own ≡ v.own → u.claims ≡ v.claims → GatheredBoardLaw x u → GatheredBoardLaw x v

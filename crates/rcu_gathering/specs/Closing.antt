@@ -39,8 +39,8 @@ module _ {J R : Type 0} where
   abbrev pub WasEnded : (J → ℕ) → (ℕ → R → Type 0) → CpuEnd J R → Type 0
   WasEnded key_of gives e = EndsWith key_of gives e.part.own (hand_ran e.part.hand) e.part.lists (hand_taken e.part.hand) (hand_drawn e.part.hand) e.ran e.back
 
-  -- What is left of one processor, where `all` is the view that took in all views, and `processors` are those of processors.
-  pub record ClosesAs (key_of : J → ℕ) (gives : ℕ → R → Type 0) (all : View) (views processors : List View) (e : CpuEnd J R) : Type 0 where
+  -- What is left of one processor, where these are all views, and `processors` are those of processors.
+  pub record ClosesAs (key_of : J → ℕ) (gives : ℕ → R → Type 0) (views processors : List View) (e : CpuEnd J R) : Type 0 where
     -- as many as ran, 0 to m - 1, have records; the jobs of the others come back
     pub end : IsEnd key_of gives (accepted_list e.part.view) (length e.ran) e.ran e.back
     -- the claims of all views are these numbers, each once
@@ -48,8 +48,8 @@ module _ {J R : Type 0} where
     pub graced : All (IsGraced processors) e.ran
     -- no view's sight of the turn word is above
     pub turns : All (λ v. seen_at v (turns_word e.part.cpu) / 2 ≤ length e.ran) views
-    -- the greatest sight of the accept word, where it is odd, has the accepted count as its half
-    pub shut : seen_at all (accepts_word e.part.cpu) % 2 ≡ 1 → seen_at all (accepts_word e.part.cpu) / 2 ≡ length (accepted_list e.part.view)
+    -- each view's sight of the accept word, where it is odd, has the accepted count as its half
+    pub shut : All (λ v. seen_at v (accepts_word e.part.cpu) % 2 ≡ 1 → seen_at v (accepts_word e.part.cpu) / 2 ≡ length (accepted_list e.part.view)) views
 
   -- The parts of one open have ended: what the seats knew is in one view, from which the last loads were made.
   pub record HaveEnded (key_of : J → ℕ) (gives : ℕ → R → Type 0) (n x : ℕ) (v : View) (others : List View) (es : List (CpuEnd J R)) : Type 0 where
@@ -66,4 +66,4 @@ module _ {J R : Type 0} where
 
   -- What `close` promises: of each processor.
   abbrev pub Closes : (J → ℕ) → (ℕ → R → Type 0) → View → List View → List (CpuEnd J R) → Type 0
-  Closes key_of gives v others es = All (ClosesAs key_of gives (gather v (others ++ seats_of es)) (v ∷ (others ++ seats_of es)) (processors_of es)) es
+  Closes key_of gives v others es = All (ClosesAs key_of gives (v ∷ (others ++ seats_of es)) (processors_of es)) es

@@ -10,7 +10,6 @@ use Rattle.rcu_control.specs.Parts.{control_view}
 use Rattle.rcu_gathering.proofs.Lists.{all_cons, all_head, all_map, all_mapped, all_none, all_tail}
 use Rattle.rcu_endings.specs.Ends.{keys_of}
 use Rattle.rcu_gathering.specs.Closing.{ClosesAs, CpuEnd, processors_of, seats_of}
-use Rattle.rcu_gathering.specs.Gathered.{gather}
 use Rattle.rcu_places.specs.Places.{Accepted}
 use Rattle.rcu_gathering.specs.Parts.{CpuPart, accepted_entry, accepted_list}
 use Rattle.rcu_jobs.specs.declared.answers.Closed.{Closed}
@@ -56,8 +55,8 @@ module _ {J R : Type 0} (key_of : J → ℕ) (gives : ℕ → R → Type 0) wher
   all_ran v p q h none = subst (λ c. 2 * q.state.accepted ≤ seen_at v (turns_word c)) (sym h.same.cpu) (h.over none)
 
   -- of a processor all of whose callbacks have run no job comes back
-  none_back : (v all : View) (views processors : List View) (p : Processor J R) (c : CpuPart J R) (e : CpuEnd J R) → c.cpu ≡ p.state.cpu → c.view ≡ view_of p.state → e.part ≡ c → ClosesAs key_of gives all (v ∷ views) processors e → AllRan v p → e.back ≡ []
-  none_back v all views processors p c e cpu at part h ran =
+  none_back : (v : View) (views processors : List View) (p : Processor J R) (c : CpuPart J R) (e : CpuEnd J R) → c.cpu ≡ p.state.cpu → c.view ≡ view_of p.state → e.part ≡ c → ClosesAs key_of gives (v ∷ views) processors e → AllRan v p → e.back ≡ []
+  none_back v views processors p c e cpu at part h ran =
       let turns = all_head (λ w. seen_at w (turns_word e.part.cpu) / 2 ≤ length e.ran) v views h.turns in
       let same : e.part.cpu ≡ p.state.cpu = ap (λ (x : CpuPart J R). x.cpu) part ∙ cpu in
       let seen : seen_at v (turns_word p.state.cpu) / 2 ≤ length e.ran = subst (λ k. seen_at v (turns_word k) / 2 ≤ length e.ran) same turns in
@@ -70,16 +69,16 @@ module _ {J R : Type 0} (key_of : J → ℕ) (gives : ℕ → R → Type 0) wher
       let jobs = length-map e.back key_of in
       no_longer e.back (omega (arith, seen, ran, many, back, left, keys, jobs))
 
-  none_back_each : (v all : View) (views processors : List View) (es : List (CpuEnd J R)) (ps : List (Processor J R)) (hs : List (Hand J R)) → map (λ e. e.part) es ≡ cpu_parts ps hs → All (ClosesAs key_of gives all (v ∷ views) processors) es → All (AllRan v) ps → All (λ e. e.back ≡ []) es
-  none_back_each v all views processors [] ps hs same h ran = all_none (λ (e : CpuEnd J R). e.back ≡ [])
-  none_back_each v all views processors (e ∷ es) [] hs same h ran = absurd (let long = ap (λ (l : List (CpuPart J R)). length l) same in omega (arith, long))
-  none_back_each v all views processors (e ∷ es) (p ∷ ps) hs same h ran =
+  none_back_each : (v : View) (views processors : List View) (es : List (CpuEnd J R)) (ps : List (Processor J R)) (hs : List (Hand J R)) → map (λ e. e.part) es ≡ cpu_parts ps hs → All (ClosesAs key_of gives (v ∷ views) processors) es → All (AllRan v) ps → All (λ e. e.back ≡ []) es
+  none_back_each v views processors [] ps hs same h ran = all_none (λ (e : CpuEnd J R). e.back ≡ [])
+  none_back_each v views processors (e ∷ es) [] hs same h ran = absurd (let long = ap (λ (l : List (CpuPart J R)). length l) same in omega (arith, long))
+  none_back_each v views processors (e ∷ es) (p ∷ ps) hs same h ran =
       let first = ap (λ (l : List (CpuPart J R)). get_or l 0 e.part) same in
       let rest = ap (λ (l : List (CpuPart J R)). drop 1 l) same in
-      let Closed = ClosesAs key_of gives all (v ∷ views) processors in
+      let Closed = ClosesAs key_of gives (v ∷ views) processors in
       all_cons (λ (x : CpuEnd J R). x.back ≡ []) e es
-      (none_back v all views processors p (cpu_part p (hand_for p hs)) e refl refl first (all_head Closed e es h) (all_head (AllRan v) p ps ran))
-      (none_back_each v all views processors es ps (hands_after p hs) rest (all_tail Closed e es h) (all_tail (AllRan v) p ps ran))
+      (none_back v views processors p (cpu_part p (hand_for p hs)) e refl refl first (all_head Closed e es h) (all_head (AllRan v) p ps ran))
+      (none_back_each v views processors es ps (hands_after p hs) rest (all_tail Closed e es h) (all_tail (AllRan v) p ps ran))
 
   -- where nothing had been accepted before, no job comes back
   pub none_handed_back : (old new : Parts J R) (closed : Closed J R) → HaveRun key_of gives old new → AreUnused old → ClosesWith key_of gives new closed → HasNoneBack closed
@@ -87,7 +86,7 @@ module _ {J R : Type 0} (key_of : J → ℕ) (gives : ℕ → R → Type 0) wher
       let v = control_view new.control in
       let ran = zip_all (λ (p : Processor J R). p.state.accepted ≡ 0) (HasRun key_of gives v) (AllRan v) (all_ran v) (processors_in old) (processors_in new) h.processors unused in
       let views = other_views new ++ seats_of c.ends in
-      let each = none_back_each v (gather v views) views (processors_of c.ends) c.ends (processors_in new) (hands_in new) c.parts_are c.closes ran in
+      let each = none_back_each v views (processors_of c.ends) c.ends (processors_in new) (hands_in new) c.parts_are c.closes ran in
       let None = λ (l : List J). l ≡ [] in
       let lists : All None (map (λ (e : CpuEnd J R). e.back) c.ends) = all_mapped None (λ (e : CpuEnd J R). e.back) c.ends each in
       all_map None (λ b. b.items) closed.back.items (subst (All None) (sym c.back) lists)

@@ -11,14 +11,14 @@ use std::thread::{Promise, PromisedHandle, Threads};
 /// The threads of the parts of one kind, in the order of the parts; and why there is no further one, where not every part
 /// has one.
 #[derive(Drop)]
-pub(crate) struct Crew<H> {
-    pub(crate) threads: Vec<H>,
-    pub(crate) fault: Option<ThreadsFault>,
+pub struct Crew<H> {
+    pub threads: Vec<H>,
+    pub fault: Option<ThreadsFault>,
 }
 
 impl<H: Drop> Crew<H> {
     /// A thread for each part.
-    pub(crate) fn whole(threads: Vec<H>) -> Crew<H>
+    pub fn whole(threads: Vec<H>) -> Crew<H>
         ensures { (result.threads ≡ threads) × (result.fault ≡ None) }
     {
         Crew {
@@ -28,7 +28,7 @@ impl<H: Drop> Crew<H> {
     }
 
     /// The threads that could be made.
-    pub(crate) fn partial(threads: Vec<H>) -> Crew<H>
+    pub fn partial(threads: Vec<H>) -> Crew<H>
         ensures { result.fault ≡ Some ThreadsFault.CannotRun }
     {
         Crew {
@@ -38,7 +38,7 @@ impl<H: Drop> Crew<H> {
     }
 
     /// No thread, for want of memory.
-    pub(crate) fn none(alloc: Global) -> Crew<H>
+    pub fn none(alloc: Global) -> Crew<H>
         ensures { result.fault ≡ Some ThreadsFault.Memory }
     {
         Crew {
@@ -50,7 +50,7 @@ impl<H: Drop> Crew<H> {
 
 impl<H> Crew<H> {
     /// Whether every part has a thread.
-    pub(crate) fn is_whole(&self) -> bool {
+    pub fn is_whole(&self) -> bool {
         self.fault.is_none()
     }
 }
@@ -60,7 +60,7 @@ impl<H> Crew<H> {
 /// # Errors
 ///
 /// Why not every part has a thread; or want of memory. All threads were joined, and what they gave back was dropped.
-pub(crate) fn join_all<T: Send + Drop, P: Promise<T>, R: Threads>(
+pub fn join_all<T: Send + Drop, P: Promise<T>, R: Threads>(
     rt: &R,
     crew: Crew<PromisedHandle<T, P>>,
 ) -> Result<Vec<T>, ThreadsFault>

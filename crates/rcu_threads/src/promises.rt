@@ -9,7 +9,7 @@ use std::thread::{Promise, PromisedHandle};
 
 /// The promise of a thread that runs a part until the runtime is halted: what comes back is the same part.
 #[derive(Drop)]
-pub(crate) struct Stays<P>(pub(crate) Snapshot<P>);
+pub struct Stays<P>(pub Snapshot<P>);
 
 impl Promise<Driver> for Stays<Driver> {
     ghost use Rattle.rcu_threads.specs.Parts.{DriverStays};
@@ -47,13 +47,13 @@ impl<J: Job<Receipt = u64>> Promise<Called<Processor<J>>> for Calls<Processor<J>
 }
 
 /// A thread that runs the driver.
-pub(crate) type RunningDriver = PromisedHandle<Driver, Stays<Driver>>;
+pub type RunningDriver = PromisedHandle<Driver, Stays<Driver>>;
 
 /// A thread that runs a group.
-pub(crate) type RunningGroup<J> = PromisedHandle<Group<J>, Stays<Group<J>>>;
+pub type RunningGroup<J> = PromisedHandle<Group<J>, Stays<Group<J>>>;
 
 /// A thread that runs a hand.
-pub(crate) type RunningHand<J> = PromisedHandle<Hand<J>, Stays<Hand<J>>>;
+pub type RunningHand<J> = PromisedHandle<Hand<J>, Stays<Hand<J>>>;
 
 /// A thread that runs a processor.
 pub(crate) type RunningProcessor<J> = PromisedHandle<Processor<J>, Stays<Processor<J>>>;

@@ -24,12 +24,15 @@ use std::rt::Clock;
 use std::sync::Wait;
 use std::thread::Threads;
 
-/// Joins the thread of the driver.
+/// Joins the thread of the driver, and gives what it gave back.
 ///
 /// # Errors
 ///
 /// There is none.
-fn join_driver<R: Threads>(rt: &R, thread: Option<RunningDriver>) -> Result<Driver, ThreadsFault>
+pub fn join_driver<R: Threads>(
+    rt: &R,
+    thread: Option<RunningDriver>,
+) -> Result<Driver, ThreadsFault>
     ensures { IfOk result (λ driver. GivesBack (λ t. t.promise.0.value) thread driver) }
 {
     match thread {

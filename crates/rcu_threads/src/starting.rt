@@ -18,7 +18,7 @@ use std::thread;
 use std::thread::Threads;
 
 /// Starts a thread that runs the driver. None where none can be made.
-pub(crate) fn start_driver<R: Threads + Wait + Clock + Copy + Send + 'static>(
+pub fn start_driver<R: Threads + Wait + Clock + Copy + Send + 'static>(
     rt: &R,
     driver: Driver,
 ) -> Option<RunningDriver>
@@ -108,7 +108,7 @@ fn start_processor<
 }
 
 /// Starts a thread for each group.
-pub(crate) fn start_groups<
+pub fn start_groups<
     J: Job<Receipt = u64> + 'static,
     R: Threads + Wait + Clock + Copy + Send + 'static,
 >(rt: &R, alloc: Global, groups: Vec<Group<J>>) -> Crew<RunningGroup<J>>
@@ -127,7 +127,7 @@ pub(crate) fn start_groups<
 }
 
 /// Starts a thread for each hand.
-pub(crate) fn start_hands<
+pub fn start_hands<
     J: Job<Receipt = u64> + 'static,
     R: Threads + Wait + Clock + Copy + Send + 'static,
 >(rt: &R, alloc: Global, hands: Vec<Hand<J>>) -> Crew<RunningHand<J>>

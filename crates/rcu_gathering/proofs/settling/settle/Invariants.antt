@@ -12,6 +12,7 @@ invariant-loop-p l = record {
   weight : (gathered_view l.all).weight ≡ (gathered_view l.fn.all).weight;
   own : (gathered_view l.all).own ≡ (gathered_view l.fn.all).own;
   claims : (gathered_view l.all).claims ≡ (gathered_view l.fn.all).claims;
+  merged : (gathered_view l.all).merged ≡ (gathered_view l.fn.all).merged;
   running : (gathered_view l.all).running ≡ (gathered_view l.fn.all).running;
   turns_left : (q : ℕ) → l.p ≤ q → seen_at (gathered_view l.all) (turns_word q) ≡ seen_at (gathered_view l.fn.all) (turns_word q);
   counts_left : (q : ℕ) → l.p ≤ q → seen_at (gathered_view l.all) (accepts_word q) ≡ seen_at (gathered_view l.fn.all) (accepts_word q);

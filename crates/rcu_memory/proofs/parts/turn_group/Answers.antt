@@ -1,0 +1,12 @@
+use Rattle.std.proofs.Common.{◌∙◌, sym}
+use Rattle.rcu_part_group.proofs.GroupLists.{zip_same}
+use Rattle.rcu_part_group.proofs.GroupTurns.{same_group}
+use Rattle.rcu_part_group.specs.Groups.{SameGroup}
+use Rattle.rcu_memory.proofs.Changing.{not_none, zip_changed}
+use Rattle.rcu_memory.proofs.parts.turn_group.Goals as goal
+
+pub returns-then-is_empty : goal.returns-then-is_empty
+returns-then-is_empty c = zip_same (λ x y. SameGroup x.state y.state) (λ x. same_group x.state) c.args.groups.now.items
+
+pub returns : goal.returns
+returns c = zip_changed (λ x y. SameGroup x.state y.state) (λ x. same_group x.state) c.args.groups.now.items 0 c.index_mut.result.now c.turn.new.self (not_none c.args.groups.now (sym c.is_empty.ensures ∙ c.if-is_empty.false)) c.index_mut.ensures.value c.turn.ensures.same

@@ -1,0 +1,16 @@
+use Rattle.std.proofs.Common.{◌∙◌, sym}
+use Rattle.rcu_part_group.proofs.GroupLists.{zip_same}
+use Rattle.rcu_part_hand.proofs.HandRuns.{same_hand}
+use Rattle.rcu_part_hand.specs.Hands.{IsSoundHand, SameHand}
+use Rattle.rcu_memory.specs.Works.{IsOwnKey, key_of_work}
+use Rattle.rcu_memory.proofs.Changing.{all_changed, not_none, zip_changed}
+use Rattle.rcu_memory.proofs.parts.turn_hand.Goals as goal
+
+pub returns-then-is_empty-clause-same : goal.returns-then-is_empty-clause-same
+returns-then-is_empty-clause-same c = zip_same (λ h i. SameHand h.state i.state) (λ h. same_hand h.state) c.args.hands.now.items
+
+pub returns-clause-same : goal.returns-clause-same
+returns-clause-same c = zip_changed (λ h i. SameHand h.state i.state) (λ h. same_hand h.state) c.args.hands.now.items 0 c.index_mut.result.now c.turn-turn.new.self (not_none c.args.hands.now (sym c.is_empty.ensures ∙ c.if-is_empty.false)) c.index_mut.ensures.value c.turn-turn.ensures.same
+
+pub returns-clause-sound : goal.returns-clause-sound
+returns-clause-sound c = all_changed (λ h. IsSoundHand key_of_work IsOwnKey h.state) c.args.hands.now.items 0 c.index_mut.result.now c.turn-turn.new.self (not_none c.args.hands.now (sym c.is_empty.ensures ∙ c.if-is_empty.false)) c.index_mut.ensures.value c.turn-turn.ensures.sound

@@ -1,0 +1,177 @@
+//! The runtime that a scenario drives: the parts or the core. It has a local processor and an offloadable one.
+
+use crate::growth::{Fault, Growth, stands};
+use crate::script::Action;
+use crate::work::{Work, key_at};
+use rcu_jobs::{Closed, Counts, GroupTurn, Lists, Mode, Record, Stop, Ticket};
+use rcu_numbers::Shape;
+
+/// One of the two processors.
+#[derive(Clone, Copy, Debug, PartialEq, Eq)]
+pub enum Cpu {
+    Local,
+    Offloadable,
+}
+
+impl Cpu {
+    pub fn number(self) -> u64 {
+        match self {
+            Cpu::Local => 0,
+            Cpu::Offloadable => 1,
+        }
+    }
+
+    pub fn place(self) -> usize {
+        match self {
+            Cpu::Local => 0,
+            Cpu::Offloadable => 1,
+        }
+    }
+}
+
+/// The shape of two processors, of which the second is offloadable and a group of its own. A turn runs or gives one
+/// callback more than stand in a batch without memory.
+pub fn shape() -> Option<Shape> {
+    Shape::new(2, 0b10, 1, 17, 1000, 1000)
+}
+
+/// What a runtime shows of its lists.
+#[derive(Clone, Copy, Debug, PartialEq, Eq)]
+pub struct Shown {
+    pub local: Lists,
+    pub offloadable: Lists,
+    pub member: Lists,
+}
+
+impl Shown {
+    pub fn of(&self, cpu: Cpu) -> Lists {
+        match cpu {
+            Cpu::Local => self.local,
+            Cpu::Offloadable => self.offloadable,
+        }
+    }
+}
+
+/// How many callbacks a processor accepted.
+pub fn accepted(lists: Lists) -> u64 {
+    match lists {
+        Lists::Cpu { accepted, .. } => accepted,
+        Lists::Folk { .. } => 0,
+    }
+}
+
+/// How many callbacks stand in a bypass list.
+pub fn bypass(lists: Lists) -> u64 {
+    match lists {
+        Lists::Cpu { bypass, .. } => bypass,
+        Lists::Folk { .. } => 0,
+    }
+}
+
+pub fn mode(lists: Lists) -> Mode {
+    match lists {
+        Lists::Cpu { mode, .. } => mode,
+        Lists::Folk { .. } => Mode::Offloaded,
+    }
+}
+
+fn lengths(lists: Lists) -> [u64; 4] {
+    match lists {
+        Lists::Cpu { lengths, .. } | Lists::Folk { lengths, .. } => lengths,
+    }
+}
+
+/// How many callbacks are done in a list.
+pub fn done(lists: Lists) -> u64 {
+    let [done, _, _, _] = lengths(lists);
+    done
+}
+
+/// How many callbacks stand in a list's segments.
+pub fn length(lists: Lists) -> u64 {
+    let [done, wait, ready, next] = lengths(lists);
+    done.wrapping_add(wait)
+        .wrapping_add(ready)
+        .wrapping_add(next)
+}
+
+/// What a call answered.
+#[derive(Clone, Copy, Debug, PartialEq, Eq)]
+pub enum Answer {
+    Accepted(Ticket),
+    /// Want of memory, with the key of the job that came back.
+    Refused(u64),
+    /// A tick, or the turn of a hand.
+    Ran { ran: u64, stop: Stop },
+    Turned(GroupTurn),
+    Shut(Counts),
+    /// Whether a barrier passed at once.
+    Polled(bool),
+    /// Whether a report counted.
+    Reported(bool),
+    Done,
+    /// Want of memory, of this growth.
+    Memory(Growth),
+    /// An answer that no call of the script has.
+    Other,
+}
+
+/// A runtime that makes the actions of a script, one call each.
+pub trait Machine {
+    // What holds of the runtime between two calls.
+    ghost holds: { Self → Type 0 };
+
+    /// Makes a call. A job that is handed in has this key.
+    fn make(&mut self, action: Action, moment: u64, key: u64) -> Answer
+        requires { holds self.old }
+        ensures { holds self.new };
+
+    fn shown(&self) -> Option<Shown>;
+}
+
+/// The records are those of the first callbacks, in order.
+fn are_first(cpu: u64, ran: &Vec<Record<u64>>) -> bool {
+    for (number, record) in ran.iter().enumerate() {
+        let key = key_at(cpu, number as u64);
+        let found = (record.number, record.key, record.receipt);
+        if found != (number as u64, key, key) {
+            return false;
+        }
+    }
+    true
+}
+
+/// The jobs are those of the callbacks from `first` on, in order.
+fn are_next(cpu: u64, first: usize, back: &Vec<Work>) -> bool {
+    for (place, job) in back.iter().enumerate() {
+        let number = (first as u64).wrapping_add(place as u64);
+        if job.key != key_at(cpu, number) {
+            return false;
+        }
+    }
+    true
+}
+
+/// Whether each callback that a processor accepted was run or handed back, once and in its place.
+fn is_whole(closed: &Closed<Work>, cpu: Cpu, accepted: u64) -> bool {
+    let number = cpu.number();
+    let place = number as usize;
+    let (Some(ran), Some(back)) = (closed.ran.get(place), closed.back.get(place)) else {
+        return false;
+    };
+    let all = (ran.len() as u64).wrapping_add(back.len() as u64);
+    all == accepted && are_first(number, ran) && are_next(number, ran.len(), back)
+}
+
+/// What a close gives is whole, by what the runtime showed before it.
+pub fn check_closed(growth: Growth, closed: &Closed<Work>, shown: &Shown) -> Result<(), Fault> {
+    for cpu in [Cpu::Local, Cpu::Offloadable] {
+        let whole = is_whole(closed, cpu, accepted(shown.of(cpu)));
+        stands(whole, growth, "a callback is lost, or in a wrong place")?;
+    }
+    stands(
+        closed.reports.len() == 2,
+        growth,
+        "the reports of a processor are missing",
+    )
+}

@@ -1,0 +1,120 @@
+//! Calls that may want memory, one scenario after the other, or the one that the first word names. Each says which growth
+//! was refused, if one was, and that what the specification says stood after it (docs/specification/surface.md, "After want
+//! of memory"). `tools/growth` runs each scenario with each of its allocations refused in turn.
+#![tactic(auto)]
+
+mod checking;
+mod growth;
+mod lanes;
+mod lists;
+mod machine;
+mod parts;
+mod playing;
+mod script;
+mod setup;
+mod status;
+mod work;
+mod worlds;
+
+use growth::{Fault, Refusals};
+use lanes::{play_board, play_lanes};
+use lists::play_lists;
+use parts::play_parts;
+use setup::play_setup;
+use status::play_status;
+use std::alloc::Global;
+use std::io;
+use std::process::ExitCode;
+use worlds::play_world;
+
+/// A scenario, by the types or the crate whose calls it makes.
+#[derive(Clone, Copy)]
+enum Scenario {
+    Lists,
+    Lanes,
+    Board,
+    World,
+    Parts,
+    Setup,
+    Status,
+}
+
+const SCENARIOS: [Scenario; 7] = [
+    Scenario::Lists,
+    Scenario::Lanes,
+    Scenario::Board,
+    Scenario::World,
+    Scenario::Parts,
+    Scenario::Setup,
+    Scenario::Status,
+];
+
+impl Scenario {
+    fn name(self) -> &'static str {
+        match self {
+            Scenario::Lists => "lists",
+            Scenario::Lanes => "lanes",
+            Scenario::Board => "board",
+            Scenario::World => "world",
+            Scenario::Parts => "parts",
+            Scenario::Setup => "setup",
+            Scenario::Status => "status",
+        }
+    }
+
+    fn play(self, alloc: Global) -> Result<Refusals, Fault> {
+        match self {
+            Scenario::Lists => play_lists(alloc),
+            Scenario::Lanes => play_lanes(alloc),
+            Scenario::Board => play_board(alloc),
+            Scenario::World => play_world(alloc),
+            Scenario::Parts => play_parts(alloc),
+            Scenario::Setup => play_setup(alloc),
+            Scenario::Status => play_status(alloc),
+        }
+    }
+}
+
+/// Plays a scenario and says how it ended. Answers whether all stood.
+fn run_one(rt: &HostRuntime, alloc: Global, scenario: Scenario) -> io::Result<bool> {
+    let name = scenario.name();
+    match scenario.play(alloc) {
+        Ok(refusals) => match refusals.first() {
+            Some(growth) => println!(rt; "{name}: refused at {growth}")?,
+            None => println!(rt; "{name}: nothing refused")?,
+        },
+        Err(Fault::Own) => println!(rt; "{name}: refused at a list of its own")?,
+        Err(fault) => {
+            eprintln!(rt; "{name}: {fault}")?;
+            return Ok(false);
+        }
+    }
+    Ok(true)
+}
+
+/// Plays the scenarios that the first word names, or all. Answers whether all stood.
+fn run(rt: &HostRuntime) -> io::Result<bool> {
+    let word = std::env::args(rt)?.skip(1).next();
+    let mut all_stood = true;
+    for scenario in SCENARIOS {
+        let named = match &word {
+            Some(word) => word.as_str() == scenario.name(),
+            None => true,
+        };
+        if named {
+            all_stood &= run_one(rt, rt.alloc(), scenario)?;
+        }
+    }
+    Ok(all_stood)
+}
+
+fn main(rt: HostRuntime) -> ExitCode {
+    match run(&rt) {
+        Ok(true) => ExitCode::SUCCESS,
+        Ok(false) => ExitCode::FAILURE,
+        Err(_) => {
+            let _ = eprintln!(rt; "the words can't be had, or nothing can be written");
+            ExitCode::FAILURE
+        }
+    }
+}

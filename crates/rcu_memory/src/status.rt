@@ -1,0 +1,57 @@
+//! The scenario of the lines of lists and totals.
+
+use crate::growth::{Fault, Growth, Refusals, stands};
+use crate::work::Work;
+use rcu_jobs::{Closed, Lists, Mode, Record};
+use rcu_status::{line, totals};
+use std::alloc::Global;
+
+const SHOWN: Lists = Lists::Cpu {
+    mode: Mode::Deoffloading,
+    accepted: 1000000,
+    bypass: 12,
+    lengths: [123456, 7, 8, 9],
+    numbers: [4, 8],
+};
+
+const LINE: &str =
+    "cpu 31 Deoffloading accepted 1000000 bypass 12 done 123456 wait 7@4 ready 8@8 next 9\n";
+
+const TOTALS: &str = "cpu 0 ran 1 back 1 routes 7\nreports 3\n";
+
+/// What was closed: a callback that ran, one that is handed back, three reports.
+fn closed(alloc: Global) -> Result<Closed<Work>, Fault> {
+    let record = Record {
+        number: 0,
+        key: 7,
+        stamp: 0,
+        ready: 4,
+        receipt: 7,
+    };
+    Ok(Closed {
+        ran: vec![in alloc; vec![in alloc; record]?]?,
+        back: vec![in alloc; vec![in alloc; Work { key: 8 }]?]?,
+        reports: vec![in alloc; 3]?,
+    })
+}
+
+/// The scenario: a line of `show`, and the totals.
+pub fn play_status(alloc: Global) -> Result<Refusals, Fault> {
+    let closed = closed(alloc)?;
+    let mut refusals = Refusals::new();
+    let mut text = line(alloc, 31, &SHOWN);
+    if text.is_err() {
+        refusals.note(Growth::Line)?;
+        text = line(alloc, 31, &SHOWN);
+    }
+    let whole = matches!(&text, Ok(text) if text.as_str() == LINE);
+    stands(whole, Growth::Line, "another text")?;
+    let mut text = totals(alloc, &closed, true);
+    if text.is_err() {
+        refusals.note(Growth::Totals)?;
+        text = totals(alloc, &closed, true);
+    }
+    let whole = matches!(&text, Ok(text) if text.as_str() == TOTALS);
+    stands(whole, Growth::Totals, "another text")?;
+    Ok(refusals)
+}

@@ -1,0 +1,42 @@
+//! The job that the scenarios hand in.
+
+ghost use Rattle.rcu_memory.specs.Works.{IsOwnKey, key_of_work};
+
+use rcu_jobs::Job;
+
+/// A job that takes no memory. Its receipt is its key.
+#[derive(Debug, Drop)]
+pub struct Work {
+    pub key: u64,
+}
+
+impl Work {
+    /// The job of the callback that is to be the one of this number on processor `cpu`.
+    pub fn of(cpu: u64, number: u64) -> Work {
+        Work {
+            key: key_at(cpu, number),
+        }
+    }
+}
+
+/// The key of callback `number` of processor `cpu`: each another, while a processor has fewer than a million.
+pub fn key_at(cpu: u64, number: u64) -> u64 {
+    cpu.wrapping_mul(1_000_000).wrapping_add(number)
+}
+
+impl Job for Work {
+    type Receipt = u64;
+
+    ghost key_of = { key_of_work };
+
+    ghost gives = { IsOwnKey };
+
+    fn key(&self) -> u64 {
+        self.key
+    }
+
+    fn run(self) -> u64 {
+        let Work { key } = self;
+        key
+    }
+}

@@ -1,0 +1,11 @@
+use Rattle.rcu_torture.proofs.Keeping.{keeps_again, keeps_none}
+use Rattle.rcu_torture.proofs.acting.Actor.take_share.Goals as goal
+
+pub loop-init : goal.loop-init
+loop-init c = keeps_none _ _
+
+pub loop-preserved : goal.loop-preserved
+loop-preserved c = keeps_again _ _ _ _ _ _ c.loop.invariant c.round-called.ensures
+
+pub returns-then-has_accepted : goal.returns-then-has_accepted
+returns-then-has_accepted c = c.loop.invariant

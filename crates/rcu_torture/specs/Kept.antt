@@ -1,0 +1,38 @@
+-- What is kept while a processor is driven: it stays the same part of its open, and as many callbacks are accepted as keys are
+-- counted.
+use Rattle.std.specs.Prelude.{◌≡◌, ℕ, ◌+◌, length}
+use Rattle.rcu_control.specs.Parts.{control_board, control_seat}
+use Rattle.rcu_control.specs.Views.{SamePart}
+use Rattle.rcu_control.specs.declared.control.Control.{Control}
+use Rattle.rcu_part_processor.specs.Processors.{IsSound, SameProcessor}
+use Rattle.rcu_part_processor.specs.declared.processor.Processor.{Processor}
+use Rattle.rcu_torture.specs.Retired.{IsVersion, version_of}
+use Rattle.rcu_torture.specs.declared.acting.Actor.{Actor}
+use Rattle.rcu_torture.specs.declared.retire.Retire.{Retire}
+use Rattle.rcu_torture.specs.declared.steering.Steerer.{Steerer}
+
+abbrev pub Cpu : Type 0
+Cpu = Processor Retire ℕ
+
+-- The same processor, which accepted as many callbacks as the count of keys rose from `before` to `after`, and knows of its jobs
+-- what it should if it did before.
+pub record Keeps (before after : ℕ) (p q : Cpu) : Type 0 where
+  pub same : SameProcessor p.state q.state
+  pub sound : IsSound version_of IsVersion p.state → IsSound version_of IsVersion q.state
+  pub pace : q.state.accepted + before ≡ p.state.accepted + after
+
+-- a call by which the processor accepted so many callbacks
+abbrev pub Accepts : ℕ → Cpu → Cpu → Type 0
+Accepts many p q = Keeps 0 many p q
+
+-- what a thread's acts keep of its processor
+abbrev pub GoesOn : Actor → Actor → Type 0
+GoesOn old new = Keeps (length old.keys.items) (length new.keys.items) old.processor new.processor
+
+-- the same control of its open
+abbrev pub ControlKeeps : Control → Control → Type 0
+ControlKeeps c d = SamePart (control_board c) (control_board d) (control_seat c) (control_seat d)
+
+-- what control's acts keep
+abbrev pub Steers : Steerer → Steerer → Type 0
+Steers old new = ControlKeeps old.control new.control

@@ -1,0 +1,151 @@
+//! The program `rcu_torture`: it drives all parts of a runtime in threads of their own by random calls, read sections, reports,
+//! ticks, switches and barriers, and checks that no promise is broken. It prints one line of counters.
+//!
+//! It ends with status 0 where no error was met, 1 where one was or where it could not run, and 2 where the words of the
+//! command line were refused.
+#![tactic(auto)]
+
+mod acting;
+mod chance;
+mod checking;
+mod counters;
+mod driving;
+mod flaw;
+mod line;
+mod plan;
+mod retire;
+mod running;
+mod shared;
+mod steering;
+mod versions;
+
+use counters::Counters;
+use flaw::{Flaw, Flaws};
+use line::line;
+use plan::{Plan, Refusal, read_plan};
+use rcu_threads::ThreadsFault;
+use running::run_once;
+use std::alloc::{AllocError, Global};
+use std::io;
+use std::process::ExitCode;
+use std::rt::Clock;
+use std::sync::Wait;
+use std::thread::Threads;
+
+/// Why the program can't end with its line.
+#[derive(Debug, Drop)]
+enum Fault {
+    /// The words of the command line were refused.
+    Refused(Refusal),
+    /// A thread could not be made, or want of memory.
+    CannotRun,
+    /// The line could not be written.
+    Write(io::Error),
+}
+
+impl From<Refusal> for Fault {
+    fn from(refusal: Refusal) -> Fault {
+        Fault::Refused(refusal)
+    }
+}
+
+impl From<ThreadsFault> for Fault {
+    fn from(_fault: ThreadsFault) -> Fault {
+        Fault::CannotRun
+    }
+}
+
+impl From<AllocError> for Fault {
+    fn from(_error: AllocError) -> Fault {
+        Fault::CannotRun
+    }
+}
+
+impl From<io::Error> for Fault {
+    fn from(error: io::Error) -> Fault {
+        Fault::Write(error)
+    }
+}
+
+/// The words of the command line after the program's name.
+fn words(rt: &HostRuntime) -> Result<Vec<String>, Refusal> {
+    let mut words = Vec::new(rt.alloc());
+    let given = match std::env::args(rt) {
+        Ok(given) => given,
+        Err(error) if error.kind() == io::ErrorKind::OutOfMemory => return Err(Refusal::Memory),
+        Err(_) => return Err(Refusal::NoText),
+    };
+    for word in given.skip(1) {
+        let Ok(()) = words.push(word) else {
+            return Err(Refusal::Memory);
+        };
+    }
+    Ok(words)
+}
+
+/// All runs of a plan: what they counted.
+fn run_all<R: Threads + Wait + Clock + Copy + Send + 'static>(
+    rt: &R,
+    alloc: Global,
+    plan: &Plan,
+    flaws: &Flaws,
+) -> Result<Counters, ThreadsFault> {
+    let mut counters = Counters::NONE;
+    for run in 0..plan.runs {
+        let report = run_once(rt, alloc, plan, run)?;
+        counters.add(&report.counters);
+        flaws.add(&report.shared.flaws);
+    }
+    Ok(counters)
+}
+
+/// Runs what the words say, and prints the line. Answers whether no error was met.
+fn run<R: Threads + Wait + Clock + Copy + Send + 'static>(
+    host: &HostRuntime,
+    rt: &R,
+) -> Result<bool, Fault> {
+    let alloc = host.alloc();
+    let words = words(host)?;
+    let plan = read_plan(alloc, words.as_slice())?;
+    let flaws = Flaws::new(alloc)?;
+    let counters = run_all(rt, alloc, &plan, &flaws)?;
+    let errors = flaws.sum();
+    host.print(&line(alloc, plan.runs, &counters, errors)?)?;
+    for flaw in Flaw::ALL {
+        let times = flaws.count(flaw);
+        if times > 0 {
+            eprintln!(host; "error: {} ({times} times)", flaw.text())?;
+        }
+    }
+    Ok(errors == 0)
+}
+
+/// Says why the program ends without its line. Answers its status.
+fn tell(rt: &impl Eprint, fault: Fault) -> io::Result<u8> {
+    match fault {
+        Fault::Refused(Refusal::Words(error)) => rt.eprint(&error)?,
+        Fault::Refused(Refusal::NoText) => eprintln!(rt;
+            "error: a word of the command line is no text"
+        )?,
+        Fault::Refused(Refusal::TooMany) => eprintln!(rt;
+            "error: there are at most 32 processors, each of which accepts at most 1000000 callbacks"
+        )?,
+        Fault::Refused(Refusal::Memory) | Fault::CannotRun => {
+            eprintln!(rt; "error: no memory, or a thread can't be made")?;
+            return Ok(1);
+        }
+        Fault::Write(error) => {
+            eprintln!(rt; "error: {error}")?;
+            return Ok(1);
+        }
+    }
+    Ok(2)
+}
+
+fn main(rt: HostRuntime) -> ExitCode {
+    match run(&rt, &rt) {
+        Ok(true) => ExitCode::SUCCESS,
+        Ok(false) => ExitCode::FAILURE,
+        Err(fault) => ExitCode::from(tell(&rt, fault).unwrap_or(1)),
+    }
+}
