@@ -22,12 +22,22 @@ pub trait ReadsTurns {
     // Its seat.
     ghost seat_of: { Self → Seat };
 
+    // What the load of a turn word keeps of the part beside its board and its seat: of a processor, its callbacks and
+    // its records.
+    ghost keeps: { Self → Self → Type 0 };
+
     /// Loads the turn word of processor `p`.
     fn read_turn(&mut self, p: u64) -> u64
         requires { p < (board_of self.old).processors }
         ensures here { AtBoard (board_of self.old) (seat_of self.old) }
         ensures same { SamePart (board_of self.old) (board_of self.new) (seat_of self.old) (seat_of self.new) }
+        ensures keeps { keeps self.old self.new }
         ensures view { view (seat_of self.new) ≡ touched (turns_word p) result (view (seat_of self.old)) };
+
+    // A part keeps itself, and what two loads keep, both keep.
+    ghost keeps_itself: { (w : Self) → keeps w w };
+
+    ghost keeps_again: { (u v w : Self) → keeps u v → keeps v w → keeps u w };
 }
 
 /// A barrier that is open: how many callbacks each processor had accepted when it was opened.
@@ -107,6 +117,7 @@ impl Barrier {
         requires open { (W.board_of by.old).processors ≡ self.old.counts.n }
         ensures barrier { self.new ≡ self.old }
         ensures same { SamePart (W.board_of by.old) (W.board_of by.new) (W.seat_of by.old) (W.seat_of by.new) }
+        ensures keeps { W.keeps by.old by.new }
         ensures polls { PollsBy self.old.counts result (view (W.seat_of by.old)) (view (W.seat_of by.new)) }
     {
         for p in 0..self.counts.n {

@@ -137,7 +137,13 @@ impl ReadsTurns for Control {
 
     ghost seat_of = { control_seat };
 
+    ghost keeps = { λ c d. Unit {0} };
+
     fn read_turn(&mut self, p: u64) -> u64 {
         turn_of(&self.board, &mut self.seat, p)
     }
+
+    ghost keeps_itself = { λ c. record {} };
+
+    ghost keeps_again = { λ b c d x y. record {} };
 }

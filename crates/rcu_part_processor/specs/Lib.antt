@@ -3,3 +3,4 @@ pub mod Processors
 pub mod Calls
 pub mod Opened
 pub mod Ticks
+pub mod Looking

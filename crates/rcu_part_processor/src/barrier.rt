@@ -26,14 +26,22 @@ impl<J: Job> Processor<J> {
 }
 
 impl<J: Job> ReadsTurns for Processor<J> {
+    ghost use Rattle.std.proofs.Common.{rules};
+    ghost use Rattle.rcu_part_processor.specs.Looking.{OnlyLooks};
     ghost use Rattle.rcu_part_processor.specs.Processors.{board_of, seat_of};
 
     ghost board_of = { λ p. board_of p.state };
 
     ghost seat_of = { λ p. seat_of p.state };
 
+    ghost keeps = { λ p q. OnlyLooks J.key_of J.gives p.state q.state };
+
     fn read_turn(&mut self, p: u64) -> u64 {
         let state = &mut self.state;
         turn_of(&state.board, &mut state.seat, p)
     }
+
+    ghost keeps_itself = { Prim.search rules };
+
+    ghost keeps_again = { Prim.search rules };
 }

@@ -23,6 +23,9 @@ returns-then-read_turn-self-clause-polls g c =
       below = let h = seen_here k (turns_word p) x (view s) words (omega arith) in omega arith;
     })
 
+pub returns-then-read_turn-self-clause-keeps : goal.returns-then-read_turn-self-clause-keeps
+returns-then-read_turn-self-clause-keeps g c = g.met.W.ReadsTurns.keeps_again _ _ _ c.loop-p.invariant.keeps c.read_turn.ensures.keeps
+
 pub loop-p-preserved : goal.loop-p-preserved
 loop-p-preserved g c =
     let i = c.loop-p.invariant in let b = g.W.ReadsTurns.board_of c.loop-p.by in let s = g.W.ReadsTurns.seat_of c.loop-p.by in let e = c.read_turn.ensures in
@@ -31,6 +34,7 @@ loop-p-preserved g c =
     let n = ap (λ (z : Board). z.processors) i.same.board in let low = c.loop-p-test.true in let few = b.few in let open' = c.requires.open in
     let over = c.if-read_turn-self.false in record {
       same = same_again _ _ _ _ _ _ i.same e.same;
+      keeps = g.met.W.ReadsTurns.keeps_again _ _ _ i.keeps e.keeps;
       steps = subst (λ (w : View). StepsOnEach turns_word (p + 1) v w) (sym e.view) (steps_on_next turns_word k p x v (view s) turns_differ words (omega arith) i.steps);
       over = subst (λ (w : View). (q : ℕ) → q < p + 1 → 2 * count_at counts q ≤ seen_at w (turns_word q)) (sym e.view)
           (over_next k p x counts (view s) words (omega arith) (omega arith) i.over);

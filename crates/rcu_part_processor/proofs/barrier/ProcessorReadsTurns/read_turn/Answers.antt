@@ -1,4 +1,4 @@
-use Rattle.std.proofs.Common.{◌∙◌}
+use Rattle.std.proofs.Common.{◌∙◌, refl}
 use Rattle.rcu_board.specs.Seats.{view}
 use Rattle.rcu_board.specs.Words.{turns_word}
 use Rattle.rcu_holdings.specs.Callers.{holding}
@@ -15,4 +15,18 @@ invariant_of-state g c = let s = c.args.self.now.state in let e = c.turn_of.ensu
   local = s.local;
   small = s.small;
   lawful = kept_by_tells s.cpu s.accepted _ v w s.ran.items (holding s.lists) (tells_touched (turns_word c.args.p) c.turn_of.result v w e.view) e.later s.lawful;
+}
+
+pub returns-clause-keeps : goal.returns-clause-keeps
+returns-clause-keeps g c = record {
+  same = record {
+    part = record { board = refl; seat = c.turn_of.ensures.same };
+    lane = refl;
+    cpu = refl;
+    offloadable = refl;
+    limit = refl;
+    blimit = refl;
+  };
+  keeps = record { count = refl; lists = refl; records = refl };
+  sound = λ x. record { keyed = x.keyed; given = x.given };
 }
