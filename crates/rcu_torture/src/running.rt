@@ -5,6 +5,7 @@ ghost use Rattle.rcu_parts.specs.AtClose.{ClosesWith};
 ghost use Rattle.rcu_parts.specs.OneOpen.{AreOfOneOpen, AreSoundParts};
 ghost use Rattle.rcu_threads.specs.Ends.{ClosesSame};
 ghost use Rattle.rcu_torture.specs.Ends.{HaveKept};
+ghost use Rattle.rcu_torture.specs.Kept.{ControlKeeps};
 ghost use Rattle.rcu_torture.specs.Retired.{IsVersion, version_of};
 
 use crate::chance::Chance;
@@ -17,7 +18,7 @@ use crate::retire::Retire;
 use crate::shared::Shared;
 use crate::steering::{Farewell, Steerer};
 use rcu_jobs::Closed;
-use rcu_parts::{AllParts, Parts, close, open, same_parts};
+use rcu_parts::{AllParts, Control, Parts, close, open, same_parts};
 use rcu_threads::{ThreadsFault, join_all, join_driver, start_driver, start_groups, start_hands};
 use std::alloc::{AllocError, Global};
 use std::rt::Clock;
@@ -39,6 +40,47 @@ struct Ended {
 pub(crate) struct Outcome {
     pub(crate) closed: Closed<Retire>,
     pub(crate) counters: Counters,
+}
+
+/// What control came to.
+#[derive(Drop)]
+struct Led {
+    control: Control,
+    counters: Counters,
+    farewell: Farewell,
+}
+
+/// Leads a run by control, and then sets the halt word.
+fn lead<R: Wait + Clock>(
+    rt: &R,
+    alloc: Global,
+    control: Control,
+    shared: Arc<Shared>,
+    plan: &Plan,
+    run: u64,
+    are_running: bool,
+) -> Led
+    ensures { ControlKeeps control result.control }
+{
+    let mut steerer = Steerer {
+        control,
+        processors: plan.processors,
+        shared,
+        chance: Chance::new(plan.seed, run, 0),
+        counters: Counters::NONE,
+    };
+    let farewell = steerer.lead(rt, alloc, plan.ending(run), are_running);
+    let Steerer {
+        mut control,
+        counters,
+        ..
+    } = steerer;
+    control.finish();
+    Led {
+        control,
+        counters,
+        farewell,
+    }
 }
 
 /// Runs all parts of an open in threads of their own.
@@ -74,20 +116,11 @@ fn run_parts<R: Threads + Wait + Clock + Copy + Send + 'static>(
         && groups.is_whole()
         && hands.is_whole()
         && actors.is_whole();
-    let mut steerer = Steerer {
+    let Led {
         control,
-        processors: plan.processors,
-        shared: own,
-        chance: Chance::new(plan.seed, run, 0),
-        counters: Counters::NONE,
-    };
-    let farewell = steerer.lead(rt, alloc, plan.ending(run), are_running);
-    let Steerer {
-        mut control,
         counters,
-        ..
-    } = steerer;
-    control.finish();
+        farewell,
+    } = lead(rt, alloc, control, own, plan, run, are_running);
     let driver = join_driver(rt, driver);
     let groups = join_all(rt, groups);
     let hands = join_all(rt, hands);

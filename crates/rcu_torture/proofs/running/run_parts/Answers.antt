@@ -1,5 +1,4 @@
 use Rattle.std.proofs.Common.{◌≡◌, length, subst}
-use Rattle.rcu_control.proofs.Stepping.{same_again}
 use Rattle.rcu_threads.specs.Parts.{GroupStays, HandStays}
 use Rattle.rcu_threads.proofs.Tickets.{driver_kept}
 use Rattle.rcu_threads.proofs.Zips.{zip_chain, zip_kept}
@@ -14,7 +13,7 @@ returns g c = let parts = c.args.parts in
     let driven = c.in_ok-driven.field-0.items in
     let drove = zip_kept (λ t. t.promise.0.value) (λ t d. Keeps 0 (length d.log.keys.items) t.promise.0.value d.processor) (λ p d. CpuKeeps p d.processor) (λ t d kept. cpu_keeps 0 (length d.log.keys.items) t.promise.0.value d.processor kept) parts.processors.items c.start_actors-actors.result.threads.items driven (c.start_actors-actors.ensures c.in_ok-driven.ensures.whole) c.in_ok-driven.ensures.kept in
     record {
-      control = same_again _ _ _ _ _ _ c.lead-farewell.ensures c.finish.ensures.same;
+      control = c.lead-control.ensures;
       driver = driver_kept (λ t. t.promise.0.value) c.start_driver-driver.result parts.driver c.in_ok-driver.field-0 c.start_driver-driver.ensures c.in_ok-driver.ensures;
       groups = zip_kept (λ t. t.promise.0.value) (λ t q. GroupStays t.promise.0.value q) GroupStays (λ t q kept. kept) parts.groups.items c.start_groups-groups.result.threads.items c.in_ok-groups.field-0.items (c.start_groups-groups.ensures c.in_ok-groups.ensures.whole) c.in_ok-groups.ensures.kept;
       hands = zip_kept (λ t. t.promise.0.value) (λ t q. HandStays version_of IsVersion t.promise.0.value q) (HandStays version_of IsVersion) (λ t q kept. kept) parts.hands.items c.start_hands-hands.result.threads.items c.in_ok-hands.field-0.items (c.start_hands-hands.ensures c.in_ok-hands.ensures.whole) c.in_ok-hands.ensures.kept;
