@@ -22,10 +22,3 @@ pub use steps::{
     needed, report, shut_one, start, turn_of, urge,
 };
 pub use view::{Accepted, Claim, Own, View};
-
-#[cfg(test)]
-mod tests;
-#[cfg(test)]
-mod tests_rows;
-#[cfg(test)]
-mod tests_threads;

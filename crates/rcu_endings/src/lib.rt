@@ -9,6 +9,3 @@ mod moving;
 
 pub use ended::Ended;
 pub use ending::{end_local, end_offloadable};
-
-#[cfg(test)]
-mod tests;

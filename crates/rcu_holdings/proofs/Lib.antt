@@ -5,4 +5,3 @@ pub mod Pieces
 pub mod Relays
 pub mod Releases
 pub mod Sizes
-pub mod Rows

@@ -21,6 +21,3 @@ pub use caller::Caller;
 pub use hand::{Fetched, Held};
 pub use member::{MOST_BATCHES, Member};
 pub use safe::Safe;
-
-#[cfg(test)]
-mod tests;

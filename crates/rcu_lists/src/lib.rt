@@ -14,6 +14,3 @@ pub use batch::{Batch, INLINE_PLACES};
 pub use bypass::{Bypass, Placed};
 pub use pace::{Kind, LAZY_MOMENTS, MOST_DIRECT, Pace};
 pub use segments::Segments;
-
-#[cfg(test)]
-mod tests;

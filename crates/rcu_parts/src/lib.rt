@@ -19,14 +19,3 @@ pub use rcu_control::{Barrier, Control, Driver, ReadsTurns};
 pub use rcu_part_group::{Folk, Group, Members};
 pub use rcu_part_hand::Hand;
 pub use rcu_part_processor::{Processor, Reading};
-
-#[cfg(test)]
-mod tests;
-#[cfg(test)]
-mod tests_close;
-#[cfg(test)]
-mod tests_group;
-#[cfg(test)]
-mod tests_open;
-#[cfg(test)]
-mod tests_rows;

@@ -13,8 +13,3 @@ mod turning;
 pub use phase::{Act, Answer, Move, Phase, Reply, Step};
 pub use playing::{Played, play};
 pub use signal::{Flag, Signal, raise, sees};
-
-#[cfg(test)]
-mod tests;
-#[cfg(test)]
-mod tests_cut;

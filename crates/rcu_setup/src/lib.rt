@@ -24,6 +24,3 @@ pub use line::{Command, script_line};
 pub use list::cpu_list;
 pub use reading::read_setup;
 pub use setup::Setup;
-
-#[cfg(test)]
-mod tests;

@@ -17,6 +17,3 @@ pub use fault::ThreadsFault;
 pub use promises::{RunningDriver, RunningGroup, RunningHand, Stays};
 pub use running::{join_driver, run_in_threads};
 pub use starting::{start_driver, start_groups, start_hands};
-
-#[cfg(test)]
-mod tests;

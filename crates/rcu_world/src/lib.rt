@@ -25,6 +25,3 @@ mod worlds;
 
 pub use events::{Answer, Event};
 pub use worlds::World;
-
-#[cfg(test)]
-mod tests;
