@@ -1,0 +1,83 @@
+"""The crates of this repository, as crates.txt lists them: what they stand on, how long they are, what stands above them."""
+import functools
+import hashlib
+import pathlib
+import subprocess
+
+ROOT = pathlib.Path(__file__).resolve().parent.parent
+# What a proof reads of a crate.
+PARTS = ("src", "specs", "proofs")
+
+
+class Crate:
+    """One line of crates.txt: the crate's name, and the names of those that it stands on."""
+
+    def __init__(self, line, named):
+        head, _, names = line.partition(":")
+        self.line, self.name, self.named = line, head.split()[0], named
+        self.names = names.split()
+        self.folder = ROOT / "crates" / self.name
+
+    @property
+    def deps(self):
+        """The crates of this repository that it names."""
+        return [self.named[it] for it in self.names if it in self.named]
+
+    @functools.cached_property
+    def below(self):
+        """All crates that it stands on, lowest first."""
+        found = {}
+        for dep in self.deps:
+            found.update({it.name: it for it in [*dep.below, dep]})
+        return list(found.values())
+
+    @property
+    def above(self):
+        return [it for it in self.named.values() if self in it.below]
+
+    @property
+    def is_program(self):
+        return (self.folder / "src/main.rt").is_file()
+
+    @functools.cached_property
+    def files(self):
+        return sorted(it for part in PARTS for it in (self.folder / part).rglob("*") if it.is_file())
+
+    @functools.cached_property
+    def lines(self):
+        return sum(it.read_bytes().count(b"\n") for it in self.files if it.suffix == ".rt")
+
+    @functools.cached_property
+    def stamp(self):
+        """A sum of all that its proof rests on: the toolchain, its line, its files, and those of the crates below."""
+        sum = hashlib.sha256(repr((toolchain(), self.line, [it.stamp for it in self.deps])).encode())
+        for file in self.files:
+            sum.update(repr((str(file.relative_to(self.folder)), file.read_bytes())).encode())
+        return sum.hexdigest()
+
+    @property
+    def made(self):
+        """What its proof leaves for a run or for the crates above: the program, or the library."""
+        return self.folder / "out" / (self.name if self.is_program else "rlib")
+
+    def is_built(self):
+        """Whether what was made is there, and no source that it was made from is newer."""
+        if not self.made.exists():
+            return False
+        made = self.made.stat().st_mtime
+        return not any(file.stat().st_mtime > made for it in [*self.below, self] for file in it.files)
+
+
+@functools.cache
+def toolchain():
+    return subprocess.run(["rt", "version"], capture_output=True, text=True).stdout
+
+
+def read():
+    """All crates of crates.txt, by name, in its order, which has the lowest first."""
+    named = {}
+    for line in (ROOT / "crates.txt").read_text(encoding="utf-8").splitlines():
+        if line.strip() and not line.startswith("#"):
+            crate = Crate(line, named)
+            named[crate.name] = crate
+    return named
