@@ -27,6 +27,9 @@ use Rattle.rcu_endings.proofs.Counting.{two_as_many}
 
 -- ---- jobs that are taken out
 
+pub fewer : {X : Type 0} (xs ys : List X) (x : X) → xs ≡ x ∷ ys → length ys < length xs
+fewer xs ys x e = let l = ap length e in omega arith
+
 module _ {J : Type 0} where
   pub takes_none : (v : Vec J Global) → Takes [] v v
   takes_none v = record { jobs = sym (append-nil v.items); len = omega arith; room = refl }
@@ -94,6 +97,10 @@ module _ {J : Type 0} where
       passed_through (flat_map batch_items pu) (flat_map batch_items dr) (flat_map batch_items puD) (flat_map batch_items drD) taken held out list waiting (flat_map batch_items le) (flat_map batch_items leD)
       (lane_split pu pu' dr dr' le a b c) order (lane_split puD puD' drD drD' leD d e f) (hand ∙ ap (λ (l : List (Callback J)). taken ++ l) (sym same))
 
+  pub lane_room : (b : Batch J) (bs bs' : List (Batch J)) (n cap end whole : ℕ) → bs ≡ b ∷ bs' → n + length (flat_map batch_items bs) ≡ end → cap ≡ whole → end ≤ whole → n + length (batch_items b) ≤ cap
+  lane_room b bs bs' n cap end whole e h same fits =
+      let l = ap (λ (l : List (Batch J)). length (flat_map batch_items l)) e ∙ (ap length (flat_map-cons batch_items b bs') ∙ length-append (batch_items b) (flat_map batch_items bs')) in omega arith
+
   -- room for what was put and not taken, and for what is held
   pub all_fit : (put taken first second held kept : List (Callback J)) (v : Vec J Global) (jobs : ℕ) → v.items ≡ [] → put ≡ taken ++ (first ++ second) → held ≡ kept → length put + length kept ≤ length taken + jobs → jobs ≤ vec_capacity v
       → vec_len v + length (first ++ (second ++ held)) ≤ vec_capacity v
@@ -117,6 +124,15 @@ module _ {J : Type 0} where
   pub local_back : (v w : Vec J Global) (bypass own bypass' own' : List (Callback J)) → v.items ≡ [] → bypass ≡ bypass' → own ≡ own' → Takes (bypass ++ own) v w → w.items ≡ jobs_of (bypass' ++ own')
   local_back v w bypass own bypass' own' none b o t =
       t.jobs ∙ (ap (λ (js : List J). js ++ jobs_of (bypass ++ own)) none ∙ ap jobs_of (ap (λ (l : List (Callback J)). l ++ own) b ∙ ap (λ (l : List (Callback J)). bypass' ++ l) o))
+
+  pub local_fits : (v : Vec J Global) (bypass own bypass' own' : List (Callback J)) → v.items ≡ [] → bypass ≡ bypass' → own ≡ own' → length (bypass' ++ own') ≤ vec_capacity v → vec_len v + length (bypass ++ own) ≤ vec_capacity v
+  local_fits v bypass own bypass' own' none b o room =
+      let a = ap length none in
+      let d = ap length b in
+      let e = ap length o in
+      let f = length-append bypass own in
+      let h = length-append bypass' own' in
+      let n = v.ok.0 in omega arith
 
 -- ---- the order of all numbers
 

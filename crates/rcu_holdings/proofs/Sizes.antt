@@ -1,6 +1,13 @@
 -- A part of a struct fits in memory where the struct does.
-use Rattle.std.proofs.Common.{ℕ, ◌+◌, ◌<◌, arith}
+use Rattle.std.proofs.Common.{ℕ, ◌+◌, ◌<◌, max, arith}
+use Rattle.std.specs.Mem.{FitsInMemory}
+use denote.RattleType.{RattleType}
 use prog.Memory.{up}
+use Rattle.rcu_lists.specs.contracts.batch.Batch as batch_row
+use Rattle.rcu_lists.specs.contracts.bypass.Bypass as bypass_row
+use Rattle.rcu_holdings.specs.contracts.caller.Caller as caller_row
+use Rattle.rcu_holdings.specs.contracts.hand.Held as held_row
+use Rattle.rcu_holdings.specs.contracts.member.Member as member_row
 
 -- the last field
 pub in_struct : (a off x : ℕ) → up a (off + x) < 9223372036854775808 → x < 9223372036854775808
@@ -9,3 +16,20 @@ in_struct a off x h = omega arith
 -- the third field from the end
 pub in_third : (a b c d off x y z : ℕ) → up a (up b (up c (up d off + x) + y) + z) < 9223372036854775808 → x < 9223372036854775808
 in_third a b c d off x y z h = omega arith
+
+-- the places that stand in a batch itself
+pub in_places : (a b c d e f g h i j l m n o p q r x : ℕ) → up a (up b (c + up d (e + up f (max (g + up h (up i (up j (l + up m (n + x)) + o) + p)) q))) + r) < 9223372036854775808 → x < 9223372036854775808
+in_places a b c d e f g h i j l m n o p q r x k = omega arith
+
+-- what a member, a hand and a processor are made of
+pub member-batch : (R : RattleType) → FitsInMemory (member_row.the_row R) → FitsInMemory (batch_row.the_row R)
+member-batch R h = in_struct _ _ _ h
+
+pub held-batch : (R : RattleType) → FitsInMemory (held_row.the_row R) → FitsInMemory (batch_row.the_row R)
+held-batch R h = in_struct _ _ _ h
+
+pub caller-bypass : (R : RattleType) → FitsInMemory (caller_row.the_row R) → FitsInMemory (bypass_row.the_row R)
+caller-bypass R h = in_struct _ _ _ h
+
+pub bypass-batch : (R : RattleType) → FitsInMemory (bypass_row.the_row R) → FitsInMemory (batch_row.the_row R)
+bypass-batch R h = in_third _ _ _ _ _ _ _ _ h

@@ -1,7 +1,8 @@
 -- The values of places that are joined.
-use Rattle.std.proofs.Common.{◌≡◌, ◌+◌, List, [], ◌∷◌, ◌++◌, length, Option, Some, None, refl, ap, ◌∙◌, sym, length-append, MatchOption, ◌≤◌, subst, arith, Bool, true, false, not, IsTrue, ◌↔◌, ◌<◌, take, drop, get_or, suc, ℕ}
+use Rattle.std.proofs.Common.{◌≡◌, ◌+◌, List, [], ◌∷◌, ◌++◌, length, Option, Some, None, refl, ap, ◌∙◌, sym, length-append, MatchOption, ◌≤◌, subst, arith, Bool, true, false, not, IsTrue, ◌↔◌, ◌<◌, take, drop, get_or, suc, ltb, ℕ}
 use Rattle.std.proofs.Math.Seq.{drop-cons, take-add}
-use Rattle.std.proofs.lemmas.List.{drop-drop}
+use Rattle.std.proofs.lemmas.Bool.{ltb-true, ltb-false}
+use Rattle.std.proofs.lemmas.List.{drop-drop, drop_all}
 use Rattle.rcu_lists.specs.Release.{is_any}
 use Rattle.rcu_lists.specs.Filled.{filled, AreFilled}
 
@@ -50,6 +51,16 @@ module _ {T : Type 0} where
   first-at i places place lt e h =
       let f : drop i places ≡ place ∷ drop (suc i) places = drop-cons places i place lt ∙ ap (λ x. x ∷ drop (suc i) places) (sym e) in
       has-first place (drop (suc i) places) (drop i places) f (first-filled place (drop (suc i) places) (subst AreFilled f h)).1
+
+  -- as a lookup of it tells
+  pub first-looked : (i : ℕ) (places seen : List (Option T)) (place : Option T) → seen ≡ places → true ≡ ltb i (length seen) → place ≡ get_or seen i place → AreFilled (drop i places)
+      → MatchOption place ⊥ (λ x. (ys : List T) × (filled (drop i places) ≡ x ∷ ys))
+  first-looked i places seen place e lt at full =
+      first-at i places place (ltb-true i (length places) (ap (λ (l : List (Option T)). ltb i (length l)) (sym e) ∙ sym lt)) (at ∙ ap (λ l. get_or l i place) e) full
+
+  pub none-looked : (i : ℕ) (places seen : List (Option T)) → seen ≡ places → false ≡ ltb i (length seen) → filled (drop i places) ≡ []
+  none-looked i places seen e h =
+      let le = ltb-false i (length places) (ap (λ (l : List (Option T)). ltb i (length l)) (sym e) ∙ sym h) in ap filled (drop_all i places le)
 
 pub marks : (r : Bool) (P : Type 0) → (IsTrue r ↔ P) → (P → not r ≡ false) × (not r ≡ false → P)
 marks true P h = ((λ _. refl), λ _. h.0 refl)

@@ -1,10 +1,7 @@
-use Rattle.std.proofs.Common.{rules, ◌≡◌, ℕ, ◌+◌, ◌≤◌, List, ◌++◌, length, map, sym, subst, ap, ◌∙◌, arith, drop}
+use Rattle.std.proofs.Common.{◌≡◌, ℕ, ◌+◌, ◌≤◌, List, ◌++◌, length, map, sym, subst, ap, ◌∙◌, arith, drop}
 use Rattle.std.specs.List.{flat_map}
-use Rattle.std.specs.Mem.{FitsInMemory}
 use denote.Param.{param}
-use Rattle.rcu_lists.specs.contracts.batch.Batch as batch_row
-use Rattle.rcu_holdings.specs.contracts.hand.Held as held_row
-use Rattle.rcu_holdings.specs.contracts.member.Member as member_row
+use Rattle.rcu_holdings.proofs.Sizes.{held-batch, in_places}
 use Rattle.rcu_holdings.specs.Callers.{holding, held_in, put_by}
 use Rattle.rcu_holdings.specs.Helds.{drawn_by, held_by, taken_by}
 use Rattle.rcu_jobs.specs.Records.{Given}
@@ -16,25 +13,13 @@ use Rattle.rcu_places.specs.Order.{Remaining}
 use Rattle.rcu_places.specs.Places.{Accepted, Numbered, numbered}
 use Rattle.rcu_records.specs.Records.{AreRipe, AreSeenBy, numbered_records}
 use Rattle.rcu_endings.proofs.Endings.{all_fit, came_back, first_fits, rest_fits, takes_then, passage, offloadable_ends, taken_first}
-use Rattle.rcu_endings.proofs.ending.end_offloadable.Given.{Over}
-use Rattle.rcu_endings.proofs.ending.end_offloadable.Goals.{Start}
 use Rattle.rcu_endings.proofs.ending.end_offloadable.Goals as goal
 
-start_batch : (g : Over) (c : Start g) → FitsInMemory (batch_row.the_row (param 0 g.row.J))
-start_batch g c = search rules
-
-start_member : (g : Over) (c : Start g) → FitsInMemory (member_row.the_row (param 0 g.row.J))
-start_member g c = search rules
-
--- the third of the bounds that stand for the values passed whole: the search doesn't reach it
-start_held : (g : Over) (c : Start g) → FitsInMemory (held_row.the_row (param 0 g.row.J))
-start_held g c = c.requires-raw.1.1.1.1.1.1.0
-
 pub into_parts-done_front-requires : goal.into_parts-done_front-requires
-into_parts-done_front-requires g c = (start_held g c, start_batch g c)
+into_parts-done_front-requires g c = (assumption, held-batch (param 0 g.row.J) assumption)
 
 pub into_parts-front-requires : goal.into_parts-front-requires
-into_parts-front-requires g c = (start_member g c.before.before, start_batch g c.before.before)
+into_parts-front-requires g c = (assumption, held-batch (param 0 g.row.J) assumption)
 
 pub take_drawn-requires : goal.take_drawn-requires
 take_drawn-requires g c =
@@ -51,7 +36,7 @@ take_drawn-requires g c =
     let same : last ≡ held_in (holding c.args.caller) = ap (λ l. l ++ i.result.1.items) i.ensures.bypass ∙ ap (λ l. (holding c.args.caller).outgoing.bypass ++ l) i.ensures.own in
     let r = c.requires.room in
     let f = all_fit (put_by (holding c.args.caller)) (taken_by c.args.held) first second last (held_in (holding c.args.caller)) c.args.room.back r.0 r.1.no_job p.0 same r.2 r.1.for_jobs in
-    (start_batch g c.before.before.before.before.before.before.before.before, first_fits _ _ first (second ++ last) f)
+    (held-batch (param 0 g.row.J) assumption, first_fits _ _ first (second ++ last) f)
 
 pub take_undrawn-requires : goal.take_undrawn-requires
 take_undrawn-requires g c =
@@ -68,7 +53,7 @@ take_undrawn-requires g c =
     let same : last ≡ held_in (holding c.args.caller) = ap (λ l. l ++ i.result.1.items) i.ensures.bypass ∙ ap (λ l. (holding c.args.caller).outgoing.bypass ++ l) i.ensures.own in
     let r = c.requires.room in
     let f = all_fit (put_by (holding c.args.caller)) (taken_by c.args.held) first second last (held_in (holding c.args.caller)) c.args.room.back r.0 r.1.no_job p.0 same r.2 r.1.for_jobs in
-    (start_batch g c.before.before.before.before.before.before.before.before.before.before.before, first_fits _ _ second last (rest_fits first (second ++ last) _ _ c.take_drawn.ensures f))
+    (held-batch (param 0 g.row.J) assumption, first_fits _ _ second last (rest_fits first (second ++ last) _ _ c.take_drawn.ensures f))
 
 pub take_lists-requires : goal.take_lists-requires
 take_lists-requires g c =
@@ -85,7 +70,7 @@ take_lists-requires g c =
     let same : last ≡ held_in (holding c.args.caller) = ap (λ l. l ++ i.result.1.items) i.ensures.bypass ∙ ap (λ l. (holding c.args.caller).outgoing.bypass ++ l) i.ensures.own in
     let r = c.requires.room in
     let f = all_fit (put_by (holding c.args.caller)) (taken_by c.args.held) first second last (held_in (holding c.args.caller)) c.args.room.back r.0 r.1.no_job p.0 same r.2 r.1.for_jobs in
-    (start_batch g c.before.before.before.before.before.before.before.before.before.before.before.before.before.before, rest_fits second last _ _ c.take_undrawn.ensures (rest_fits first (second ++ last) _ _ c.take_drawn.ensures f))
+    (held-batch (param 0 g.row.J) assumption, rest_fits second last _ _ c.take_undrawn.ensures (rest_fits first (second ++ last) _ _ c.take_drawn.ensures f))
 
 pub returns-clause-passed : goal.returns-clause-passed
 returns-clause-passed g c =
@@ -144,3 +129,24 @@ returns-clause-ends g c =
     (λ x y. m.given (subst (λ (l : List (Record g.row.J-Receipt.Denot)). Given g.J.Job.gives l) (sym a) x) (subst (λ (l : List (Record g.row.J-Receipt.Denot)). Given g.J.Job.gives l) (sym b) y))
     (λ x y. m.ripe (subst (λ (l : List (Record g.row.J-Receipt.Denot)). AreRipe l) (sym a) x) (subst (λ (l : List (Record g.row.J-Receipt.Denot)). AreRipe l) (sym b) y))
     (λ k x y. m.seen k (subst (λ (l : List (Record g.row.J-Receipt.Denot)). AreSeenBy k l) (sym a) x) (subst (λ (l : List (Record g.row.J-Receipt.Denot)). AreSeenBy k l) (sym b) y))
+
+pub into_parts-rear-requires : goal.into_parts-rear-requires
+into_parts-rear-requires g c = (assumption, held-batch (param 0 g.row.J) assumption)
+
+pub rest-done_lane-requires-room-T-Destruct : goal.rest-done_lane-requires-room-T-Destruct
+rest-done_lane-requires-room-T-Destruct g c κs within = held-batch (param 0 g.row.J) assumption
+
+pub rest-lane-requires-room-T-Destruct : goal.rest-lane-requires-room-T-Destruct
+rest-lane-requires-room-T-Destruct g c κs within = held-batch (param 0 g.row.J) assumption
+
+pub array_drop-out-requires : goal.array_drop-out-requires
+array_drop-out-requires g c = in_places _ _ _ _ _ _ _ _ _ _ _ _ _ _ _ _ _ _ (held-batch (param 0 g.row.J) assumption)
+
+pub array_drop-drawn-requires : goal.array_drop-drawn-requires
+array_drop-drawn-requires g c = in_places _ _ _ _ _ _ _ _ _ _ _ _ _ _ _ _ _ _ (held-batch (param 0 g.row.J) assumption)
+
+pub array_drop-bypass-requires : goal.array_drop-bypass-requires
+array_drop-bypass-requires g c = in_places _ _ _ _ _ _ _ _ _ _ _ _ _ _ _ _ _ _ (held-batch (param 0 g.row.J) assumption)
+
+pub array_drop-batch-requires : goal.array_drop-batch-requires
+array_drop-batch-requires g c = in_places _ _ _ _ _ _ _ _ _ _ _ _ _ _ _ _ _ _ (held-batch (param 0 g.row.J) assumption)

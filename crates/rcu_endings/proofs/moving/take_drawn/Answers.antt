@@ -1,4 +1,4 @@
-use Rattle.std.proofs.Common.{rules, ◌++◌}
+use Rattle.std.proofs.Common.{◌++◌}
 use Rattle.std.specs.List.{flat_map}
 use Rattle.rcu_lanes.specs.Ends.{items_left}
 use Rattle.rcu_lists.specs.Batches.{batch_items}
@@ -11,7 +11,7 @@ take_lane-requires g c =
     let o = batch_items c.args.out.now in
     let d = flat_map batch_items (items_left c.args.done_lane) in
     let h = batch_items c.args.held.now in
-    (search rules, first_fits _ _ d (o ++ l) (rest_fits h (d ++ (o ++ l)) _ _ c.take_batch.ensures c.requires))
+    (assumption, first_fits _ _ d (o ++ l) (rest_fits h (d ++ (o ++ l)) _ _ c.take_batch.ensures c.requires))
 
 pub take_batch-requires-2 : goal.take_batch-requires-2
 take_batch-requires-2 g c =
@@ -19,7 +19,7 @@ take_batch-requires-2 g c =
     let o = batch_items c.args.out.now in
     let d = flat_map batch_items (items_left c.args.done_lane) in
     let h = batch_items c.args.held.now in
-    (search rules, first_fits _ _ o l (rest_fits d (o ++ l) _ _ c.take_lane.ensures (rest_fits h (d ++ (o ++ l)) _ _ c.take_batch.ensures c.requires)))
+    (assumption, first_fits _ _ o l (rest_fits d (o ++ l) _ _ c.take_lane.ensures (rest_fits h (d ++ (o ++ l)) _ _ c.take_batch.ensures c.requires)))
 
 pub take_list-requires : goal.take_list-requires
 take_list-requires g c =
@@ -36,3 +36,11 @@ returns g c =
     let d = flat_map batch_items (items_left c.args.done_lane) in
     let h = batch_items c.args.held.now in
     takes_then h (d ++ (o ++ l)) _ _ _ c.take_batch.ensures (takes_then d (o ++ l) _ _ _ c.take_lane.ensures (takes_then o l _ _ _ c.take_batch-2.ensures c.take_list.ensures))
+
+pub take_batch-requires : goal.take_batch-requires
+take_batch-requires g c =
+    let l = c.args.list.items in
+    let o = batch_items c.args.out.now in
+    let d = flat_map batch_items (items_left c.args.done_lane) in
+    let h = batch_items c.args.held.now in
+    (assumption, first_fits _ _ h (d ++ (o ++ l)) c.requires)

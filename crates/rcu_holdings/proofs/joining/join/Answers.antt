@@ -1,4 +1,5 @@
-use Rattle.std.proofs.Common.{◌≡◌, ◌+◌, ◌++◌, ap, ◌∙◌, sym, length, subst, arith}
+use Rattle.std.proofs.Common.{◌≡◌, ◌+◌, ◌++◌, ap, ◌∙◌, sym, length, subst, arith, ℕ, ◌<◌, ◌≤◌, List, ◌∷◌}
+use Rattle.std.proofs.lemmas.List.{append-nil}
 use Rattle.rcu_lists.specs.Batches.{batch_items}
 use Rattle.rcu_lists.specs.Labels.{Bare, marked}
 use Rattle.rcu_lists.specs.Segments.{labelled, SegmentsRoom}
@@ -16,3 +17,19 @@ loop-callback-preserved g c =
       advanced = c.enqueue.ensures.advanced ∙ c.loop-callback.invariant.advanced;
       room = c.enqueue.ensures.room (length new) (subst (SegmentsRoom c.loop-callback.list) more c.loop-callback.invariant.room);
     }
+
+one_fits : {X : Type 0} (n m : ℕ) (xs ys : List X) (x : X) → xs ≡ x ∷ ys → n + length xs ≤ m → n + 1 ≤ m
+one_fits n m xs ys x e h = let l = ap length e in omega arith
+
+fewer : {X : Type 0} (xs ys : List X) (x : X) → xs ≡ x ∷ ys → length ys < length xs
+fewer xs ys x e = let l = ap length e in omega arith
+
+pub enqueue-requires : goal.enqueue-requires
+enqueue-requires g c = one_fits _ _ (batch_items c.loop-callback.batch) (batch_items c.take_first.new.self) c.in-Some.callback c.in-Some.ensures c.loop-callback.invariant.room
+
+pub loop-callback-smaller : goal.loop-callback-smaller
+loop-callback-smaller g c = fewer (batch_items c.loop-callback.batch) (batch_items c.take_first.new.self) c.in-Some.callback c.in-Some.ensures
+
+pub returns-clause-joined : goal.returns-clause-joined
+returns-clause-joined g c = λ _. let none = c.in_default.ensures in
+    (sym (append-nil (labelled c.loop-callback.list)) ∙ (ap (λ cs. labelled c.loop-callback.list ++ marked Bare cs) (sym none.0) ∙ c.loop-callback.invariant.all), none.1)

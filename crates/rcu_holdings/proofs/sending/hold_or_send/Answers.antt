@@ -1,4 +1,4 @@
-use Rattle.std.proofs.Common.{◌++◌, refl, sym, subst, rules}
+use Rattle.std.proofs.Common.{◌++◌, refl, sym, subst, ◌∙◌, ◌≡◌}
 use Rattle.std.specs.Mem.{FitsInMemory}
 use denote.Param.{param}
 use Rattle.std.proofs.lemmas.List.Elements.{All-push}
@@ -6,15 +6,15 @@ use Rattle.rcu_lists.specs.Bypasses.{bypass_items}
 use Rattle.rcu_lists.specs.contracts.batch.Batch as batch_row
 use Rattle.rcu_lists.specs.contracts.bypass.Bypass as bypass_row
 use Rattle.rcu_holdings.specs.Lanes.{put_calls}
-use Rattle.rcu_holdings.specs.Outgoing.{outgoing, kept, IsReleased}
+use Rattle.rcu_holdings.specs.Outgoing.{outgoing, kept, IsReleased, is_due_with}
 use Rattle.rcu_holdings.specs.Safe.{AreFew, AreSafe, IsSafe}
-use Rattle.rcu_holdings.proofs.Releases.{same_outgoing}
+use Rattle.rcu_holdings.proofs.Releases.{same_outgoing, other}
 use Rattle.rcu_holdings.proofs.sending.hold_or_send.Goals as goal
 
 pub send-requires : goal.send-requires
 send-requires g c =
-    let b : FitsInMemory (batch_row.the_row (param 0 g.row.J)) = search rules in
-    let h : FitsInMemory (bypass_row.the_row (param 0 g.row.J)) = search rules in
+    let b : FitsInMemory (batch_row.the_row (param 0 g.row.J)) = assumption in
+    let h : FitsInMemory (bypass_row.the_row (param 0 g.row.J)) = assumption in
     let x = subst AreSafe (sym c.hold.ensures.items) (All-push IsSafe (bypass_items c.args.bypass.now) c.args.callback c.requires.safe c.requires.one) in
     (b, (h, (x, subst (λ l. AreFew (put_calls c.args.rear.now ++ l)) (sym c.hold.ensures.items) c.requires.few)))
 
@@ -27,3 +27,20 @@ returns-then-hold-clause-releases g c = λ _.
 
 pub returns-else-hold-clause-safe : goal.returns-else-hold-clause-safe
 returns-else-hold-clause-safe g c = subst AreSafe (sym c.hold.ensures.items) (All-push IsSafe (bypass_items c.args.bypass.now) c.args.callback c.requires.safe c.requires.one)
+
+pub hold-requires : goal.hold-requires
+hold-requires g c = (assumption, c.requires.room)
+
+pub returns-then-hold-clause-safe : goal.returns-then-hold-clause-safe
+returns-then-hold-clause-safe g c = c.send.ensures.safe
+
+pub returns-then-hold-clause-waits : goal.returns-then-hold-clause-waits
+returns-then-hold-clause-waits g c = let o = outgoing c.args.rear.now c.args.bypass.now in
+    λ e. absurd {A = outgoing c.send.new.rear c.send.new.bypass ≡ kept c.args.moment c.args.kind c.args.callback o} (other (is_due_with c.args.moment c.args.kind o) (sym c.hold.ensures.due ∙ c.if-hold.true) e)
+
+pub returns-else-hold-clause-releases : goal.returns-else-hold-clause-releases
+returns-else-hold-clause-releases g c = let o = outgoing c.args.rear.now c.args.bypass.now in
+    λ e. absurd {A = IsReleased (kept c.args.moment c.args.kind c.args.callback o) (outgoing c.args.rear.now c.hold.new.self)} (other (is_due_with c.args.moment c.args.kind o) e (sym c.hold.ensures.due ∙ c.if-hold.false))
+
+pub returns-else-hold-clause-waits : goal.returns-else-hold-clause-waits
+returns-else-hold-clause-waits g c = λ _. same_outgoing (kept c.args.moment c.args.kind c.args.callback (outgoing c.args.rear.now c.args.bypass.now)) (outgoing c.args.rear.now c.hold.new.self) refl refl c.hold.ensures.items c.hold.ensures.pace c.hold.ensures.qhimark

@@ -1,4 +1,4 @@
-use Rattle.std.proofs.Common.{◌++◌, sym, subst, rules}
+use Rattle.std.proofs.Common.{◌++◌, sym, subst, ◌≡◌, true, false}
 use Rattle.std.specs.Mem.{FitsInMemory}
 use denote.Param.{param}
 use Rattle.std.proofs.lemmas.List.Elements.{All-append}
@@ -13,9 +13,21 @@ use Rattle.rcu_holdings.proofs.sending.pour_out.Goals as goal
 
 pub send_if_any-requires : goal.send_if_any-requires
 send_if_any-requires g c =
-    let b : FitsInMemory (batch_row.the_row (param 0 g.row.J)) = search rules in
-    let h : FitsInMemory (bypass_row.the_row (param 0 g.row.J)) = search rules in
+    let b : FitsInMemory (batch_row.the_row (param 0 g.row.J)) = assumption in
+    let h : FitsInMemory (bypass_row.the_row (param 0 g.row.J)) = assumption in
     (b, (h, (subst AreSafe (sym c.in-Ok.ensures.moved) (All-append IsSafe (bypass_items c.args.bypass.now) (callbacks_of (labelled c.args.own.now)) c.requires.safe c.requires.own), subst (λ l. AreFew (put_calls c.args.rear.now ++ l)) (sym c.in-Ok.ensures.moved) c.requires.few)))
 
 pub returns-in-Err-clause-safe : goal.returns-in-Err-clause-safe
 returns-in-Err-clause-safe g c = subst AreSafe (sym c.in-Err.ensures.refused.1.items) c.requires.safe
+
+pub returns-in-Ok-clause-safe : goal.returns-in-Ok-clause-safe
+returns-in-Ok-clause-safe g c = c.send_if_any.ensures.safe
+
+pub returns-in-Ok-clause-refused : goal.returns-in-Ok-clause-refused
+returns-in-Ok-clause-refused g c = λ (e : true ≡ false). absurd cc
+
+pub returns-in-Err-clause-moved : goal.returns-in-Err-clause-moved
+returns-in-Err-clause-moved g c = λ (e : false ≡ true). absurd cc
+
+pub returns-in-Err-clause-released : goal.returns-in-Err-clause-released
+returns-in-Err-clause-released g c = λ (e : false ≡ true). absurd cc

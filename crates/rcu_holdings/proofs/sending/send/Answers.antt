@@ -8,8 +8,9 @@ use Rattle.rcu_lists.specs.Release.{refilled}
 use Rattle.rcu_lists.specs.declared.pace.Pace.{Pace}
 use Rattle.rcu_holdings.specs.Lanes.{put_calls}
 use Rattle.rcu_holdings.specs.Outgoing.{outgoing, sent, sent_back}
-use Rattle.rcu_holdings.specs.Safe.{AreFew, AreSafe}
+use Rattle.rcu_holdings.specs.Safe.{AreFew, AreSafe, IsSafe}
 use Rattle.rcu_holdings.proofs.Releases.{same_outgoing, flat-snoc, full}
+use Rattle.std.proofs.lemmas.List.Elements.{All-nil}
 use Rattle.rcu_holdings.proofs.sending.send.Goals as goal
 
 pub put-requires : goal.put-requires
@@ -42,3 +43,12 @@ returns-in-Err-clause-released g c =
 
 pub returns-in-Err-clause-safe : goal.returns-in-Err-clause-safe
 returns-in-Err-clause-safe g c = subst AreSafe (sym (c.refill.ensures.items ∙ (ap batch_items c.in-Err.ensures.put.0 ∙ c.flush-batch.ensures.all))) c.requires.safe
+
+pub flush-batch-requires : goal.flush-batch-requires
+flush-batch-requires g c = assumption
+
+pub put-requires-room-L-Rule : goal.put-requires-room-L-Rule
+put-requires-room-L-Rule g c κs within = assumption
+
+pub returns-in-Ok-clause-safe : goal.returns-in-Ok-clause-safe
+returns-in-Ok-clause-safe g c = subst AreSafe (sym c.flush-batch.ensures.none) (All-nil IsSafe)

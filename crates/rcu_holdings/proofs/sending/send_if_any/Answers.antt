@@ -13,3 +13,15 @@ pub returns-else-not-is_empty-clause-released : goal.returns-else-not-is_empty-c
 returns-else-not-is_empty-clause-released g c =
     let xs = bypass_items c.args.bypass.now in
     record { none = λ _. refl; some = λ e. absurd (other (is_any xs) e (none-in c.is_empty.result xs c.is_empty.ensures c.if-not-is_empty.false)) }
+
+pub is_empty-requires : goal.is_empty-requires
+is_empty-requires g c = assumption
+
+pub send-requires : goal.send-requires
+send-requires g c = (assumption, (assumption, (c.requires.safe, c.requires.few)))
+
+pub returns-then-not-is_empty-clause-safe : goal.returns-then-not-is_empty-clause-safe
+returns-then-not-is_empty-clause-safe g c = c.send.ensures.safe
+
+pub returns-else-not-is_empty-clause-safe : goal.returns-else-not-is_empty-clause-safe
+returns-else-not-is_empty-clause-safe g c = c.requires.safe

@@ -7,13 +7,14 @@ use Rattle.rcu_lists.specs.contracts.bypass.Bypass as bypass_row
 use Rattle.rcu_holdings.specs.Lanes.{put_calls}
 use Rattle.rcu_holdings.specs.Outgoing.{outgoing, IsReleased, is_due_in_tick, in_tick}
 use Rattle.rcu_holdings.specs.Safe.{AreFew, AreSafe}
+use Rattle.rcu_holdings.proofs.Holdings.{not-due}
 use Rattle.rcu_holdings.proofs.Releases.{same_outgoing, some-in, other, called-due, not-called}
 use Rattle.rcu_holdings.proofs.sending.send_in_tick.Goals as goal
 
 pub send-requires : goal.send-requires
 send-requires g c =
-    let b : FitsInMemory (batch_row.the_row (param 0 g.row.J)) = search rules in
-    let h : FitsInMemory (bypass_row.the_row (param 0 g.row.J)) = search rules in
+    let b : FitsInMemory (batch_row.the_row (param 0 g.row.J)) = assumption in
+    let h : FitsInMemory (bypass_row.the_row (param 0 g.row.J)) = assumption in
     (b, (h, (subst AreSafe (sym c.late-late.ensures.items) c.requires.safe, subst (λ l. AreFew (put_calls c.args.rear.now ++ l)) (sym c.late-late.ensures.items) c.requires.few)))
 
 pub returns-then-is_called-clause-stays : goal.returns-then-is_called-clause-stays
@@ -41,3 +42,21 @@ returns-else-is_called-clause-releases g c =
 
 pub returns-else-is_called-clause-safe : goal.returns-else-is_called-clause-safe
 returns-else-is_called-clause-safe g c = subst AreSafe (sym c.late-late.ensures.items) c.requires.safe
+
+pub is_empty-requires : goal.is_empty-requires
+is_empty-requires g c = assumption
+
+pub late-late-requires : goal.late-late-requires
+late-late-requires g c = assumption
+
+pub returns-then-is_empty-clause-releases : goal.returns-then-is_empty-clause-releases
+returns-then-is_empty-clause-releases g c =
+    let o = outgoing c.args.rear.now c.args.bypass.now in
+    let idle = not-due c.args.moment c.args.leaving c.args.urged o (c.is_empty.ensures.0 c.if-is_empty.true) in
+    λ e. absurd {A = IsReleased (in_tick c.args.moment o) o} (other (is_due_in_tick c.args.moment c.args.leaving c.args.urged o) e idle)
+
+pub returns-then-is_empty-clause-safe : goal.returns-then-is_empty-clause-safe
+returns-then-is_empty-clause-safe g c = c.requires.safe
+
+pub returns-then-is_called-clause-safe : goal.returns-then-is_called-clause-safe
+returns-then-is_called-clause-safe g c = c.send.ensures.safe

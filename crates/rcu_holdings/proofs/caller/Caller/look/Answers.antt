@@ -19,3 +19,9 @@ invariant_of-self g c =
       aimed = c.look_at.ensures.aimed;
       before = s.before;
     }
+
+pub look_at-requires-clause-safe : goal.look_at-requires-clause-safe
+look_at-requires-clause-safe g c = c.args.self.now.own_safe
+
+pub look_at-requires-clause-aimed : goal.look_at-requires-clause-aimed
+look_at-requires-clause-aimed g c = c.args.self.now.aimed

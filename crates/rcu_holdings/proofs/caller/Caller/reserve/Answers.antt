@@ -8,6 +8,8 @@ use Rattle.rcu_holdings.specs.Modes.{is_offloaded}
 use Rattle.rcu_holdings.specs.Safe.{AreFew, AreSafe}
 use Rattle.rcu_holdings.proofs.Holdings.{on-ok}
 use Rattle.rcu_holdings.proofs.Releases.{other}
+use denote.Param.{param}
+use Rattle.rcu_holdings.proofs.Sizes.{caller-bypass}
 use Rattle.rcu_holdings.proofs.caller.Caller.reserve.Goals as goal
 
 pub invariant_of-self : goal.invariant_of-self
@@ -48,3 +50,6 @@ returns-else-in_offloaded-clause-found g c =
 
 pub returns-else-in_offloaded-clause-had : goal.returns-else-in_offloaded-clause-had
 returns-else-in_offloaded-clause-had g c = λ r. c.reserve-else-in_offloaded.ensures.had (r.1 (sym c.in_offloaded.ensures ∙ c.if-in_offloaded.false))
+
+pub reserve-requires : goal.reserve-requires
+reserve-requires g c = caller-bypass (param 0 g.row.J) assumption

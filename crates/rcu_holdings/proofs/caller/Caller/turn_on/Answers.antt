@@ -1,4 +1,5 @@
 use Rattle.std.proofs.Common.{◌≡◌, false, inl, inr, ap, sym, ◌∙◌, List, subst}
+use Rattle.std.proofs.lemmas.Bool.{false≢true}
 use Rattle.rcu_jobs.specs.declared.turns.Mode.TheVariants.{Offloading, Offloaded}
 use Rattle.rcu_lists.specs.Labels.{Labelled, callbacks_of}
 use Rattle.rcu_lists.specs.Segments.{labelled, advanced_by}
@@ -9,6 +10,8 @@ use Rattle.rcu_holdings.specs.Outgoing.{Outgoing, outgoing}
 use Rattle.rcu_holdings.specs.Safe.{AreFew, AreSafe}
 use Rattle.rcu_holdings.proofs.Holdings.{all-of-none, aimed-none, poured-passes, same-held}
 use Rattle.rcu_holdings.proofs.Releases.{other}
+use denote.Param.{param}
+use Rattle.rcu_holdings.proofs.Sizes.{bypass-batch, caller-bypass}
 use Rattle.rcu_holdings.proofs.caller.Caller.turn_on.Goals as goal
 
 pub invariant_of-self : goal.invariant_of-self
@@ -17,12 +20,12 @@ invariant_of-self g c =
     let e = c.pour_out.ensures.moved c.if-pour_out.true in
     record {
       bypassing = λ _. e;
-      alone = λ f. absurd cc;
+      alone = λ f. absurd (false≢true (sym f));
       safe = c.pour_out.ensures.safe;
       own_safe = all-of-none (labelled c.pour_out.new.own) e;
       few = subst AreFew (sym (poured-passes (outgoing s.rear s.bypass) (outgoing c.pour_out.new.rear c.pour_out.new.bypass) (labelled s.own) (labelled c.pour_out.new.own) e (c.pour_out.ensures.released c.if-pour_out.true))) s.few;
       aimed = aimed-none (advanced_by c.pour_out.new.own) (labelled c.pour_out.new.own) e;
-      before = λ f. absurd cc;
+      before = λ f. absurd (false≢true f);
     }
 
 pub invariant_of-self-else-pour_out : goal.invariant_of-self-else-pour_out
@@ -31,13 +34,13 @@ invariant_of-self-else-pour_out g c =
     let off : is_offloaded s.mode ≡ false = sym c.in_offloaded.ensures ∙ c.if-in_offloaded.false in
     let e = c.pour_out.ensures.refused c.if-pour_out.false in
     record {
-      bypassing = λ f. absurd cc;
+      bypassing = λ f. absurd (false≢true f);
       alone = λ _. ap (λ (x : Outgoing g.row.J.Denot). x.bypass) e.1 ∙ s.alone off;
       safe = c.pour_out.ensures.safe;
       own_safe = subst (λ (ws : List (Labelled g.row.J.Denot)). AreSafe (callbacks_of ws)) (sym e.0) s.own_safe;
       few = subst AreFew (sym (same-held (outgoing s.rear s.bypass) (outgoing c.pour_out.new.rear c.pour_out.new.bypass) (labelled s.own) (labelled c.pour_out.new.own) e.0 e.1)) s.few;
       aimed = subst (λ n. AreAimed n (labelled c.pour_out.new.own)) (sym c.pour_out.ensures.advanced) (subst (AreAimed (advanced_by s.own)) (sym e.0) s.aimed);
-      before = λ f. absurd cc;
+      before = λ f. absurd (false≢true f);
     }
 
 pub returns-then-pour_out-clause-on : goal.returns-then-pour_out-clause-on
@@ -78,3 +81,8 @@ returns-else-pour_out-clause-places g c =
     let s = c.args.self.now in
     let e = c.pour_out.ensures.refused c.if-pour_out.false in
     same-held (outgoing s.rear s.bypass) (outgoing c.pour_out.new.rear c.pour_out.new.bypass) (labelled s.own) (labelled c.pour_out.new.own) e.0 e.1
+
+pub pour_out-requires : goal.pour_out-requires
+pour_out-requires g c = let s = c.args.self.now in
+    let h = caller-bypass (param 0 g.row.J) assumption in
+    (bypass-batch (param 0 g.row.J) h, (h, (s.own_safe, (s.safe, s.few))))

@@ -1,10 +1,12 @@
-use Rattle.std.proofs.Common.{ap, ◌∙◌}
+use Rattle.std.proofs.Common.{ap, ◌∙◌, subst, sym}
 use Rattle.std.specs.List.{flat_map}
 use Rattle.rcu_lanes.specs.Ends.{items_drawn}
 use Rattle.rcu_lists.specs.Batches.{batch_items}
 use Rattle.rcu_holdings.specs.Lanes.{drawn_calls}
 use Rattle.rcu_holdings.proofs.Pieces.{ends-of, before-drawn}
 use Rattle.rcu_holdings.proofs.Releases.{flat-snoc}
+use denote.Param.{param}
+use Rattle.rcu_holdings.proofs.Sizes.{held-batch, in_places}
 use Rattle.rcu_holdings.proofs.hand.Held.fetch.Goals as goal
 
 pub invariant_of-self : goal.invariant_of-self
@@ -35,3 +37,9 @@ returns-in-Again-clause-held g c = λ n. absurd (n (c.is_empty.ensures.0 c.if-no
 
 pub returns-in-Again-clause-none : goal.returns-in-Again-clause-none
 returns-in-Again-clause-none g c = λ _. let e = c.is_empty.ensures.0 c.if-not-is_empty.false in (e, e)
+
+pub is_empty-requires : goal.is_empty-requires
+is_empty-requires g c = held-batch (param 0 g.row.J) assumption
+
+pub array_drop-self-requires : goal.array_drop-self-requires
+array_drop-self-requires g c = in_places _ _ _ _ _ _ _ _ _ _ _ _ _ _ _ _ _ _ (held-batch (param 0 g.row.J) assumption)

@@ -11,6 +11,8 @@ use Rattle.rcu_holdings.specs.Members.{relay}
 use Rattle.rcu_holdings.specs.Safe.{IsSafe, AreFew, AreSafe}
 use Rattle.rcu_holdings.proofs.Relays.{out-few, put-out}
 use Rattle.rcu_holdings.proofs.Releases.{flat-snoc, full}
+use Rattle.rcu_holdings.proofs.Sizes.{in_places, member-batch}
+use denote.Param.{param}
 use Rattle.rcu_holdings.proofs.member.Member.hand_on.Goals as goal
 
 pub returns-then-is_empty-clause-hands : goal.returns-then-is_empty-clause-hands
@@ -79,3 +81,18 @@ returns-in-Err-clause-hands g c =
       ap (λ items. record r { put = flat_map batch_items items; batches = length items; out = batch_items c.in-Err.back }) c.in-Err.ensures.put.1 ∙ ap (λ l. record r { out = l }) e,
       inr (full (length (items_put s.rear)) c.in-Err.ensures.room),
     )
+
+pub is_empty-requires : goal.is_empty-requires
+is_empty-requires g c = member-batch (param 0 g.row.J) assumption
+
+pub len-gave-requires : goal.len-gave-requires
+len-gave-requires g c = member-batch (param 0 g.row.J) assumption
+
+pub take_all-requires : goal.take_all-requires
+take_all-requires g c = member-batch (param 0 g.row.J) assumption
+
+pub put-requires-room-L-Rule : goal.put-requires-room-L-Rule
+put-requires-room-L-Rule g c κs within = member-batch (param 0 g.row.J) assumption
+
+pub array_drop-self-requires : goal.array_drop-self-requires
+array_drop-self-requires g c = in_places _ _ _ _ _ _ _ _ _ _ _ _ _ _ _ _ _ _ (member-batch (param 0 g.row.J) assumption)

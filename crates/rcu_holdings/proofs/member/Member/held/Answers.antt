@@ -4,6 +4,8 @@ use Rattle.rcu_lists.specs.Batches.{batch_items}
 use Rattle.rcu_lists.specs.Labels.{callbacks_of}
 use Rattle.rcu_lists.specs.Segments.{labelled}
 use Rattle.rcu_holdings.specs.Lanes.{put_calls}
+use denote.Param.{param}
+use Rattle.rcu_holdings.proofs.Sizes.{member-batch}
 use Rattle.rcu_holdings.proofs.member.Member.held.Goals as goal
 
 pub overflow_add-result : goal.overflow_add-result
@@ -16,3 +18,9 @@ overflow_add-result g c =
     let e = length-append (callbacks_of (labelled s.list)) (batch_items s.drawn) in
     let n : c.len.result ≡ length (batch_items s.drawn) = search rules in
     let m : c.len-2.result ≡ length (batch_items s.out) = search rules in omega (arith, s.few)
+
+pub len-requires : goal.len-requires
+len-requires g c = member-batch (param 0 g.row.J) assumption
+
+pub len-requires-2 : goal.len-requires-2
+len-requires-2 g c = member-batch (param 0 g.row.J) assumption

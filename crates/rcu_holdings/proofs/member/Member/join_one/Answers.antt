@@ -5,6 +5,8 @@ use Rattle.rcu_holdings.specs.Aims.{AreAimed}
 use Rattle.rcu_holdings.specs.Lanes.{put_calls}
 use Rattle.rcu_holdings.specs.Members.{relay}
 use Rattle.rcu_holdings.proofs.Relays.{IfJoined, join-together, join-aimed, join-safe, join-rest, join-relay}
+use denote.Param.{param}
+use Rattle.rcu_holdings.proofs.Sizes.{member-batch}
 use Rattle.rcu_holdings.proofs.member.Member.join_one.Goals as goal
 
 pub invariant_of-self : goal.invariant_of-self
@@ -35,3 +37,6 @@ returns-clause-waits g c =
     let r = relay c.args.self.now in
     let n = record r { list = labelled c.join.new.list; advanced = advanced_by c.join.new.list; drawn = batch_items c.join.new.batch } in
     (join-relay c.join.result r n (c.join.ensures.joined, c.join.ensures.refused) (ap (λ k. record n { advanced = k }) c.join.ensures.advanced)).1
+
+pub join-requires : goal.join-requires
+join-requires g c = member-batch (param 0 g.row.J) assumption

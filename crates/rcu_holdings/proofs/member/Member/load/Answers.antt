@@ -8,6 +8,8 @@ use Rattle.rcu_holdings.specs.Members.{relay}
 use Rattle.rcu_holdings.specs.Safe.{AreSafe}
 use Rattle.rcu_holdings.proofs.Aims.{aimed-left}
 use Rattle.rcu_holdings.proofs.Relays.{callbacks-left, made-out, safe-front, safe-back}
+use Rattle.rcu_holdings.proofs.Sizes.{in_places, member-batch}
+use denote.Param.{param}
 use Rattle.rcu_holdings.proofs.member.Member.load.Goals as goal
 
 pub invariant_of-self : goal.invariant_of-self
@@ -48,3 +50,12 @@ returns-in-Ok-clause-loads g c =
       number = c.in-Ok.ensures.number;
       others = ap (λ k. record r { list = labelled c.take_batch.new.self; advanced = k; out = batch_items c.in-Ok.batch }) c.take_batch.ensures.advanced;
     })
+
+pub is_empty-requires : goal.is_empty-requires
+is_empty-requires g c = member-batch (param 0 g.row.J) assumption
+
+pub take_batch-requires : goal.take_batch-requires
+take_batch-requires g c = member-batch (param 0 g.row.J) assumption
+
+pub array_drop-self-requires : goal.array_drop-self-requires
+array_drop-self-requires g c = in_places _ _ _ _ _ _ _ _ _ _ _ _ _ _ _ _ _ _ (member-batch (param 0 g.row.J) assumption)

@@ -15,3 +15,9 @@ invariant_of-self g c =
       few = s.few;
       aimed = c.look_at.ensures.aimed;
     }
+
+pub look_at-requires-clause-safe : goal.look_at-requires-clause-safe
+look_at-requires-clause-safe g c = c.args.self.now.list_safe
+
+pub look_at-requires-clause-aimed : goal.look_at-requires-clause-aimed
+look_at-requires-clause-aimed g c = c.args.self.now.aimed

@@ -6,6 +6,7 @@ use Rattle.rcu_holdings.specs.contracts.member.Member as member_row
 use Rattle.rcu_holdings.specs.Members.{Relay, relay, front_of, TakesIn}
 use Rattle.rcu_holdings.specs.declared.member.TheConstants.{MOST_BATCHES}
 use Rattle.rcu_holdings.proofs.Relays.{taken-none, taken-more, taken-join, taken-draw, taken-within}
+use Rattle.rcu_holdings.proofs.Sizes.{member-batch}
 use Rattle.rcu_holdings.proofs.member.Member.take_in.Goals as goal
 
 pub loop-drawing-init : goal.loop-drawing-init
@@ -21,7 +22,7 @@ returns-then-not-join_one-clause-takes g c =
 
 pub draw_one-requires : goal.draw_one-requires
 draw_one-requires g c =
-    let h : FitsInMemory (member_row.the_row (param 0 g.row.J)) = search rules in
+    let h : FitsInMemory (member_row.the_row (param 0 g.row.J)) = assumption in
     (h, ap (λ (r : Relay g.row.J.Denot). r.drawn) (c.join_one.ensures.joins c.if-not-join_one.false))
 
 pub returns-then-not-draw_one-clause-takes : goal.returns-then-not-draw_one-clause-takes
@@ -66,3 +67,12 @@ returns-clause-takes g c =
     let k = relay c.join_one-2.new.self in
     taken-more c.loop-drawing.drawing MOST_BATCHES c.loop-drawing.took o k (omega (arith, c.loop-drawing.auto.drawing-end))
     (taken-join c.loop-drawing.drawing c.loop-drawing.took c.join_one-2.result o n k c.loop-drawing.invariant.takes c.join_one-2.ensures.joins c.join_one-2.ensures.waits)
+
+pub len-took-requires : goal.len-took-requires
+len-took-requires g c = member-batch (param 0 g.row.J) assumption
+
+pub join_one-requires : goal.join_one-requires
+join_one-requires g c = assumption
+
+pub join_one-requires-2 : goal.join_one-requires-2
+join_one-requires-2 g c = assumption

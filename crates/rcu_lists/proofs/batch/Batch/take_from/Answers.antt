@@ -1,6 +1,7 @@
 use Rattle.std.proofs.Common.{◌≡◌, [], ◌∷◌, ◌++◌, ◌+◌, ◌-◌, ◌∙◌, take, drop, sym, ap, arith, append_assoc}
 use Rattle.rcu_lists.specs.Batches.{batch_items}
 use Rattle.rcu_lists.proofs.Fills.{moves-one}
+use Rattle.rcu_lists.proofs.Rooms.{none-left}
 use Rattle.rcu_lists.proofs.batch.Batch.take_from.Goals as goal
 
 pub loop-preserved : goal.loop-preserved
@@ -20,3 +21,6 @@ returns-clause-moved g c = let all : c.loop.counter ≡ c.args.number = omega ar
 
 pub returns-clause-left : goal.returns-clause-left
 returns-clause-left g c = let all : c.loop.counter ≡ c.args.number = omega arith in rw all at c.loop.invariant.left
+
+pub unreachable-requires : goal.unreachable-requires
+unreachable-requires g c = none-left c.loop.counter c.args.number c.args.list.now.items c.loop.list.items c.loop-test.true c.requires.few c.loop.invariant.left c.loop.list.len c.loop.list.ok.0 c.in_default.ensures.cases.0

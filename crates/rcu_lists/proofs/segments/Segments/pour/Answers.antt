@@ -1,9 +1,11 @@
-use Rattle.std.proofs.Common.{List, ◌++◌, ◌∙◌, ap, sym}
+use Rattle.std.proofs.Common.{arith, List, ◌++◌, ◌∙◌, ap, refl, rules, subst, sym, zero-le}
 use Rattle.rcu_jobs.specs.declared.callback.Callback.{Callback}
 use Rattle.rcu_lists.specs.Release.{joined_plain}
 use Rattle.rcu_lists.specs.Labels.{Bare, marked}
-use Rattle.rcu_lists.specs.Bypasses.{bypass_items}
+use Rattle.rcu_lists.specs.Bypasses.{bypass_items, BypassRoom, BypassUnchanged}
+use Rattle.rcu_lists.specs.Segments.{SegmentsUnchanged}
 use Rattle.rcu_lists.proofs.Cuts.{callbacks-cut}
+use Rattle.rcu_lists.proofs.Outcomes.{on_err_said, on_ok_never}
 use Rattle.rcu_lists.proofs.segments.Segments.pour.Goals as goal
 
 pub returns-clause-left : goal.returns-clause-left
@@ -15,3 +17,35 @@ returns-clause-moved g c = let s = c.args.self.now in
 
 pub returns-clause-pace : goal.returns-clause-pace
 returns-clause-pace g c = let s = c.args.self.now in c.take_list.ensures.pace ∙ ap (joined_plain s.list.items) c.make_room.ensures.same.pace ∙ ap (λ (z : List (Callback g.row.J.Denot)). joined_plain z c.args.bypass.now.pace) (sym (callbacks-cut s.wait_number s.ready_number s.done s.wait s.ready s.list.items s.within))
+
+pub returns-in_err-make_room-clause-left : goal.returns-in_err-make_room-clause-left
+returns-in_err-make_room-clause-left g c = on_ok_never _ _ c.from_residual.ensures
+
+pub returns-in_err-make_room-clause-moved : goal.returns-in_err-make_room-clause-moved
+returns-in_err-make_room-clause-moved g c = on_ok_never _ _ c.from_residual.ensures
+
+pub returns-in_err-make_room-clause-pace : goal.returns-in_err-make_room-clause-pace
+returns-in_err-make_room-clause-pace g c = on_ok_never _ _ c.from_residual.ensures
+
+pub returns-in_err-make_room-clause-refused : goal.returns-in_err-make_room-clause-refused
+returns-in_err-make_room-clause-refused g c = let s = c.args.self.now in let same : SegmentsUnchanged s s = record { list = refl; advanced = refl; room = λ _ room. room } in
+    let both : SegmentsUnchanged s s × BypassUnchanged c.args.bypass.now c.make_room.new.self = (same, c.make_room.ensures.same) in on_err_said _ _ both
+
+pub take_list-requires : goal.take_list-requires
+take_list-requires g c = (search rules, subst (BypassRoom c.make_room.new.self) (c.len.ensures ∙ c.args.self.now.list.ok.0) c.in_ok-make_room.ensures.found)
+
+pub invariant_of-self : goal.invariant_of-self
+invariant_of-self g c = record {
+  within = zero-le;
+  filled = λ _. (refl, refl);
+  single = λ _. refl;
+  rising = λ h. absurd (omega arith);
+  stamps = λ _. rw c.take_list.ensures.left refl;
+  graced = rw c.take_list.ensures.left (λ k d h. absurd (omega arith));
+}
+
+pub returns-in_err-make_room-clause-qhimark : goal.returns-in_err-make_room-clause-qhimark
+returns-in_err-make_room-clause-qhimark g c = c.make_room.ensures.same.qhimark
+
+pub returns-clause-qhimark : goal.returns-clause-qhimark
+returns-clause-qhimark g c = c.take_list.ensures.qhimark ∙ c.make_room.ensures.same.qhimark

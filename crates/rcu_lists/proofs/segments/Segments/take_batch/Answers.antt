@@ -1,4 +1,4 @@
-use Rattle.std.proofs.Common.{◌≡◌, ◌≤◌, ◌-◌, ◌++◌, ◌∙◌, min, length, take, drop, ap, sym, subst, arith, rules, length-drop}
+use Rattle.std.proofs.Common.{◌≡◌, ◌≤◌, ◌-◌, ◌++◌, ◌∙◌, min, length, take, drop, ap, refl, sym, subst, arith, rules, length-drop}
 use Rattle.std.specs.Prelude.{All}
 use Rattle.std.proofs.lemmas.List.{length-take-le}
 use Rattle.rcu_jobs.specs.declared.callback.Callback.{Callback}
@@ -6,9 +6,12 @@ use Rattle.rcu_numbers.specs.Numbers.{snap_of}
 use Rattle.rcu_lists.specs.Batches.{batch_items}
 use Rattle.rcu_lists.specs.Cut.{cut}
 use Rattle.rcu_lists.specs.Labels.{Done, marked, IsGraced}
+use Rattle.rcu_lists.specs.Segments.{SegmentsUnchanged}
 use Rattle.rcu_lists.proofs.Counts.{count-done}
 use Rattle.rcu_lists.proofs.Cuts.{take-front}
 use Rattle.rcu_lists.proofs.Graced.{graced-left, graced-taken}
+use Rattle.rcu_lists.proofs.Outcomes.{if_ok_never, on_err_said}
+use Rattle.rcu_lists.proofs.Rooms.{room-moved}
 use Rattle.rcu_lists.proofs.Stamps.{stamps-drop}
 use Rattle.rcu_lists.proofs.segments.Segments.take_batch.Goals as goal
 
@@ -49,3 +52,25 @@ returns-clause-graced g c = let s = c.args.self.now in let t = c.min-number.resu
     let front : batch_items b ≡ take t s.list.items = c.take_from.ensures.moved ∙ ap (λ z. z ++ take t s.list.items) (c.reserve.ensures.items ∙ c.new-batch.ensures.items) in
     subst (All (λ (x : Callback g.row.J.Denot). snap_of x.stamp ≤ s.advanced)) (sym front)
     (graced-taken s.advanced (take t s.list.items) _ (subst (IsGraced s.advanced) (take-front s.wait_number s.ready_number s.done s.wait s.ready t s.list.items few s.within) s.graced))
+
+pub returns-in_err-reserve-clause-taken : goal.returns-in_err-reserve-clause-taken
+returns-in_err-reserve-clause-taken g c = if_ok_never _ _ c.from_residual.ensures
+
+pub returns-in_err-reserve-clause-number : goal.returns-in_err-reserve-clause-number
+returns-in_err-reserve-clause-number g c = if_ok_never _ _ c.from_residual.ensures
+
+pub returns-in_err-reserve-clause-graced : goal.returns-in_err-reserve-clause-graced
+returns-in_err-reserve-clause-graced g c = if_ok_never _ _ c.from_residual.ensures
+
+pub returns-in_err-reserve-clause-room : goal.returns-in_err-reserve-clause-room
+returns-in_err-reserve-clause-room g c = if_ok_never _ _ c.from_residual.ensures
+
+pub returns-in_err-reserve-clause-refused : goal.returns-in_err-reserve-clause-refused
+returns-in_err-reserve-clause-refused g c = let s = c.args.self.now in let same : SegmentsUnchanged s s = record { list = refl; advanced = refl; room = λ _ room. room } in on_err_said _ _ same
+
+pub returns-clause-room : goal.returns-clause-room
+returns-clause-room g c = let s = c.args.self.now in let le = s.within in let t = c.min-number.result in
+    let few : t ≤ s.done = search rules in
+    let b = c.take_from.new.self in
+    let front : batch_items b ≡ take t s.list.items = c.take_from.ensures.moved ∙ ap (λ z. z ++ take t s.list.items) (c.reserve.ensures.items ∙ c.new-batch.ensures.items) in
+    room-moved s.list.items c.take_from.new.list.items (batch_items b) t _ _ (omega arith) c.take_from.ensures.left front c.take_from.ensures.capacity

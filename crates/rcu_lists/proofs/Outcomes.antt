@@ -1,0 +1,18 @@
+-- What is said of one outcome, where it is the other one.
+use Rattle.std.proofs.Common.{Result, Ok, Err, IsErr, IfOk, OnOk, OnErr}
+
+module _ {T E : Type 0} where
+  pub if_ok_never : {Q : Type 0} (r : Result T E) (P : T → Type 0) → IsErr r × Q → IfOk r P
+  if_ok_never (Ok x) P h = absurd (let e = h.0 in cc)
+  if_ok_never (Err x) P h = tt
+
+  pub on_ok_never : {Q : Type 0} (r : Result T E) (P : Type 0) → IsErr r × Q → OnOk r P
+  on_ok_never r P h = if_ok_never r (λ _. P) h
+
+  pub on_err_said : (r : Result T E) (P : Type 0) → P → OnErr r P
+  on_err_said (Ok x) P h = tt
+  on_err_said (Err x) P h = h
+
+  pub on_err_so : {P Q : Type 0} (r : Result T E) → (P → Q) → OnErr r P → OnErr r Q
+  on_err_so (Ok x) f h = tt
+  on_err_so (Err x) f h = f h
