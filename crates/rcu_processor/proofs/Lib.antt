@@ -8,3 +8,6 @@ pub mod Heeding
 pub mod Rooms
 pub mod Taking
 pub mod Amounts
+pub mod Sizes
+pub mod Gives
+pub mod Opening

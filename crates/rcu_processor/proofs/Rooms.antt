@@ -1,5 +1,5 @@
 -- Room for a Stamp, and what a Stamp does to a processor
-use Rattle.std.proofs.Common.{◌≡◌, ℕ, Bool, true, false, List, [], ◌∷◌, ◌++◌, refl, None}
+use Rattle.std.proofs.Common.{◌≡◌, ℕ, Bool, true, false, List, [], ◌∷◌, ◌++◌, refl, None, not}
 use Rattle.std.specs.Prelude.{OnOk, Result, Ok, Err}
 use Rattle.rcu_law.specs.Calls.{Call}
 use Rattle.rcu_law.specs.Releases.{Pace, pace_after_stamp}
@@ -13,6 +13,10 @@ on_ok (Err x) P Q f h = tt
 pub other : (b : Bool) → b ≡ true → b ≡ false → ⊥
 other true e f = cc
 other false e f = cc
+
+pub not_so : (b : Bool) → not b ≡ true → b ≡ false
+not_so true e = absurd cc
+not_so false e = refl
 
 pub stamped : (o m : Cpu) (lazy : Bool) (moment number : ℕ) (x : Call) (xs : List Call) (p : Pace) → m ≡ record o { fresh = None } → fresh_calls number o.fresh ≡ x ∷ [] → xs ≡ m.bypass ++ x ∷ []
     → p ≡ pace_after_stamp lazy moment m → with_pace p (record m { bypass = xs }) ≡ with_pace (pace_after_stamp lazy moment o) (stamps_into true number o)

@@ -27,6 +27,9 @@ none_taken k js xs all n e = sym (append-nil (map k js)) ∙ ap (λ ys. map k js
 pub one_less : (xs rest : List Call) → is_nil xs ≡ false → rest ≡ tail xs → length xs ≡ length rest + 1
 one_less xs rest n e = tail_shorter xs n ∙ ap (λ ys. length ys + 1) (sym e)
 
+pub one_shorter : (xs rest : List Call) → is_nil xs ≡ false → rest ≡ tail xs → length rest < length xs
+one_shorter xs rest n e = let l = one_less xs rest n e in omega arith
+
 pub none_left : (xs : List Call) → is_nil xs ≡ true → length xs ≡ 0
 none_left xs n = ap length (nil_of xs n)
 
@@ -61,6 +64,13 @@ rest_fits len later x rest cap grown a b c = omega arith
 
 pub first_fits : (len x rest cap : ℕ) → len + (x + rest) ≤ cap → len + x ≤ cap
 first_fits len x rest cap a = omega arith
+
+-- room for what is left is room for the first of it
+pub one_has_room : (len xs rest cap : ℕ) → len + xs ≤ cap → xs ≡ rest + 1 → len + 1 ≤ cap
+one_has_room len xs rest cap a l = omega arith
+
+pub room_left : (len xs rest start all cap grown : ℕ) → xs ≡ rest + 1 → len + xs ≡ start + all → start + all ≤ cap → cap ≤ grown → len < grown
+room_left len xs rest start all cap grown l e f c = omega arith
 
 -- some lists, taken out one after another
 three : (a b c : List Call) → length (a ++ (b ++ c)) ≡ length a + (length b + length c)

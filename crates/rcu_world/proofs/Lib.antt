@@ -26,3 +26,4 @@ pub mod Drawing
 pub mod Fitting
 pub mod Refusing
 pub mod Faults
+pub mod Places

@@ -1,9 +1,9 @@
-use Rattle.std.proofs.Common.{◌∙◌, ◌+◌, length, ap, sym, refl}
-use Rattle.std.proofs.lemmas.List.{length-map}
+use Rattle.std.proofs.Common.{◌∙◌, ◌+◌, length, ap, sym, refl, ◌∷◌, []}
+use Rattle.std.proofs.lemmas.List.{length-map, map-append}
 use Rattle.rcu_law.specs.Releases.{pace_after_stamp}
 use Rattle.rcu_lists.specs.Bypasses.{bypass_items, bypass_pace, bypass_qhimark}
 use Rattle.rcu_processor.specs.Batches.{law_pace, with_bypass}
-use Rattle.rcu_processor.specs.Waits.{call}
+use Rattle.rcu_processor.specs.Waits.{call, calls}
 use Rattle.rcu_processor.proofs.Paces.{due_lazy, due_plain, held_lazy, held_plain}
 use Rattle.rcu_processor.proofs.bypassing.hold.Goals as goal
 
@@ -22,3 +22,9 @@ returns-clause-pace g c = λ x. ap law_pace c.hold-2.ensures.pace ∙ held_plain
 pub returns-clause-due : goal.returns-clause-due
 returns-clause-due g c = let b = c.args.bypass.now in c.hold-2.ensures.due ∙ due_plain c.args.moment (bypass_pace b) (length (bypass_items b) + 1) (bypass_qhimark b)
     ∙ rw (c.if-lazy.false, length-map (bypass_items b) (call g.J.Job.key_of)) refl
+
+pub returns-then-lazy-clause-items : goal.returns-then-lazy-clause-items
+returns-then-lazy-clause-items g c = let k = g.J.Job.key_of in ap (calls k) c.hold.ensures.items ∙ map-append (call k) (bypass_items c.args.bypass.now) (c.args.callback ∷ [])
+
+pub returns-clause-items : goal.returns-clause-items
+returns-clause-items g c = let k = g.J.Job.key_of in ap (calls k) c.hold-2.ensures.items ∙ map-append (call k) (bypass_items c.args.bypass.now) (c.args.callback ∷ [])

@@ -1,9 +1,9 @@
-use Rattle.std.proofs.Common.{◌≡◌, ◌∙◌, ◌++◌, map, true, false, ap, rules, arith}
+use Rattle.std.proofs.Common.{◌≡◌, ◌∙◌, ◌++◌, map, true, false, ap, arith, sym, length}
 use Rattle.rcu_law.specs.Calls.{Call}
 use Rattle.rcu_law.specs.Lists.{is_nil}
 use Rattle.rcu_law.specs.Places.{key_of}
 use Rattle.rcu_processor.specs.Batches.{batch}
-use Rattle.rcu_processor.proofs.Taking.{none_left, none_taken, one_less, one_taken}
+use Rattle.rcu_processor.proofs.Taking.{none_left, none_taken, one_less, one_taken, one_shorter, room_left}
 use Rattle.rcu_processor.proofs.emptying.take_jobs.Goals as goal
 
 pub loop-jobs-preserved : goal.loop-jobs-preserved
@@ -11,7 +11,7 @@ loop-jobs-preserved g c =
     let k = g.J.Job.key_of in
     let xs = batch k c.loop-jobs.left in
     let i = c.loop-jobs.invariant in
-    let e : is_nil xs ≡ false = search rules in
+    let e : is_nil xs ≡ false = sym c.is_spent.ensures ∙ c.loop-jobs-test.true in
     let l = one_less xs (batch k c.take_first.new.some) e c.take_first.ensures.rest in
     record {
       keys = ap (λ js. map k js ++ map key_of (batch k c.take_first.new.some)) c.push_reserved.ensures.items
@@ -21,7 +21,15 @@ loop-jobs-preserved g c =
     }
 
 pub returns-clause-keys : goal.returns-clause-keys
-returns-clause-keys g c = let e : is_nil (batch g.J.Job.key_of c.loop-jobs.left) ≡ true = search rules in none_taken g.J.Job.key_of c.loop-jobs.jobs.items (batch g.J.Job.key_of c.loop-jobs.left) _ e c.loop-jobs.invariant.keys
+returns-clause-keys g c = let e : is_nil (batch g.J.Job.key_of c.loop-jobs.left) ≡ true = sym c.is_spent.ensures ∙ c.loop-jobs-test.false in none_taken g.J.Job.key_of c.loop-jobs.jobs.items (batch g.J.Job.key_of c.loop-jobs.left) _ e c.loop-jobs.invariant.keys
 
 pub returns-clause-len : goal.returns-clause-len
-returns-clause-len g c = let e : is_nil (batch g.J.Job.key_of c.loop-jobs.left) ≡ true = search rules in omega (arith, none_left (batch g.J.Job.key_of c.loop-jobs.left) e, c.loop-jobs.invariant.len)
+returns-clause-len g c = let e : is_nil (batch g.J.Job.key_of c.loop-jobs.left) ≡ true = sym c.is_spent.ensures ∙ c.loop-jobs-test.false in omega (arith, none_left (batch g.J.Job.key_of c.loop-jobs.left) e, c.loop-jobs.invariant.len)
+
+pub push_reserved-requires : goal.push_reserved-requires
+push_reserved-requires g c = let xs = batch g.J.Job.key_of c.loop-jobs.left in
+    let l = one_less xs (batch g.J.Job.key_of c.take_first.new.some) (sym c.is_spent.ensures ∙ c.loop-jobs-test.true) c.take_first.ensures.rest in
+    room_left _ (length xs) _ _ _ _ _ l c.loop-jobs.invariant.len c.requires c.loop-jobs.invariant.capacity
+
+pub loop-jobs-smaller : goal.loop-jobs-smaller
+loop-jobs-smaller g c = let k = g.J.Job.key_of in one_shorter (batch k c.loop-jobs.left) (batch k c.take_first.new.some) (sym c.is_spent.ensures ∙ c.loop-jobs-test.true) c.take_first.ensures.rest

@@ -6,15 +6,7 @@ use Rattle.rcu_processor.specs.Leaving.{left_keys}
 use Rattle.rcu_processor.specs.Views.{records_of, seen}
 use Rattle.rcu_world.specs.Views.{all_seen}
 use Rattle.rcu_world.proofs.Leaving.{room_there, room_first, room_rest, moved_one, none_left, room_step}
-use denote.Param.{param}
-use Rattle.std.specs.Mem.{FitsInMemory}
-use Rattle.rcu_processor.specs.contracts.processor.Processor as processor
-use Rattle.rcu_world.proofs.ending.take_apart.Given.{Over}
 use Rattle.rcu_world.proofs.ending.take_apart.Goals as goal
-use Rattle.rcu_world.proofs.ending.take_apart.Goals.{Start}
-
-start_fits : (g : Over) (c : Start g) → FitsInMemory (processor.the_row (param 0 g.row.J) (param 1 g.row.J-Receipt))
-start_fits g c = search rules
 
 pub remove-jobs-requires : goal.remove-jobs-requires
 remove-jobs-requires g c =
@@ -26,7 +18,7 @@ pub drain-requires-after_bounds : goal.drain-requires-after_bounds
 drain-requires-after_bounds g c κs within =
     let l : 0 < length c.loop-processors.processors.items = search rules in
     let r = room_first g.J.Job.key_of c.loop-processors.processors.items c.loop-processors.rooms.items c.remove-processor.result c.remove-jobs.result l c.remove-processor.ensures.value c.remove-jobs.ensures.value c.loop-processors.invariant.rooms in
-    (start_fits g c.before.before.before.before.before.before.before.before.before.before, omega (arith, r.1, ap length r.0, c.remove-jobs.result.ok.0))
+    (assumption, omega (arith, r.1, ap length r.0, c.remove-jobs.result.ok.0))
 
 pub loop-processors-preserved : goal.loop-processors-preserved
 loop-processors-preserved g c =
@@ -59,4 +51,4 @@ returns-clause-back g c =
     ∙ ap (λ ps. map (λ v. map g.J.Job.key_of v.items) c.loop-processors.back.items ++ map left_keys (all_seen g.J.Job.key_of ps)) (sym e) ∙ c.loop-processors.invariant.back
 
 pub into_records-requires-after_bounds : goal.into_records-requires-after_bounds
-into_records-requires-after_bounds g c κs within = start_fits g c.before.before.before.before.before.before.before.before.before.before.before.before
+into_records-requires-after_bounds g c κs within = assumption

@@ -1,6 +1,10 @@
-use Rattle.std.proofs.Common.{◌≡◌, true, false, rules}
+use Rattle.std.proofs.Common.{◌≡◌, true, false, rules, ap, ◌∙◌}
 use Rattle.rcu_law.specs.States.{is_offloaded}
-use Rattle.rcu_processor.proofs.Rooms.{on_ok, other}
+use Rattle.rcu_processor.proofs.Rooms.{on_ok, other, same_bypass}
+use Rattle.rcu_processor.specs.Batches.{bypassed, law_pace, pace}
+use Rattle.rcu_processor.specs.Waits.{calls, waits}
+use Rattle.rcu_processor.specs.Views.{seen}
+use Rattle.rcu_processor.proofs.Sizes.{bypass_fits}
 use Rattle.rcu_processor.proofs.calling.Processor+J+J+Receipt.reserve.Goals as goal
 
 pub returns-then-in_offloaded-clause-room : goal.returns-then-in_offloaded-clause-room
@@ -12,3 +16,15 @@ pub returns-else-in_offloaded-clause-room : goal.returns-else-in_offloaded-claus
 returns-else-in_offloaded-clause-room g c =
     let e : is_offloaded c.args.self.now.mode ≡ false = search rules in
     on_ok c.reserve-else-in_offloaded.result _ _ (λ r. ((λ t. absurd (other (is_offloaded c.args.self.now.mode) t e)), λ _. r)) c.reserve-else-in_offloaded.ensures.found
+
+pub reserve-requires : goal.reserve-requires
+reserve-requires g c = bypass_fits g.row.J g.row.J-Receipt assumption
+
+pub returns-then-in_offloaded-clause-same : goal.returns-then-in_offloaded-clause-same
+returns-then-in_offloaded-clause-same g c = let k = g.J.Job.key_of in let o = seen k c.args.self.now in same_bypass o (bypassed k c.reserve.new.self) (pace c.reserve.new.self) (ap (calls k) c.reserve.ensures.same.items) (ap law_pace c.reserve.ensures.same.pace)
+
+pub returns-then-in_offloaded-clause-given : goal.returns-then-in_offloaded-clause-given
+returns-then-in_offloaded-clause-given g c = λ mark a. (a.0, c.reserve.ensures.same.qhimark ∙ a.1)
+
+pub returns-else-in_offloaded-clause-same : goal.returns-else-in_offloaded-clause-same
+returns-else-in_offloaded-clause-same g c = let k = g.J.Job.key_of in let o = seen k c.args.self.now in ap (λ ws. record o { own = waits k ws }) c.reserve-else-in_offloaded.ensures.same.list

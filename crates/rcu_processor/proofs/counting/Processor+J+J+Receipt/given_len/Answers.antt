@@ -1,6 +1,7 @@
 use Rattle.std.proofs.Common.{◌≡◌, ◌∙◌, min, ap, sym, rules}
 use Rattle.rcu_processor.specs.Views.{seen}
 use Rattle.rcu_processor.proofs.Amounts.{given_done, given_out}
+use Rattle.rcu_processor.proofs.Sizes.{batch_fits}
 use Rattle.rcu_processor.proofs.counting.Processor+J+J+Receipt.given_len.Goals as goal
 
 pub returns-then-is_spent : goal.returns-then-is_spent
@@ -10,3 +11,9 @@ returns-then-is_spent g c = let o = seen g.J.Job.key_of c.args.self.now in
 
 pub returns : goal.returns
 returns g c = let o = seen g.J.Job.key_of c.args.self.now in c.batch_len.ensures ∙ sym (given_out c.args.blimit o (sym c.is_spent.ensures ∙ c.if-is_spent.false))
+
+pub is_spent-requires-after_bounds : goal.is_spent-requires-after_bounds
+is_spent-requires-after_bounds g c κs within = batch_fits g.row.J g.row.J-Receipt assumption
+
+pub batch_len-requires-after_bounds : goal.batch_len-requires-after_bounds
+batch_len-requires-after_bounds g c κs within = batch_fits g.row.J g.row.J-Receipt assumption

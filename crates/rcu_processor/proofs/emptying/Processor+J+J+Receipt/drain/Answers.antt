@@ -1,31 +1,17 @@
-use Rattle.std.proofs.Common.{ℕ, ◌+◌, ◌<◌, rules, arith}
-use Rattle.std.specs.Mem.{FitsInMemory}
-use denote.Param.{param}
-use prog.Memory.{up}
-use Rattle.rcu_processor.specs.contracts.processor.Processor as row
 use Rattle.rcu_processor.specs.Views.{seen}
 use Rattle.rcu_processor.proofs.Taking.{first_fits, parts_fit, parts_keys, rest_fits}
+use Rattle.rcu_processor.proofs.Sizes.{batch_fits, bypass_fits}
 use Rattle.rcu_processor.proofs.emptying.Processor+J+J+Receipt.drain.Goals as goal
-
-in_struct : (a off x : ℕ) → up a (off + x) < 9223372036854775808 → x < 9223372036854775808
-in_struct a off x h = omega arith
-
-in_struct_before : (a b off x y : ℕ) → up a (up b (off + x) + y) < 9223372036854775808 → x < 9223372036854775808
-in_struct_before a b off x y h = omega arith
 
 -- the room for what is left, part after part
 pub take_joined-requires-after_bounds : goal.take_joined-requires-after_bounds
-take_joined-requires-after_bounds g c κs within =
-    let h : FitsInMemory (row.the_row (param 0 g.row.J) (param 1 g.row.J-Receipt)) = search rules in
-    let f0 = parts_fit (seen g.J.Job.key_of c.args.self.now) _ _ c.requires in
-    (in_struct_before _ _ _ _ _ h, first_fits _ _ _ _ f0)
+take_joined-requires-after_bounds g c κs within = let f0 = parts_fit (seen g.J.Job.key_of c.args.self.now) _ _ c.requires in
+    (batch_fits g.row.J g.row.J-Receipt assumption, first_fits _ _ _ _ f0)
 
 pub take_bypassed-requires-after_bounds : goal.take_bypassed-requires-after_bounds
-take_bypassed-requires-after_bounds g c κs within =
-    let h : FitsInMemory (row.the_row (param 0 g.row.J) (param 1 g.row.J-Receipt)) = search rules in
-    let f0 = parts_fit (seen g.J.Job.key_of c.args.self.now) _ _ c.requires in
+take_bypassed-requires-after_bounds g c κs within = let f0 = parts_fit (seen g.J.Job.key_of c.args.self.now) _ _ c.requires in
     let f1 = rest_fits _ _ _ _ _ _ f0 c.take_joined.ensures.len c.take_joined.ensures.capacity in
-    (in_struct_before _ _ _ _ _ h, (in_struct _ _ _ h, first_fits _ _ _ _ f1))
+    (batch_fits g.row.J g.row.J-Receipt assumption, (bypass_fits g.row.J g.row.J-Receipt assumption, first_fits _ _ _ _ f1))
 
 pub take_waiting-requires-after_bounds : goal.take_waiting-requires-after_bounds
 take_waiting-requires-after_bounds g c κs within =

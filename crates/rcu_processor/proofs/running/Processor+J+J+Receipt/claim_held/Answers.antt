@@ -1,23 +1,16 @@
-use Rattle.std.proofs.Common.{◌++◌, ◌∷◌, [], ◌∙◌, ap, sym, subst, map, ℕ, ◌+◌, ◌<◌, rules, arith}
+use Rattle.std.proofs.Common.{◌++◌, ◌∷◌, [], ◌∙◌, ap, sym, subst, map, ◌+◌}
 use Rattle.rcu_processor.specs.Batches.{batch}
 use Rattle.rcu_processor.specs.Views.{run, seen, Given}
 use Rattle.rcu_processor.specs.Waits.{call}
-use Rattle.std.specs.Mem.{FitsInMemory}
-use denote.Param.{param}
-use prog.Memory.{up}
-use Rattle.rcu_processor.specs.contracts.processor.Processor as row
 use Rattle.rcu_processor.proofs.Claims.{claims_held, ready_held}
+use Rattle.rcu_processor.proofs.Sizes.{batch_fits}
 use Rattle.rcu_processor.proofs.running.Processor+J+J+Receipt.claim_held.Goals as goal
 
 pub returns-in_err-reserve-clause-given : goal.returns-in_err-reserve-clause-given
 returns-in_err-reserve-clause-given g c = λ mark a. (subst (Given g.J.Job.gives) (sym c.reserve.ensures.items) a.0, a.1)
 
-in_struct_before : (a b off x y : ℕ) → up a (up b (off + x) + y) < 9223372036854775808 → x < 9223372036854775808
-in_struct_before a b off x y h = omega arith
-
 pub take_first-callback-requires-after_bounds : goal.take_first-callback-requires-after_bounds
-take_first-callback-requires-after_bounds g c κs within = let h : FitsInMemory (row.the_row (param 0 g.row.J) (param 1 g.row.J-Receipt)) = search rules in
-    (in_struct_before _ _ _ _ _ h, ready_held (seen g.J.Job.key_of c.args.self.now) c.requires.ready)
+take_first-callback-requires-after_bounds g c κs within = (batch_fits g.row.J g.row.J-Receipt assumption, ready_held (seen g.J.Job.key_of c.args.self.now) c.requires.ready)
 
 pub returns-clause-ok : goal.returns-clause-ok
 returns-clause-ok g c = let k = g.J.Job.key_of in let o = seen k c.args.self.now in

@@ -10,3 +10,6 @@ returns-in-Ok-clause-heeds g c = c.in-Ok.ensures.ok ∙ heeds_poured (seen g.J.J
 
 pub returns-in-Err-clause-heeds : goal.returns-in-Err-clause-heeds
 returns-in-Err-clause-heeds g c = ap {B = Cpu} (λ s. record s { mode = Offloading }) c.in-Err.ensures.err ∙ heeds_waiting (seen g.J.Job.key_of c.args.self.now) c.requires.mode c.requires.asked
+
+pub pour-requires-after_bounds : goal.pour-requires-after_bounds
+pour-requires-after_bounds g c κs within = assumption

@@ -3,6 +3,7 @@ use Rattle.rcu_law.specs.Lists.{is_nil}
 use Rattle.rcu_law.specs.Releases.{tick_releases}
 use Rattle.rcu_law.specs.States.{is_offloaded}
 use Rattle.rcu_processor.specs.Views.{seen}
+use Rattle.rcu_processor.proofs.Sizes.{bypass_fits}
 use Rattle.rcu_processor.proofs.ticking.Processor+J+J+Receipt.is_released_in_tick.Goals as goal
 
 pub returns : goal.returns
@@ -10,3 +11,12 @@ returns g c = let o = seen g.J.Job.key_of c.args.self.now in let a = o.asked in 
     ∙ ap (λ b. b && tick_releases c.is_clear.result c.is_late.result a u) c.is_offloaded.ensures
     ∙ ap (λ b. is_offloaded o.mode && tick_releases b c.is_late.result a u) c.is_clear.ensures
     ∙ ap (λ b. is_offloaded o.mode && tick_releases (is_nil o.bypass) b a u) c.is_late.ensures
+
+pub is_clear-requires-after_bounds : goal.is_clear-requires-after_bounds
+is_clear-requires-after_bounds g c κs within = bypass_fits g.row.J g.row.J-Receipt assumption
+
+pub is_offloaded-requires-after_bounds : goal.is_offloaded-requires-after_bounds
+is_offloaded-requires-after_bounds g c κs within = assumption
+
+pub is_late-requires-after_bounds : goal.is_late-requires-after_bounds
+is_late-requires-after_bounds g c κs within = assumption

@@ -1,4 +1,4 @@
-use Rattle.std.proofs.Common.{◌∙◌, sym, arith, refl, Some, ap, ◌++◌, ◌∷◌, [], rules}
+use Rattle.std.proofs.Common.{◌∙◌, sym, arith, refl, Some, ap, ◌++◌, ◌∷◌, []}
 use Rattle.rcu_law.specs.declared.marks.Mark.TheVariants.{Accepted}
 use Rattle.rcu_law.specs.Steps.{can_accept, accepts}
 use Rattle.rcu_world.proofs.Seen.{stepped, refused, given_at, absent, skipped}
@@ -29,10 +29,10 @@ pub returns-in-Err-reserve-clause-given : goal.returns-in-Err-reserve-clause-giv
 returns-in-Err-reserve-clause-given g c = given_at g.J.Job.gives c.args.self.now c.args.cpu c.index_mut-p.result.now c.reserve-2.new.self (omega arith) c.index_mut-p.ensures.value c.reserve-2.ensures.given
 
 pub can_accept-requires-after_bounds : goal.can_accept-requires-after_bounds
-can_accept-requires-after_bounds g c κs within = processor_fits (param 0 g.row.J) (param 1 g.row.J-Receipt) (search rules)
+can_accept-requires-after_bounds g c κs within = processor_fits (param 0 g.row.J) (param 1 g.row.J-Receipt) assumption
 
 pub reserve-requires-2-after_bounds : goal.reserve-requires-2-after_bounds
-reserve-requires-2-after_bounds g c κs within = processor_fits (param 0 g.row.J) (param 1 g.row.J-Receipt) (search rules)
+reserve-requires-2-after_bounds g c κs within = processor_fits (param 0 g.row.J) (param 1 g.row.J-Receipt) assumption
 
 pub returns-then-i-len-clause-answers : goal.returns-then-i-len-clause-answers
 returns-then-i-len-clause-answers g c = (absent g.J.Job.key_of c.args.self.now c.args.cpu _ (omega arith), refl, refl)
@@ -54,4 +54,4 @@ pub returns-in-Err-clause-given : goal.returns-in-Err-clause-given
 returns-in-Err-clause-given g c = given_at g.J.Job.gives c.args.self.now c.args.cpu c.index_mut-p.result.now c.index_mut-p.result.now (omega arith) c.index_mut-p.ensures.value (λ mark a. a)
 
 pub accept-requires-after_bounds : goal.accept-requires-after_bounds
-accept-requires-after_bounds g c κs within = (reserve-requires-2-after_bounds g c.before.before.before.before κs within, accepted_fits g.J.Job.key_of c.args.self.now c.args.cpu c.index_mut-p.result.now c.reserve-2.new.self c.requires.core (omega arith) c.index_mut-p.ensures.value (sym c.can_accept.ensures ∙ c.if-not-can_accept.false) c.reserve-2.ensures.same)
+accept-requires-after_bounds g c κs within = (processor_fits (param 0 g.row.J) (param 1 g.row.J-Receipt) assumption, accepted_fits g.J.Job.key_of c.args.self.now c.args.cpu c.index_mut-p.result.now c.reserve-2.new.self c.requires.core (omega arith) c.index_mut-p.ensures.value (sym c.can_accept.ensures ∙ c.if-not-can_accept.false) c.reserve-2.ensures.same)

@@ -1,4 +1,4 @@
-use Rattle.std.proofs.Common.{◌∙◌, sym, arith, refl, None, not, rules}
+use Rattle.std.proofs.Common.{◌∙◌, sym, arith, refl, None, not}
 use Rattle.rcu_law.specs.Lists.{is_nil}
 use Rattle.rcu_law.specs.Steps.{with_pace, puts}
 use Rattle.rcu_law.specs.Releases.{pace_after_put}
@@ -24,10 +24,10 @@ pub returns-in-Ok-clause-given : goal.returns-in-Ok-clause-given
 returns-in-Ok-clause-given g c = given_at g.J.Job.gives c.args.self.now c.args.cpu c.index_mut-p.result.now c.put.new.self (omega arith) c.index_mut-p.ensures.value c.put.ensures.given
 
 pub can_put-requires-after_bounds : goal.can_put-requires-after_bounds
-can_put-requires-after_bounds g c κs within = processor_fits (param 0 g.row.J) (param 1 g.row.J-Receipt) (search rules)
+can_put-requires-after_bounds g c κs within = processor_fits (param 0 g.row.J) (param 1 g.row.J-Receipt) assumption
 
 pub put-requires-after_bounds : goal.put-requires-after_bounds
-put-requires-after_bounds g c κs within = processor_fits (param 0 g.row.J) (param 1 g.row.J-Receipt) (search rules)
+put-requires-after_bounds g c κs within = processor_fits (param 0 g.row.J) (param 1 g.row.J-Receipt) assumption
 
 pub returns-then-i-len-clause-answers : goal.returns-then-i-len-clause-answers
 returns-then-i-len-clause-answers g c = (absent g.J.Job.key_of c.args.self.now c.args.cpu _ (omega arith), refl, refl)

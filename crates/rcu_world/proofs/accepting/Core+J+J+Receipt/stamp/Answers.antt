@@ -1,4 +1,4 @@
-use Rattle.std.proofs.Common.{◌≡◌, ◌<◌, ◌∙◌, ap, sym, arith, refl, None, not, ◌&&◌, length, subst, true, false, rules}
+use Rattle.std.proofs.Common.{◌≡◌, ◌<◌, ◌∙◌, ap, sym, arith, refl, None, not, ◌&&◌, length, subst, true, false}
 use Rattle.rcu_law.specs.Lists.{is_none}
 use Rattle.rcu_law.specs.States.{is_offloaded}
 use Rattle.rcu_law.specs.Steps.{stamps}
@@ -43,10 +43,10 @@ pub returns-in-Ok-false-clause-given : goal.returns-in-Ok-false-clause-given
 returns-in-Ok-false-clause-given g c = given_at g.J.Job.gives c.args.self.now c.args.cpu c.index_mut-p.result.now c.stamp.new.self (omega arith) c.index_mut-p.ensures.value c.stamp.ensures.given
 
 pub is_fresh-requires-after_bounds : goal.is_fresh-requires-after_bounds
-is_fresh-requires-after_bounds g c κs within = processor_fits (param 0 g.row.J) (param 1 g.row.J-Receipt) (search rules)
+is_fresh-requires-after_bounds g c κs within = processor_fits (param 0 g.row.J) (param 1 g.row.J-Receipt) assumption
 
 pub stamp-requires-after_bounds : goal.stamp-requires-after_bounds
-stamp-requires-after_bounds g c κs within = (processor_fits (param 0 g.row.J) (param 1 g.row.J-Receipt) (search rules), sym c.is_fresh.ensures ∙ c.if-not-is_fresh.false)
+stamp-requires-after_bounds g c κs within = (processor_fits (param 0 g.row.J) (param 1 g.row.J-Receipt) assumption, sym c.is_fresh.ensures ∙ c.if-not-is_fresh.false)
 
 pub returns-then-i-len-clause-answers : goal.returns-then-i-len-clause-answers
 returns-then-i-len-clause-answers g c = (absent g.J.Job.key_of c.args.self.now c.args.cpu _ (omega arith), refl, refl)

@@ -1,4 +1,4 @@
-use Rattle.std.proofs.Common.{◌∙◌, ◌&&◌, None, Some, sym, ap, arith, refl, set, rules}
+use Rattle.std.proofs.Common.{◌∙◌, ◌&&◌, None, Some, sym, ap, arith, refl, set}
 use Rattle.rcu_law.specs.States.{Barrier, has}
 use Rattle.rcu_law.specs.Lists.{is_none}
 use Rattle.rcu_law.specs.States.{count_at}
@@ -27,7 +27,7 @@ returns-clause-answers g c =
     (c.count.ensures ∙ ap {B = Barrier} (λ k. record (barrier c.index_mut-b.result.now) { counts = set c.index_mut-b.result.now.counts.items c.args.cpu (Some k) }) n) refl
 
 pub count-count-requires-after_bounds : goal.count-count-requires-after_bounds
-count-count-requires-after_bounds g c κs within = processor_fits (param 0 g.row.J) (param 1 g.row.J-Receipt) (search rules)
+count-count-requires-after_bounds g c κs within = processor_fits (param 0 g.row.J) (param 1 g.row.J-Receipt) assumption
 
 pub returns-then-j-len-clause-answers : goal.returns-then-j-len-clause-answers
 returns-then-j-len-clause-answers g c = (unopened g.J.Job.key_of c.args.self.now c.args.barrier _ (omega arith), refl, refl)

@@ -1,4 +1,4 @@
-use Rattle.std.proofs.Common.{◌∙◌, sym, arith, Some, ap, ◌++◌, ◌∷◌, [], true, not, rules, refl}
+use Rattle.std.proofs.Common.{◌∙◌, sym, arith, Some, ap, ◌++◌, ◌∷◌, [], true, not, refl}
 use Rattle.rcu_law.specs.declared.marks.Mark.TheVariants.{Shut}
 use Rattle.rcu_world.proofs.Seen.{stepped, given_at, absent, skipped, refused}
 use denote.Param.{param}
@@ -13,10 +13,10 @@ pub returns-clause-given : goal.returns-clause-given
 returns-clause-given g c = given_at g.J.Job.gives c.args.self.now c.args.cpu c.index_mut-p.result.now c.shut.new.self (omega arith) c.index_mut-p.ensures.value c.shut.ensures.given
 
 pub is_open-requires-after_bounds : goal.is_open-requires-after_bounds
-is_open-requires-after_bounds g c κs within = processor_fits (param 0 g.row.J) (param 1 g.row.J-Receipt) (search rules)
+is_open-requires-after_bounds g c κs within = processor_fits (param 0 g.row.J) (param 1 g.row.J-Receipt) assumption
 
 pub shut-requires-after_bounds : goal.shut-requires-after_bounds
-shut-requires-after_bounds g c κs within = processor_fits (param 0 g.row.J) (param 1 g.row.J-Receipt) (search rules)
+shut-requires-after_bounds g c κs within = processor_fits (param 0 g.row.J) (param 1 g.row.J-Receipt) assumption
 
 pub returns-then-i-len-clause-answers : goal.returns-then-i-len-clause-answers
 returns-then-i-len-clause-answers g c = (absent g.J.Job.key_of c.args.self.now c.args.cpu _ (omega arith), refl, refl)

@@ -1,4 +1,4 @@
-use Rattle.std.proofs.Common.{◌∙◌, ◌&&◌, ◌||◌, ◌*◌, None, false, not, sym, ap, arith, refl, set, get_or, nat_le, rules}
+use Rattle.std.proofs.Common.{◌∙◌, ◌&&◌, ◌||◌, ◌*◌, None, false, not, sym, ap, arith, refl, set, get_or, nat_le}
 use Rattle.rcu_law.specs.States.{Barrier, has}
 use Rattle.rcu_law.specs.Lists.{is_none}
 use Rattle.rcu_law.specs.States.{count_at}
@@ -33,7 +33,7 @@ returns-clause-answers g c =
     (c.see.ensures ∙ ap {B = Barrier} (λ k. record (barrier c.index_mut-b.result.now) { seen = set c.index_mut-b.result.now.seen.items c.args.cpu (get_or c.index_mut-b.result.now.seen.items c.args.cpu false || nat_le (2 * value_or (count_at (barrier c.index_mut-b.result.now) c.args.cpu)) k) }) n) refl
 
 pub turn-turn-requires-after_bounds : goal.turn-turn-requires-after_bounds
-turn-turn-requires-after_bounds g c κs within = processor_fits (param 0 g.row.J) (param 1 g.row.J-Receipt) (search rules)
+turn-turn-requires-after_bounds g c κs within = processor_fits (param 0 g.row.J) (param 1 g.row.J-Receipt) assumption
 
 pub returns-then-j-len-clause-answers : goal.returns-then-j-len-clause-answers
 returns-then-j-len-clause-answers g c = (unopened g.J.Job.key_of c.args.self.now c.args.barrier _ (omega arith), refl, refl)

@@ -1,4 +1,4 @@
-use Rattle.std.proofs.Common.{ap, refl, rules}
+use Rattle.std.proofs.Common.{ap, refl}
 use Rattle.rcu_law.specs.States.{State}
 use Rattle.rcu_world.specs.Views.{state}
 use denote.Param.{param}
@@ -12,4 +12,4 @@ pub returns-clause-given : goal.returns-clause-given
 returns-clause-given g c = c.urge_all.ensures.given c.args.self.now.qhimark
 
 pub urge_all-requires-after_bounds : goal.urge_all-requires-after_bounds
-urge_all-requires-after_bounds g c κs within = processor_fits (param 0 g.row.J) (param 1 g.row.J-Receipt) (search rules)
+urge_all-requires-after_bounds g c κs within = processor_fits (param 0 g.row.J) (param 1 g.row.J-Receipt) assumption

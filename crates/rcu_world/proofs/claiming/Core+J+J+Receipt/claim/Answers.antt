@@ -1,4 +1,4 @@
-use Rattle.std.proofs.Common.{◌∙◌, sym, arith, refl, Some, ap, ◌++◌, ◌∷◌, [], rules}
+use Rattle.std.proofs.Common.{◌∙◌, sym, arith, refl, Some, ap, ◌++◌, ◌∷◌, []}
 use Rattle.rcu_law.specs.declared.marks.Mark.TheVariants.{Ran}
 use Rattle.rcu_law.specs.Steps.{can_claim, claims, claimed}
 use Rattle.rcu_world.proofs.Seen.{fits_at, held_fits_at, stepped, refused, given_at, absent, skipped}
@@ -24,12 +24,12 @@ pub returns-in-Ok-claim-clause-given : goal.returns-in-Ok-claim-clause-given
 returns-in-Ok-claim-clause-given g c = given_at g.J.Job.gives c.args.self.now c.args.cpu c.index_mut-p.result.now c.claim.new.self (omega arith) c.index_mut-p.ensures.value c.in-Ok-claim.ensures.given
 
 pub can_claim-requires-after_bounds : goal.can_claim-requires-after_bounds
-can_claim-requires-after_bounds g c κs within = (processor_fits (param 0 g.row.J) (param 1 g.row.J-Receipt) (search rules), held_fits_at g.J.Job.key_of c.args.self.now c.args.cpu c.index_mut-p.result.now c.requires.core (omega arith) c.index_mut-p.ensures.value)
+can_claim-requires-after_bounds g c κs within = (processor_fits (param 0 g.row.J) (param 1 g.row.J-Receipt) assumption, held_fits_at g.J.Job.key_of c.args.self.now c.args.cpu c.index_mut-p.result.now c.requires.core (omega arith) c.index_mut-p.ensures.value)
 
 pub claim-requires-after_bounds : goal.claim-requires-after_bounds
 claim-requires-after_bounds g c κs within =
     let t = fits_at g.J.Job.key_of c.args.self.now c.args.cpu c.index_mut-p.result.now c.requires.core (omega arith) c.index_mut-p.ensures.value in
-    (processor_fits (param 0 g.row.J) (param 1 g.row.J-Receipt) (search rules), (sym c.can_claim.ensures ∙ c.if-not-can_claim.false, turn_small t.0))
+    (processor_fits (param 0 g.row.J) (param 1 g.row.J-Receipt) assumption, (sym c.can_claim.ensures ∙ c.if-not-can_claim.false, turn_small t.0))
 
 pub returns-then-i-len-clause-answers : goal.returns-then-i-len-clause-answers
 returns-then-i-len-clause-answers g c = (absent g.J.Job.key_of c.args.self.now c.args.cpu _ (omega arith), refl, refl)

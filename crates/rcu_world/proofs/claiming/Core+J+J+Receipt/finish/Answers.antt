@@ -1,4 +1,4 @@
-use Rattle.std.proofs.Common.{◌∙◌, sym, arith, refl, None, rules}
+use Rattle.std.proofs.Common.{◌∙◌, sym, arith, refl, None}
 use Rattle.rcu_law.specs.Steps.{can_finish, finishes}
 use Rattle.rcu_world.proofs.Seen.{fits_at, stepped, given_at, absent, skipped}
 use denote.Param.{param}
@@ -13,12 +13,12 @@ pub returns-clause-given : goal.returns-clause-given
 returns-clause-given g c = given_at g.J.Job.gives c.args.self.now c.args.cpu c.index_mut-p.result.now c.finish.new.self (omega arith) c.index_mut-p.ensures.value c.finish.ensures.given
 
 pub can_finish-requires-after_bounds : goal.can_finish-requires-after_bounds
-can_finish-requires-after_bounds g c κs within = processor_fits (param 0 g.row.J) (param 1 g.row.J-Receipt) (search rules)
+can_finish-requires-after_bounds g c κs within = processor_fits (param 0 g.row.J) (param 1 g.row.J-Receipt) assumption
 
 pub finish-requires-after_bounds : goal.finish-requires-after_bounds
 finish-requires-after_bounds g c κs within =
     let t = fits_at g.J.Job.key_of c.args.self.now c.args.cpu c.index_mut-p.result.now c.requires.core (omega arith) c.index_mut-p.ensures.value in
-    (processor_fits (param 0 g.row.J) (param 1 g.row.J-Receipt) (search rules), turn_small t.0)
+    (processor_fits (param 0 g.row.J) (param 1 g.row.J-Receipt) assumption, turn_small t.0)
 
 pub returns-then-i-len-clause-answers : goal.returns-then-i-len-clause-answers
 returns-then-i-len-clause-answers g c = (absent g.J.Job.key_of c.args.self.now c.args.cpu _ (omega arith), refl, refl)

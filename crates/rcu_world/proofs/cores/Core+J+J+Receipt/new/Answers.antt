@@ -1,4 +1,4 @@
-use Rattle.std.proofs.Common.{rules, refl, ◌∙◌, arith, ap, sym, map, ◌++◌, ◌∷◌, []}
+use Rattle.std.proofs.Common.{refl, ◌∙◌, arith, ap, sym, map, ◌++◌, ◌∷◌, []}
 use Rattle.std.proofs.lemmas.List.{map-append}
 use Rattle.rcu_law.specs.States.{opening_cpu}
 use Rattle.rcu_processor.specs.Views.{AreGiven, seen}
@@ -7,11 +7,7 @@ use Rattle.rcu_world.specs.Worlds.{plan}
 use Rattle.rcu_world.proofs.Opening.{bits_start, all_more, at_rest, bits_next, bits_end, opening_bits}
 use denote.Param.{param}
 use Rattle.rcu_world.proofs.Sizes.{processor_fits}
-use Rattle.std.specs.Mem.{FitsInMemory}
-use Rattle.rcu_processor.specs.contracts.processor.Processor as processor
-use Rattle.rcu_world.proofs.cores.Core+J+J+Receipt.new.Given.{Over}
 use Rattle.rcu_world.proofs.cores.Core+J+J+Receipt.new.Goals as goal
-use Rattle.rcu_world.proofs.cores.Core+J+J+Receipt.new.Goals.{Start}
 
 pub loop-cpu-init : goal.loop-cpu-init
 loop-cpu-init g c = record {
@@ -40,20 +36,17 @@ returns-clause-opens g c =
 pub returns-clause-given : goal.returns-clause-given
 returns-clause-given g c = c.loop-cpu.invariant.given
 
-start_fits : (g : Over) (c : Start g) → FitsInMemory (processor.the_row (param 0 g.row.J) (param 1 g.row.J-Receipt))
-start_fits g c = processor_fits (param 0 g.row.J) (param 1 g.row.J-Receipt) (search rules)
-
 pub new-requires-after_bounds : goal.new-requires-after_bounds
-new-requires-after_bounds g c κs within = processor_fits (param 0 g.row.J) (param 1 g.row.J-Receipt) (search rules)
+new-requires-after_bounds g c κs within = processor_fits (param 0 g.row.J) (param 1 g.row.J-Receipt) assumption
 
 pub drop-processors-requires-room-T-Destruct : goal.drop-processors-requires-room-T-Destruct
-drop-processors-requires-room-T-Destruct g c κs within = processor_fits (param 0 g.row.J) (param 1 g.row.J-Receipt) (search rules)
+drop-processors-requires-room-T-Destruct g c κs within = processor_fits (param 0 g.row.J) (param 1 g.row.J-Receipt) assumption
 
 pub from_residual-requires-in_err-push-2-room-F-From : goal.from_residual-requires-in_err-push-2-room-F-From
-from_residual-requires-in_err-push-2-room-F-From g c κs within = start_fits g c.before.before.before.before.before.before.before.before.before.before.before.before.before
+from_residual-requires-in_err-push-2-room-F-From g c κs within = processor_fits (param 0 g.row.J) (param 1 g.row.J-Receipt) assumption
 
 pub drop-processors-requires-in_err-push-2-room-T-Destruct : goal.drop-processors-requires-in_err-push-2-room-T-Destruct
-drop-processors-requires-in_err-push-2-room-T-Destruct g c κs within = start_fits g c.before.before.before.before.before.before.before.before.before.before.before.before.before.before
+drop-processors-requires-in_err-push-2-room-T-Destruct g c κs within = processor_fits (param 0 g.row.J) (param 1 g.row.J-Receipt) assumption
 
 pub new-requires-5-room-T-Destruct : goal.new-requires-5-room-T-Destruct
-new-requires-5-room-T-Destruct g c κs within = start_fits g c.before.before.before.before.before.before.before
+new-requires-5-room-T-Destruct g c κs within = processor_fits (param 0 g.row.J) (param 1 g.row.J-Receipt) assumption

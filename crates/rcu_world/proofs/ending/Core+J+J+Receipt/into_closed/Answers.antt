@@ -1,4 +1,4 @@
-use Rattle.std.proofs.Common.{◌∙◌, ap, ◌++◌, map, rules, arith, length}
+use Rattle.std.proofs.Common.{◌∙◌, ap, ◌++◌, map, arith, length}
 use Rattle.rcu_law.specs.Closing.{shut_marks}
 use Rattle.rcu_processor.specs.Leaving.{left_keys}
 use Rattle.rcu_world.specs.Leaving.{backs}
@@ -6,14 +6,7 @@ use Rattle.rcu_world.specs.Views.{all_seen}
 use Rattle.rcu_world.proofs.Leaving.{shuts_room, last_room, backs_left}
 use denote.Param.{param}
 use Rattle.rcu_world.proofs.Sizes.{processor_fits}
-use Rattle.std.specs.Mem.{FitsInMemory}
-use Rattle.rcu_processor.specs.contracts.processor.Processor as processor
-use Rattle.rcu_world.proofs.ending.Core+J+J+Receipt.into_closed.Given.{Over}
 use Rattle.rcu_world.proofs.ending.Core+J+J+Receipt.into_closed.Goals as goal
-use Rattle.rcu_world.proofs.ending.Core+J+J+Receipt.into_closed.Goals.{Start}
-
-start_fits : (g : Over) (c : Start g) → FitsInMemory (processor.the_row (param 0 g.row.J) (param 1 g.row.J-Receipt))
-start_fits g c = processor_fits (param 0 g.row.J) (param 1 g.row.J-Receipt) (search rules)
 
 pub add_backs-requires-clause-room : goal.add_backs-requires-clause-room
 add_backs-requires-clause-room g c κs within = last_room g.J.Job.key_of c.args.self.processors.items c.args.room.back.items c.take_apart.new.back.items _ _ _ _ _ c.args.self.processors.ok.0 c.requires.empty.1 c.take_apart.ensures.back
@@ -27,7 +20,7 @@ returns-clause-marks g c = c.add_backs.ensures
     ∙ ap (λ x. (c.args.self.history.items ++ shut_marks 0 (all_seen g.J.Job.key_of c.args.self.processors.items)) ++ x) (backs_left 0 (all_seen g.J.Job.key_of c.args.self.processors.items))
 
 pub add_shuts-requires-clause-room : goal.add_shuts-requires-clause-room
-add_shuts-requires-clause-room g c κs within = (start_fits g c.before.before.before.before, shuts_room g.J.Job.key_of c.args.self.processors.items _ _ _ c.args.self.processors.ok.0 c.requires.more)
+add_shuts-requires-clause-room g c κs within = (processor_fits (param 0 g.row.J) (param 1 g.row.J-Receipt) assumption, shuts_room g.J.Job.key_of c.args.self.processors.items _ _ _ c.args.self.processors.ok.0 c.requires.more)
 
 pub take_apart-requires-after_bounds : goal.take_apart-requires-after_bounds
-take_apart-requires-after_bounds g c κs within = (start_fits g c.before.before.before.before.before.before.before, (c.requires.jobs, (omega (arith, ap length c.requires.empty.0, c.args.room.ran.ok.0, c.requires.ran), omega (arith, ap length c.requires.empty.1, c.args.room.back.ok.0, c.requires.back))))
+take_apart-requires-after_bounds g c κs within = (processor_fits (param 0 g.row.J) (param 1 g.row.J-Receipt) assumption, (c.requires.jobs, (omega (arith, ap length c.requires.empty.0, c.args.room.ran.ok.0, c.requires.ran), omega (arith, ap length c.requires.empty.1, c.args.room.back.ok.0, c.requires.back))))

@@ -1,4 +1,4 @@
-use Rattle.std.proofs.Common.{◌∙◌, ap, arith, rules, refl, subst, sym}
+use Rattle.std.proofs.Common.{◌∙◌, ap, arith, refl, subst, sym}
 use Rattle.rcu_law.specs.Steps.{looks}
 use Rattle.rcu_processor.specs.Views.{seen}
 use Rattle.rcu_world.specs.Members.{IsLookable}
@@ -15,7 +15,7 @@ pub returns-clause-given : goal.returns-clause-given
 returns-clause-given g c = given_at g.J.Job.gives c.args.self.now c.args.cpu c.index_mut-p.result.now c.look.new.self (omega arith) c.index_mut-p.ensures.value c.look.ensures.given
 
 pub look-requires-after_bounds : goal.look-requires-after_bounds
-look-requires-after_bounds g c κs within = let l = subst (λ s. IsLookable s (seen g.J.Job.key_of c.index_mut-p.result.now).own) (sym c.number-number.ensures) (lookable_at g.J.Job.key_of c.args.self.now c.args.cpu c.index_mut-p.result.now c.requires.core (omega arith) c.index_mut-p.ensures.value) in (processor_fits (param 0 g.row.J) (param 1 g.row.J-Receipt) (search rules), (l.small, l.may))
+look-requires-after_bounds g c κs within = let l = subst (λ s. IsLookable s (seen g.J.Job.key_of c.index_mut-p.result.now).own) (sym c.number-number.ensures) (lookable_at g.J.Job.key_of c.args.self.now c.args.cpu c.index_mut-p.result.now c.requires.core (omega arith) c.index_mut-p.ensures.value) in (processor_fits (param 0 g.row.J) (param 1 g.row.J-Receipt) assumption, (l.small, l.may))
 
 pub returns-then-i-len-clause-answers : goal.returns-then-i-len-clause-answers
 returns-then-i-len-clause-answers g c = (not_there g.J.Job.key_of c.args.self.now c.args.cpu (omega arith), refl, refl)

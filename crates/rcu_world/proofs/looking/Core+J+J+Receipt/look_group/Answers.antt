@@ -1,4 +1,4 @@
-use Rattle.std.proofs.Common.{◌∙◌, ap, sym, arith, refl, rules, subst}
+use Rattle.std.proofs.Common.{◌∙◌, ap, sym, arith, refl, subst}
 use Rattle.rcu_law.specs.States.{State}
 use Rattle.rcu_law.specs.Steps.{group_looks}
 use Rattle.rcu_law.specs.Events.{each_cpu}
@@ -26,7 +26,7 @@ pub returns-clause-given : goal.returns-clause-given
 returns-clause-given g c = c.look_members.ensures.given c.args.self.now.qhimark
 
 pub look_members-requires-after_bounds : goal.look_members-requires-after_bounds
-look_members-requires-after_bounds g c κs within = (processor_fits (param 0 g.row.J) (param 1 g.row.J-Receipt) (search rules), (c.requires.stride, subst (λ s. AreLookable s (all_seen g.J.Job.key_of c.args.self.now.processors.items)) (sym c.number-number.ensures) (lookable (state g.J.Job.key_of c.args.self.now) c.requires.core)))
+look_members-requires-after_bounds g c κs within = (processor_fits (param 0 g.row.J) (param 1 g.row.J-Receipt) assumption, (c.requires.stride, subst (λ s. AreLookable s (all_seen g.J.Job.key_of c.args.self.now.processors.items)) (sym c.number-number.ensures) (lookable (state g.J.Job.key_of c.args.self.now) c.requires.core)))
 
 pub has_member-requires-after_bounds : goal.has_member-requires-after_bounds
-has_member-requires-after_bounds g c κs within = (processor_fits (param 0 g.row.J) (param 1 g.row.J-Receipt) (search rules), c.requires.stride)
+has_member-requires-after_bounds g c κs within = (processor_fits (param 0 g.row.J) (param 1 g.row.J-Receipt) assumption, c.requires.stride)

@@ -1,4 +1,4 @@
-use Rattle.std.proofs.Common.{◌∙◌, ap, sym, arith, refl, None, get_or, false, rules}
+use Rattle.std.proofs.Common.{◌∙◌, ap, sym, arith, refl, None, get_or, false}
 use Rattle.rcu_law.specs.Steps.{hand_looks}
 use Rattle.rcu_processor.specs.Views.{seen}
 use Rattle.rcu_world.proofs.Seen.{stepped, given_at, absent}
@@ -14,7 +14,7 @@ pub returns-clause-given : goal.returns-clause-given
 returns-clause-given g c = given_at g.J.Job.gives c.args.self.now c.args.cpu c.index_mut-p.result.now c.look_hand.new.self (omega arith) c.index_mut-p.ensures.value c.look_hand.ensures.given
 
 pub look_hand-requires-after_bounds : goal.look_hand-requires-after_bounds
-look_hand-requires-after_bounds g c κs within = processor_fits (param 0 g.row.J) (param 1 g.row.J-Receipt) (search rules)
+look_hand-requires-after_bounds g c κs within = processor_fits (param 0 g.row.J) (param 1 g.row.J-Receipt) assumption
 
 pub returns-then-i-len-clause-answers : goal.returns-then-i-len-clause-answers
 returns-then-i-len-clause-answers g c = (absent g.J.Job.key_of c.args.self.now c.args.cpu _ (omega arith), refl, refl)

@@ -1,4 +1,4 @@
-use Rattle.std.proofs.Common.{◌∙◌, ap, sym, arith, refl, rules}
+use Rattle.std.proofs.Common.{◌∙◌, ap, sym, arith, refl}
 use Rattle.rcu_law.specs.States.{State}
 use Rattle.rcu_law.specs.Events.{most_wanted}
 use Rattle.rcu_processor.specs.Members.{is_wanting, forgets}
@@ -26,10 +26,10 @@ pub returns-clause-given : goal.returns-clause-given
 returns-clause-given g c = c.forget_members.ensures.given c.args.self.now.qhimark
 
 pub wants_member-requires-after_bounds : goal.wants_member-requires-after_bounds
-wants_member-requires-after_bounds g c κs within = (processor_fits (param 0 g.row.J) (param 1 g.row.J-Receipt) (search rules), c.requires.stride)
+wants_member-requires-after_bounds g c κs within = (processor_fits (param 0 g.row.J) (param 1 g.row.J-Receipt) assumption, c.requires.stride)
 
 pub most_wanted-self-requires-after_bounds : goal.most_wanted-self-requires-after_bounds
-most_wanted-self-requires-after_bounds g c κs within = (processor_fits (param 0 g.row.J) (param 1 g.row.J-Receipt) (search rules), c.requires.stride)
+most_wanted-self-requires-after_bounds g c κs within = (processor_fits (param 0 g.row.J) (param 1 g.row.J-Receipt) assumption, c.requires.stride)
 
 pub forget_members-requires-after_bounds : goal.forget_members-requires-after_bounds
-forget_members-requires-after_bounds g c κs within = (processor_fits (param 0 g.row.J) (param 1 g.row.J-Receipt) (search rules), c.requires.stride)
+forget_members-requires-after_bounds g c κs within = (processor_fits (param 0 g.row.J) (param 1 g.row.J-Receipt) assumption, c.requires.stride)

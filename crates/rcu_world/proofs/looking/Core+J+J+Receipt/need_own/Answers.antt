@@ -1,4 +1,4 @@
-use Rattle.std.proofs.Common.{◌∙◌, sym, arith, rules, refl, ap, not}
+use Rattle.std.proofs.Common.{◌∙◌, sym, arith, refl, ap, not}
 use Rattle.rcu_world.proofs.Seen.{needed_at, given_at, absent, skipped}
 use denote.Param.{param}
 use Rattle.rcu_world.proofs.Sizes.{processor_fits}
@@ -13,10 +13,10 @@ pub returns-in-Some-clause-given : goal.returns-in-Some-clause-given
 returns-in-Some-clause-given g c = given_at g.J.Job.gives c.args.self.now c.args.cpu c.index_mut-p.result.now c.forget.new.self (omega arith) c.index_mut-p.ensures.value c.forget.ensures.given
 
 pub wanted-requires-after_bounds : goal.wanted-requires-after_bounds
-wanted-requires-after_bounds g c κs within = processor_fits (param 0 g.row.J) (param 1 g.row.J-Receipt) (search rules)
+wanted-requires-after_bounds g c κs within = processor_fits (param 0 g.row.J) (param 1 g.row.J-Receipt) assumption
 
 pub forget-requires-after_bounds : goal.forget-requires-after_bounds
-forget-requires-after_bounds g c κs within = processor_fits (param 0 g.row.J) (param 1 g.row.J-Receipt) (search rules)
+forget-requires-after_bounds g c κs within = processor_fits (param 0 g.row.J) (param 1 g.row.J-Receipt) assumption
 
 pub returns-then-i-len-clause-answers : goal.returns-then-i-len-clause-answers
 returns-then-i-len-clause-answers g c = (absent g.J.Job.key_of c.args.self.now c.args.cpu _ (omega arith), refl, refl)

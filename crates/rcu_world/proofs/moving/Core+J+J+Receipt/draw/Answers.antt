@@ -1,4 +1,4 @@
-use Rattle.std.proofs.Common.{rules, ◌∙◌, sym, arith, refl, None, not, ◌&&◌}
+use Rattle.std.proofs.Common.{◌∙◌, sym, arith, refl, None, not, ◌&&◌}
 use denote.Param.{param}
 use Rattle.rcu_law.specs.Lists.{is_nil}
 use Rattle.rcu_law.specs.Steps.{draws}
@@ -7,10 +7,10 @@ use Rattle.rcu_world.proofs.Sizes.{processor_fits, first_holds}
 use Rattle.rcu_world.proofs.moving.Core+J+J+Receipt.draw.Goals as goal
 
 pub can_draw-requires-after_bounds : goal.can_draw-requires-after_bounds
-can_draw-requires-after_bounds g c κs within = processor_fits (param 0 g.row.J) (param 1 g.row.J-Receipt) (search rules)
+can_draw-requires-after_bounds g c κs within = processor_fits (param 0 g.row.J) (param 1 g.row.J-Receipt) assumption
 
 pub draw-requires-after_bounds : goal.draw-requires-after_bounds
-draw-requires-after_bounds g c κs within = (processor_fits (param 0 g.row.J) (param 1 g.row.J-Receipt) (search rules), first_holds _ _ (sym c.can_draw.ensures ∙ c.if-not-can_draw.false))
+draw-requires-after_bounds g c κs within = (processor_fits (param 0 g.row.J) (param 1 g.row.J-Receipt) assumption, first_holds _ _ (sym c.can_draw.ensures ∙ c.if-not-can_draw.false))
 
 pub returns-clause-answers : goal.returns-clause-answers
 returns-clause-answers g c = stepped g.J.Job.key_of c.args.self.now c.args.cpu c.index_mut-p.result.now c.draw.new.self (λ x. not (is_nil x.lane) && is_nil x.drawn) draws (λ x. None) c.args.self.now.history.items

@@ -1,4 +1,4 @@
-use Rattle.std.proofs.Common.{◌∙◌, sym, arith, refl, None, not, ◌&&◌, rules}
+use Rattle.std.proofs.Common.{◌∙◌, sym, arith, refl, None, not, ◌&&◌}
 use Rattle.rcu_law.specs.Lists.{is_nil}
 use Rattle.rcu_law.specs.Steps.{fetches}
 use Rattle.rcu_world.proofs.Seen.{stepped, given_at, absent, skipped}
@@ -14,10 +14,10 @@ pub returns-clause-given : goal.returns-clause-given
 returns-clause-given g c = given_at g.J.Job.gives c.args.self.now c.args.cpu c.index_mut-p.result.now c.fetch.new.self (omega arith) c.index_mut-p.ensures.value c.fetch.ensures.given
 
 pub can_fetch-requires-after_bounds : goal.can_fetch-requires-after_bounds
-can_fetch-requires-after_bounds g c κs within = processor_fits (param 0 g.row.J) (param 1 g.row.J-Receipt) (search rules)
+can_fetch-requires-after_bounds g c κs within = processor_fits (param 0 g.row.J) (param 1 g.row.J-Receipt) assumption
 
 pub fetch-requires-after_bounds : goal.fetch-requires-after_bounds
-fetch-requires-after_bounds g c κs within = (processor_fits (param 0 g.row.J) (param 1 g.row.J-Receipt) (search rules), second_holds _ _ (sym c.can_fetch.ensures ∙ c.if-not-can_fetch.false))
+fetch-requires-after_bounds g c κs within = (processor_fits (param 0 g.row.J) (param 1 g.row.J-Receipt) assumption, second_holds _ _ (sym c.can_fetch.ensures ∙ c.if-not-can_fetch.false))
 
 pub returns-then-i-len-clause-answers : goal.returns-then-i-len-clause-answers
 returns-then-i-len-clause-answers g c = (absent g.J.Job.key_of c.args.self.now c.args.cpu _ (omega arith), refl, refl)

@@ -1,4 +1,4 @@
-use Rattle.std.proofs.Common.{◌∙◌, sym, arith, refl, None, get_or, false, rules}
+use Rattle.std.proofs.Common.{◌∙◌, sym, arith, refl, None, get_or, false}
 use Rattle.rcu_world.proofs.Seen.{stepped, given_at, absent}
 use denote.Param.{param}
 use Rattle.rcu_world.proofs.Sizes.{processor_fits, second_fails}
@@ -12,7 +12,7 @@ pub returns-clause-given : goal.returns-clause-given
 returns-clause-given g c = given_at g.J.Job.gives c.args.self.now c.args.cpu c.index_mut-p.result.now c.hear.new.self (omega arith) c.index_mut-p.ensures.value c.hear.ensures.given
 
 pub hear-requires-after_bounds : goal.hear-requires-after_bounds
-hear-requires-after_bounds g c κs within = processor_fits (param 0 g.row.J) (param 1 g.row.J-Receipt) (search rules)
+hear-requires-after_bounds g c κs within = processor_fits (param 0 g.row.J) (param 1 g.row.J-Receipt) assumption
 
 pub returns-then-i-len-clause-answers : goal.returns-then-i-len-clause-answers
 returns-then-i-len-clause-answers g c = (absent g.J.Job.key_of c.args.self.now c.args.cpu _ (omega arith), refl, refl)

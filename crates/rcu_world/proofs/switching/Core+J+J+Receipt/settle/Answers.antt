@@ -1,4 +1,4 @@
-use Rattle.std.proofs.Common.{◌∙◌, sym, arith, refl, None, rules}
+use Rattle.std.proofs.Common.{◌∙◌, sym, arith, refl, None}
 use Rattle.rcu_law.specs.States.{is_deoffloading}
 use Rattle.rcu_law.specs.Steps.{settles}
 use Rattle.rcu_world.proofs.Seen.{stepped, given_at, absent, skipped}
@@ -14,10 +14,10 @@ pub returns-clause-given : goal.returns-clause-given
 returns-clause-given g c = given_at g.J.Job.gives c.args.self.now c.args.cpu c.index_mut-p.result.now c.settle.new.self (omega arith) c.index_mut-p.ensures.value c.settle.ensures.given
 
 pub is_deoffloading-requires-after_bounds : goal.is_deoffloading-requires-after_bounds
-is_deoffloading-requires-after_bounds g c κs within = processor_fits (param 0 g.row.J) (param 1 g.row.J-Receipt) (search rules)
+is_deoffloading-requires-after_bounds g c κs within = processor_fits (param 0 g.row.J) (param 1 g.row.J-Receipt) assumption
 
 pub settle-requires-after_bounds : goal.settle-requires-after_bounds
-settle-requires-after_bounds g c κs within = processor_fits (param 0 g.row.J) (param 1 g.row.J-Receipt) (search rules)
+settle-requires-after_bounds g c κs within = processor_fits (param 0 g.row.J) (param 1 g.row.J-Receipt) assumption
 
 pub returns-then-i-len-clause-answers : goal.returns-then-i-len-clause-answers
 returns-then-i-len-clause-answers g c = (absent g.J.Job.key_of c.args.self.now c.args.cpu _ (omega arith), refl, refl)

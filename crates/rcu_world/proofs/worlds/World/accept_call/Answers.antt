@@ -12,20 +12,13 @@ use Rattle.rcu_world.proofs.Resting.{rest_accepted}
 use Rattle.rcu_world.proofs.Sizes.{second_holds}
 use denote.Param.{param}
 use Rattle.rcu_world.proofs.Fitting.{core_fits, fits_there}
-use Rattle.std.specs.Mem.{FitsInMemory}
-use Rattle.rcu_world.specs.contracts.worlds.World as world
-use Rattle.rcu_world.proofs.worlds.World.accept_call.Given.{Over}
 use Rattle.rcu_world.proofs.worlds.World.accept_call.Goals as goal
-use Rattle.rcu_world.proofs.worlds.World.accept_call.Goals.{Start}
-
-start_fits : (g : Over) (c : Start g) → FitsInMemory (world.the_row (param 0 g.row.J) (param 1 g.row.J-Receipt))
-start_fits g c = search rules
 
 pub count-count-requires-after_bounds : goal.count-count-requires-after_bounds
-count-count-requires-after_bounds g c κs within = fits_there (param 0 g.row.J) (param 1 g.row.J-Receipt) (start_fits g c.before.before)
+count-count-requires-after_bounds g c κs within = fits_there (param 0 g.row.J) (param 1 g.row.J-Receipt) assumption
 
 pub accept-requires-after_bounds : goal.accept-requires-after_bounds
-accept-requires-after_bounds g c κs within = (core_fits (param 0 g.row.J) (param 1 g.row.J-Receipt) (start_fits g c.before.before.before.before), c.requires.world.fit)
+accept-requires-after_bounds g c κs within = (core_fits (param 0 g.row.J) (param 1 g.row.J-Receipt) assumption, c.requires.world.fit)
 
 pub returns-in-Done-clause-kept : goal.returns-in-Done-clause-kept
 returns-in-Done-clause-kept g c = record {

@@ -1,23 +1,16 @@
-use Rattle.std.proofs.Common.{rules, ◌∷◌, [], ◌<◌, arith, subst}
+use Rattle.std.proofs.Common.{◌∷◌, [], ◌<◌, arith, subst}
 use Rattle.rcu_law.specs.Events.CoreEvent.{Accept}
 use Rattle.rcu_world.specs.Turns.{stamp_events}
 use Rattle.rcu_world.proofs.Leading.{leads_then}
 use denote.Param.{param}
 use Rattle.rcu_world.proofs.Fitting.{fits_there}
-use Rattle.std.specs.Mem.{FitsInMemory}
-use Rattle.rcu_world.specs.contracts.worlds.World as world
-use Rattle.rcu_world.proofs.worlds.World.call.Given.{Over}
 use Rattle.std.proofs.lemmas.List.{length-map}
 use Rattle.rcu_processor.specs.Views.{seen}
 use Rattle.rcu_world.proofs.Entering.{fresh_after}
 use Rattle.rcu_world.proofs.worlds.World.call.Goals as goal
-use Rattle.rcu_world.proofs.worlds.World.call.Goals.{Start}
-
-start_fits : (g : Over) (c : Start g) → FitsInMemory (world.the_row (param 0 g.row.J) (param 1 g.row.J-Receipt))
-start_fits g c = search rules
 
 pub count-number-requires-after_bounds : goal.count-number-requires-after_bounds
-count-number-requires-after_bounds g c κs within = fits_there (param 0 g.row.J) (param 1 g.row.J-Receipt) (start_fits g c.before.before)
+count-number-requires-after_bounds g c κs within = fits_there (param 0 g.row.J) (param 1 g.row.J-Receipt) assumption
 
 pub returns-clause-events : goal.returns-clause-events
 returns-clause-events g c =
@@ -32,7 +25,7 @@ index-requires g c = omega (arith, subst (λ n. c.args.cpu < n) (length-map c.ar
 
 pub stamp_call-requires-after_bounds : goal.stamp_call-requires-after_bounds
 stamp_call-requires-after_bounds g c κs within = (
-  start_fits g c.before.before.before.before.before.before.before.before,
+  assumption,
   (
     c.accept_call.ensures.kept,
     (

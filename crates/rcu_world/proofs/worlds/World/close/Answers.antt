@@ -1,4 +1,4 @@
-use Rattle.std.proofs.Common.{◌∙◌, length, subst, sym, rules}
+use Rattle.std.proofs.Common.{◌∙◌, length, subst, sym}
 use Rattle.std.proofs.lemmas.List.{length-map}
 use Rattle.rcu_law.specs.Law.{IsClosed}
 use Rattle.rcu_law.proofs.Closing.{closed}
@@ -27,7 +27,7 @@ returns-in-Ok-clause-reports g c = subst (λ n. AreReported n c.into_closed.resu
     (c.args.self.core.processors.ok.0 ∙ sym (length-map c.args.self.core.processors.items (seen g.J.Job.key_of))) c.into_closed.ensures.reports
 
 pub find_room-requires-after_bounds : goal.find_room-requires-after_bounds
-find_room-requires-after_bounds g c κs within = (core_fits (param 0 g.row.J) (param 1 g.row.J-Receipt) (search rules), c.requires.fit)
+find_room-requires-after_bounds g c κs within = (core_fits (param 0 g.row.J) (param 1 g.row.J-Receipt) assumption, c.requires.fit)
 
 pub into_closed-requires-after_bounds : goal.into_closed-requires-after_bounds
-into_closed-requires-after_bounds g c κs within = (core_fits (param 0 g.row.J) (param 1 g.row.J-Receipt) (search rules), c.in-Ok.ensures)
+into_closed-requires-after_bounds g c κs within = (core_fits (param 0 g.row.J) (param 1 g.row.J-Receipt) assumption, c.in-Ok.ensures)

@@ -1,4 +1,4 @@
-use Rattle.std.proofs.Common.{rules, ◌∙◌, ◌<◌, ap, arith, refl, sym, subst, length}
+use Rattle.std.proofs.Common.{◌∙◌, ◌<◌, ap, arith, refl, sym, subst, length}
 use Rattle.std.proofs.lemmas.List.{length-map}
 use Rattle.rcu_law.specs.States.{Cpu}
 use Rattle.rcu_processor.specs.Views.{seen}
@@ -10,7 +10,7 @@ use Rattle.rcu_world.proofs.Fitting.{fits_there}
 use Rattle.rcu_world.proofs.worlds.World.draw_some.Goals as goal
 
 pub drawn_len-drawn-requires-after_bounds : goal.drawn_len-drawn-requires-after_bounds
-drawn_len-drawn-requires-after_bounds g c κs within = fits_there (param 0 g.row.J) (param 1 g.row.J-Receipt) (search rules)
+drawn_len-drawn-requires-after_bounds g c κs within = fits_there (param 0 g.row.J) (param 1 g.row.J-Receipt) assumption
 
 pub loop-batch-init : goal.loop-batch-init
 loop-batch-init g c = record {

@@ -1,4 +1,4 @@
-use Rattle.std.proofs.Common.{rules, refl, ◌∙◌, ◌<◌, ap, arith, sym, subst, length}
+use Rattle.std.proofs.Common.{refl, ◌∙◌, ◌<◌, ap, arith, sym, subst, length}
 use Rattle.std.proofs.lemmas.List.{length-map}
 use Rattle.rcu_law.specs.Steps.{given}
 use Rattle.rcu_processor.specs.Views.{seen}
@@ -10,7 +10,7 @@ use Rattle.rcu_world.proofs.Fitting.{fits_there}
 use Rattle.rcu_world.proofs.worlds.World.give.Goals as goal
 
 pub given_len-ready-requires-after_bounds : goal.given_len-ready-requires-after_bounds
-given_len-ready-requires-after_bounds g c κs within = fits_there (param 0 g.row.J) (param 1 g.row.J-Receipt) (search rules)
+given_len-ready-requires-after_bounds g c κs within = fits_there (param 0 g.row.J) (param 1 g.row.J-Receipt) assumption
 
 pub returns-then-not-is_member-clause-events : goal.returns-then-not-is_member-clause-events
 returns-then-not-is_member-clause-events g c = gives_none c.args.group c.args.cpu _ (sym c.is_member.ensures ∙ c.if-not-is_member.true)

@@ -1,4 +1,4 @@
-use Rattle.std.proofs.Common.{rules, ◌∙◌, ◌<◌, ◌&&◌, ap, arith, cond, false, get_or, length, None, Some, sym}
+use Rattle.std.proofs.Common.{◌∙◌, ◌<◌, ◌&&◌, ap, arith, cond, false, get_or, length, None, Some, sym}
 use Rattle.rcu_law.specs.States.{cpu_at}
 use Rattle.rcu_processor.specs.Shown.{folk_lists}
 use Rattle.rcu_world.specs.Views.{state}
@@ -10,7 +10,7 @@ use Rattle.rcu_world.proofs.Fitting.{fits_there}
 use Rattle.rcu_world.proofs.worlds.World.group_lists.Goals as goal
 
 pub group_lists-requires-after_bounds : goal.group_lists-requires-after_bounds
-group_lists-requires-after_bounds g c κs within = fits_there (param 0 g.row.J) (param 1 g.row.J-Receipt) (search rules)
+group_lists-requires-after_bounds g c κs within = fits_there (param 0 g.row.J) (param 1 g.row.J-Receipt) assumption
 
 pub returns : goal.returns
 returns g c =

@@ -7,6 +7,7 @@ use Rattle.rcu_world.specs.Views.{state}
 use Rattle.rcu_world.proofs.Seen.{barrier_seen}
 use Rattle.rcu_world.proofs.Counting.{counts_more}
 use Rattle.rcu_processor.specs.Views.{seen}
+use Rattle.rcu_world.proofs.Places.{few_in_vec, in_vec, steps_on}
 use Rattle.rcu_world.proofs.worlds.World.kept_counts.Goals as goal
 
 pub loop-cpu-preserved : goal.loop-cpu-preserved
@@ -33,3 +34,15 @@ set-requires g c = omega (arith, c.loop-cpu.invariant.all, length-map c.args.sel
 
 pub returns-clause-each : goal.returns-clause-each
 returns-clause-each g c = λ p l. c.loop-cpu.invariant.each p (omega (arith, l, length-map c.args.self.now.core.processors.items (seen g.J.Job.key_of)))
+
+pub index-kept-requires : goal.index-kept-requires
+index-kept-requires g c = in_vec _ _ _ _ c.requires.there (length-map c.args.self.now.core.barriers.items barrier) c.args.self.now.core.barriers.ok.0
+
+pub new-counts-requires : goal.new-counts-requires
+new-counts-requires g c = few_in_vec _ _ _ _ _ c.len-n.ensures c.args.self.now.core.processors.ok.0 (length-map c.args.self.now.core.processors.items (seen g.J.Job.key_of)) c.requires.few
+
+pub loop-cpu-smaller : goal.loop-cpu-smaller
+loop-cpu-smaller g c = steps_on _ _ c.loop-cpu-test.true
+
+pub returns-clause-all : goal.returns-clause-all
+returns-clause-all g c = c.loop-cpu.invariant.all

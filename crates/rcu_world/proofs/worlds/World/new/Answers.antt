@@ -1,4 +1,4 @@
-use Rattle.std.proofs.Common.{sym, subst, rules}
+use Rattle.std.proofs.Common.{sym, subst}
 use Rattle.rcu_world.specs.Worlds.{IsFit, plan}
 use Rattle.rcu_world.specs.Turns.{IsAtRest}
 use Rattle.rcu_world.proofs.Opening.{fit_opening, rest_opening}
@@ -16,4 +16,4 @@ pub returns-clause-rest : goal.returns-clause-rest
 returns-clause-rest g c = subst IsAtRest (sym c.in_ok-core.ensures.opens) (rest_opening c.args.shape.processors (plan c.args.shape))
 
 pub new-requires-after_bounds : goal.new-requires-after_bounds
-new-requires-after_bounds g c κs within = core_fits (param 0 g.row.J) (param 1 g.row.J-Receipt) (search rules)
+new-requires-after_bounds g c κs within = core_fits (param 0 g.row.J) (param 1 g.row.J-Receipt) assumption

@@ -1,4 +1,4 @@
-use Rattle.std.proofs.Common.{rules, arith, refl, ◌∙◌, ◌<◌, ap, sym, subst}
+use Rattle.std.proofs.Common.{arith, refl, ◌∙◌, ◌<◌, ap, sym, subst}
 use Rattle.std.proofs.lemmas.List.{length-map}
 use Rattle.rcu_law.specs.Releases.{releases_in_tick, moment_of_tick}
 use Rattle.rcu_processor.specs.Views.{seen}
@@ -6,23 +6,16 @@ use Rattle.rcu_world.proofs.Leading.{seen_there}
 use Rattle.rcu_world.proofs.Ticking.{release_skipped, release_put}
 use denote.Param.{param}
 use Rattle.rcu_world.proofs.Fitting.{fits_there}
-use Rattle.std.specs.Mem.{FitsInMemory}
-use Rattle.rcu_processor.specs.contracts.processor.Processor as processor
-use Rattle.rcu_world.proofs.worlds.World.release.Given.{Over}
 use Rattle.rcu_world.proofs.worlds.World.release.Goals as goal
-use Rattle.rcu_world.proofs.worlds.World.release.Goals.{Start}
-
-start_fits : (g : Over) (c : Start g) → FitsInMemory (processor.the_row (param 0 g.row.J) (param 1 g.row.J-Receipt))
-start_fits g c = fits_there (param 0 g.row.J) (param 1 g.row.J-Receipt) (search rules)
 
 pub is_urged-urged-requires-after_bounds : goal.is_urged-urged-requires-after_bounds
-is_urged-urged-requires-after_bounds g c κs within = start_fits g c.before.before
+is_urged-urged-requires-after_bounds g c κs within = fits_there (param 0 g.row.J) (param 1 g.row.J-Receipt) assumption
 
 pub is_released_in_tick-requires-after_bounds : goal.is_released_in_tick-requires-after_bounds
-is_released_in_tick-requires-after_bounds g c κs within = start_fits g c.before.before.before.before.before.before.before
+is_released_in_tick-requires-after_bounds g c κs within = fits_there (param 0 g.row.J) (param 1 g.row.J-Receipt) assumption
 
 pub moment_of_tick-late-requires-after_bounds : goal.moment_of_tick-late-requires-after_bounds
-moment_of_tick-late-requires-after_bounds g c κs within = start_fits g c.before.before.before.before.before.before.before.before.before.before.before
+moment_of_tick-late-requires-after_bounds g c κs within = fits_there (param 0 g.row.J) (param 1 g.row.J-Receipt) assumption
 
 pub returns-then-not-is_released_in_tick-clause-leads : goal.returns-then-not-is_released_in_tick-clause-leads
 returns-then-not-is_released_in_tick-clause-leads g c = release_skipped c.args.cpu c.args.moment c.is_urged-urged.result _ _

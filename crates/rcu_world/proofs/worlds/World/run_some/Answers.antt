@@ -1,4 +1,4 @@
-use Rattle.std.proofs.Common.{rules, ◌≡◌, true, false, cond, [], ◌∷◌, ◌∙◌, ◌<◌, ap, arith, sym, subst}
+use Rattle.std.proofs.Common.{◌≡◌, true, false, cond, [], ◌∷◌, ◌∙◌, ◌<◌, ap, arith, sym, subst}
 use Rattle.std.proofs.lemmas.List.{length-map}
 use Rattle.rcu_jobs.specs.declared.Stop.TheVariants as stops
 use Rattle.rcu_law.specs.Events.{is_enabled, run}
@@ -15,7 +15,7 @@ use Rattle.rcu_world.proofs.Fitting.{fits_there}
 use Rattle.rcu_world.proofs.worlds.World.run_some.Goals as goal
 
 pub why_no_claim-stop-requires-after_bounds : goal.why_no_claim-stop-requires-after_bounds
-why_no_claim-stop-requires-after_bounds g c κs within = fits_there (param 0 g.row.J) (param 1 g.row.J-Receipt) (search rules)
+why_no_claim-stop-requires-after_bounds g c κs within = fits_there (param 0 g.row.J) (param 1 g.row.J-Receipt) assumption
 
 pub loop-ran-preserved : goal.loop-ran-preserved
 loop-ran-preserved g c =

@@ -37,7 +37,7 @@ pub returns-in-Due-clause-len : goal.returns-in-Due-clause-len
 returns-in-Due-clause-len g c = c.put.ensures.len ∙ length_took g.J.Job.key_of _ (Stamp c.args.cpu c.args.moment c.args.lazy) _ c.in-Due.ensures.answers.1
 
 pub stamp-requires-after_bounds : goal.stamp-requires-after_bounds
-stamp-requires-after_bounds g c κs within = (core_fits (param 0 g.row.J) (param 1 g.row.J-Receipt) (search rules), (c.requires.world.fit, c.requires.world.given))
+stamp-requires-after_bounds g c κs within = (core_fits (param 0 g.row.J) (param 1 g.row.J-Receipt) assumption, (c.requires.world.fit, c.requires.world.given))
 
 pub unreachable-requires-in-Memory : goal.unreachable-requires-in-Memory
 unreachable-requires-in-Memory g c = absurd (let z : true ≡ false = c.in-Memory.ensures.sure c.requires.ready in cc)

@@ -1,6 +1,5 @@
 use Rattle.rcu_world.proofs.Keeping.{skipped_local, answers_kept}
 use denote.Param.{param}
-use Rattle.std.proofs.Common.{rules}
 use Rattle.rcu_world.proofs.Fitting.{core_fits}
 use Rattle.rcu_world.proofs.worlds.World.step.Goals as goal
 
@@ -14,4 +13,4 @@ pub returns-clause-offloaded : goal.returns-clause-offloaded
 returns-clause-offloaded g c = λ p o e. skipped_local g.J.Job.key_of _ _ c.args.event c.apply.result p c.requires.fit.core o e c.apply.ensures.answers
 
 pub apply-requires-after_bounds : goal.apply-requires-after_bounds
-apply-requires-after_bounds g c κs within = (core_fits (param 0 g.row.J) (param 1 g.row.J-Receipt) (search rules), (c.requires.fit, c.requires.given))
+apply-requires-after_bounds g c κs within = (core_fits (param 0 g.row.J) (param 1 g.row.J-Receipt) assumption, (c.requires.fit, c.requires.given))

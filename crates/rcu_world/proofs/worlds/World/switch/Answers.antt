@@ -1,4 +1,4 @@
-use Rattle.std.proofs.Common.{rules, arith, refl, true, ◌∙◌, ◌<◌, ap, sym, subst}
+use Rattle.std.proofs.Common.{arith, refl, true, ◌∙◌, ◌<◌, ap, sym, subst}
 use Rattle.std.proofs.lemmas.List.{length-map}
 use Rattle.rcu_law.specs.States.{is_offloaded}
 use Rattle.rcu_processor.specs.Turns.{is_switching}
@@ -10,10 +10,10 @@ use Rattle.rcu_world.proofs.Fitting.{fits_there}
 use Rattle.rcu_world.proofs.worlds.World.switch.Goals as goal
 
 pub is_switching-requires-after_bounds : goal.is_switching-requires-after_bounds
-is_switching-requires-after_bounds g c κs within = fits_there (param 0 g.row.J) (param 1 g.row.J-Receipt) (search rules)
+is_switching-requires-after_bounds g c κs within = fits_there (param 0 g.row.J) (param 1 g.row.J-Receipt) assumption
 
 pub is_offloaded-requires-after_bounds : goal.is_offloaded-requires-after_bounds
-is_offloaded-requires-after_bounds g c κs within = fits_there (param 0 g.row.J) (param 1 g.row.J-Receipt) (search rules)
+is_offloaded-requires-after_bounds g c κs within = fits_there (param 0 g.row.J) (param 1 g.row.J-Receipt) assumption
 
 pub returns-then-not-is_offloaded-clause-leads : goal.returns-then-not-is_offloaded-clause-leads
 returns-then-not-is_offloaded-clause-leads g c = switch_heeded c.args.cpu c.perform.ensures.leads.0 _ _

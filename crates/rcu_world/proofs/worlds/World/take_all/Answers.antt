@@ -5,6 +5,7 @@ use Rattle.rcu_world.proofs.Drawing.{upto_more, upto_none}
 use Rattle.std.proofs.lemmas.List.{length-map}
 use Rattle.rcu_processor.specs.Views.{seen}
 use Rattle.rcu_world.proofs.Wholes.{made_all}
+use Rattle.rcu_world.proofs.Places.{steps_on}
 use Rattle.rcu_world.proofs.worlds.World.take_all.Goals as goal
 
 pub loop-cpu-init : goal.loop-cpu-init
@@ -32,3 +33,6 @@ overflow_add-took g c = omega (arith, c.loop-cpu.invariant.most, c.take-drawn.en
 
 pub returns-clause-events : goal.returns-clause-events
 returns-clause-events g c = made_all (Takes c.args.group) c.loop-cpu.cpu _ _ _ c.loop-cpu.took 0 (omega (arith, length-map c.args.self.now.core.processors.items (seen g.J.Job.key_of), c.args.self.now.core.processors.ok.0)) c.loop-cpu.invariant.made
+
+pub loop-cpu-smaller : goal.loop-cpu-smaller
+loop-cpu-smaller g c = steps_on _ _ c.loop-cpu-test.true

@@ -1,4 +1,4 @@
-use Rattle.std.proofs.Common.{rules, get_or, ◌∙◌, ap, arith, Some, sym}
+use Rattle.std.proofs.Common.{get_or, ◌∙◌, ap, arith, Some, sym}
 use Rattle.std.proofs.lemmas.List.{drop_all}
 use denote.Param.{param}
 use Rattle.rcu_jobs.specs.declared.Ticket.{Ticket}
@@ -13,7 +13,7 @@ use Rattle.rcu_world.proofs.Seen.{has_at}
 use Rattle.rcu_world.proofs.worlds.World.ticket_fault.Goals as goal
 
 pub count-count-requires-after_bounds : goal.count-count-requires-after_bounds
-count-count-requires-after_bounds g c κs within = fits_there (param 0 g.row.J) (param 1 g.row.J-Receipt) (search rules)
+count-count-requires-after_bounds g c κs within = fits_there (param 0 g.row.J) (param 1 g.row.J-Receipt) assumption
 
 pub returns-then-cpu-len : goal.returns-then-cpu-len
 returns-then-cpu-len g c = sym (c.loop-ticket.invariant ∙ fault_absent (state g.J.Job.key_of c.args.self.now.core) c.args.tickets.now c.loop-ticket.ticket-index (record { cpu = 0; number = 0 }) (omega arith)
