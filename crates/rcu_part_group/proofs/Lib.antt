@@ -1,2 +1,3 @@
 pub mod GroupLists
 pub mod GroupTurns
+pub mod Lives

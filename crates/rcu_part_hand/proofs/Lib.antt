@@ -1,1 +1,2 @@
 pub mod HandRuns
+pub mod Standing

@@ -8,3 +8,4 @@ pub mod TickRuns
 pub mod TickLaws
 pub mod CatchingUp
 pub mod Barring
+pub mod Standing

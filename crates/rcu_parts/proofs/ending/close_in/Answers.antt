@@ -16,7 +16,7 @@ use Rattle.rcu_parts.proofs.ending.close_in.Goals as goal
 
 pub gather_groups-members-requires-after_bounds : goal.gather_groups-members-requires-after_bounds
 gather_groups-members-requires-after_bounds g c κs within =
-    let h : FitsInMemory (group_row.the_row (param 0 g.row.J) (param 1 g.row.J-Receipt)) = c.requires-raw.1.1.1.1.1.0 in
+    let h : FitsInMemory (group_row.the_row (param 0 g.row.J) (param 1 g.row.J-Receipt)) = assumption in
     let k = c.args.parts.control in
     let d = c.args.parts.driver in
     let b : c.deref-2.result.now ≡ control_board k = c.deref-2.ensures ∙ c.into_parts-board.ensures.0 in
@@ -41,9 +41,9 @@ gather_groups-members-requires-after_bounds g c κs within =
 
 pub end_each-requires-clause-ready : goal.end_each-requires-clause-ready
 end_each-requires-clause-ready g c κs within =
-    let p : FitsInMemory (row.the_row (param 0 g.row.J) (param 1 g.row.J-Receipt)) = c.requires-raw.1.1.1.1.0 in
-    let h : FitsInMemory (group_row.the_row (param 0 g.row.J) (param 1 g.row.J-Receipt)) = c.requires-raw.1.1.1.1.1.0 in
-    let q : FitsInMemory (hand_row.the_row (param 0 g.row.J) (param 1 g.row.J-Receipt)) = c.requires-raw.1.1.1.1.1.1.0 in
+    let p : FitsInMemory (row.the_row (param 0 g.row.J) (param 1 g.row.J-Receipt)) = assumption in
+    let h : FitsInMemory (group_row.the_row (param 0 g.row.J) (param 1 g.row.J-Receipt)) = assumption in
+    let q : FitsInMemory (hand_row.the_row (param 0 g.row.J) (param 1 g.row.J-Receipt)) = assumption in
     let k = c.args.parts.control in
     let t = c.gather_groups-members.ensures in
     let at : c.gather_groups-members.new.all.seat.table_id ≡ (control_board k).table.shared.table_id

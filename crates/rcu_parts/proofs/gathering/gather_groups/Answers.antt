@@ -31,7 +31,7 @@ loop-group-init g c =
 
 pub gather_group-requires-after_bounds : goal.gather_group-requires-after_bounds
 gather_group-requires-after_bounds g c κs within =
-    let h : FitsInMemory (row.the_row (param 0 g.row.J) (param 1 g.row.J-Receipt)) = search rules in
+    let h : FitsInMemory (row.the_row (param 0 g.row.J) (param 1 g.row.J-Receipt)) = assumption in
     let i = c.loop-group.invariant in
     let e : c.loop-group.group-iterator.rest.items ≡ c.in-Some.group ∷ c.next.new.self.rest.items = c.in-Some.ensures.steps.0 in
     let B : Group g.row.J.Denot g.row.J-Receipt.Denot → Type 0 = λ h. group_board h.state ≡ c.args.board.now in

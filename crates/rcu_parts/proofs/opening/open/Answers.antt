@@ -24,16 +24,17 @@ use Rattle.rcu_part_group.specs.declared.folk.Folk.{Folk}
 use Rattle.rcu_parts.proofs.Whole.{all_weigh, are_in_order, as_many, groups_here, groups_of_board, groups_weigh, hands_here, hands_of_board, hands_sound, hands_weigh, have_members, is_bare, many_fronts, none_drawn, offloadable_cpus, processors_sound, processors_weigh}
 use Rattle.rcu_parts.proofs.Zips.{as_many_seats}
 use Rattle.rcu_parts.proofs.opening.open.Given.{Over}
+use Rattle.rcu_lists.proofs.Outcomes.{if_ok_never}
 use Rattle.rcu_parts.proofs.opening.open.Goals as goal
 
 processor_fits : (g : Over) (c : goal.After-board-3-1 g) → FitsInMemory (processor.the_row (param 0 g.row.J) (param 1 g.row.J-Receipt))
-processor_fits g c = c.requires-raw.1.1.1.1.0
+processor_fits g c = assumption
 
 group_fits : (g : Over) (c : goal.After-board-3-1 g) → FitsInMemory (group.the_row (param 0 g.row.J) (param 1 g.row.J-Receipt))
-group_fits g c = c.requires-raw.1.1.1.1.1.0
+group_fits g c = assumption
 
 hand_fits : (g : Over) (c : goal.After-board-3-1 g) → FitsInMemory (hand.the_row (param 0 g.row.J) (param 1 g.row.J-Receipt))
-hand_fits g c = c.requires-raw.1.1.1.1.1.1
+hand_fits g c = assumption
 
 folk_fits : (g : Over) (c : goal.After-board-3-1 g) → FitsInMemory (folk.the_row (param 0 g.row.J))
 folk_fits g c = let h = group_fits g c in in_struct _ _ _ (in_struct _ _ _ (in_struct _ _ _ h))
@@ -125,3 +126,21 @@ returns-clause-sound g c = let b = arc_value c.in_ok-board-2.board in record {
   processors = processors_sound c.args.shape b g.J.Job.key_of g.J.Job.gives _ c.in_ok-processors.processors.items c.in_ok-processors.ensures.processors;
   hands = hands_sound c.args.shape b g.J.Job.key_of g.J.Job.gives _ c.in_ok-folks.hands.items c.in_ok-folks.ensures.hands;
 }
+
+pub returns-in_err-board : goal.returns-in_err-board
+returns-in_err-board g c = let e = c.from_residual.ensures in record { opened = if_ok_never _ _ e; one = if_ok_never _ _ e; sound = if_ok_never _ _ e }
+
+pub returns-in_err-board-2 : goal.returns-in_err-board-2
+returns-in_err-board-2 g c = let e = c.from_residual-in_err-board-2.ensures in record { opened = if_ok_never _ _ e; one = if_ok_never _ _ e; sound = if_ok_never _ _ e }
+
+pub returns-in_err-try_clone : goal.returns-in_err-try_clone
+returns-in_err-try_clone g c = let e = c.from_residual-in_err-try_clone.ensures in record { opened = if_ok_never _ _ e; one = if_ok_never _ _ e; sound = if_ok_never _ _ e }
+
+pub returns-in_err-processors : goal.returns-in_err-processors
+returns-in_err-processors g c = let e = c.from_residual-in_err-processors.ensures in record { opened = if_ok_never _ _ e; one = if_ok_never _ _ e; sound = if_ok_never _ _ e }
+
+pub returns-in_err-folks : goal.returns-in_err-folks
+returns-in_err-folks g c = let e = c.from_residual-in_err-folks.ensures in record { opened = if_ok_never _ _ e; one = if_ok_never _ _ e; sound = if_ok_never _ _ e }
+
+pub returns-in_err-groups : goal.returns-in_err-groups
+returns-in_err-groups g c = let e = c.from_residual-in_err-groups.ensures in record { opened = if_ok_never _ _ e; one = if_ok_never _ _ e; sound = if_ok_never _ _ e }

@@ -20,13 +20,14 @@ use Rattle.rcu_parts.proofs.Making.{empty_parts, group_made, group_of_role, grou
 use Rattle.rcu_parts.proofs.Splitting.{AreGrouped, all_groups}
 use Rattle.rcu_parts.proofs.Zips.{all_of, seat_and_rest, seats_over}
 use Rattle.rcu_parts.proofs.opening.open_groups.Given.{Over}
+use Rattle.rcu_lists.proofs.Outcomes.{if_ok_never}
 use Rattle.rcu_parts.proofs.opening.open_groups.Goals as goal
 
 group_fits : (g : Over) (c : goal.After-into_iter-seat-iterator g) → FitsInMemory (group.the_row (param 0 g.row.J) (param 1 g.row.J-Receipt))
-group_fits g c = search rules
+group_fits g c = assumption
 
 folk_fits : (g : Over) (c : goal.After-into_iter-seat-iterator g) → FitsInMemory (folk.the_row (param 0 g.row.J))
-folk_fits g c = search rules
+folk_fits g c = assumption
 
 members_fits : (g : Over) (c : goal.After-into_iter-seat-iterator g) → FitsInMemory (members.the_row (param 0 g.row.J))
 members_fits g c = let h = group_fits g c in in_struct _ _ _ (in_struct _ _ _ h)
@@ -110,3 +111,12 @@ returns-clause-members g c = let i = c.loop-seat.invariant in let b = arc_value 
     let left = subst (λ (gs : List ℕ). AreGrouped b.offloadable c.args.shape.now.stride b.processors gs (cpus_of c.loop-seat.folks.items)) (none g c) i.grouped in
     all_of (members_in c.loop-seat.groups.items) c.loop-seat.folks.items c.args.folks.items i.members
     (nil_from_length c.loop-seat.folks.items (sym (length-map c.loop-seat.folks.items (λ (m : Folk g.row.J.Denot). m.cpu)) ∙ ap (λ (l : List ℕ). length l) left))
+
+pub returns-in_err-own : goal.returns-in_err-own
+returns-in_err-own g c = let e = c.from_residual.ensures in record { groups = if_ok_never _ _ e; members = if_ok_never _ _ e }
+
+pub returns-in_err-members : goal.returns-in_err-members
+returns-in_err-members g c = let e = c.from_residual-in_err-members.ensures in record { groups = if_ok_never _ _ e; members = if_ok_never _ _ e }
+
+pub returns-in_err-push : goal.returns-in_err-push
+returns-in_err-push g c = let e = c.from_residual-in_err-push.ensures in record { groups = if_ok_never _ _ e; members = if_ok_never _ _ e }

@@ -23,16 +23,17 @@ use Rattle.rcu_part_group.specs.declared.folk.Folk.{Folk}
 use Rattle.rcu_parts.proofs.Making.{hands_more, made_more}
 use Rattle.rcu_parts.proofs.Zips.{all_of, seat_and_rest, seats_over}
 use Rattle.rcu_parts.proofs.opening.open_hands.Given.{Over}
+use Rattle.rcu_lists.proofs.Outcomes.{if_ok_never}
 use Rattle.rcu_parts.proofs.opening.open_hands.Goals as goal
 
 hand_fits : (g : Over) (c : goal.After-into_iter-seat-iterator g) → FitsInMemory (hand.the_row (param 0 g.row.J) (param 1 g.row.J-Receipt))
-hand_fits g c = search rules
+hand_fits g c = assumption
 
 folk_fits : (g : Over) (c : goal.After-into_iter-seat-iterator g) → FitsInMemory (folk.the_row (param 0 g.row.J))
-folk_fits g c = search rules
+folk_fits g c = assumption
 
 batch_fits : (g : Over) (c : goal.After-into_iter-seat-iterator g) → FitsInMemory (batch.the_row (param 0 g.row.J))
-batch_fits g c = search rules
+batch_fits g c = assumption
 
 pub loop-seat-init : goal.loop-seat-init
 loop-seat-init g c = let b = arc_value c.args.board.now in let ks = numbers_where (is_offloadable b.offloadable) 0 b.processors in let none = c.new-folks.ensures.items in record {
@@ -104,3 +105,12 @@ returns-clause-fronts g c = let i = c.loop-seat.invariant in all_of (fronts_of c
 
 pub returns-clause-hands : goal.returns-clause-hands
 returns-clause-hands g c = subst (λ (ks : List ℕ). AllZip (IsFirstHand c.args.shape.now (arc_value c.args.board.now)) ks c.loop-seat.hands.items) (cpus g c) c.loop-seat.invariant.hands
+
+pub returns-in_err-folk : goal.returns-in_err-folk
+returns-in_err-folk g c = let e = c.from_residual.ensures in record { cpus = if_ok_never _ _ e; fronts = if_ok_never _ _ e; empty = if_ok_never _ _ e; hands = if_ok_never _ _ e; lanes = if_ok_never _ _ e }
+
+pub returns-in_err-push_back : goal.returns-in_err-push_back
+returns-in_err-push_back g c = let e = c.from_residual-in_err-push_back.ensures in record { cpus = if_ok_never _ _ e; fronts = if_ok_never _ _ e; empty = if_ok_never _ _ e; hands = if_ok_never _ _ e; lanes = if_ok_never _ _ e }
+
+pub returns-in_err-push : goal.returns-in_err-push
+returns-in_err-push g c = let e = c.from_residual-in_err-push.ensures in record { cpus = if_ok_never _ _ e; fronts = if_ok_never _ _ e; empty = if_ok_never _ _ e; hands = if_ok_never _ _ e; lanes = if_ok_never _ _ e }

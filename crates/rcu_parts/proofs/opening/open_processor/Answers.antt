@@ -1,4 +1,4 @@
-use Rattle.std.proofs.Common.{◌≡◌, ◌<◌, rules, sym, subst, ◌∙◌, ap}
+use Rattle.std.proofs.Common.{◌≡◌, ◌<◌, sym, subst, ◌∙◌, ap}
 use Rattle.std.specs.Arc.{arc_value}
 use Rattle.std.specs.Mem.{FitsInMemory}
 use denote.Param.{param}
@@ -11,16 +11,17 @@ use Rattle.rcu_part_processor.specs.contracts.processor.Processor as row
 use Rattle.rcu_part_processor.proofs.Beginnings.{offloads_at}
 use Rattle.rcu_parts.proofs.Openings.{first_empty, first_processor}
 use Rattle.rcu_parts.proofs.opening.open_processor.Given.{Over}
+use Rattle.rcu_lists.proofs.Outcomes.{if_ok_never}
 use Rattle.rcu_parts.proofs.opening.open_processor.Goals as goal
 
 fits : (g : Over) (c : goal.After-is_offloadable g) → FitsInMemory (row.the_row (param 0 g.row.J) (param 1 g.row.J-Receipt))
-fits g c = search rules
+fits g c = assumption
 
 caller_fits : (g : Over) (c : goal.After-is_offloadable g) → FitsInMemory (caller.the_row (param 0 g.row.J))
 caller_fits g c = let h = fits g c in in_struct _ _ _ (in_struct _ _ _ h)
 
 batch_fits : (g : Over) (c : goal.After-is_offloadable g) → FitsInMemory (batch.the_row (param 0 g.row.J))
-batch_fits g c = search rules
+batch_fits g c = assumption
 
 kind : (g : Over) (c : goal.After-is_offloadable g) → c.is_offloadable.result ≡ is_offloadable (arc_value c.args.board.now).offloadable c.args.cpu
 kind g c = offloads_at (arc_value c.args.board.now) c.deref.result.now c.deref.ensures c.is_offloadable.result c.args.cpu c.is_offloadable.ensures
@@ -47,3 +48,9 @@ new-processor-requires-after_bounds g c κs within =
 
 pub returns-clause-processor : goal.returns-clause-processor
 returns-clause-processor g c = first_processor c.args.shape.now (arc_value c.in_ok-own.own) (arc_value c.args.board.now) c.args.cpu c.args.seat c.in_ok-lists.lists c.new-processor.result c.is_offloadable.result c.in_ok-own.ensures c.requires.seat c.in_ok-lists.ensures.lists (kind g c.before.before.before.before.before.before.before) c.new-processor.ensures.new
+
+pub returns-in_err-lists : goal.returns-in_err-lists
+returns-in_err-lists g c = let e = c.from_residual.ensures in record { processor = if_ok_never _ _ e; lane = if_ok_never _ _ e }
+
+pub returns-in_err-own : goal.returns-in_err-own
+returns-in_err-own g c = let e = c.from_residual-in_err-own.ensures in record { processor = if_ok_never _ _ e; lane = if_ok_never _ _ e }

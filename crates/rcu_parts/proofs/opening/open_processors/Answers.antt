@@ -10,13 +10,14 @@ use Rattle.rcu_part_processor.proofs.Beginnings.{offloads_at}
 use Rattle.rcu_parts.proofs.Making.{fronts_more, fronts_same, processors_more}
 use Rattle.rcu_parts.proofs.Zips.{seat_taken}
 use Rattle.rcu_parts.proofs.opening.open_processors.Given.{Over}
+use Rattle.rcu_lists.proofs.Outcomes.{if_ok_never}
 use Rattle.rcu_parts.proofs.opening.open_processors.Goals as goal
 
 fits : (g : Over) (c : goal.After-into_iter-seat-iterator g) → FitsInMemory (row.the_row (param 0 g.row.J) (param 1 g.row.J-Receipt))
-fits g c = search rules
+fits g c = assumption
 
 batch_fits : (g : Over) (c : goal.After-into_iter-seat-iterator g) → FitsInMemory (batch.the_row (param 0 g.row.J))
-batch_fits g c = search rules
+batch_fits g c = assumption
 
 pub loop-seat-init : goal.loop-seat-init
 loop-seat-init g c = search rules
@@ -56,3 +57,12 @@ loop-seat-preserved g c =
       fronts = fronts_more ps c.push.new.self.items c.in_ok-processor.processor c.loop-seat.fronts.items c.push_back.new.self.items c.in_ok-processor.front i.fronts
           (first.part.offloadable ∙ sym (offloads_at b c.deref.result.now c.deref.ensures c.is_offloadable.result c.len-cpu.result c.is_offloadable.ensures) ∙ c.if-not-is_offloadable.false) c.in_ok-processor.ensures.lane new c.in_ok-push_back.ensures.items;
     }
+
+pub returns-in_err-processor : goal.returns-in_err-processor
+returns-in_err-processor g c = let e = c.from_residual.ensures in record { processors = if_ok_never _ _ e; fronts = if_ok_never _ _ e }
+
+pub returns-in_err-push : goal.returns-in_err-push
+returns-in_err-push g c = let e = c.from_residual-in_err-push.ensures in record { processors = if_ok_never _ _ e; fronts = if_ok_never _ _ e }
+
+pub returns-in_err-push_back : goal.returns-in_err-push_back
+returns-in_err-push_back g c = let e = c.from_residual-in_err-push_back.ensures in record { processors = if_ok_never _ _ e; fronts = if_ok_never _ _ e }

@@ -11,3 +11,9 @@ pub returns : goal.returns
 returns g c = IfOk-weaker c.with_room.result (λ room. HasRoom c.in-Some.records c.saturating_sub-jobs.result room)
     (λ room. (hand : Option (HandPart g.row.J.Denot g.row.J-Receipt.Denot)) → length (hand_ran hand) ≡ c.args.hands → length (hand_taken hand) ≡ c.args.hands → FitsCpu (cpu_part c.args.processor.now hand) room)
     (λ room has hand ran taken. fits_cpu c.args.processor.now hand c.args.hands c.in-Some.records c.saturating_sub-jobs.result room (let a = c.in-Some.ensures.1 in let b = c.ran.ensures in omega (arith, a, b)) (c.saturating_sub-jobs.ensures ∙ ap (λ n. n - c.in-Some.records) c.accepted.ensures) has ran taken) c.with_room.ensures
+
+pub ran-requires : goal.ran-requires
+ran-requires g c = assumption
+
+pub accepted-requires : goal.accepted-requires
+accepted-requires g c = assumption

@@ -3,6 +3,7 @@ use Rattle.std.proofs.Math.Seq.{drop-cons}
 use Rattle.std.proofs.lemmas.List.{drop_all}
 use Rattle.rcu_parts.specs.AtClose.{hand_for}
 use Rattle.rcu_parts.proofs.RoomFor.{fits_all, fits_more, fits_none, taken_ran}
+use Rattle.rcu_lists.proofs.Outcomes.{if_ok_never}
 use Rattle.rcu_parts.proofs.room.find_ends.Goals as goal
 
 pub loop-processor-init : goal.loop-processor-init
@@ -24,3 +25,15 @@ loop-processor-preserved g c =
 
 pub returns : goal.returns
 returns g c = fits_all c.loop-processor.processor-index c.loop-processor.next c.args.processors.now.items c.args.hands.now.items c.loop-processor.ends.items c.loop-processor.invariant (drop_all c.loop-processor.processor-index c.args.processors.now.items (let t = c.loop-processor-test.false in let e = ap length c.deref-processor-items.ensures.value in omega (arith, t, e)))
+
+pub returns-in_err-find_end : goal.returns-in_err-find_end
+returns-in_err-find_end g c = if_ok_never _ _ c.from_residual.ensures
+
+pub returns-in_err-push : goal.returns-in_err-push
+returns-in_err-push g c = if_ok_never _ _ c.from_residual-in_err-push.ensures
+
+pub find_end-requires : goal.find_end-requires
+find_end-requires g c = assumption
+
+pub ran_by_hand-ran-requires : goal.ran_by_hand-ran-requires
+ran_by_hand-ran-requires g c = assumption

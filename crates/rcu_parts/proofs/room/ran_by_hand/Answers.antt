@@ -16,3 +16,9 @@ returns-then-before-len-clause-left g c =
     let e : c.args.processor.now.state.offloadable ≡ true = search rules in
     let n : length c.args.hands.now.items ≤ c.args.before = (let o = c.args.hands.now.ok.0 in let l = c.len.ensures in let t = c.if-before-len.true in omega (arith, o, l, t)) in
     none_after c.args.processor.now (drop c.args.before c.args.hands.now.items) e (drop_all c.args.before c.args.hands.now.items n)
+
+pub is_offloadable-requires : goal.is_offloadable-requires
+is_offloadable-requires g c = assumption
+
+pub ran_by-ran-requires : goal.ran_by-ran-requires
+ran_by-ran-requires g c = assumption

@@ -1,7 +1,11 @@
+use Rattle.std.specs.Mem.{FitsInMemory}
+use denote.Param.{param}
+use Rattle.rcu_holdings.proofs.Sizes.{in_struct}
 use Rattle.std.proofs.Common.{◌≡◌, ◌≢◌, ◌<◌, zero, suc, length, get_or, ap, sym, ◌∙◌, refl, subst, arith}
 use Rattle.std.proofs.lemmas.List.{take_all}
 use Rattle.std.proofs.lemmas.List.Elements.{All-cons, All-more, All-same}
 use Rattle.rcu_part_group.specs.declared.folk.Folk.{Folk}
+use Rattle.rcu_part_group.specs.contracts.folk.Members as row
 use Rattle.rcu_part_group.proofs.folk.Members.lists.Goals as goal
 
 pub returns-then-self-p : goal.returns-then-self-p
@@ -24,3 +28,9 @@ returns g c = let l = c.loop-folk in let s = c.args.self.now in
     let other : Folk g.row.J.Denot → Type 0 = λ m. m.cpu ≢ c.args.p in
     let all = take_all l.folk-index s.others.items (omega (arith, c.loop-folk-test.false, ap length c.deref-folk-items.ensures.value)) in
     All-cons other s.first s.others.items c.if-self-p.false (All-same other s.others.items _ (sym all) l.invariant)
+
+pub lists-requires : goal.lists-requires
+lists-requires g c = let h : FitsInMemory (row.the_row (param 0 g.row.J)) = assumption in in_struct _ _ _ (in_struct _ _ _ h)
+
+pub lists-requires-then-folk-p : goal.lists-requires-then-folk-p
+lists-requires-then-folk-p g c = let h : FitsInMemory (row.the_row (param 0 g.row.J)) = assumption in in_struct _ _ _ (in_struct _ _ _ h)

@@ -1,4 +1,4 @@
-use Rattle.std.proofs.Common.{◌≡◌, ◌<◌, ◌≤◌, ℕ, zero, ◌+◌, [], ◌∷◌, ◌++◌, List, length, length-append, get_or, set, rules, refl, ◌∙◌, ap, sym, subst, arith}
+use Rattle.std.proofs.Common.{◌≡◌, ◌<◌, ◌≤◌, ℕ, zero, ◌+◌, [], ◌∷◌, ◌++◌, List, length, length-append, get_or, set, refl, ◌∙◌, ap, sym, subst, arith}
 use Rattle.std.specs.Mem.{FitsInMemory}
 use denote.Param.{param}
 use Rattle.rcu_holdings.proofs.Sizes.{in_struct}
@@ -11,7 +11,7 @@ use Rattle.rcu_part_group.proofs.GroupLists.{Partly, behind, partly_next, partly
 use Rattle.rcu_part_group.proofs.folk.Members.look.Goals as goal
 
 pub look-first-requires : goal.look-first-requires
-look-first-requires g c = let h : FitsInMemory (row.the_row (param 0 g.row.J)) = search rules in
+look-first-requires g c = let h : FitsInMemory (row.the_row (param 0 g.row.J)) = assumption in
     (in_struct _ _ _ h, (c.requires.later zero c.args.self.now.first (omega arith), c.requires.small))
 
 pub loop-folk-init : goal.loop-folk-init
@@ -19,7 +19,7 @@ loop-folk-init g c = record { wants = []; many = refl; members = c.deref_mut-fol
 
 pub look-wanted-requires : goal.look-wanted-requires
 look-wanted-requires g c =
-    let h : FitsInMemory (row.the_row (param 0 g.row.J)) = search rules in
+    let h : FitsInMemory (row.the_row (param 0 g.row.J)) = assumption in
     let l = c.loop-folk in let i = l.invariant in let s = c.args.self.now in let olds = s.others.items in
     let low : l.folk-index < length olds = omega (arith, l.auto.folk-items, c.loop-folk-test.true, partly_long (LooksAt c.args.seen) i.wants olds l.folk-items i.members) in
     let same : get_or olds l.folk-index c.folk-item.result ≡ get_or l.folk-items l.folk-index c.folk-item.result = sym (partly_rest (LooksAt c.args.seen) i.wants olds l.folk-items l.folk-index c.folk-item.result (omega (arith, i.many)) i.members) in

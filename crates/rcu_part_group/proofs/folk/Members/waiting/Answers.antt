@@ -1,6 +1,10 @@
+use Rattle.std.specs.Mem.{FitsInMemory}
+use denote.Param.{param}
+use Rattle.rcu_holdings.proofs.Sizes.{in_struct}
 use Rattle.std.proofs.Common.{length, ap, arith}
 use Rattle.rcu_part_group.specs.Groups.{waiting_of}
 use Rattle.rcu_part_group.proofs.GroupLists.{sum_next, sum_behind}
+use Rattle.rcu_part_group.specs.contracts.folk.Members as row
 use Rattle.rcu_part_group.proofs.folk.Members.waiting.Goals as goal
 
 pub loop-folk-preserved : goal.loop-folk-preserved
@@ -13,3 +17,9 @@ loop-folk-preserved g c = let l = c.loop-folk in let i = l.invariant in let e = 
 pub returns : goal.returns
 returns g c = let l = c.loop-folk in let s = c.args.self.now in
     sum_behind waiting_of s.first s.others.items l.folk-index c.waiting-first.result l.waiting (omega (arith, ap length c.deref-folk-items.ensures.value, c.loop-folk-test.false)) c.waiting-first.ensures.waits l.invariant.so_far
+
+pub waiting-first-requires : goal.waiting-first-requires
+waiting-first-requires g c = let h : FitsInMemory (row.the_row (param 0 g.row.J)) = assumption in in_struct _ _ _ h
+
+pub waiting-waiting-requires : goal.waiting-waiting-requires
+waiting-waiting-requires g c = let h : FitsInMemory (row.the_row (param 0 g.row.J)) = assumption in in_struct _ _ _ h

@@ -1,4 +1,4 @@
-use Rattle.std.proofs.Common.{rules, refl}
+use Rattle.std.proofs.Common.{refl}
 use Rattle.std.specs.Mem.{FitsInMemory}
 use denote.Param.{param}
 use Rattle.rcu_holdings.proofs.Sizes.{in_struct}
@@ -24,5 +24,5 @@ returns-clause-same g c = let s = c.args.self.now.state in record {
 }
 
 pub give-requires : goal.give-requires
-give-requires g c = let h : FitsInMemory (row.the_row (param 0 g.row.J) (param 1 g.row.J-Receipt)) = search rules in
+give-requires g c = let h : FitsInMemory (row.the_row (param 0 g.row.J) (param 1 g.row.J-Receipt)) = assumption in
     (in_struct _ _ _ (in_struct _ _ _ h), c.args.self.now.state.lawful.members_are.few)

@@ -1,4 +1,4 @@
-use Rattle.std.proofs.Common.{◌≡◌, ◌≤◌, ap, rules, refl, sym, subst, ◌∙◌, arith}
+use Rattle.std.proofs.Common.{◌≡◌, ◌≤◌, ap, refl, sym, subst, ◌∙◌, arith}
 use Rattle.std.specs.Mem.{FitsInMemory}
 use denote.Param.{param}
 use Rattle.std.specs.Arc.{arc_value}
@@ -7,13 +7,15 @@ use Rattle.rcu_holdings.proofs.Sizes.{in_struct}
 use Rattle.rcu_numbers.specs.declared.sequence.TheConstants.{GREATEST_NUMBER}
 use Rattle.rcu_part_group.specs.contracts.group.Group as row
 use Rattle.rcu_board.specs.Plays.{looked}
-use Rattle.rcu_board.specs.Seats.{view}
+use Rattle.rcu_board.specs.Seats.{view, AtBoard}
 use Rattle.rcu_board.specs.Views.{seen_at, sight, tally}
 use Rattle.rcu_board.specs.Words.{bits_of, board_word, needed_word}
 use Rattle.rcu_board.specs.declared.view.View.{View}
 use Rattle.rcu_control.specs.Views.{KeepsLists}
 use Rattle.rcu_part_group.specs.GroupLaw.{folks_in}
 use Rattle.rcu_part_group.proofs.GroupTurns.{looks_same, lawful_looks}
+use Rattle.rcu_board.specs.Roles.{MayNeed}
+use Rattle.rcu_board.specs.declared.board.Board.{Board}
 use Rattle.rcu_part_group.proofs.group.Group.look.Goals as goal
 
 pub invariant_of-state : goal.invariant_of-state
@@ -37,7 +39,7 @@ returns-clause-same g c = let s = c.args.self.now.state in let a = c.watch.ensur
 
 pub look-most-requires : goal.look-most-requires
 look-most-requires g c =
-    let h : FitsInMemory (row.the_row (param 0 g.row.J) (param 1 g.row.J-Receipt)) = search rules in
+    let h : FitsInMemory (row.the_row (param 0 g.row.J) (param 1 g.row.J-Receipt)) = assumption in
     let e = c.watch.ensures in let later = e.later.board in let seen = c.seq-seen.ensures.same ∙ e.sight.0 in
     let small : c.seq-seen.result ≤ GREATEST_NUMBER = omega (arith, c.seq-seen.ensures.same, e.sight.1) in
     (in_struct _ _ _ (in_struct _ _ _ h), ((λ k d low. let before = c.args.self.now.state.lawful.looked k d low in omega (arith, later, seen)), small))
@@ -45,3 +47,9 @@ look-most-requires g c =
 pub returns-clause-fresh : goal.returns-clause-fresh
 returns-clause-fresh g c = let s = c.args.self.now.state in
     c.want.ensures.fresh ∙ (ap (λ (v : View). tally v board_word) c.watch.ensures.view ∙ steps-touched s.seat 0 (bits_of c.watch.result) (omega (arith, words-at (arc_value s.board) s.seat s.here)))
+
+pub want-requires-clause-board : goal.want-requires-clause-board
+want-requires-clause-board g c = let s = c.args.self.now.state in subst (λ (b : Board). AtBoard b c.watch.new.seat) (sym c.deref-2.ensures) (c.watch.ensures.same.table ∙ s.here)
+
+pub want-requires-clause-who : goal.want-requires-clause-who
+want-requires-clause-who g c = subst MayNeed (sym (c.watch.ensures.same.role ∙ c.args.self.now.state.role)) tt

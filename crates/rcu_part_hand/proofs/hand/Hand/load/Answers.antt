@@ -1,7 +1,10 @@
-use Rattle.std.proofs.Common.{◌≡◌, ◌∙◌, sym, refl}
-use Rattle.rcu_holdings.specs.Helds.{drawn_by, held_by}
+use Rattle.std.proofs.Common.{◌≡◌, ◌∙◌, sym, refl, List, subst}
+use Rattle.rcu_holdings.specs.Helds.{drawn_by, held_by, taken_by}
 use Rattle.rcu_holdings.specs.declared.hand.Fetched.TheVariants.{Got, Empty, Again}
 use Rattle.rcu_part_hand.proofs.HandRuns.{fetched, hand_sound_drawn}
+use Rattle.rcu_board.specs.Seats.{view}
+use Rattle.rcu_jobs.specs.declared.callback.Callback.{Callback}
+use Rattle.rcu_part_hand.specs.HandLaw.{IsLawfulHand}
 use Rattle.rcu_part_hand.proofs.hand.Hand.load.Goals as goal
 
 pub returns-in-Got-clause-loads : goal.returns-in-Got-clause-loads
@@ -39,3 +42,19 @@ returns-in-Again-clause-sound g c = let s = c.args.self.now.state in let e = c.f
 
 pub returns-in-Again-clause-none : goal.returns-in-Again-clause-none
 returns-in-Again-clause-none g c n seen = ((c.fetch.ensures.none (λ e. (let f : Again ≡ Got = sym c.in-Again.is ∙ e in cc))).1, refl)
+
+pub invariant_of-self : goal.invariant_of-self
+invariant_of-self g c = let s = c.args.self.now.state in record {
+  here = s.here;
+  role = s.role;
+  lawful = subst (λ (cs : List (Callback g.row.J.Denot)). IsLawfulHand s.cpu (view s.seat) s.ran.items cs) (sym c.fetch.ensures.taken) s.lawful;
+}
+
+pub returns-in-Got-clause-same : goal.returns-in-Got-clause-same
+returns-in-Got-clause-same g c = record { part = record { board = refl; seat = record { role = refl; table = refl; weight = refl } }; lane = c.fetch.ensures.lane; cpu = refl; blimit = refl }
+
+pub returns-in-Empty-clause-same : goal.returns-in-Empty-clause-same
+returns-in-Empty-clause-same g c = record { part = record { board = refl; seat = record { role = refl; table = refl; weight = refl } }; lane = c.fetch.ensures.lane; cpu = refl; blimit = refl }
+
+pub returns-in-Again-clause-same : goal.returns-in-Again-clause-same
+returns-in-Again-clause-same g c = record { part = record { board = refl; seat = record { role = refl; table = refl; weight = refl } }; lane = c.fetch.ensures.lane; cpu = refl; blimit = refl }

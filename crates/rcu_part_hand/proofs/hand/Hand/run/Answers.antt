@@ -1,4 +1,5 @@
-use Rattle.rcu_part_hand.proofs.HandRuns.{same_hand_again}
+use Rattle.rcu_part_hand.proofs.HandRuns.{same_hand_again, same_hand}
+use Rattle.std.proofs.Common.{◌≡◌, false, true}
 use Rattle.rcu_part_hand.proofs.hand.Hand.run.Goals as goal
 
 pub returns-in-None-turn_unless_halted-clause-sound : goal.returns-in-None-turn_unless_halted-clause-sound
@@ -19,3 +20,21 @@ loop-preserved-in-Some-true g c = let i = c.loop.invariant in let e = c.turn_unl
   same = same_hand_again c.args.self.state c.loop.hand.state c.turn_unless_halted.new.self.state i.same e.same;
   sound = λ sound. e.sound (i.sound sound);
 }
+
+pub turn_unless_halted-requires : goal.turn_unless_halted-requires
+turn_unless_halted-requires g c = assumption
+
+pub loop-init : goal.loop-init
+loop-init g c = record { next = tt; finite = tt; same = same_hand c.args.self.state; sound = λ sound. sound }
+
+pub returns-in-None-turn_unless_halted-clause-same : goal.returns-in-None-turn_unless_halted-clause-same
+returns-in-None-turn_unless_halted-clause-same g c = same_hand_again c.args.self.state c.loop.hand.state c.turn_unless_halted.new.self.state c.loop.invariant.same c.turn_unless_halted.ensures.same
+
+pub loop-smaller : goal.loop-smaller
+loop-smaller g c = (c.in-Some.ensures.goes.on tt).2
+
+pub loop-smaller-in-Some-true : goal.loop-smaller-in-Some-true
+loop-smaller-in-Some-true g c = (c.in-Some.ensures.goes.on tt).2
+
+pub unreachable-requires : goal.unreachable-requires
+unreachable-requires g c = let f : false ≡ true = c.in-None.ensures.steps in cc

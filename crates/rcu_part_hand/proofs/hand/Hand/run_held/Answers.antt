@@ -24,3 +24,15 @@ loop-ran-preserved g c = let i = c.loop-ran.invariant in let e = c.run_one.ensur
 pub returns-clause-ran : goal.returns-clause-ran
 returns-clause-ran g c = let i = c.loop-ran.invariant in let b = c.args.self.now.state.blimit in let same : c.loop-ran.ran ≡ b = omega (arith, c.loop-ran-test.false, c.loop-ran.auto.ran-end) in
     (b, subst (λ (m : ℕ). Ran m m c.args.seen c.args.self.now.state c.loop-ran.self.state) same i.ran, (sym i.same.blimit, refl))
+
+pub run_one-requires : goal.run_one-requires
+run_one-requires g c = (assumption, (assumption, (assumption, (c.loop-ran.invariant.ran.sight, c.requires.small))))
+
+pub returns-in-Some-clause-same : goal.returns-in-Some-clause-same
+returns-in-Some-clause-same g c = same_hand_again c.args.self.now.state c.loop-ran.self.state c.run_one.new.self.state c.loop-ran.invariant.same c.run_one.ensures.same
+
+pub returns-clause-same : goal.returns-clause-same
+returns-clause-same g c = c.loop-ran.invariant.same
+
+pub returns-clause-sound : goal.returns-clause-sound
+returns-clause-sound g c = c.loop-ran.invariant.sound

@@ -1,5 +1,5 @@
 use Rattle.std.proofs.Common.{◌≡◌, ℕ, ◌≤◌, List, [], ◌∷◌, ◌++◌, inl, inr, ◌∙◌, ap, sym, subst, refl, arith}
-use Rattle.rcu_board.specs.Roles.{cpu_of_role}
+use Rattle.rcu_board.specs.Roles.{cpu_of_role, MayClaim}
 use Rattle.rcu_board.specs.Seats.{view}
 use Rattle.rcu_board.specs.Views.{sight}
 use Rattle.rcu_board.specs.declared.view.Claim.{Claim}
@@ -11,6 +11,11 @@ use Rattle.rcu_board.specs.Words.{turns_word}
 use Rattle.rcu_part_steps.specs.Changes.{Claims, StepsOnly}
 use Rattle.rcu_part_steps.proofs.Turning.{steps_more, steps_none}
 use Rattle.rcu_part_hand.proofs.HandRuns.{hand_kept, hand_ran, hand_sound_kept, hand_sound_ran, ran_none, ran_one, same_first, not_none}
+use Rattle.std.specs.Arc.{arc_value}
+use Rattle.rcu_part_hand.proofs.Standing.{same_lane, stands}
+use Rattle.rcu_control.proofs.Stepping.{same_seat_again}
+use Rattle.rcu_jobs.specs.declared.callback.Record.{Record}
+use Rattle.rcu_part_hand.specs.HandLaw.{IsLawfulHand}
 use Rattle.rcu_part_hand.proofs.hand.Hand.run_one.Goals as goal
 
 pub returns-in_default-clause-not : goal.returns-in_default-clause-not
@@ -77,3 +82,67 @@ returns-clause-sound g c = let s = c.args.self.now.state in
     let drawn : drawn_by c.take-2.new.self ≡ drawn_by s.held = ap (λ f. drawn_calls f) c.in-Some-take.ensures.front in
     hand_sound_ran g.J.Job.key_of g.J.Job.gives (drawn_by s.held) (drawn_by c.take-2.new.self) (taken_by s.held) (held_by c.take-2.new.self) c.in-Some-take.callback s.ran.items c.push_reserved.new.self.items c.run_claimed-record.result
     (s.held.order ∙ ap (λ l. taken_by s.held ++ l) c.in-Some-take.ensures.first) drawn (c.push_reserved.ensures.items ∙ ap (λ rs. rs ++ c.run_claimed-record.result ∷ []) c.reserve.ensures.items) c.run_claimed-record.ensures.given
+
+pub returns-in_default-clause-same : goal.returns-in_default-clause-same
+returns-in_default-clause-same g c = record { part = record { board = refl; seat = record { role = refl; table = refl; weight = refl } }; lane = refl; cpu = refl; blimit = refl }
+
+pub snap-requires : goal.snap-requires
+snap-requires g c = c.in-Some.ensures.safe.0
+
+pub returns-then-snap-seen-clause-same : goal.returns-then-snap-seen-clause-same
+returns-then-snap-seen-clause-same g c = record { part = record { board = refl; seat = record { role = refl; table = refl; weight = refl } }; lane = refl; cpu = refl; blimit = refl }
+
+pub returns-in_default-reserve-clause-same : goal.returns-in_default-reserve-clause-same
+returns-in_default-reserve-clause-same g c = record { part = record { board = refl; seat = record { role = refl; table = refl; weight = refl } }; lane = refl; cpu = refl; blimit = refl }
+
+pub take-requires-clause-board : goal.take-requires-clause-board
+take-requires-clause-board g c = let s = c.args.self.now.state in stands (arc_value s.board) c.deref.result.now s.seat c.deref.ensures s.here
+
+pub take-requires-clause-who : goal.take-requires-clause-who
+take-requires-clause-who g c = subst MayClaim (sym c.args.self.now.state.role) tt
+
+pub take-requires-clause-cpu : goal.take-requires-clause-cpu
+take-requires-clause-cpu g c = ap cpu_of_role c.args.self.now.state.role
+
+pub take-requires-clause-rests : goal.take-requires-clause-rests
+take-requires-clause-rests g c = c.args.self.now.state.lawful.rests
+
+pub take-requires-clause-small : goal.take-requires-clause-small
+take-requires-clause-small g c = c.in-Some.ensures.safe.1
+
+pub returns-then-not-take-clause-same : goal.returns-then-not-take-clause-same
+returns-then-not-take-clause-same g c = record { part = record { board = refl; seat = c.if-not-take.ensures.same }; lane = refl; cpu = refl; blimit = refl }
+
+pub unreachable-requires : goal.unreachable-requires
+unreachable-requires g c = let f = c.in-Some.ensures.first in not_none c.in-Some.first.now f.0 (held_by c.args.self.now.state.held) f.1 c.in_default-take.ensures.first.0
+
+pub run_claimed-record-requires-clause-board : goal.run_claimed-record-requires-clause-board
+run_claimed-record-requires-clause-board g c κs within = let s = c.args.self.now.state in stands (arc_value s.board) c.deref-2.result.now c.take.new.seat c.deref-2.ensures (c.if-not-take.ensures.same.table ∙ s.here)
+
+pub run_claimed-record-requires-clause-who : goal.run_claimed-record-requires-clause-who
+run_claimed-record-requires-clause-who g c κs within = subst MayClaim (sym (c.if-not-take.ensures.same.role ∙ c.args.self.now.state.role)) tt
+
+pub run_claimed-record-requires-clause-small : goal.run_claimed-record-requires-clause-small
+run_claimed-record-requires-clause-small g c κs within = c.in-Some-take.ensures.safe.1
+
+pub returns-clause-same : goal.returns-clause-same
+returns-clause-same g c = let s = c.args.self.now.state in record { part = record { board = refl; seat = same_seat_again s.seat c.take.new.seat c.run_claimed-record.new.seat c.if-not-take.ensures.same c.run_claimed-record.ensures.same }; lane = same_lane s.held c.take-2.new.self c.in-Some-take.ensures.front; cpu = refl; blimit = refl }
+
+pub invariant_of-state : goal.invariant_of-state
+invariant_of-state g c = let s = c.args.self.now.state in record { here = s.here; role = s.role; lawful = s.lawful }
+
+pub invariant_of-state-then-snap-seen : goal.invariant_of-state-then-snap-seen
+invariant_of-state-then-snap-seen g c = let s = c.args.self.now.state in record { here = s.here; role = s.role; lawful = s.lawful }
+
+pub invariant_of-state-in_default-reserve : goal.invariant_of-state-in_default-reserve
+invariant_of-state-in_default-reserve g c = let s = c.args.self.now.state in record {
+  here = s.here;
+  role = s.role;
+  lawful = subst (λ (rs : List (Record g.row.J-Receipt.Denot)). IsLawfulHand s.cpu (view s.seat) rs (taken_by s.held)) (sym c.reserve.ensures.items) s.lawful;
+}
+
+pub returns-in_default-clause-sound : goal.returns-in_default-clause-sound
+returns-in_default-clause-sound g c = λ sound. sound
+
+pub returns-then-snap-seen-clause-sound : goal.returns-then-snap-seen-clause-sound
+returns-then-snap-seen-clause-sound g c = λ sound. sound

@@ -1,8 +1,8 @@
-use Rattle.std.proofs.Common.{◌∙◌, ap, refl, arith}
+use Rattle.std.proofs.Common.{◌∙◌, ap, refl, arith, ℕ, ◌≤◌, subst}
 use Rattle.rcu_board.specs.Words.{board_word}
 use Rattle.rcu_board.specs.Views.{sight}
 use Rattle.rcu_board.specs.declared.view.View.{View}
-use Rattle.rcu_part_hand.proofs.HandRuns.{looked_once, ran_none}
+use Rattle.rcu_part_hand.proofs.HandRuns.{looked_once, ran_none, same_hand_again}
 use Rattle.rcu_part_steps.proofs.Turning.{steps_none}
 use Rattle.rcu_part_hand.proofs.hand.Hand.turn.Goals as goal
 
@@ -31,3 +31,34 @@ returns-in-Some-clause-fresh g c = let a = c.look-seen.ensures.looks in let b = 
 pub returns-clause-fresh : goal.returns-clause-fresh
 returns-clause-fresh g c = let a = c.look-seen.ensures.looks in let b = c.load.ensures.loads in let r = c.run_held.ensures.ran in
     (r.1.steps.others board_word (λ e. absurd (omega (arith, e)))).steps ∙ looked_once c.args.self.now.state c.look-seen.new.self.state c.load.new.self.state c.look-seen.result a b
+
+pub look-seen-requires : goal.look-seen-requires
+look-seen-requires g c = assumption
+
+pub load-requires : goal.load-requires
+load-requires g c = assumption
+
+pub returns-in-Some-clause-same : goal.returns-in-Some-clause-same
+returns-in-Some-clause-same g c = same_hand_again c.args.self.now.state c.look-seen.new.self.state c.load.new.self.state c.look-seen.ensures.same c.load.ensures.same
+
+pub run_held-requires : goal.run_held-requires
+run_held-requires g c = let a = c.look-seen.ensures in (assumption, (assumption, (assumption, (ap (λ (v : View). sight v) c.load.ensures.loads.view ∙ a.looks.sight, a.small))))
+
+pub returns-clause-same : goal.returns-clause-same
+returns-clause-same g c = let p = c.args.self.now.state in let q = c.load.new.self.state in
+    same_hand_again p q c.run_held.new.self.state (same_hand_again p c.look-seen.new.self.state q c.look-seen.ensures.same c.load.ensures.same) c.run_held.ensures.same
+
+pub returns-clause-turn : goal.returns-clause-turn
+returns-clause-turn g c = let r = c.run_held.ensures.ran in record {
+  seen = c.look-seen.result;
+  tried = r.0;
+  first = c.look-seen.new.self.state;
+  second = c.load.new.self.state;
+  looks = c.look-seen.ensures.looks;
+  loads = c.load.ensures.loads;
+  ran = r.1;
+  stop = r.2;
+}
+
+pub returns-clause-few : goal.returns-clause-few
+returns-clause-few g c = subst (λ (n : ℕ). c.run_held.result.ran ≤ n) (c.load.ensures.same.blimit ∙ c.look-seen.ensures.same.blimit) c.run_held.ensures.few

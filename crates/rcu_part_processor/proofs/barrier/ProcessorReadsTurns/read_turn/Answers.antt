@@ -1,8 +1,12 @@
-use Rattle.std.proofs.Common.{◌∙◌, refl}
+use Rattle.std.proofs.Common.{◌<◌, ◌∙◌, sym, refl, subst}
+use Rattle.std.specs.Arc.{arc_value}
+use Rattle.rcu_board.specs.Roles.{MayCount}
+use Rattle.rcu_board.specs.declared.board.Board.{Board}
 use Rattle.rcu_board.specs.Seats.{view}
 use Rattle.rcu_board.specs.Words.{turns_word}
 use Rattle.rcu_holdings.specs.Callers.{holding}
 use Rattle.rcu_part_processor.proofs.Keeping.{kept_by_tells}
+use Rattle.rcu_part_processor.proofs.Standing.{stands}
 use Rattle.rcu_part_steps.proofs.Telling.{tells_touched}
 use Rattle.rcu_part_processor.proofs.barrier.ProcessorReadsTurns.read_turn.Goals as goal
 
@@ -30,3 +34,12 @@ returns-clause-keeps g c = record {
   keeps = record { count = refl; lists = refl; records = refl };
   sound = λ x. record { keyed = x.keyed; given = x.given };
 }
+
+pub turn_of-requires-clause-board : goal.turn_of-requires-clause-board
+turn_of-requires-clause-board g c = let s = c.args.self.now.state in stands (arc_value s.board) c.deref.result.now s.seat c.deref.ensures s.here
+
+pub turn_of-requires-clause-who : goal.turn_of-requires-clause-who
+turn_of-requires-clause-who g c = subst MayCount (sym c.args.self.now.state.role) tt
+
+pub turn_of-requires-clause-processor : goal.turn_of-requires-clause-processor
+turn_of-requires-clause-processor g c = subst (λ (b : Board). c.args.p < b.processors) (sym c.deref.ensures) c.requires

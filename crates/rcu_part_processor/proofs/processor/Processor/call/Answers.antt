@@ -1,4 +1,4 @@
-use Rattle.std.proofs.Common.{◌≡◌, ℕ, ◌+◌, ◌*◌, ◌≤◌, [], ◌∷◌, ◌++◌, length, ◌∙◌, ap, sym, subst, refl, rules, arith}
+use Rattle.std.proofs.Common.{◌≡◌, ℕ, ◌+◌, ◌*◌, ◌≤◌, [], ◌∷◌, ◌++◌, length, ◌∙◌, ap, sym, subst, refl, arith}
 use Rattle.std.specs.Mem.{FitsInMemory}
 use denote.Param.{param}
 use Rattle.rcu_board.specs.Plays.{looked, accepted}
@@ -12,15 +12,18 @@ use Rattle.rcu_part_processor.specs.contracts.processor.Processor as row
 use Rattle.rcu_part_processor.proofs.Keeping.{few_passed, kept_by_enters, kept_by_keeps}
 use Rattle.rcu_part_processor.proofs.Taking.{takes_local, takes_more, takes_up, sound_same, sound_taken}
 use Rattle.rcu_holdings.proofs.Sizes.{in_struct}
-use Rattle.rcu_part_processor.proofs.Bounds.{is_safe_call}
+use Rattle.rcu_part_processor.proofs.Bounds.{is_safe_call, below_isnt}
+use Rattle.std.specs.Arc.{arc_value}
+use Rattle.rcu_part_processor.proofs.Standing.{same_lane, stands}
+use Rattle.rcu_part_processor.proofs.TickRuns.{same_processor}
 use Rattle.rcu_part_processor.proofs.processor.Processor.call.Goals as goal
 
 pub reserve-requires : goal.reserve-requires
-reserve-requires g c = let h : FitsInMemory (row.the_row (param 0 g.row.J) (param 1 g.row.J-Receipt)) = search rules in in_struct _ _ _ (in_struct _ _ _ h)
+reserve-requires g c = let h : FitsInMemory (row.the_row (param 0 g.row.J) (param 1 g.row.J-Receipt)) = assumption in in_struct _ _ _ (in_struct _ _ _ h)
 
 pub place-requires : goal.place-requires
 place-requires g c =
-    let h : FitsInMemory (row.the_row (param 0 g.row.J) (param 1 g.row.J-Receipt)) = search rules in
+    let h : FitsInMemory (row.the_row (param 0 g.row.J) (param 1 g.row.J-Receipt)) = assumption in
     let s = c.args.self.now.state in (
       in_struct _ _ _ (in_struct _ _ _ h),
       (
@@ -97,3 +100,54 @@ invariant_of-state g c = let s = c.args.self.now.state in let same = c.reserve.e
   small = s.small;
   lawful = subst (λ (h : Holding g.row.J.Denot). IsLawful s.cpu s.accepted (view s.seat) s.ran.items h) (sym same) s.lawful;
 }
+
+pub returns-then-number-state-clause-same : goal.returns-then-number-state-clause-same
+returns-then-number-state-clause-same g c = same_processor c.args.self.now.state
+
+pub returns-then-number-state-clause-err : goal.returns-then-number-state-clause-err
+returns-then-number-state-clause-err g c = record { count = refl; lists = refl; records = refl }
+
+pub returns-then-number-state-clause-refused : goal.returns-then-number-state-clause-refused
+returns-then-number-state-clause-refused g c = let small = c.args.self.now.state.small in let most = c.if-number-state.true in (refl, omega arith, refl)
+
+pub returns-in_default-clause-same : goal.returns-in_default-clause-same
+returns-in_default-clause-same g c = record { part = record { board = refl; seat = record { role = refl; table = refl; weight = refl } }; lane = same_lane c.args.self.now.state.lists c.reserve.new.self c.in_default.ensures.rear; cpu = refl; offloadable = refl; limit = refl; blimit = refl }
+
+pub returns-in_default-clause-err : goal.returns-in_default-clause-err
+returns-in_default-clause-err g c = record { count = refl; lists = c.in_default.ensures.same; records = refl }
+
+pub returns-in_default-clause-full : goal.returns-in_default-clause-full
+returns-in_default-clause-full g c = λ full. absurd (below_isnt c.args.self.now.state.accepted c.args.self.now.state.limit c.if-number-state.false full)
+
+pub enter-requires-clause-board : goal.enter-requires-clause-board
+enter-requires-clause-board g c = let s = c.args.self.now.state in stands (arc_value s.board) c.deref.result.now s.seat c.deref.ensures s.here
+
+pub enter-requires-clause-role : goal.enter-requires-clause-role
+enter-requires-clause-role g c = c.args.self.now.state.role
+
+pub enter-requires-clause-count : goal.enter-requires-clause-count
+enter-requires-clause-count g c = c.args.self.now.state.lawful.counted
+
+pub enter-requires-clause-stamped : goal.enter-requires-clause-stamped
+enter-requires-clause-stamped g c = c.args.self.now.state.lawful.stamped
+
+pub enter-requires-clause-small : goal.enter-requires-clause-small
+enter-requires-clause-small g c = let small = c.args.self.now.state.small in let low = c.if-number-state.false in omega arith
+
+pub returns-in_default-enter-clause-same : goal.returns-in_default-enter-clause-same
+returns-in_default-enter-clause-same g c = record { part = record { board = refl; seat = c.in_default-enter.ensures.same }; lane = same_lane c.args.self.now.state.lists c.reserve.new.self c.in-Ok.ensures.rear; cpu = refl; offloadable = refl; limit = refl; blimit = refl }
+
+pub returns-in_default-enter-clause-err : goal.returns-in_default-enter-clause-err
+returns-in_default-enter-clause-err g c = record { count = refl; lists = c.in-Ok.ensures.same; records = refl }
+
+pub returns-in_default-enter-clause-refused : goal.returns-in_default-enter-clause-refused
+returns-in_default-enter-clause-refused g c = (refl, c.in_default-enter.ensures.shut)
+
+pub returns-in_default-enter-clause-full : goal.returns-in_default-enter-clause-full
+returns-in_default-enter-clause-full g c = λ full. absurd (below_isnt c.args.self.now.state.accepted c.args.self.now.state.limit c.if-number-state.false full)
+
+pub returns-clause-same : goal.returns-clause-same
+returns-clause-same g c = record { part = record { board = refl; seat = c.in-Some.ensures.same }; lane = c.place.ensures.lane ∙ same_lane c.args.self.now.state.lists c.reserve.new.self c.in-Ok.ensures.rear; cpu = refl; offloadable = refl; limit = refl; blimit = refl }
+
+pub returns-clause-full : goal.returns-clause-full
+returns-clause-full g c = λ full. absurd (below_isnt c.args.self.now.state.accepted c.args.self.now.state.limit c.if-number-state.false full)

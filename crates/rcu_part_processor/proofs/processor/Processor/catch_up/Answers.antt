@@ -1,4 +1,4 @@
-use Rattle.std.proofs.Common.{max, ap, sym, ◌∙◌, refl, rules, arith}
+use Rattle.std.proofs.Common.{max, ap, sym, ◌∙◌, refl, arith, subst}
 use Rattle.std.specs.Arc.{arc_value}
 use Rattle.std.specs.Mem.{FitsInMemory}
 use denote.Param.{param}
@@ -15,10 +15,13 @@ use Rattle.rcu_part_processor.specs.contracts.processor.Processor as row
 use Rattle.rcu_part_processor.proofs.CatchingUp.{asked_for, asks_none, asks_one, caught_law, caught_local, caught_passes}
 use Rattle.rcu_part_processor.proofs.Taking.{sound_moved}
 use Rattle.rcu_part_steps.proofs.Telling.{sight_touched, tells_again, tells_looked, tells_touched}
+use Rattle.rcu_part_processor.proofs.Standing.{same_lane, stands}
+use Rattle.rcu_board.specs.Roles.{MayNeed}
+use Rattle.rcu_control.proofs.Stepping.{same_seat_again}
 use Rattle.rcu_part_processor.proofs.processor.Processor.catch_up.Goals as goal
 
 pub look-requires : goal.look-requires
-look-requires g c = let h : FitsInMemory (row.the_row (param 0 g.row.J) (param 1 g.row.J-Receipt)) = search rules in
+look-requires g c = let h : FitsInMemory (row.the_row (param 0 g.row.J) (param 1 g.row.J-Receipt)) = assumption in
     let s = c.args.self.now.state in let e = c.watch.ensures in let z = s.lawful.looked in let y = e.later.board in
     (in_struct _ _ _ (in_struct _ _ _ h), (omega (arith, e.sight.0, c.seq-seen.ensures.same), omega (arith, e.sight.1, c.seq-seen.ensures.same)))
 
@@ -83,3 +86,21 @@ returns-in_default-clause-catches_up g c = let s = c.args.self.now.state in let 
 pub returns-in_default-clause-sound : goal.returns-in_default-clause-sound
 returns-in_default-clause-sound g c = let s = c.args.self.now.state in let l = c.in_default.ensures in
     sound_moved g.J.Job.key_of g.J.Job.gives s _ (caught_passes c.seq-seen.result (holding s.lists) (holding c.look.new.self) l.list l.places) refl
+
+pub watch-requires : goal.watch-requires
+watch-requires g c = let s = c.args.self.now.state in record { board = stands (arc_value s.board) c.deref.result.now s.seat c.deref.ensures s.here }
+
+pub need-requires-clause-board : goal.need-requires-clause-board
+need-requires-clause-board g c = let s = c.args.self.now.state in stands (arc_value s.board) c.deref-in-Some.result.now c.watch.new.seat c.deref-in-Some.ensures (c.watch.ensures.same.table ∙ s.here)
+
+pub need-requires-clause-who : goal.need-requires-clause-who
+need-requires-clause-who g c = subst MayNeed (sym (c.watch.ensures.same.role ∙ c.args.self.now.state.role)) tt
+
+pub returns-in-Some-clause-same : goal.returns-in-Some-clause-same
+returns-in-Some-clause-same g c = let s = c.args.self.now.state in record { part = record { board = refl; seat = same_seat_again s.seat c.watch.new.seat c.need.new.seat c.watch.ensures.same c.need.ensures.same }; lane = same_lane s.lists c.look.new.self c.in-Some.ensures.rear; cpu = refl; offloadable = refl; limit = refl; blimit = refl }
+
+pub returns-in_default-clause-same : goal.returns-in_default-clause-same
+returns-in_default-clause-same g c = record { part = record { board = refl; seat = c.watch.ensures.same }; lane = same_lane c.args.self.now.state.lists c.look.new.self c.in_default.ensures.rear; cpu = refl; offloadable = refl; limit = refl; blimit = refl }
+
+pub returns-in_default-clause-sight : goal.returns-in_default-clause-sight
+returns-in_default-clause-sight g c = (sym c.watch.ensures.sight.0 ∙ sym c.seq-seen.ensures.same, ap (λ (h : Holding g.row.J.Denot). h.advanced) c.in_default.ensures.list)

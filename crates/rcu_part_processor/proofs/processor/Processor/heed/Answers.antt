@@ -1,4 +1,4 @@
-use Rattle.std.proofs.Common.{◌≡◌, ℕ, true, false, not, ap, sym, ◌∙◌, refl, subst, rules, arith}
+use Rattle.std.proofs.Common.{◌≡◌, ℕ, true, false, not, ap, sym, ◌∙◌, refl, subst, arith}
 use Rattle.std.specs.Arc.{arc_value}
 use Rattle.std.specs.Int.{from_bool}
 use Rattle.std.specs.Prelude.{bit_and, IsTrue, ◌↔◌}
@@ -20,6 +20,8 @@ use Rattle.rcu_part_processor.specs.contracts.processor.Processor as row
 use Rattle.rcu_part_processor.proofs.Heeding.{heeding, shifts_below, shifts_law, shifts_release}
 use Rattle.rcu_part_processor.proofs.Taking.{sound_moved}
 use Rattle.rcu_part_steps.proofs.Telling.{sight_touched, sight_urged, tells_again, tells_touched, tells_urged, urges}
+use Rattle.rcu_part_processor.proofs.Standing.{stands}
+use Rattle.rcu_control.proofs.Stepping.{same_seat_again}
 use Rattle.rcu_part_processor.proofs.processor.Processor.heed.Goals as goal
 
 pub heard-urged-requires-clause-who : goal.heard-urged-requires-clause-who
@@ -28,10 +30,10 @@ heard-urged-requires-clause-who g c = let s = c.args.self.now.state in
     (tt, subst (λ (b : Board). owes_of b.offloadable s.cpu ≡ 1) (sym c.deref-2.ensures) (s.bit c.requires.offloadable))
 
 pub release-requires : goal.release-requires
-release-requires g c = let h : FitsInMemory (row.the_row (param 0 g.row.J) (param 1 g.row.J-Receipt)) = search rules in in_struct _ _ _ (in_struct _ _ _ h)
+release-requires g c = let h : FitsInMemory (row.the_row (param 0 g.row.J) (param 1 g.row.J-Receipt)) = assumption in in_struct _ _ _ (in_struct _ _ _ h)
 
 pub switch-requires : goal.switch-requires
-switch-requires g c = let h : FitsInMemory (row.the_row (param 0 g.row.J) (param 1 g.row.J-Receipt)) = search rules in let s = c.args.self.now.state in let r = c.release.ensures in (
+switch-requires g c = let h : FitsInMemory (row.the_row (param 0 g.row.J) (param 1 g.row.J-Receipt)) = assumption in let s = c.args.self.now.state in let r = c.release.ensures in (
   in_struct _ _ _ (in_struct _ _ _ h),
   shifts_below s.cpu s.accepted (view s.seat) s.ran.items (holding s.lists) (holding c.release.new.self)
       (shifts_release c.args.moment (not c.asked-on.result) c.heard-urged.result (holding s.lists) (holding c.release.new.self) r.releases) r.places s.lawful,
@@ -88,3 +90,15 @@ returns-clause-sight g c = let s = c.args.self.now.state in let a = c.asked-on.e
 
 pub returns-clause-sound : goal.returns-clause-sound
 returns-clause-sound g c = sound_moved g.J.Job.key_of g.J.Job.gives c.args.self.now.state _ (c.switch.ensures.places ∙ c.release.ensures.places) refl
+
+pub asked-on-requires-clause-board : goal.asked-on-requires-clause-board
+asked-on-requires-clause-board g c = let s = c.args.self.now.state in stands (arc_value s.board) c.deref.result.now s.seat c.deref.ensures s.here
+
+pub asked-on-requires-clause-who : goal.asked-on-requires-clause-who
+asked-on-requires-clause-who g c = subst IsProcessor (sym c.args.self.now.state.role) tt
+
+pub heard-urged-requires-clause-board : goal.heard-urged-requires-clause-board
+heard-urged-requires-clause-board g c = let s = c.args.self.now.state in stands (arc_value s.board) c.deref-2.result.now c.asked-on.new.seat c.deref-2.ensures (c.asked-on.ensures.same.table ∙ s.here)
+
+pub returns-clause-same : goal.returns-clause-same
+returns-clause-same g c = record { part = record { board = refl; seat = same_seat_again c.args.self.now.state.seat c.asked-on.new.seat c.heard-urged.new.seat c.asked-on.ensures.same c.heard-urged.ensures.same }; lane = c.switch.ensures.lane ∙ c.release.ensures.lane; cpu = refl; offloadable = refl; limit = refl; blimit = refl }

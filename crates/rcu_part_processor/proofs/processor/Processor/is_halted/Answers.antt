@@ -1,10 +1,13 @@
-use Rattle.std.proofs.Common.{◌∙◌}
+use Rattle.std.proofs.Common.{◌∙◌, sym, refl, subst}
 use Rattle.std.specs.Int.{from_bool}
 use Rattle.rcu_board.specs.Seats.{view}
 use Rattle.rcu_board.specs.Words.{halt_word}
 use Rattle.rcu_holdings.specs.Callers.{holding}
 use Rattle.rcu_part_processor.proofs.Keeping.{kept_by_tells}
 use Rattle.rcu_part_steps.proofs.Telling.{tells_touched}
+use Rattle.std.specs.Arc.{arc_value}
+use Rattle.rcu_part_processor.proofs.Standing.{stands}
+use Rattle.rcu_board.specs.Roles.{MayHalt}
 use Rattle.rcu_part_processor.proofs.processor.Processor.is_halted.Goals as goal
 
 pub invariant_of-state : goal.invariant_of-state
@@ -17,3 +20,18 @@ invariant_of-state g c = let s = c.args.self.now.state in let e = c.halted.ensur
   small = s.small;
   lawful = kept_by_tells s.cpu s.accepted _ v w s.ran.items (holding s.lists) (tells_touched halt_word (from_bool c.halted.result) v w e.view) e.later s.lawful;
 }
+
+pub halted-requires-clause-board : goal.halted-requires-clause-board
+halted-requires-clause-board g c = let s = c.args.self.now.state in stands (arc_value s.board) c.deref.result.now s.seat c.deref.ensures s.here
+
+pub halted-requires-clause-who : goal.halted-requires-clause-who
+halted-requires-clause-who g c = subst MayHalt (sym c.args.self.now.state.role) tt
+
+pub returns-clause-same : goal.returns-clause-same
+returns-clause-same g c = record { part = record { board = refl; seat = c.halted.ensures.same }; lane = refl; cpu = refl; offloadable = refl; limit = refl; blimit = refl }
+
+pub returns-clause-keeps : goal.returns-clause-keeps
+returns-clause-keeps g c = record { count = refl; lists = refl; records = refl }
+
+pub returns-clause-sound : goal.returns-clause-sound
+returns-clause-sound g c = λ sound. record { keyed = sound.keyed; given = sound.given }

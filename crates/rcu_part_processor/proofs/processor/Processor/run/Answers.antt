@@ -1,5 +1,5 @@
-use Rattle.std.proofs.Common.{◌∙◌}
-use Rattle.rcu_part_processor.proofs.TickRuns.{same_processor_again}
+use Rattle.std.proofs.Common.{◌∙◌, ◌≡◌, false, true, refl}
+use Rattle.rcu_part_processor.proofs.TickRuns.{same_processor_again, same_processor}
 use Rattle.rcu_part_processor.proofs.processor.Processor.run.Goals as goal
 
 pub returns-in-None-turn_unless_halted-clause-sound : goal.returns-in-None-turn_unless_halted-clause-sound
@@ -13,3 +13,21 @@ loop-preserved g c = let i = c.loop.invariant in let e = c.turn_unless_halted.en
   accepted = e.count ∙ i.accepted;
   sound = λ sound. e.sound (i.sound sound);
 }
+
+pub turn_unless_halted-requires : goal.turn_unless_halted-requires
+turn_unless_halted-requires g c = assumption
+
+pub loop-init : goal.loop-init
+loop-init g c = record { next = tt; finite = tt; same = same_processor c.args.self.state; accepted = refl; sound = λ sound. sound }
+
+pub returns-in-None-turn_unless_halted-clause-same : goal.returns-in-None-turn_unless_halted-clause-same
+returns-in-None-turn_unless_halted-clause-same g c = same_processor_again c.args.self.state c.loop.processor.state c.turn_unless_halted.new.self.state c.loop.invariant.same c.turn_unless_halted.ensures.same
+
+pub returns-in-None-turn_unless_halted-clause-count : goal.returns-in-None-turn_unless_halted-clause-count
+returns-in-None-turn_unless_halted-clause-count g c = c.turn_unless_halted.ensures.count ∙ c.loop.invariant.accepted
+
+pub loop-smaller : goal.loop-smaller
+loop-smaller g c = (c.in-Some.ensures.goes.on tt).2
+
+pub unreachable-requires : goal.unreachable-requires
+unreachable-requires g c = let f : false ≡ true = c.in-None.ensures.steps in cc

@@ -1,9 +1,9 @@
-use Rattle.std.proofs.Common.{ℕ, ◌<◌, ◌≤◌, List, [], ◌∷◌, ◌++◌, ◌∙◌, ap, sym, subst, refl, rules, arith}
+use Rattle.std.proofs.Common.{ℕ, ◌<◌, ◌≤◌, List, [], ◌∷◌, ◌++◌, ◌∙◌, ap, sym, subst, refl, arith}
 use Rattle.std.specs.Mem.{FitsInMemory}
 use Rattle.std.specs.Prelude.{IsTrue}
 use Rattle.std.proofs.lemmas.List.Elements.{All-rest}
 use denote.Param.{param}
-use Rattle.rcu_board.specs.Roles.{cpu_of_role}
+use Rattle.rcu_board.specs.Roles.{cpu_of_role, MayClaim}
 use Rattle.rcu_board.specs.Seats.{NeverFalls, view}
 use Rattle.rcu_board.specs.Views.{seen_at, sight}
 use Rattle.rcu_board.specs.Words.{turns_word}
@@ -26,10 +26,12 @@ use Rattle.rcu_part_processor.proofs.Moving.{kept_by_runs}
 use Rattle.rcu_part_processor.proofs.Taking.{sound_same}
 use Rattle.rcu_part_processor.proofs.TickRuns.{done_none, done_one, done_some, same_done, sound_ran}
 use Rattle.rcu_part_steps.proofs.Turning.{steps_more, steps_none}
+use Rattle.rcu_part_processor.proofs.Standing.{same_lane, stands}
+use Rattle.rcu_control.proofs.Stepping.{same_seat_again}
 use Rattle.rcu_part_processor.proofs.processor.Processor.run_one.Goals as goal
 
 pub first-requires : goal.first-requires
-first-requires g c = let h : FitsInMemory (row.the_row (param 0 g.row.J) (param 1 g.row.J-Receipt)) = search rules in in_struct _ _ _ (in_struct _ _ _ h)
+first-requires g c = let h : FitsInMemory (row.the_row (param 0 g.row.J) (param 1 g.row.J-Receipt)) = assumption in in_struct _ _ _ (in_struct _ _ _ h)
 
 pub invariant_of-state : goal.invariant_of-state
 invariant_of-state g c = let s = c.args.self.now.state in record { here = s.here; role = s.role; there = s.there; bit = s.bit; local = s.local; small = s.small; lawful = s.lawful }
@@ -81,7 +83,7 @@ pub returns-then-not-take-clause-sound : goal.returns-then-not-take-clause-sound
 returns-then-not-take-clause-sound g c = sound_same g.J.Job.key_of g.J.Job.gives c.args.self.now.state _ refl c.reserve.ensures.items
 
 pub take-requires-2 : goal.take-requires-2
-take-requires-2 g c = let h : FitsInMemory (row.the_row (param 0 g.row.J) (param 1 g.row.J-Receipt)) = search rules in in_struct _ _ _ (in_struct _ _ _ h)
+take-requires-2 g c = let h : FitsInMemory (row.the_row (param 0 g.row.J) (param 1 g.row.J-Receipt)) = assumption in in_struct _ _ _ (in_struct _ _ _ h)
 
 pub unreachable-requires : goal.unreachable-requires
 unreachable-requires g c = let f = c.in-Some.ensures.first in done_some c.in-Some.first.now f.0 (holding c.args.self.now.state.lists).own f.1 c.in_default-take.ensures.taken.0
@@ -132,3 +134,45 @@ pub returns-clause-sound : goal.returns-clause-sound
 returns-clause-sound g c = let s = c.args.self.now.state in let t = c.in-Some-take.ensures in let h = holding s.lists in let h' = holding c.take-2.new.self in
     sound_ran g.J.Job.key_of g.J.Job.gives s _ c.in-Some-take.callback c.run_claimed-record.result (put_by h) (held_in h') (ap (λ l. put_by h ++ l) t.places) (ap (λ l. l ++ held_in h') (ap put_by t.taken.1))
     (c.push_reserved.ensures.items ∙ ap (λ rs. rs ++ c.run_claimed-record.result ∷ []) c.reserve.ensures.items) c.run_claimed-record.ensures.given
+
+pub returns-in_default-clause-same : goal.returns-in_default-clause-same
+returns-in_default-clause-same g c = record { part = record { board = refl; seat = record { role = refl; table = refl; weight = refl } }; lane = refl; cpu = refl; offloadable = refl; limit = refl; blimit = refl }
+
+pub returns-in_default-clause-sight : goal.returns-in_default-clause-sight
+returns-in_default-clause-sight g c = c.requires.seen
+
+pub returns-in_default-reserve-clause-same : goal.returns-in_default-reserve-clause-same
+returns-in_default-reserve-clause-same g c = record { part = record { board = refl; seat = record { role = refl; table = refl; weight = refl } }; lane = refl; cpu = refl; offloadable = refl; limit = refl; blimit = refl }
+
+pub returns-in_default-reserve-clause-sight : goal.returns-in_default-reserve-clause-sight
+returns-in_default-reserve-clause-sight g c = c.requires.seen
+
+pub take-requires-clause-board : goal.take-requires-clause-board
+take-requires-clause-board g c = let s = c.args.self.now.state in stands (arc_value s.board) c.deref.result.now s.seat c.deref.ensures s.here
+
+pub take-requires-clause-who : goal.take-requires-clause-who
+take-requires-clause-who g c = subst MayClaim (sym c.args.self.now.state.role) tt
+
+pub take-requires-clause-cpu : goal.take-requires-clause-cpu
+take-requires-clause-cpu g c = ap cpu_of_role c.args.self.now.state.role
+
+pub take-requires-clause-rests : goal.take-requires-clause-rests
+take-requires-clause-rests g c = c.args.self.now.state.lawful.rests
+
+pub take-requires-clause-small : goal.take-requires-clause-small
+take-requires-clause-small g c = c.in-Some.ensures.safe.1
+
+pub returns-then-not-take-clause-same : goal.returns-then-not-take-clause-same
+returns-then-not-take-clause-same g c = record { part = record { board = refl; seat = c.if-not-take.ensures.same }; lane = refl; cpu = refl; offloadable = refl; limit = refl; blimit = refl }
+
+pub run_claimed-record-requires-clause-board : goal.run_claimed-record-requires-clause-board
+run_claimed-record-requires-clause-board g c κs within = let s = c.args.self.now.state in stands (arc_value s.board) c.deref-2.result.now c.take.new.seat c.deref-2.ensures (c.if-not-take.ensures.same.table ∙ s.here)
+
+pub run_claimed-record-requires-clause-who : goal.run_claimed-record-requires-clause-who
+run_claimed-record-requires-clause-who g c κs within = subst MayClaim (sym (c.if-not-take.ensures.same.role ∙ c.args.self.now.state.role)) tt
+
+pub run_claimed-record-requires-clause-small : goal.run_claimed-record-requires-clause-small
+run_claimed-record-requires-clause-small g c κs within = c.in-Some-take.ensures.safe.1
+
+pub returns-clause-same : goal.returns-clause-same
+returns-clause-same g c = let s = c.args.self.now.state in record { part = record { board = refl; seat = same_seat_again s.seat c.take.new.seat c.run_claimed-record.new.seat c.if-not-take.ensures.same c.run_claimed-record.ensures.same }; lane = same_lane s.lists c.take-2.new.self c.in-Some-take.ensures.rear; cpu = refl; offloadable = refl; limit = refl; blimit = refl }

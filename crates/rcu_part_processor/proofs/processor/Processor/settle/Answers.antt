@@ -1,4 +1,4 @@
-use Rattle.std.proofs.Common.{◌≡◌, ℕ, true, false, ap, sym, ◌∙◌, refl, subst, rules, arith, ◌/◌}
+use Rattle.std.proofs.Common.{◌≡◌, ℕ, true, false, ap, sym, ◌∙◌, refl, subst, arith, ◌/◌, ◌<◌}
 use Rattle.std.specs.Mem.{FitsInMemory}
 use denote.Param.{param}
 use Rattle.rcu_board.specs.Plays.{touched}
@@ -15,13 +15,17 @@ use Rattle.rcu_part_processor.specs.contracts.processor.Processor as row
 use Rattle.rcu_part_processor.proofs.Heeding.{settled_law}
 use Rattle.rcu_part_processor.proofs.Taking.{sound_moved}
 use Rattle.rcu_part_steps.proofs.Telling.{sight_touched, tells_touched}
+use Rattle.std.specs.Arc.{arc_value}
+use Rattle.rcu_part_processor.proofs.Standing.{same_lane, stands}
+use Rattle.rcu_board.specs.Roles.{MayCount}
+use Rattle.rcu_board.specs.declared.board.Board.{Board}
 use Rattle.rcu_part_processor.proofs.processor.Processor.settle.Goals as goal
 
 pub mode-requires : goal.mode-requires
-mode-requires g c = let h : FitsInMemory (row.the_row (param 0 g.row.J) (param 1 g.row.J-Receipt)) = search rules in in_struct _ _ _ (in_struct _ _ _ h)
+mode-requires g c = let h : FitsInMemory (row.the_row (param 0 g.row.J) (param 1 g.row.J-Receipt)) = assumption in in_struct _ _ _ (in_struct _ _ _ h)
 
 pub settle-requires : goal.settle-requires
-settle-requires g c = let h : FitsInMemory (row.the_row (param 0 g.row.J) (param 1 g.row.J-Receipt)) = search rules in in_struct _ _ _ (in_struct _ _ _ h)
+settle-requires g c = let h : FitsInMemory (row.the_row (param 0 g.row.J) (param 1 g.row.J-Receipt)) = assumption in in_struct _ _ _ (in_struct _ _ _ h)
 
 pub invariant_of-state : goal.invariant_of-state
 invariant_of-state g c = let s = c.args.self.now.state in let e = c.turn_of-turn.ensures in let h = holding s.lists in record {
@@ -63,3 +67,24 @@ returns-else-is_leaving-clause-settles g c = let h = holding c.args.self.now.sta
       local = λ was is. (let f : true ≡ false = sym is ∙ was in cc);
       records = refl;
     }
+
+pub turn_of-turn-requires-clause-board : goal.turn_of-turn-requires-clause-board
+turn_of-turn-requires-clause-board g c = let s = c.args.self.now.state in stands (arc_value s.board) c.deref.result.now s.seat c.deref.ensures s.here
+
+pub turn_of-turn-requires-clause-who : goal.turn_of-turn-requires-clause-who
+turn_of-turn-requires-clause-who g c = subst MayCount (sym c.args.self.now.state.role) tt
+
+pub turn_of-turn-requires-clause-processor : goal.turn_of-turn-requires-clause-processor
+turn_of-turn-requires-clause-processor g c = let s = c.args.self.now.state in subst (λ (b : Board). s.cpu < b.processors) (sym c.deref.ensures) s.there
+
+pub returns-then-is_leaving-clause-same : goal.returns-then-is_leaving-clause-same
+returns-then-is_leaving-clause-same g c = record { part = record { board = refl; seat = c.turn_of-turn.ensures.same }; lane = same_lane c.args.self.now.state.lists c.settle.new.self c.settle.ensures.rear; cpu = refl; offloadable = refl; limit = refl; blimit = refl }
+
+pub returns-else-is_leaving-clause-same : goal.returns-else-is_leaving-clause-same
+returns-else-is_leaving-clause-same g c = record { part = record { board = refl; seat = record { role = refl; table = refl; weight = refl } }; lane = refl; cpu = refl; offloadable = refl; limit = refl; blimit = refl }
+
+pub returns-else-is_leaving-clause-sight : goal.returns-else-is_leaving-clause-sight
+returns-else-is_leaving-clause-sight g c = (refl, refl)
+
+pub returns-else-is_leaving-clause-sound : goal.returns-else-is_leaving-clause-sound
+returns-else-is_leaving-clause-sound g c = λ sound. record { keyed = sound.keyed; given = sound.given }

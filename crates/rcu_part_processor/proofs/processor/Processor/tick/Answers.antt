@@ -1,5 +1,6 @@
-use Rattle.std.proofs.Common.{◌≡◌, ◌∙◌, true, false, sym, refl}
+use Rattle.std.proofs.Common.{◌≡◌, ℕ, ◌≤◌, ◌∙◌, true, false, sym, refl, subst}
 use Rattle.rcu_part_processor.proofs.TickLaws.{before_local, before_offloadable, tick_fresh, tick_local, tick_none}
+use Rattle.rcu_part_processor.proofs.TickRuns.{same_processor_again}
 use Rattle.rcu_part_processor.proofs.processor.Processor.tick.Goals as goal
 
 pub returns-then-not-self-clause-ticks : goal.returns-then-not-self-clause-ticks
@@ -64,3 +65,39 @@ returns-clause-none g c = let p = c.args.self.now.state in let a = c.catch_up-se
 
 pub returns-clause-sound : goal.returns-clause-sound
 returns-clause-sound g c = λ sound. c.run_done-2.ensures.sound (c.settle.ensures.sound (c.heed.ensures.sound (c.catch_up-seen.ensures.sound sound)))
+
+pub catch_up-seen-requires : goal.catch_up-seen-requires
+catch_up-seen-requires g c = assumption
+
+pub run_done-requires : goal.run_done-requires
+run_done-requires g c = (assumption, (assumption, (assumption, c.catch_up-seen.ensures.sight)))
+
+pub returns-then-not-self-clause-same : goal.returns-then-not-self-clause-same
+returns-then-not-self-clause-same g c = same_processor_again c.args.self.now.state c.catch_up-seen.new.self.state c.run_done.new.self.state c.catch_up-seen.ensures.same c.run_done.ensures.same
+
+pub returns-then-not-self-clause-few : goal.returns-then-not-self-clause-few
+returns-then-not-self-clause-few g c = subst (λ (n : ℕ). c.run_done.result.ran ≤ n) c.catch_up-seen.ensures.same.blimit c.run_done.ensures.few
+
+pub returns-then-not-self-clause-count : goal.returns-then-not-self-clause-count
+returns-then-not-self-clause-count g c = c.run_done.ensures.count ∙ c.catch_up-seen.ensures.count
+
+pub heed-requires : goal.heed-requires
+heed-requires g c = (assumption, (assumption, (assumption, c.if-not-self.false)))
+
+pub settle-requires : goal.settle-requires
+settle-requires g c = (assumption, (assumption, (assumption, c.heed.ensures.same.offloadable ∙ c.if-not-self.false)))
+
+pub run_done-requires-2 : goal.run_done-requires-2
+run_done-requires-2 g c = let a = c.catch_up-seen.ensures.sight in let b = c.heed.ensures.sight in let t = c.settle.ensures.sight in
+    (assumption, (assumption, (assumption, (t.0 ∙ (b.0 ∙ a.0), t.1 ∙ (b.1 ∙ a.1)))))
+
+pub returns-clause-same : goal.returns-clause-same
+returns-clause-same g c = let p = c.args.self.now.state in let q = c.heed.new.self.state in let r = c.settle.new.self.state in
+    same_processor_again p r c.run_done-2.new.self.state
+    (same_processor_again p q r (same_processor_again p c.catch_up-seen.new.self.state q c.catch_up-seen.ensures.same c.heed.ensures.same) c.settle.ensures.same) c.run_done-2.ensures.same
+
+pub returns-clause-few : goal.returns-clause-few
+returns-clause-few g c = subst (λ (n : ℕ). c.run_done-2.result.ran ≤ n) (c.settle.ensures.same.blimit ∙ (c.heed.ensures.same.blimit ∙ c.catch_up-seen.ensures.same.blimit)) c.run_done-2.ensures.few
+
+pub returns-clause-count : goal.returns-clause-count
+returns-clause-count g c = c.run_done-2.ensures.count ∙ (c.settle.ensures.count ∙ (c.heed.ensures.count ∙ c.catch_up-seen.ensures.count))

@@ -1,3 +1,5 @@
+use Rattle.std.proofs.Common.{◌∙◌}
+use Rattle.rcu_part_processor.proofs.TickRuns.{same_processor_again}
 use Rattle.rcu_part_processor.proofs.processor.Processor.turn_unless_halted.Goals as goal
 
 pub returns-then-counted-clause-sound : goal.returns-then-counted-clause-sound
@@ -5,3 +7,35 @@ returns-then-counted-clause-sound g c = λ sound. c.tick-ticked.ensures.sound (c
 
 pub returns-else-counted-clause-sound : goal.returns-else-counted-clause-sound
 returns-else-counted-clause-sound g c = λ sound. c.tick-ticked.ensures.sound (c.quiescent.ensures.sound (c.is_halted.ensures.sound sound))
+
+pub is_halted-requires : goal.is_halted-requires
+is_halted-requires g c = assumption
+
+pub returns-then-is_halted-clause-same : goal.returns-then-is_halted-clause-same
+returns-then-is_halted-clause-same g c = c.is_halted.ensures.same
+
+pub returns-then-is_halted-clause-count : goal.returns-then-is_halted-clause-count
+returns-then-is_halted-clause-count g c = c.is_halted.ensures.keeps.count
+
+pub returns-then-is_halted-clause-sound : goal.returns-then-is_halted-clause-sound
+returns-then-is_halted-clause-sound g c = c.is_halted.ensures.sound
+
+pub quiescent-requires : goal.quiescent-requires
+quiescent-requires g c = assumption
+
+pub tick-ticked-requires : goal.tick-ticked-requires
+tick-ticked-requires g c = assumption
+
+pub returns-then-counted-clause-same : goal.returns-then-counted-clause-same
+returns-then-counted-clause-same g c = let p = c.args.self.now.state in let q = c.quiescent.new.self.state in
+    same_processor_again p q c.tick-ticked.new.self.state (same_processor_again p c.is_halted.new.self.state q c.is_halted.ensures.same c.quiescent.ensures.same) c.tick-ticked.ensures.same
+
+pub returns-then-counted-clause-count : goal.returns-then-counted-clause-count
+returns-then-counted-clause-count g c = c.tick-ticked.ensures.count ∙ (c.quiescent.ensures.keeps.count ∙ c.is_halted.ensures.keeps.count)
+
+pub returns-else-counted-clause-same : goal.returns-else-counted-clause-same
+returns-else-counted-clause-same g c = let p = c.args.self.now.state in let q = c.quiescent.new.self.state in
+    same_processor_again p q c.tick-ticked.new.self.state (same_processor_again p c.is_halted.new.self.state q c.is_halted.ensures.same c.quiescent.ensures.same) c.tick-ticked.ensures.same
+
+pub returns-else-counted-clause-count : goal.returns-else-counted-clause-count
+returns-else-counted-clause-count g c = c.tick-ticked.ensures.count ∙ (c.quiescent.ensures.keeps.count ∙ c.is_halted.ensures.keeps.count)

@@ -1,10 +1,10 @@
-use Rattle.std.proofs.Common.{rules, ◌∙◌, ◌≤◌, None, [], ◌∷◌, ◌++◌, map, ap, refl, sym, arith, length}
+use Rattle.std.proofs.Common.{◌∙◌, ◌≤◌, None, [], ◌∷◌, ◌++◌, map, ap, refl, sym, arith, length, ◌≡◌, ◌<◌}
 use Rattle.std.proofs.Math.Path.{subst}
-use Rattle.std.specs.Vec.{vec_capacity}
+use Rattle.std.specs.Vec.{vec_capacity, vec_len}
 use Rattle.std.specs.Mem.{FitsInMemory}
 use Rattle.std.proofs.lemmas.List.{map-append}
 use denote.Param.{param}
-use Rattle.rcu_board.specs.Seats.{view}
+use Rattle.rcu_board.specs.Seats.{view, AtBoard}
 use Rattle.rcu_board.specs.Views.{joined}
 use Rattle.rcu_endings.specs.Ends.{EndsWith}
 use Rattle.rcu_holdings.proofs.Sizes.{in_struct}
@@ -16,10 +16,11 @@ use Rattle.rcu_part_processor.specs.contracts.processor.Processor as row
 use Rattle.rcu_parts.proofs.Resting.{one_long, rests_alone}
 use Rattle.rcu_parts.proofs.ending.Ending.end_alone.Given.{Over}
 use Rattle.rcu_parts.proofs.ending.Ending.end_alone.Goals.{Start}
+use Rattle.rcu_board.specs.declared.board.Board.{Board}
 use Rattle.rcu_parts.proofs.ending.Ending.end_alone.Goals as goal
 
 processor_fits : (g : Over) (c : Start g) → FitsInMemory (row.the_row (param 0 g.row.J) (param 1 g.row.J-Receipt))
-processor_fits g c = search rules
+processor_fits g c = assumption
 
 pub end_local-requires-after_bounds : goal.end_local-requires-after_bounds
 end_local-requires-after_bounds g c κs within =
@@ -53,3 +54,21 @@ returns-clause-ends g c =
 
 pub into_state-seat-requires-after_bounds : goal.into_state-seat-requires-after_bounds
 into_state-seat-requires-after_bounds g c κs within = (processor_fits g c, in_struct _ _ _ (processor_fits g c))
+
+pub take_in-requires-clause-at : goal.take_in-requires-clause-at
+take_in-requires-clause-at g c κs within = c.requires.may.at
+
+pub take_in-requires-clause-board : goal.take_in-requires-clause-board
+take_in-requires-clause-board g c κs within = subst (λ s. AtBoard (board_at c.args.self.now) s.seat) (sym c.into_state-seat.ensures) (subst (λ (b : Board). AtBoard b c.args.processor.state.seat) (c.requires.board) c.args.processor.state.here)
+
+pub take_in-requires-clause-rests : goal.take_in-requires-clause-rests
+take_in-requires-clause-rests g c κs within = c.requires.may.rests
+
+pub take_in-requires-clause-joins : goal.take_in-requires-clause-joins
+take_in-requires-clause-joins g c κs within = subst (λ s. (view s.seat).running ≡ []) (sym c.into_state-seat.ensures) c.args.processor.state.lawful.rests
+
+pub keep-requires-clause-ran : goal.keep-requires-clause-ran
+keep-requires-clause-ran g c κs within = subst (λ x. vec_len x.ran < vec_capacity x.ran) (sym (c.take_in.ensures.others)) c.requires.may.ran
+
+pub keep-requires-clause-back : goal.keep-requires-clause-back
+keep-requires-clause-back g c κs within = subst (λ x. vec_len x.back < vec_capacity x.back) (sym (c.take_in.ensures.others)) c.requires.may.back

@@ -12,13 +12,13 @@ pub loop-processor-init : goal.loop-processor-init
 loop-processor-init g c = none_ended g.J.Job.key_of g.J.Job.gives c.args.processors.items c.args.hands.items _ c.args.members.items c.args.rooms.items c.args.self.now c.into_iter-processor-iterator.ensures.into_iter_gives.0 c.requires.ready
 
 pub next-requires-room-T-Destruct : goal.next-requires-room-T-Destruct
-next-requires-room-T-Destruct g c κs within = let h : FitsInMemory (row.the_row (param 0 g.row.J) (param 1 g.row.J-Receipt)) = c.requires-raw.1.1.1.1.0 in h
+next-requires-room-T-Destruct g c κs within = let h : FitsInMemory (row.the_row (param 0 g.row.J) (param 1 g.row.J-Receipt)) = assumption in h
 
 pub end_one-requires-clause-ready : goal.end_one-requires-clause-ready
 end_one-requires-clause-ready g c κs within =
-    let h : FitsInMemory (row.the_row (param 0 g.row.J) (param 1 g.row.J-Receipt)) = c.requires-raw.1.1.1.1.0 in
-    let m : FitsInMemory (folk_row.the_row (param 0 g.row.J)) = c.requires-raw.1.1.1.1.1.0 in
-    let k : FitsInMemory (hand_row.the_row (param 0 g.row.J) (param 1 g.row.J-Receipt)) = c.requires-raw.1.1.1.1.1.1.0 in
+    let h : FitsInMemory (row.the_row (param 0 g.row.J) (param 1 g.row.J-Receipt)) = assumption in
+    let m : FitsInMemory (folk_row.the_row (param 0 g.row.J)) = assumption in
+    let k : FitsInMemory (hand_row.the_row (param 0 g.row.J) (param 1 g.row.J-Receipt)) = assumption in
     let s = c.loop-processor.invariant in
     (h, (m, (k, (length s.ends, c.next.new.self.rest.items, now_first g.J.Job.key_of g.J.Job.gives (length s.ends) _ c.in-Some.processor _ _ _ _ _ s.ready c.in-Some.ensures.steps.0))))
 

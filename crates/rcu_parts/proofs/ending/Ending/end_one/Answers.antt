@@ -1,4 +1,4 @@
-use Rattle.std.proofs.Common.{rules, ◌≡◌, ◌∙◌, None, sym}
+use Rattle.std.proofs.Common.{◌≡◌, ◌∙◌, None, sym}
 use Rattle.std.specs.Mem.{FitsInMemory}
 use denote.Param.{param}
 use Rattle.rcu_parts.specs.Ending.{board_at}
@@ -11,7 +11,7 @@ use Rattle.rcu_parts.proofs.ending.Ending.end_one.Goals as goal
 
 pub end_alone-requires-after_bounds : goal.end_alone-requires-after_bounds
 end_alone-requires-after_bounds g c κs within =
-    let h : FitsInMemory (row.the_row (param 0 g.row.J) (param 1 g.row.J-Receipt)) = search rules in
+    let h : FitsInMemory (row.the_row (param 0 g.row.J) (param 1 g.row.J-Receipt)) = assumption in
     let r = c.requires.ready in
     let k = g.J.Job.key_of in
     let s = g.J.Job.gives in (
@@ -37,9 +37,9 @@ returns-then-not-is_offloadable-clause-ready g c k rest i =
 
 pub end_with_hand-requires-after_bounds : goal.end_with_hand-requires-after_bounds
 end_with_hand-requires-after_bounds g c κs within =
-    let h : FitsInMemory (row.the_row (param 0 g.row.J) (param 1 g.row.J-Receipt)) = c.requires-raw.1.1.1.1.0 in
-    let m : FitsInMemory (folk_row.the_row (param 0 g.row.J)) = c.requires-raw.1.1.1.1.1.0 in
-    let q : FitsInMemory (hand_row.the_row (param 0 g.row.J) (param 1 g.row.J-Receipt)) = c.requires-raw.1.1.1.1.1.1.0 in
+    let h : FitsInMemory (row.the_row (param 0 g.row.J) (param 1 g.row.J-Receipt)) = assumption in
+    let m : FitsInMemory (folk_row.the_row (param 0 g.row.J)) = assumption in
+    let q : FitsInMemory (hand_row.the_row (param 0 g.row.J) (param 1 g.row.J-Receipt)) = assumption in
     let r = c.requires.ready in
     let k = g.J.Job.key_of in
     let s = g.J.Job.gives in
@@ -81,3 +81,6 @@ pub returns-clause-ready : goal.returns-clause-ready
 returns-clause-ready g c k rest i =
     ready_with g.J.Job.key_of g.J.Job.gives k c.args.processor rest c.take_first-member.result _ _ c.take_first-hand.result _ _ _ _ c.take_first-room.result c.args.self.now c.end_with_hand.new.self i c.end_with_hand.ensures.goes_on
     c.take_first-room.ensures (sym c.is_offloadable.ensures ∙ c.if-not-is_offloadable.false) c.take_first-member.ensures c.take_first-hand.ensures
+
+pub is_offloadable-requires : goal.is_offloadable-requires
+is_offloadable-requires g c = assumption

@@ -1,9 +1,9 @@
-use Rattle.std.proofs.Common.{rules, ◌≡◌, ◌∙◌, ◌≤◌, ◌+◌, Some, [], ◌∷◌, ◌++◌, map, ap, refl, sym, length}
+use Rattle.std.proofs.Common.{◌≡◌, ◌∙◌, ◌≤◌, ◌+◌, Some, [], ◌∷◌, ◌++◌, map, ap, refl, sym, length, ◌<◌}
 use Rattle.std.proofs.Math.Path.{subst, subst₂}
 use Rattle.std.specs.Mem.{FitsInMemory}
 use Rattle.std.proofs.lemmas.List.{map-append}
 use denote.Param.{param}
-use Rattle.rcu_board.specs.Seats.{view}
+use Rattle.rcu_board.specs.Seats.{view, AtBoard}
 use Rattle.rcu_board.specs.Views.{joined}
 use Rattle.rcu_endings.specs.Ends.{EndsWith, HasRoom}
 use Rattle.rcu_holdings.proofs.Sizes.{in_struct}
@@ -21,16 +21,18 @@ use Rattle.rcu_part_processor.specs.contracts.processor.Processor as row
 use Rattle.rcu_parts.proofs.Resting.{both_long, rests_with}
 use Rattle.rcu_parts.proofs.ending.Ending.end_with_hand.Given.{Over}
 use Rattle.rcu_parts.proofs.ending.Ending.end_with_hand.Goals.{Start}
+use Rattle.rcu_board.specs.declared.board.Board.{Board}
+use Rattle.std.specs.Vec.{vec_capacity, vec_len}
 use Rattle.rcu_parts.proofs.ending.Ending.end_with_hand.Goals as goal
 
 processor_fits : (g : Over) (c : Start g) → FitsInMemory (row.the_row (param 0 g.row.J) (param 1 g.row.J-Receipt))
-processor_fits g c = search rules
+processor_fits g c = assumption
 
 folk_fits : (g : Over) (c : Start g) → FitsInMemory (folk_row.the_row (param 0 g.row.J))
-folk_fits g c = c.requires-raw.1.1.1.1.1.0
+folk_fits g c = assumption
 
 hand_fits : (g : Over) (c : Start g) → FitsInMemory (hand_row.the_row (param 0 g.row.J) (param 1 g.row.J-Receipt))
-hand_fits g c = c.requires-raw.1.1.1.1.1.1.0
+hand_fits g c = assumption
 
 pub end_offloadable-requires-after_bounds : goal.end_offloadable-requires-after_bounds
 end_offloadable-requires-after_bounds g c κs within =
@@ -85,3 +87,28 @@ into_state-seat-requires-after_bounds g c κs within = (processor_fits g c, in_s
 
 pub into_state-hands_seat-requires-after_bounds : goal.into_state-hands_seat-requires-after_bounds
 into_state-hands_seat-requires-after_bounds g c κs within = (hand_fits g c.before.before, in_struct _ _ _ (hand_fits g c.before.before))
+
+pub take_in-requires-clause-at : goal.take_in-requires-clause-at
+take_in-requires-clause-at g c κs within = c.requires.may.at
+
+pub take_in-requires-clause-board : goal.take_in-requires-clause-board
+take_in-requires-clause-board g c κs within = subst (λ s. AtBoard (board_at c.args.self.now) s.seat) (sym c.into_state-seat.ensures) (subst (λ (b : Board). AtBoard b c.args.processor.state.seat) (c.requires.board) c.args.processor.state.here)
+
+pub take_in-requires-clause-rests : goal.take_in-requires-clause-rests
+take_in-requires-clause-rests g c κs within = c.requires.may.rests
+
+pub take_in-requires-clause-joins : goal.take_in-requires-clause-joins
+take_in-requires-clause-joins g c κs within = subst (λ s. (view s.seat).running ≡ []) (sym c.into_state-seat.ensures) c.args.processor.state.lawful.rests
+
+pub take_in-requires-2-clause-board : goal.take_in-requires-2-clause-board
+take_in-requires-2-clause-board g c κs within = let h = c.args.hand.state in subst (λ s. AtBoard (board_at c.take_in.new.self) s.seat) (sym c.into_state-hands_seat.ensures)
+    (subst (λ (b : Board). AtBoard b h.seat) (c.requires.hand_board ∙ sym (ap board_at c.take_in.ensures.others)) h.here)
+
+pub take_in-requires-2-clause-joins : goal.take_in-requires-2-clause-joins
+take_in-requires-2-clause-joins g c κs within = subst (λ s. (view s.seat).running ≡ []) (sym c.into_state-hands_seat.ensures) c.args.hand.state.lawful.rests
+
+pub keep-requires-clause-ran : goal.keep-requires-clause-ran
+keep-requires-clause-ran g c κs within = subst (λ x. vec_len x.ran < vec_capacity x.ran) (sym c.take_in-2.ensures.others) (subst (λ x. vec_len x.ran < vec_capacity x.ran) (sym c.take_in.ensures.others) c.requires.may.ran)
+
+pub keep-requires-clause-back : goal.keep-requires-clause-back
+keep-requires-clause-back g c κs within = subst (λ x. vec_len x.back < vec_capacity x.back) (sym c.take_in-2.ensures.others) (subst (λ x. vec_len x.back < vec_capacity x.back) (sym c.take_in.ensures.others) c.requires.may.back)
