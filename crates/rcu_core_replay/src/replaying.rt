@@ -4,16 +4,18 @@ ghost use Rattle.std.specs.Prelude.{◌≡◌, ℕ, List, IfOk, OnOk, count_by, 
 ghost use Rattle.std.specs.Io.KnownBytes.{Appends};
 ghost use Rattle.std.specs.Option.{is_some};
 ghost use Rattle.rcu_script.specs.Calls.{is_barrier, is_call, is_show};
+ghost use Rattle.rcu_script.specs.Scripts.{PrintsScript, Writes};
 ghost use Rattle.rcu_core_replay.specs.Printed.{IsAnswer, Prints};
+ghost use Rattle.rcu_core_replay.specs.Scripts.{Replays};
+ghost use Rattle.rcu_jobs.specs.Promised.{Promised};
 ghost use Rattle.rcu_world.specs.Turns.{IsAtRest};
 ghost use Rattle.rcu_world.specs.Views.{state};
 ghost use Rattle.rcu_world.specs.Worlds.{IsWorld};
 
 use crate::commands::{barrier, call, driver, group, hand, poll, quiet, show, shut, switch, tick};
 use rcu_jobs::{BoxedJob, Job};
-use rcu_script::{Fault, Line, Verb, is_show, job_for, write_line, write_text};
+use rcu_script::{Fault, Line, Verb, is_show, job_for, write_line, write_totals};
 use rcu_setup::{Command, Setup};
-use rcu_status::totals;
 use rcu_world::World;
 use std::alloc::Global;
 use std::collections::VecDeque;
@@ -32,18 +34,15 @@ pub fn replay<W: Write>(
     writer: &mut W,
 ) -> Result<(), Fault>
     requires jobs { vec_len jobs ≡ count_by is_call setup.now.script.items }
+    ensures prints { OnOk result (Writes (W.contents writer.old) (W.contents writer.new)
+        (Replays (λ job. job.key) (Promised 65536) setup.now jobs.items)) }
 {
     let mut world = World::new(alloc, setup.shape)?;
     perform_all(alloc, &mut world, setup, jobs, writer)?;
     let Ok((_, closed)) = world.close() else {
         return Err(Fault::memory());
     };
-    let text = totals(alloc, &closed, true)?;
-    write_text(text.as_str(), writer)?;
-    match writer.flush() {
-        Ok(()) => Ok(()),
-        Err(_) => Err(Fault::CannotWrite),
-    }
+    write_totals(alloc, &closed, true, writer)
 }
 
 /// All commands of the script, in order, until one fails.
@@ -57,12 +56,15 @@ fn perform_all<J: Job<Receipt = u64>, W: Write>(
     requires world { IsWorld J.key_of J.gives world.old.core }
     requires rest { IsAtRest (state J.key_of world.old.core) }
     requires jobs { vec_len jobs ≡ count_by is_call setup.now.script.items }
-    ensures { IsWorld J.key_of J.gives world.new.core }
+    ensures prints { OnOk result (Writes (W.contents writer.old) (W.contents writer.new)
+        (PrintsScript (Prints J.key_of) (state J.key_of world.old.core) (state J.key_of world.new.core)
+        setup.now.script.items jobs.items)) }
+    ensures kept { IsWorld J.key_of J.gives world.new.core }
 {
     let mut opened = None;
-    let mut jobs = VecDeque::from_vec(jobs);
+    let mut left = VecDeque::from_vec(jobs);
     for command in &setup.script {
-        let job = job_for(command, &mut jobs);
+        let job = job_for(command, &mut left);
         perform(alloc, world, &mut opened, command, job, writer)?;
     }
     Ok(())

@@ -1,3 +1,4 @@
 pub mod Counting
 pub mod Jobs
 pub mod Written
+pub mod Scripts

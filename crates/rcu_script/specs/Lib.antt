@@ -1,3 +1,4 @@
 pub mod Calls
 pub mod FaultLines
 pub mod Lines
+pub mod Scripts

@@ -1,8 +1,10 @@
 -- The lines of `replay`: docs/specification/tables.md, "Script commands and what they print".
-use Rattle.std.specs.Prelude.{ℕ, List, ◌++◌, codes, string_bytes}
+use Rattle.std.specs.Prelude.{ℕ, Bool, List, ◌++◌, codes, string_bytes}
 use Rattle.std.specs.Fmt.{decimal}
+use Rattle.rcu_jobs.specs.declared.answers.Closed.{Closed}
 use Rattle.rcu_jobs.specs.declared.turns.Lists.{Lists}
 use Rattle.rcu_status.specs.Line.{line_text as shown_text}
+use Rattle.rcu_status.specs.Totals.{reports_text, totals_text}
 use Rattle.rcu_jobs.specs.declared.turns.DriverTurn.{DriverTurn}
 use Rattle.rcu_jobs.specs.declared.turns.DriverTurn.TheVariants as turn
 use Rattle.rcu_script.specs.declared.lines.Verb.{Verb}
@@ -46,3 +48,7 @@ line_text (line.Shut counts) = codes "shut " ++ string_bytes counts
 -- the line of a list, which `show` prints
 unfoldable pub lists_line : ℕ → Lists → List ℕ
 lists_line = shown_text
+
+-- the totals at the end of a run, of what was closed, with the line of the reports where it is asked for
+abbrev pub whole_totals : {J : Type 0} → Bool → Closed J ℕ → List ℕ
+whole_totals reports closed = totals_text 0 closed.ran.items closed.back.items ++ reports_text reports closed.reports.items

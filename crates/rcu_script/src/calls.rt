@@ -1,6 +1,6 @@
 //! The commands that take a job: calls, plain or lazy.
 
-ghost use Rattle.std.specs.Prelude.{◌≡◌, ◌<◌, ◌+◌, if◌then◌else◌, true, option_map};
+ghost use Rattle.std.specs.Prelude.{◌≡◌, ◌<◌, ◌+◌, ◌++◌, if◌then◌else◌, option_to_list, true, option_map};
 ghost use Rattle.std.specs.Option.{is_some};
 ghost use Rattle.std.specs.VecDeque.{deque_len};
 ghost use Rattle.rcu_script.specs.Calls.{is_call, is_show, route_in};
@@ -24,6 +24,7 @@ pub fn route_of(command: &Command) -> Option<(&str, u32)>
 pub fn job_for<J>(command: &Command, jobs: &mut VecDeque<J>) -> Option<J>
     requires { is_call command.now ≡ true → 0 < deque_len jobs.old }
     ensures job { is_some result ≡ is_call command.now }
+    ensures first { jobs.old.items ≡ option_to_list result ++ jobs.new.items }
     ensures left { deque_len jobs.new + (if is_call command.now then 1 else 0) ≡ deque_len jobs.old }
 {
     match route_of(command) {

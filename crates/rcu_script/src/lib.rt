@@ -8,4 +8,4 @@ mod lines;
 
 pub use calls::{is_show, job_for, route_of};
 pub use fault::{Fault, write_fault};
-pub use lines::{Line, Verb, write_line, write_lists, write_text};
+pub use lines::{Line, Verb, write_line, write_lists, write_text, write_totals};

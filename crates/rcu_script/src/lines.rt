@@ -2,12 +2,12 @@
 
 ghost use Rattle.std.specs.Prelude.{◌≡◌, ◌++◌, OnOk, Some, codes};
 ghost use Rattle.std.specs.Io.KnownBytes.{Appends};
-ghost use Rattle.rcu_script.specs.Lines.{driver_text, line_text, lists_line, verb_text};
+ghost use Rattle.rcu_script.specs.Lines.{driver_text, line_text, lists_line, verb_text, whole_totals};
 ghost use Rattle.rcu_script.specs.declared.lines.Line.TheVariants.{Refused};
 
 use crate::fault::Fault;
-use rcu_jobs::{DriverTurn, Lists};
-use rcu_status::line;
+use rcu_jobs::{Closed, DriverTurn, Job, Lists};
+use rcu_status::{line, totals};
 use std::alloc::Global;
 use std::fmt;
 use std::io::Write;
@@ -206,4 +206,26 @@ pub fn write_lists<W: Write>(
 {
     let text = line(alloc, cpu, lists)?;
     write_text(text.as_str(), writer)
+}
+
+/// Writes the totals of a run (docs/specification/tables.md, "Totals"), with the line of the reports where `reports` is true,
+/// and sees to it that they are out.
+///
+/// # Errors
+///
+/// The fault of a failed write; want of memory.
+pub fn write_totals<J: Job<Receipt = u64>, W: Write>(
+    alloc: Global,
+    closed: &Closed<J>,
+    reports: bool,
+    writer: &mut W,
+) -> Result<(), Fault>
+    ensures { OnOk result (Appends (W.contents writer.old) (W.contents writer.new) (whole_totals reports closed.now)) }
+{
+    let text = totals(alloc, closed, reports)?;
+    write_text(text.as_str(), writer)?;
+    match writer.flush() {
+        Ok(()) => Ok(()),
+        Err(_) => Err(Fault::CannotWrite),
+    }
 }

@@ -1,7 +1,1 @@
-pub mod Answering
-pub mod Changing
-pub mod Keeping
-pub mod ShowingParts
 pub mod TakenWords
-pub mod Verbs
-pub mod Writing

@@ -1,4 +1,1 @@
 pub mod Plan
-pub mod Changes
-pub mod Outcomes
-pub mod Printed

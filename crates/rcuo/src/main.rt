@@ -4,10 +4,7 @@
 
 ghost use Rattle.std.specs.Prelude.{◌≡◌};
 
-mod commands;
 mod plan;
-mod printing;
-mod replay;
 #[cfg(test)]
 mod tests;
 mod threading;
@@ -15,9 +12,9 @@ mod versions;
 
 use plan::{Refusal, Subcommand, read_plan};
 use rcu_jobs::BoxedJob;
+use rcu_parts_replay::replay;
 use rcu_script::{Fault, write_fault};
 use rcu_versions::Retired;
-use replay::replay;
 use std::io;
 use std::process::ExitCode;
 use std::rt::Clock;
@@ -67,7 +64,7 @@ fn run<R: Threads + Wait + Clock + Copy + Send + 'static>(
     }
     let mut writer = io::writer(host);
     match plan.subcommand {
-        Subcommand::Replay => Ok(replay(alloc, &plan, jobs, &mut writer)?),
+        Subcommand::Replay => Ok(replay(alloc, &plan.setup, jobs, &mut writer)?),
         Subcommand::Threads => Ok(threads(rt, alloc, &plan, jobs, &mut writer)?),
     }
 }

@@ -1,18 +1,14 @@
-use crate::plan::{Plan, Refusal, Subcommand, read_plan};
-use crate::replay::replay;
-use rcu_jobs::BoxedJob;
-use rcu_numbers::Shape;
+use crate::plan::{Refusal, read_plan};
 use rcu_script::Fault;
-use rcu_setup::{Command, Setup, SetupFault};
+use rcu_setup::SetupFault;
 use std::io;
-use std::io::{Cursor, Read, Write};
+use std::io::{Cursor, Read};
 use std::test::Fail;
 
-// A reader and a writer that fail once they have taken so many steps.
+// A reader that fails once it has taken so many steps.
 #[derive(Drop)]
 struct Broken {
     left: u64,
-    taken: u64,
 }
 
 impl Read for Broken {
@@ -26,30 +22,12 @@ impl Read for Broken {
     }
 }
 
-impl Write for Broken {
-    fn write(&mut self, buf: &[u8]) -> io::Result<usize> {
-        if self.left == 0 {
-            return Err(io::Error::from(io::ErrorKind::BrokenPipe));
-        }
-        self.left -= 1;
-        self.taken = self.taken.wrapping_add(1);
-        Ok(buf.len())
-    }
-
-    fn flush(&mut self) -> io::Result<()> {
-        if self.left == 0 {
-            return Err(io::Error::from(io::ErrorKind::BrokenPipe));
-        }
-        Ok(())
-    }
-}
-
 #[test]
 fn fails_at_each_read(rt: HostRuntime) -> Result<(), Fail> {
     let alloc = rt.alloc();
     for left in 0..3u64 {
         let words = vec![in alloc; String::from_str(alloc, "replay")?]?;
-        let mut reader = Broken { left, taken: 0 };
+        let mut reader = Broken { left };
         let refused = read_plan(alloc, words.as_slice(), &mut reader);
         assert!(rt; matches!(refused, Err(Refusal::Fault(Fault::CannotRead))));
     }
@@ -61,7 +39,7 @@ fn other_words_are_refused_before_reading(rt: HostRuntime) -> Result<(), Fail> {
     let alloc = rt.alloc();
     for word in ["thread", "replays", "--help", ""] {
         let words = vec![in alloc; String::from_str(alloc, word)?]?;
-        let mut reader = Broken { left: 0, taken: 0 };
+        let mut reader = Broken { left: 0 };
         let refused = read_plan(alloc, words.as_slice(), &mut reader);
         assert!(rt; matches!(refused, Err(Refusal::Words(_))), "at {word:?}");
     }
@@ -83,42 +61,6 @@ fn a_text_that_is_too_long_or_no_text(rt: HostRuntime) -> Result<(), Fail> {
                 Err(Refusal::Fault(Fault::Setup(SetupFault::NotToml)))
             )
         );
-    }
-    Ok(())
-}
-
-#[test]
-fn fails_at_each_write(rt: HostRuntime) -> Result<(), Fail> {
-    let alloc = rt.alloc();
-    for left in 0..80u64 {
-        let script = vec![in alloc;
-            Command::Driver,
-            Command::Show,
-            Command::Group { group: 0 },
-            Command::Hand { cpu: 0 },
-            Command::Barrier,
-            Command::Poll,
-            Command::Shut,
-        ]?;
-        let shape = Shape::new(1, 1, 1, 10, 10000, 1000000).ok_or("a shape")?;
-        let plan = Plan {
-            subcommand: Subcommand::Replay,
-            setup: Setup {
-                shape,
-                calls: 0,
-                routes: Vec::new(alloc),
-                script,
-            },
-        };
-        let jobs = Vec::<BoxedJob<65536>>::new(alloc);
-        let mut writer = Broken { left, taken: 0 };
-        match replay(alloc, &plan, jobs, &mut writer) {
-            Ok(()) => assert!(rt; writer.left > 0),
-            Err(fault) => {
-                assert!(rt; matches!(fault, Fault::CannotWrite));
-                assert_eq!(rt; writer.taken, left, "nothing more is written");
-            }
-        }
     }
     Ok(())
 }

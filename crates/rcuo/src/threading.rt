@@ -1,12 +1,13 @@
 //! `rcuo threads`: all parts in threads of their own, and the totals.
 
-ghost use Rattle.std.specs.Prelude.{◌≡◌, ◌*◌, vec_len};
+ghost use Rattle.std.specs.Prelude.{◌≡◌, ◌*◌, OnOk, false, vec_len};
+ghost use Rattle.std.specs.Io.KnownBytes.{Appends};
+ghost use Rattle.rcu_script.specs.Lines.{whole_totals};
 
 use crate::plan::Plan;
-use crate::printing::print_totals;
-use rcu_jobs::BoxedJob;
+use rcu_jobs::{BoxedJob, Closed};
 use rcu_parts::open;
-use rcu_script::Fault;
+use rcu_script::{Fault, write_totals};
 use rcu_threads::{ThreadsFault, run_in_threads};
 use std::alloc::Global;
 use std::io::Write;
@@ -32,8 +33,20 @@ pub fn threads<R: Threads + Wait + Clock + Copy + Send + 'static, W: Write>(
 {
     let parts = open(alloc, plan.setup.shape)?;
     match run_in_threads(rt, alloc, parts, jobs) {
-        Ok(closed) => print_totals(alloc, &closed, false, writer),
+        Ok(closed) => print_totals(alloc, &closed, writer),
         Err(ThreadsFault::Memory) => Err(Fault::memory()),
         Err(ThreadsFault::CannotRun) => Err(Fault::CannotRun),
     }
+}
+
+/// Writes the totals, without the reports. (A function of its own, where the job's type is all that there is to look at: that it
+/// may be sent is then found at once.)
+fn print_totals<W: Write>(
+    alloc: Global,
+    closed: &Closed<BoxedJob<65536>>,
+    writer: &mut W,
+) -> Result<(), Fault>
+    ensures { OnOk result (Appends (W.contents writer.old) (W.contents writer.new) (whole_totals false closed.now)) }
+{
+    write_totals(alloc, closed, false, writer)
 }

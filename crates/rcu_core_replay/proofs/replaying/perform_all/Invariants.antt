@@ -4,11 +4,14 @@ use Rattle.rcu_script.specs.Calls.{is_call}
 use Rattle.rcu_world.specs.Turns.{IsAtRest}
 use Rattle.rcu_world.specs.Views.{state}
 use Rattle.rcu_world.specs.Worlds.{IsWorld}
+use Rattle.rcu_core_replay.specs.Printed.{Prints}
+use Rattle.rcu_script.proofs.Scripts.{HasPrinted}
 use Rattle.rcu_core_replay.proofs.replaying.perform_all.Given as goal
 
 abbrev pub invariant-loop-command : goal.invariant-loop-command
 invariant-loop-command g l = record {
   world : IsWorld g.J.Job.key_of g.J.Job.gives l.world.core;
   rest : IsAtRest (state g.J.Job.key_of l.world.core);
-  jobs : deque_len l.jobs + count_by is_call (take l.command-index l.setup.script.items) ≡ count_by is_call l.setup.script.items;
+  printed : HasPrinted (Prints g.J.Job.key_of) (state g.J.Job.key_of l.fn.world.core) l.setup.script.items l.fn.jobs.items (g.W.Write.contents l.fn.writer) l.left.items (g.W.Write.contents l.writer) l.command-index (state g.J.Job.key_of l.world.core) l.opened;
+  jobs : deque_len l.left + count_by is_call (take l.command-index l.setup.script.items) ≡ count_by is_call l.setup.script.items;
 }

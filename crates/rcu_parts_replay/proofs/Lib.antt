@@ -1,0 +1,6 @@
+pub mod Answering
+pub mod Changing
+pub mod Keeping
+pub mod ShowingParts
+pub mod Verbs
+pub mod Writing

@@ -1,0 +1,41 @@
+use Rattle.std.proofs.Common.{arith, refl}
+use Rattle.rcu_part_group.proofs.GroupLists.{zip_same}
+use Rattle.rcu_part_hand.proofs.HandRuns.{same_hand}
+use Rattle.rcu_part_hand.specs.Hands.{IsSoundHand, SameHand}
+use Rattle.rcu_parts_replay.proofs.Answering.{no_hand}
+use Rattle.rcu_parts_replay.proofs.Changing.{all_changed, zip_changed}
+use Rattle.rcu_parts_replay.proofs.commands.hand.Goals as goal
+
+pub returns-then-cpu-n-clause-same : goal.returns-then-cpu-n-clause-same
+returns-then-cpu-n-clause-same g c = zip_same (λ h i. SameHand h.state i.state) (λ h. same_hand h.state) c.args.hands.now.items
+
+pub returns-in_default-clause-line : goal.returns-in_default-clause-line
+returns-in_default-clause-line g c = no_hand c.args.n c.args.cpu c.args.hands.now.items c.no_such.result (omega arith) c.in_default.ensures.none c.no_such.ensures
+
+pub returns-in_default-clause-same : goal.returns-in_default-clause-same
+returns-in_default-clause-same g c = zip_same (λ h i. SameHand h.state i.state) (λ h. same_hand h.state) c.args.hands.now.items
+
+pub returns-clause-line : goal.returns-clause-line
+returns-clause-line g c = let found = c.in-Some.ensures.found in (
+  refl,
+  refl,
+  (
+    c.in-Some.place,
+    record {
+      x = c.index_mut.result.now;
+      y = c.turn-turn.new.self;
+      there = found.0;
+      old = c.index_mut.ensures.value;
+      new = refl;
+      by = (found.1 c.index_mut.result.now c.index_mut.ensures.value, (c.turn-turn.result, refl, c.turn-turn.ensures.turn));
+    },
+  ),
+)
+
+pub returns-clause-same : goal.returns-clause-same
+returns-clause-same g c =
+    zip_changed (λ h i. SameHand h.state i.state) (λ h. same_hand h.state) c.args.hands.now.items c.in-Some.place c.index_mut.result.now c.turn-turn.new.self c.in-Some.ensures.found.0 c.index_mut.ensures.value c.turn-turn.ensures.same
+
+pub returns-clause-sound : goal.returns-clause-sound
+returns-clause-sound g c =
+    all_changed (λ h. IsSoundHand g.J.Job.key_of g.J.Job.gives h.state) c.args.hands.now.items c.in-Some.place c.index_mut.result.now c.turn-turn.new.self c.in-Some.ensures.found.0 c.index_mut.ensures.value c.turn-turn.ensures.sound

@@ -1,0 +1,27 @@
+use Rattle.std.proofs.Common.{arith, refl}
+use Rattle.rcu_part_group.proofs.GroupLists.{zip_same}
+use Rattle.rcu_part_processor.proofs.TickRuns.{same_processor}
+use Rattle.rcu_part_processor.specs.Processors.{IsSound, SameProcessor}
+use Rattle.rcu_parts_replay.proofs.Changing.{all_changed, zip_changed}
+use Rattle.rcu_parts_replay.proofs.commands.quiet.Goals as goal
+
+pub returns-then-place-len-clause-same : goal.returns-then-place-len-clause-same
+returns-then-place-len-clause-same g c = zip_same (λ p q. SameProcessor p.state q.state) (λ p. same_processor p.state) c.args.processors.now.items
+
+pub returns-in-Some-clause-line : goal.returns-in-Some-clause-line
+returns-in-Some-clause-line g c = (refl, record { x = c.index_mut.result.now; y = c.quiescent.new.self; there = omega arith; old = c.index_mut.ensures.value; new = refl; by = (c.quiescent.ensures.keeps, c.in-Some.ensures.reports) })
+
+pub returns-in-Some-clause-same : goal.returns-in-Some-clause-same
+returns-in-Some-clause-same g c = zip_changed (λ p q. SameProcessor p.state q.state) (λ p. same_processor p.state) c.args.processors.now.items c.args.cpu c.index_mut.result.now c.quiescent.new.self (omega arith) c.index_mut.ensures.value c.quiescent.ensures.same
+
+pub returns-in-Some-clause-sound : goal.returns-in-Some-clause-sound
+returns-in-Some-clause-sound g c = all_changed (λ p. IsSound g.J.Job.key_of g.J.Job.gives p.state) c.args.processors.now.items c.args.cpu c.index_mut.result.now c.quiescent.new.self (omega arith) c.index_mut.ensures.value c.quiescent.ensures.sound
+
+pub returns-in-None-clause-line : goal.returns-in-None-clause-line
+returns-in-None-clause-line g c = (refl, record { x = c.index_mut.result.now; y = c.quiescent.new.self; there = omega arith; old = c.index_mut.ensures.value; new = refl; by = (c.quiescent.ensures.keeps, c.in-None.ensures.reports) })
+
+pub returns-in-None-clause-same : goal.returns-in-None-clause-same
+returns-in-None-clause-same g c = zip_changed (λ p q. SameProcessor p.state q.state) (λ p. same_processor p.state) c.args.processors.now.items c.args.cpu c.index_mut.result.now c.quiescent.new.self (omega arith) c.index_mut.ensures.value c.quiescent.ensures.same
+
+pub returns-in-None-clause-sound : goal.returns-in-None-clause-sound
+returns-in-None-clause-sound g c = all_changed (λ p. IsSound g.J.Job.key_of g.J.Job.gives p.state) c.args.processors.now.items c.args.cpu c.index_mut.result.now c.quiescent.new.self (omega arith) c.index_mut.ensures.value c.quiescent.ensures.sound

@@ -1,0 +1,16 @@
+use Rattle.std.proofs.Common.{[], arith}
+use Rattle.std.proofs.lemmas.List.{take_all}
+use Rattle.rcu_script.proofs.Written.{Appends-none}
+use Rattle.rcu_parts_replay.proofs.ShowingParts.{all_shown, one_shown, shows_none}
+use Rattle.rcu_parts_replay.proofs.commands.show.Goals as goal
+
+pub loop-cpu-init : goal.loop-cpu-init
+loop-cpu-init g c = ([], shows_none c.args.groups.now.items 0, Appends-none (g.W.Write.contents c.args.writer.now))
+
+pub loop-cpu-preserved : goal.loop-cpu-preserved
+loop-cpu-preserved g c =
+    one_shown c.args.groups.now.items c.args.processors.now.items c.loop-cpu.cpu c.index.result.now (omega arith) c.index.ensures (g.W.Write.contents c.args.writer.now) (g.W.Write.contents c.loop-cpu.writer) (g.W.Write.contents c.show_one.new.writer) c.loop-cpu.invariant c.in_ok-show_one.ensures
+
+pub returns : goal.returns
+returns g c =
+    all_shown c.args.groups.now.items c.args.processors.now.items c.loop-cpu.cpu (take_all c.loop-cpu.cpu c.args.processors.now.items (omega arith)) (g.W.Write.contents c.args.writer.now) (g.W.Write.contents c.loop-cpu.writer) c.loop-cpu.invariant

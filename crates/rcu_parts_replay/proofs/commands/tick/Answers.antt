@@ -1,0 +1,18 @@
+use Rattle.std.proofs.Common.{arith, refl}
+use Rattle.rcu_part_group.proofs.GroupLists.{zip_same}
+use Rattle.rcu_part_processor.proofs.TickRuns.{same_processor}
+use Rattle.rcu_part_processor.specs.Processors.{IsSound, SameProcessor}
+use Rattle.rcu_parts_replay.proofs.Changing.{all_changed, zip_changed}
+use Rattle.rcu_parts_replay.proofs.commands.tick.Goals as goal
+
+pub returns-then-place-len-clause-same : goal.returns-then-place-len-clause-same
+returns-then-place-len-clause-same g c = zip_same (λ p q. SameProcessor p.state q.state) (λ p. same_processor p.state) c.args.processors.now.items
+
+pub returns-clause-line : goal.returns-clause-line
+returns-clause-line g c = (refl, refl, record { x = c.index_mut.result.now; y = c.tick-ticked.new.self; there = omega arith; old = c.index_mut.ensures.value; new = refl; by = (c.tick-ticked.result, refl, c.tick-ticked.ensures.ticks) })
+
+pub returns-clause-same : goal.returns-clause-same
+returns-clause-same g c = zip_changed (λ p q. SameProcessor p.state q.state) (λ p. same_processor p.state) c.args.processors.now.items c.args.cpu c.index_mut.result.now c.tick-ticked.new.self (omega arith) c.index_mut.ensures.value c.tick-ticked.ensures.same
+
+pub returns-clause-sound : goal.returns-clause-sound
+returns-clause-sound g c = all_changed (λ p. IsSound g.J.Job.key_of g.J.Job.gives p.state) c.args.processors.now.items c.args.cpu c.index_mut.result.now c.tick-ticked.new.self (omega arith) c.index_mut.ensures.value c.tick-ticked.ensures.sound
