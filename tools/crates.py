@@ -45,7 +45,14 @@ class Crate:
 
     @functools.cached_property
     def lines(self):
-        return sum(it.read_bytes().count(b"\n") for it in self.files if it.suffix == ".rt")
+        return self.count(".rt")
+
+    @functools.cached_property
+    def proof_lines(self):
+        return self.count(".antt")
+
+    def count(self, suffix):
+        return sum(it.read_bytes().count(b"\n") for it in self.files if it.suffix == suffix)
 
     @functools.cached_property
     def stamp(self):
