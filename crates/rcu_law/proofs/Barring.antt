@@ -109,7 +109,7 @@ open_kept w b k e =
       passed = λ x o s. omega (arith, passed_after w.history (Opened b) (length w.barriers) (λ y g. absurd cc) k.passed x o s, length-append w.barriers (new_barrier (length w.cpus) ∷ []));
       there = there_after w.history (Opened b) (length w.cpus) (λ q key g. absurd cc) k.there;
       limits = k.limits;
-      lawful = lawful_next (length w.cpus) w.history (Opened b) (λ o s. let l : b < length w.barriers = k.passed b o s in omega arith) k.lawful;
+      lawful = lawful_next (length w.cpus) w.history (Opened b) (λ e p j t s a. absurd (let l : b < length w.barriers = k.passed b e s in omega arith)) k.lawful;
     }
 
 -- Count

@@ -19,7 +19,7 @@ abbrev pub IsNext : ℕ → List Mark → Mark → Type 0
 IsNext n h (Accepted p key) = (i : ℕ) → slice_get h i ≡ Some (Shut p) → ⊥
 IsNext n h (Reported q) = Unit {0}
 IsNext n h (Ran p key) = NextRan n h p key
-IsNext n h (Opened b) = (e : ℕ) → slice_get h e ≡ Some (Passed b) → ⊥
+IsNext n h (Opened b) = (e p k t : ℕ) → slice_get h e ≡ Some (Passed b) → IsAccepted h p k t → (u : ℕ) × (u < e) × IsRan h p k u
 IsNext n h (Passed b) = (o p k t : ℕ) → slice_get h o ≡ Some (Opened b) → IsAccepted h p k t → t < o → (u : ℕ) × (u < length h) × IsRan h p k u
 IsNext n h (Shut p) = Unit {0}
 IsNext n h (Back p key) = Unit {0}
@@ -154,9 +154,9 @@ module _ (n : ℕ) (h : List Mark) (m : Mark) (next : IsNext n h m) (old : IsSou
               let g = x o p k t v.1 a' l in (g.0, omega (arith, g.1, w.0), ran_after h m p k g.0 g.2)
         ]
     | inr v ↦
-        let x : (e : ℕ) → slice_get h e ≡ Some (Passed b) → ⊥ = subst (IsNext n h) v.1 next in
+        let x : (e p k t : ℕ) → slice_get h e ≡ Some (Passed b) → IsAccepted h p k t → (u : ℕ) × (u < e) × IsRan h p k u = subst (IsNext n h) v.1 next in
         elim (get_cases h m (Passed b) e se) [
-          | inl w ↦ absurd (x e w.1)
+          | inl w ↦ let g = x e p k t w.1 (accepted_before h m p k t (omega (arith, v.0)) a) in (g.0, g.1, ran_after h m p k g.0 g.2)
           | inr w ↦ let f : Opened b ≡ Passed b = sym v.1 ∙ w.1 in absurd cc
         ]
   ]

@@ -1,0 +1,4 @@
+pub mod Lists
+pub mod Fitting
+pub mod Settling
+pub mod Deciding

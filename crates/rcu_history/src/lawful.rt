@@ -1,0 +1,124 @@
+//! Whether a history is lawful, mark by mark.
+
+ghost use Rattle.std.specs.Prelude.{◌≡◌, ◌≤◌, ◌<◌, ◌↔◌, ℕ, Some, true, length};
+ghost use Rattle.std.specs.List.{slice_get};
+ghost use Rattle.rcu_law.specs.Law.{IsCovered, IsLawful};
+ghost use Rattle.rcu_law.specs.declared.marks.Mark.TheVariants.{Reported};
+ghost use Rattle.rcu_history.specs.Fits.{Fits, HaveRun, IsDue, IsFresh, IsOver, IsShutBefore};
+
+use crate::counting::{Kind, many_of, nth_of};
+use rcu_law::marks::Mark;
+
+/// Whether `q` reported after this place.
+fn has_reported(history: &[Mark], after: usize, q: u64) -> bool
+    ensures { result ≡ true ↔ ((i : ℕ) × (after < i) × (i < length history.now) × (slice_get history.now i ≡ Some (Reported q))) }
+{
+    for place in 0..history.len() {
+        if place > after && history[place] == Mark::Reported(q) {
+            return true;
+        }
+    }
+    false
+}
+
+/// Whether each of the `n` processors reported after this place.
+fn is_covered(n: u64, history: &[Mark], after: usize) -> bool
+    ensures { result ≡ true ↔ IsCovered n history.now after (length history.now) }
+{
+    for q in 0..n {
+        if !has_reported(history, after, q) {
+            return false;
+        }
+    }
+    true
+}
+
+/// Whether `p` was shut.
+pub(crate) fn has_shut(history: &[Mark], p: u64) -> bool
+    ensures { result ≡ true ↔ IsShutBefore history.now p }
+{
+    for mark in history {
+        if *mark == Mark::Shut(p) {
+            return true;
+        }
+    }
+    false
+}
+
+/// Whether this callback of `p` is the first that was accepted and has not run, and each of the `n` processors reported since.
+fn is_due(n: u64, history: &[Mark], p: u64, key: u64) -> bool
+    ensures { result ≡ true ↔ IsDue n history.now p key }
+{
+    let k = many_of(Kind::Ran, p, history);
+    match nth_of(Kind::Accepted, p, k, history) {
+        Some((place, first)) => first == key && is_covered(n, history, place),
+        None => false,
+    }
+}
+
+/// Whether each callback that was accepted before one place has run before another.
+fn have_run(history: &[Mark], accepted: usize, ran: usize) -> bool
+    requires accepted { accepted ≤ length history.now }
+    requires ran { ran ≤ length history.now }
+    ensures { result ≡ true ↔ HaveRun history.now accepted ran }
+{
+    for place in 0..accepted {
+        if let Mark::Accepted(p, _) = history[place] {
+            let k = many_of(Kind::Accepted, p, &history[..place]);
+            if many_of(Kind::Ran, p, &history[..ran]) <= k {
+                return false;
+            }
+        }
+    }
+    true
+}
+
+/// Whether all that was accepted before barrier `b` was opened has run.
+fn is_over(history: &[Mark], b: u64) -> bool
+    ensures { result ≡ true ↔ IsOver history.now b }
+{
+    for place in 0..history.len() {
+        if history[place] == Mark::Opened(b) && !have_run(history, place, history.len()) {
+            return false;
+        }
+    }
+    true
+}
+
+/// Whether all that is accepted had run before a barrier of the name `b` passed.
+fn is_fresh(history: &[Mark], b: u64) -> bool
+    ensures { result ≡ true ↔ IsFresh history.now b }
+{
+    for place in 0..history.len() {
+        if history[place] == Mark::Passed(b) && !have_run(history, history.len(), place) {
+            return false;
+        }
+    }
+    true
+}
+
+/// Whether a mark may be added to a history of `n` processors.
+fn fits(n: u64, history: &[Mark], mark: Mark) -> bool
+    ensures { result ≡ true ↔ Fits n history.now mark }
+{
+    match mark {
+        Mark::Accepted(p, _) => !has_shut(history, p),
+        Mark::Ran(p, key) => is_due(n, history, p, key),
+        Mark::Opened(b) => is_fresh(history, b),
+        Mark::Passed(b) => is_over(history, b),
+        Mark::Reported(_) | Mark::Shut(_) | Mark::Back(_, _) => true,
+    }
+}
+
+/// Whether a history of `n` processors is lawful: ordered, graced, barred and shut in every prefix
+/// (docs/specification/definitions.md, "The law").
+pub fn is_lawful(n: u64, history: &[Mark]) -> bool
+    ensures { result ≡ true ↔ IsLawful n history.now }
+{
+    for place in 0..history.len() {
+        if !fits(n, &history[..place], history[place]) {
+            return false;
+        }
+    }
+    true
+}

@@ -1,0 +1,13 @@
+//! A plain checker of histories: whether a list of marks keeps the law, and whether it is closed
+//! (docs/specification/definitions.md, "The law"). The answers are exactly the definitions of `rcu_law`, in whose words the
+//! headline of the core is proved; so whoever doubts a definition can run it, on real histories and on bad ones.
+//!
+//! It is written to be read, and takes a time of the third power of the history's length.
+#![tactic(auto)]
+
+mod closed;
+mod counting;
+mod lawful;
+
+pub use closed::is_closed;
+pub use lawful::is_lawful;
