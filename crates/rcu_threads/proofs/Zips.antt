@@ -1,5 +1,5 @@
 -- Lists place by place: what was started, what threads gave back, and what came of it.
-use Rattle.std.proofs.Common.{◌≡◌, List, [], ◌∷◌, ◌++◌, length, append_assoc, ap, sym, ◌∙◌, subst}
+use Rattle.std.proofs.Common.{◌≡◌, ℕ, ◌+◌, ◌<◌, ◌≤◌, List, [], ◌∷◌, ◌++◌, length, append_assoc, ap, sym, ◌∙◌, subst, arith}
 use Rattle.std.specs.Prelude.{All, IfOk, IfSome, Ok, Err, Option, Result}
 use Rattle.std.specs.Result.{result_ok}
 use Rattle.std.specs.List.{AllZip}
@@ -51,3 +51,12 @@ module _ {A H : Type 0} (of : H → A) where
 pub if_started : {H E : Type 0} (P Q : H → Type 0) (r : Result H E) (o : Option H) → o ≡ result_ok r → IfOk r P → ((h : H) → P h → Q h) → IfSome o Q
 if_started P Q (Ok h) o e p f = subst (λ x. IfSome x Q) (sym e) (f h p)
 if_started P Q (Err x) o e p f = subst (λ x. IfSome x Q) (sym e) tt
+
+module _ {X : Type 0} where
+  -- where there is room for all that is left, there is room for one
+  pub room_for_one : (n cap : ℕ) (rest more : List X) (x : X) → n + length rest ≤ cap → rest ≡ x ∷ more → n < cap
+  room_for_one n cap rest more x room step = let e = ap (λ (l : List X). length l) step in omega (arith, room, e)
+
+  -- and, once one more is in, room for all that is left then
+  pub room_for_more : (n m cap dap : ℕ) (rest more : List X) (x : X) → n + length rest ≤ cap → rest ≡ x ∷ more → m ≡ n + 1 → dap ≡ cap → m + length more ≤ dap
+  room_for_more n m cap dap rest more x room step one same = let e = ap (λ (l : List X). length l) step in omega (arith, room, e, one, same)

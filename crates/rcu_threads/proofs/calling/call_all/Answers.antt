@@ -14,3 +14,6 @@ loop-job-preserved g c = let key_of = g.J.Job.key_of in let gives = g.J.Job.give
       called = called_again key_of gives new c.args.processor c.loop-job.processor c.call_one.new.processor (called_more key_of gives old one.more.0 new c.args.processor c.loop-job.processor one.more.1 i.called) one.called;
       room = let was = i.room in let step = ap (λ l. length l) c.in-Some.ensures.steps.0 in let more = one.room.0 in let same = one.room.1 in omega (arith, was, step, more, same);
     }
+
+pub call_one-requires-send-J : goal.call_one-requires-send-J
+call_one-requires-send-J g c κs within = assumption

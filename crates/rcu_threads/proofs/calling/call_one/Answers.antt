@@ -7,3 +7,18 @@ returns-clause-called g c = let key_of = g.J.Job.key_of in let gives = g.J.Job.g
     let quiet = c.quiescent.ensures in let tick = c.tick.ensures in
     called_again key_of gives tickets before called ticked c.accept.ensures.called
     (called_again key_of gives tickets called told ticked (called_still key_of gives tickets called told quiet.keeps.count quiet.same quiet.sound) (called_still key_of gives tickets told ticked tick.count tick.same tick.sound))
+
+pub accept-requires-send-J : goal.accept-requires-send-J
+accept-requires-send-J g c κs within = assumption
+
+pub quiescent-requires-send-J : goal.quiescent-requires-send-J
+quiescent-requires-send-J g c κs within = assumption
+
+pub quiescent-requires-after_bounds : goal.quiescent-requires-after_bounds
+quiescent-requires-after_bounds g c κs within = assumption
+
+pub tick-requires-send-J : goal.tick-requires-send-J
+tick-requires-send-J g c κs within = assumption
+
+pub tick-requires-after_bounds : goal.tick-requires-after_bounds
+tick-requires-after_bounds g c κs within = assumption

@@ -21,3 +21,39 @@ pub returns-in-None-fault-clause-called : goal.returns-in-None-fault-clause-call
 returns-in-None-fault-clause-called g c = let i = c.loop-thread.invariant in let rest = c.loop-thread.thread-iterator.rest.items in
     subst (λ (l : List _). AllZip (λ thread q. HasCalled g.J.Job.key_of g.J.Job.gives c.loop-thread.tickets.items thread.promise.0.value q) l c.loop-thread.processors.items)
     (all_of c.loop-thread.yielded rest c.args.crew.threads.items i.order (nil_from_length rest (over g c))) (i.called c.in-None-fault.is)
+
+pub into_iter-thread-iterator-requires-room-T-Destruct : goal.into_iter-thread-iterator-requires-room-T-Destruct
+into_iter-thread-iterator-requires-room-T-Destruct g c κs within = assumption
+
+pub into_iter-thread-iterator-requires-room-T-Destruct-2 : goal.into_iter-thread-iterator-requires-room-T-Destruct-2
+into_iter-thread-iterator-requires-room-T-Destruct-2 g c κs within = assumption
+
+pub into_iter-thread-iterator-requires-room-T-Destruct-3 : goal.into_iter-thread-iterator-requires-room-T-Destruct-3
+into_iter-thread-iterator-requires-room-T-Destruct-3 g c κs within = assumption
+
+pub next-requires-room-T-Destruct : goal.next-requires-room-T-Destruct
+next-requires-room-T-Destruct g c κs within = assumption
+
+pub next-requires-room-T-Destruct-2 : goal.next-requires-room-T-Destruct-2
+next-requires-room-T-Destruct-2 g c κs within = assumption
+
+pub next-requires-room-T-Destruct-3 : goal.next-requires-room-T-Destruct-3
+next-requires-room-T-Destruct-3 g c κs within = assumption
+
+pub join-requires-room-P-Promise : goal.join-requires-room-P-Promise
+join-requires-room-P-Promise g c κs within = assumption
+
+pub keep-requires-room-P-Destruct : goal.keep-requires-room-P-Destruct
+keep-requires-room-P-Destruct g c κs within = assumption
+
+pub drop-thread-iterator-requires-room-T-Destruct : goal.drop-thread-iterator-requires-room-T-Destruct
+drop-thread-iterator-requires-room-T-Destruct g c κs within = assumption
+
+pub drop-thread-iterator-requires-room-T-Destruct-2 : goal.drop-thread-iterator-requires-room-T-Destruct-2
+drop-thread-iterator-requires-room-T-Destruct-2 g c κs within = assumption
+
+pub drop-thread-iterator-requires-room-T-Destruct-3 : goal.drop-thread-iterator-requires-room-T-Destruct-3
+drop-thread-iterator-requires-room-T-Destruct-3 g c κs within = assumption
+
+pub drop-processors-requires-room-T-Destruct : goal.drop-processors-requires-room-T-Destruct
+drop-processors-requires-room-T-Destruct g c κs within = assumption

@@ -1,0 +1,5 @@
+use Rattle.std.proofs.Common.{ap, sym, ◌∙◌}
+use Rattle.rcu_threads.proofs.running.pass_barrier.Goals as goal
+
+pub wait-requires : goal.wait-requires
+wait-requires g c = record { «open» = ap (λ b. b.processors) c.barrier.ensures.same.board ∙ sym c.in-Ok.ensures.opens.0.many }
