@@ -1,5 +1,5 @@
 -- One processor after another ends, with its hand if it has one.
-use Rattle.std.proofs.Common.{◌≡◌, ℕ, suc, ◌+◌, ◌∙◌, true, false, cond, Option, Some, None, List, [], ◌∷◌, ◌++◌, map, length, sym, ap, subst, refl, arith}
+use Rattle.std.proofs.Common.{◌≡◌, ◌≢◌, ℕ, suc, ◌+◌, ◌∙◌, true, false, cond, Option, Some, None, List, [], ◌∷◌, ◌++◌, map, length, sym, ap, subst, refl, arith}
 use Rattle.std.specs.List.{All, AllZip}
 use Rattle.std.proofs.lemmas.Bool.{cond_both}
 use Rattle.std.proofs.lemmas.List.{append_assoc, append-nil, length-append, map-append}
@@ -95,6 +95,16 @@ module _ {J R : Type 0} where
 
     pub first_of_hands : (P : Hand J R → Type 0) (h : Hand J R) (hs others : List (Hand J R)) → hs ≡ h ∷ others → All P hs → P h
     first_of_hands P h hs others split a = all_head P h others (subst (All P) split a)
+
+    -- there is a room for it, and where it is offloadable a member and a hand
+    pub some_room : (k : ℕ) (p : Processor J R) (rest : List (Processor J R)) (ms : List (Folk J)) (hs : List (Hand J R)) (rs : List (Ended J R)) (x : Ending J R) → IsReady key_of gives k (p ∷ rest) ms hs rs x → rs ≢ []
+    some_room k p rest ms hs rs x i none = subst (λ l. AllZip FitsCpu (cpu_parts (p ∷ rest) hs) l) none i.rooms_are
+
+    pub some_member : (k : ℕ) (p : Processor J R) (rest : List (Processor J R)) (ms : List (Folk J)) (hs : List (Hand J R)) (rs : List (Ended J R)) (x : Ending J R) → IsReady key_of gives k (p ∷ rest) ms hs rs x → p.state.offloadable ≡ true → ms ≢ []
+    some_member k p rest ms hs rs x i e none = subst (λ l. AllZip HasMember (p ∷ offloadable_in rest) l) none (subst (λ l. AllZip HasMember l ms) (counted_in p rest e) i.members_are)
+
+    pub some_hand : (k : ℕ) (p : Processor J R) (rest : List (Processor J R)) (m : Folk J) (ms left : List (Folk J)) (hs : List (Hand J R)) (rs : List (Ended J R)) (x : Ending J R) → IsReady key_of gives k (p ∷ rest) ms hs rs x → ms ≡ m ∷ left → hs ≢ []
+    some_hand k p rest m ms left hs rs x i split none = subst (λ l. AllZip HasHand (m ∷ left) l) none (subst (λ l. AllZip HasHand l hs) split i.running)
 
     -- ---- and of those behind it, once it has ended
 

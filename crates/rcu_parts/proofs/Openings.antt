@@ -1,5 +1,5 @@
 -- The parts of a new board, one by one.
-use Rattle.std.proofs.Common.{◌≡◌, ℕ, ◌/◌, Bool, true, false, Option, Some, None, List, [], ◌∷◌, ◌++◌, ap, sym, ◌∙◌, refl, subst, append_assoc}
+use Rattle.std.proofs.Common.{◌≡◌, ◌≢◌, ℕ, ◌/◌, ◌<◌, ◌≤◌, length, get_or, arith, Bool, true, false, Option, Some, None, List, [], ◌∷◌, ◌++◌, ap, sym, ◌∙◌, refl, subst, append_assoc}
 use Rattle.std.proofs.lemmas.List.Elements.{All-cons, All-nil, All-push}
 use Rattle.std.specs.Prelude.{slice_index_or, option_to_list, IsSome, All}
 use Rattle.rcu_board.specs.Opened.{IsNewHand, IsNewProcessor, is_offloadable}
@@ -8,6 +8,14 @@ use Rattle.rcu_board.specs.declared.board.Seat.{Seat}
 use Rattle.rcu_holdings.specs.Callers.{Holding, holding}
 use Rattle.rcu_holdings.specs.Helds.{drawn_by, held_by}
 use Rattle.rcu_holdings.specs.Modes.{first_mode}
+use Rattle.rcu_holdings.specs.Helds.{front_of as hands_front}
+use Rattle.rcu_holdings.specs.Members.{rear_of as done_rear}
+use Rattle.rcu_holdings.specs.declared.safe.Safe.{Safe}
+use Rattle.rcu_lanes.specs.Ends.{IsNewLane, SameLane}
+use Rattle.rcu_lanes.specs.declared.ends.Front.{Front}
+use Rattle.rcu_lanes.specs.declared.ends.Rear.{Rear}
+use Rattle.rcu_lists.specs.declared.batch.Batch.{Batch}
+use Rattle.rcu_parts.specs.OneOpen.{HasHand}
 use Rattle.rcu_holdings.specs.declared.caller.Caller.{Caller}
 use Rattle.rcu_holdings.specs.declared.hand.Held.{Held}
 use Rattle.rcu_numbers.specs.declared.shape.Shape.{Shape}
@@ -31,6 +39,15 @@ module _ {J : Type 0} where
   pub takes_first : (stride g : ℕ) (x : Folk J) (old new : List (Folk J)) (r : Option (Folk J)) → IsSome r → x ≡ slice_index_or old 0 x → x.cpu / stride ≡ g → old ≡ option_to_list r ++ new → TakesMember stride g r old new
   takes_first stride g x old new (Some m) is at in' e = (ap (λ (f : Folk J). f.cpu / stride) (sym (at ∙ ap (λ (l : List (Folk J)). slice_index_or l 0 x) e)) ∙ in', e)
   takes_first stride g x old new None is at in' e = absurd (let f : true ≡ false = sym is in cc)
+
+  -- none is taken where there is none, and where the first isn't of this group
+  pub takes_none : (stride g : ℕ) (items : List (Folk J)) (r : Option (Folk J)) → r ≡ None → length items ≤ 0 → TakesMember stride g r items items
+  takes_none stride g [] r e none = subst (λ (o : Option (Folk J)). TakesMember stride g o [] []) (sym e) (refl, tt)
+  takes_none stride g (m ∷ ms) r e none = absurd (omega (arith, none))
+
+  pub begins_outside : (stride g : ℕ) (m : Folk J) (items : List (Folk J)) → m ≡ get_or items 0 m → 0 < length items → m.cpu / stride ≢ g → BeginsOutside stride g items
+  begins_outside stride g m [] at some out = absurd (omega (arith, some))
+  begins_outside stride g m (x ∷ xs) at some out = subst (λ (f : Folk J). f.cpu / stride ≢ g) at out
 
   -- the members taken so far, and what is left
   abbrev pub Taking : ℕ → ℕ → List (Folk J) → List (Folk J) → List (Folk J) → Type 0
@@ -84,4 +101,11 @@ module _ {J R : Type 0} where
       limit = new.limit;
       ran = new.ran;
     };
+  }
+
+  -- a member's done lane leads to its hand
+  pub has_hand : (shape : Shape) (b : Board) (s : Seat) (held : Held J) (m : Folk J) (h : Hand J R) (front : Front (Batch J) Safe) (rear : Rear (Batch J) Safe) → IsNewHandOf shape b m.cpu s held h.state → hands_front held ≡ front → done_rear m.member ≡ rear → IsNewLane front rear → HasHand m h
+  has_hand shape b s held m h front rear new of end lane = record {
+    cpu = new.cpu_is;
+    lane = subst (λ (f : Front (Batch J) Safe). SameLane f (done_rear m.member)) (sym (ap hands_front new.held_is ∙ of)) (subst (λ (r : Rear (Batch J) Safe). SameLane front r) (sym end) lane.one_lane);
   }

@@ -1,10 +1,10 @@
 -- A processor and its hand at rest, and the room that they want.
-use Rattle.std.proofs.Common.{◌≡◌, ℕ, ◌+◌, ◌-◌, ◌≤◌, ◌∙◌, Option, Some, None, List, [], ◌∷◌, map, length, ap, subst, refl, arith, vec_len}
+use Rattle.std.proofs.Common.{◌≡◌, ℕ, ◌+◌, ◌-◌, ◌≤◌, ◌∙◌, Option, Some, None, List, [], ◌∷◌, ◌++◌, map, length, ap, subst, refl, arith, vec_len}
 use Rattle.std.proofs.Math.Logic.{∥∥₁_elim}
 use Rattle.std.proofs.Props.{props}
 use Rattle.std.proofs.lemmas.List.{length-map}
 use Rattle.rcu_board.specs.Seats.{AtBoard, accepted_of, view}
-use Rattle.rcu_board.specs.Views.{cpus}
+use Rattle.rcu_board.specs.Views.{cpus, joined}
 use Rattle.rcu_board.specs.Words.{words_of}
 use Rattle.rcu_board.specs.declared.board.Board.{Board}
 use Rattle.rcu_board.specs.declared.board.Seat.{Seat}
@@ -27,6 +27,10 @@ use Rattle.rcu_part_processor.specs.Processors.{IsSound, lists_of, records_of, v
 use Rattle.rcu_parts.specs.Rooms.{FitsCpu}
 use Rattle.rcu_part_hand.specs.declared.hand.Hand.{Hand}
 use Rattle.rcu_part_processor.specs.declared.processor.Processor.{Processor}
+
+-- nothing runs where a view joins another, and nothing runs of either
+pub still_rests : (v w all : View) → all ≡ joined v w → v.running ≡ [] → w.running ≡ [] → all.running ≡ []
+still_rests v w all e h k = ap (λ (u : View). u.running) e ∙ (ap (λ l. l ++ w.running) h ∙ k)
 
 -- a seat's view has a sight of each word of its board
 pub is_long : (b : Board) (s : Seat) → AtBoard b s → length (view s).seen ≡ words_of b.processors

@@ -1,5 +1,6 @@
 -- Room that is found for one processor after another.
-use Rattle.std.proofs.Common.{◌≡◌, ℕ, zero, suc, ◌+◌, ◌∙◌, true, cond, None, List, [], ◌∷◌, ◌++◌, length, drop, sym, ap, subst, refl, arith}
+use Rattle.std.proofs.Common.{◌≡◌, ℕ, zero, suc, ◌+◌, ◌<◌, ◌≤◌, ◌∙◌, true, cond, None, List, [], ◌∷◌, ◌++◌, length, drop, get_or, sym, ap, subst, refl, arith}
+use Rattle.std.proofs.Math.Seq.{drop-cons}
 use Rattle.std.specs.List.{AllZip}
 use Rattle.std.proofs.lemmas.List.{append_assoc, append-nil, drop_all, length-map}
 use Rattle.std.proofs.lemmas.Bool.{cond_both}
@@ -10,6 +11,7 @@ use Rattle.rcu_holdings.specs.Helds.{taken_by}
 use Rattle.rcu_records.specs.Records.{numbered_record}
 use Rattle.rcu_part_steps.specs.Places.{numbered_callback}
 use Rattle.rcu_parts.specs.Rooms.{FitsCpu}
+use Rattle.rcu_part_hand.specs.Hands.{hand_records}
 use Rattle.rcu_part_hand.specs.declared.hand.Hand.{Hand}
 use Rattle.rcu_part_processor.specs.declared.processor.Processor.{Processor}
 use Rattle.rcu_parts.proofs.Zips.{zip_push}
@@ -34,6 +36,13 @@ module _ {J R : Type 0} where
 
   pub ran_by_first : (p : Processor J R) (hs : List (Hand J R)) → p.state.offloadable ≡ true → length (hand_ran (first_hand hs)) ≡ length (hand_ran (hand_for p hs))
   ran_by_first p hs e = ap (λ c. length (hand_ran (cond c (first_hand hs) None))) (sym e)
+
+  -- what the hand in a place ran, and that nothing ran where there is none
+  pub hand_at : (place : ℕ) (h : Hand J R) (all hs : List (Hand J R)) → all ≡ hs → h ≡ get_or all place h → place < length all → length (hand_records h.state) ≡ length (hand_ran (first_hand (drop place hs)))
+  hand_at place h all hs same is low = ap (λ (x : Hand J R). length (hand_records x.state)) is ∙ (ap (λ (l : List (Hand J R)). length (hand_ran (first_hand l))) (sym (drop-cons all place h low)) ∙ ap (λ (l : List (Hand J R)). length (hand_ran (first_hand (drop place l)))) same)
+
+  pub no_hand_at : (place : ℕ) (all hs : List (Hand J R)) → all ≡ hs → length all ≤ place → 0 ≡ length (hand_ran (first_hand (drop place hs)))
+  no_hand_at place all hs same high = ap (λ (l : List (Hand J R)). length (hand_ran (first_hand l))) (sym (drop_all place all high)) ∙ ap (λ (l : List (Hand J R)). length (hand_ran (first_hand (drop place l)))) same
 
   -- a hand took as many as it ran
   pub taken_ran : (p : Processor J R) (hs : List (Hand J R)) → length (hand_taken (hand_for p hs)) ≡ length (hand_ran (hand_for p hs))

@@ -2,7 +2,7 @@ use Rattle.std.proofs.Common.{◌≡◌, ◌∙◌, [], ◌++◌, sym, ap, subst
 use Rattle.std.specs.List.{All}
 use Rattle.std.specs.Mem.{FitsInMemory}
 use denote.Param.{param}
-use Rattle.rcu_board.specs.Seats.{gathered_view}
+use Rattle.rcu_board.specs.Seats.{gathered_view, view}
 use Rattle.rcu_control.specs.Parts.{control_board, control_view, driver_view}
 use Rattle.rcu_holdings.proofs.Sizes.{in_struct}
 use Rattle.rcu_parts.specs.AtClose.{cpu_parts}
@@ -87,3 +87,33 @@ returns g c =
     c.requires.parts c.requires.room refl refl c.from-2.ensures.0 c.into_parts-board.ensures.0 (c.deref-3.ensures ∙ (c.end_each.ensures.board ∙ c.into_parts-board.ensures.0)) e
     (gathered_all c.args.parts (gathered_view c.merge.new.all) (gathered_view c.gather_groups-members.new.all) (gathered_view c.end_each.new.self.all) e.ends two c.gather_groups-members.ensures.view e.view)
     c.load_last-reports.ensures refl refl c.closing.ensures.closes c.closing.ensures.reports
+
+pub merge-requires-clause-all : goal.merge-requires-clause-all
+merge-requires-clause-all g c = let k = c.args.parts.control in c.new-all.ensures.board ∙ (ap (λ s. s.seat.table_id) c.into_parts-board.ensures.1 ∙ (k.here ∙ ap (λ t. t.table.shared.table_id) (sym (c.deref.ensures ∙ c.into_parts-board.ensures.0))))
+
+pub merge-requires-clause-board : goal.merge-requires-clause-board
+merge-requires-clause-board g c = ap (λ s. s.seat.table_id) c.into_seat.ensures ∙ (c.args.parts.driver.here ∙ ap (λ t. t.table.shared.table_id) (c.requires.parts.driver ∙ sym (c.deref.ensures ∙ c.into_parts-board.ensures.0)))
+
+pub merge-requires-clause-rests : goal.merge-requires-clause-rests
+merge-requires-clause-rests g c = ap (λ w. w.running) (c.new-all.ensures.view ∙ ap view c.into_parts-board.ensures.1) ∙ c.args.parts.control.bare.running
+
+pub merge-requires-clause-joins : goal.merge-requires-clause-joins
+merge-requires-clause-joins g c = ap (λ s. (view s).running) c.into_seat.ensures ∙ c.args.parts.driver.bare.running
+
+pub gather_groups-members-requires-send-J : goal.gather_groups-members-requires-send-J
+gather_groups-members-requires-send-J g c κs within = c.type_bounds.send-J
+
+pub gather_groups-members-requires-send-J-Receipt : goal.gather_groups-members-requires-send-J-Receipt
+gather_groups-members-requires-send-J-Receipt g c κs within = c.type_bounds.send-J-Receipt
+
+pub end_each-requires-send-J : goal.end_each-requires-send-J
+end_each-requires-send-J g c κs within = c.type_bounds.send-J
+
+pub end_each-requires-send-J-Receipt : goal.end_each-requires-send-J-Receipt
+end_each-requires-send-J-Receipt g c κs within = c.type_bounds.send-J-Receipt
+
+pub load_last-reports-requires-clause-at : goal.load_last-reports-requires-clause-at
+load_last-reports-requires-clause-at g c = c.end_each.ensures.at ∙ ap (λ t. t.table.shared.table_id) (sym c.deref-3.ensures)
+
+pub load_last-reports-requires-clause-none : goal.load_last-reports-requires-clause-none
+load_last-reports-requires-clause-none g c = c.requires.room.no_reports

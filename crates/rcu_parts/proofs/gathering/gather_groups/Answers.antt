@@ -63,3 +63,24 @@ returns-clause-view g c = let i = c.loop-group.invariant in let e : c.loop-group
 
 pub returns-clause-members : goal.returns-clause-members
 returns-clause-members g c = let i = c.loop-group.invariant in let e : c.loop-group.yielded ≡ c.args.groups.items = all_passed _ _ _ i.all (let o = c.loop-group.group-iterator.rest.ok.0 in let n = c.in-None.ensures.steps.0 in omega (arith, o, n)) in i.members ∙ ap members_in e
+
+pub into_iter-group-iterator-requires-room-T-Destruct : goal.into_iter-group-iterator-requires-room-T-Destruct
+into_iter-group-iterator-requires-room-T-Destruct g c κs within = assumption
+
+pub next-requires-room-T-Destruct : goal.next-requires-room-T-Destruct
+next-requires-room-T-Destruct g c κs within = assumption
+
+pub gather_group-requires-send-J : goal.gather_group-requires-send-J
+gather_group-requires-send-J g c κs within = c.type_bounds.send-J
+
+pub gather_group-requires-send-J-Receipt : goal.gather_group-requires-send-J-Receipt
+gather_group-requires-send-J-Receipt g c κs within = c.type_bounds.send-J-Receipt
+
+pub drop-group-iterator-requires-room-T-Destruct : goal.drop-group-iterator-requires-room-T-Destruct
+drop-group-iterator-requires-room-T-Destruct g c κs within = assumption
+
+pub returns-clause-same : goal.returns-clause-same
+returns-clause-same g c = c.loop-group.invariant.same
+
+pub returns-clause-rests : goal.returns-clause-rests
+returns-clause-rests g c = c.loop-group.invariant.rests

@@ -144,3 +144,30 @@ returns-in_err-folks g c = let e = c.from_residual-in_err-folks.ensures in recor
 
 pub returns-in_err-groups : goal.returns-in_err-groups
 returns-in_err-groups g c = let e = c.from_residual-in_err-groups.ensures in record { opened = if_ok_never _ _ e; one = if_ok_never _ _ e; sound = if_ok_never _ _ e }
+
+pub open_processors-requires-send-J : goal.open_processors-requires-send-J
+open_processors-requires-send-J g c κs within = c.type_bounds.send-J
+
+pub open_processors-requires-send-J-Receipt : goal.open_processors-requires-send-J-Receipt
+open_processors-requires-send-J-Receipt g c κs within = c.type_bounds.send-J-Receipt
+
+pub open_hands-requires-send-J : goal.open_hands-requires-send-J
+open_hands-requires-send-J g c κs within = c.type_bounds.send-J
+
+pub open_hands-requires-send-J-Receipt : goal.open_hands-requires-send-J-Receipt
+open_hands-requires-send-J-Receipt g c κs within = c.type_bounds.send-J-Receipt
+
+pub drop-processors-requires-in_err-folks-room-T-Destruct : goal.drop-processors-requires-in_err-folks-room-T-Destruct
+drop-processors-requires-in_err-folks-room-T-Destruct g c κs within = assumption
+
+pub open_groups-requires-send-J : goal.open_groups-requires-send-J
+open_groups-requires-send-J g c κs within = c.type_bounds.send-J
+
+pub open_groups-requires-send-J-Receipt : goal.open_groups-requires-send-J-Receipt
+open_groups-requires-send-J-Receipt g c κs within = c.type_bounds.send-J-Receipt
+
+pub drop-hands-requires-in_err-groups-room-T-Destruct : goal.drop-hands-requires-in_err-groups-room-T-Destruct
+drop-hands-requires-in_err-groups-room-T-Destruct g c κs within = assumption
+
+pub drop-processors-requires-in_err-groups-room-T-Destruct : goal.drop-processors-requires-in_err-groups-room-T-Destruct
+drop-processors-requires-in_err-groups-room-T-Destruct g c κs within = assumption

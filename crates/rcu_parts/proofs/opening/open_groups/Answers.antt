@@ -120,3 +120,36 @@ returns-in_err-members g c = let e = c.from_residual-in_err-members.ensures in r
 
 pub returns-in_err-push : goal.returns-in_err-push
 returns-in_err-push g c = let e = c.from_residual-in_err-push.ensures in record { groups = if_ok_never _ _ e; members = if_ok_never _ _ e }
+
+pub unreachable-unreachable : goal.unreachable-unreachable
+unreachable-unreachable g c = c.unreachable.result
+
+pub drop-groups-requires-room-T-Destruct : goal.drop-groups-requires-room-T-Destruct
+drop-groups-requires-room-T-Destruct g c κs within = assumption
+
+pub drop-folks-requires-room-T-Destruct : goal.drop-folks-requires-room-T-Destruct
+drop-folks-requires-room-T-Destruct g c κs within = assumption
+
+pub drop-groups-requires-in_err-members-room-T-Destruct : goal.drop-groups-requires-in_err-members-room-T-Destruct
+drop-groups-requires-in_err-members-room-T-Destruct g c κs within = assumption
+
+pub drop-folks-requires-in_err-members-room-T-Destruct : goal.drop-folks-requires-in_err-members-room-T-Destruct
+drop-folks-requires-in_err-members-room-T-Destruct g c κs within = assumption
+
+pub new-requires-send-J : goal.new-requires-send-J
+new-requires-send-J g c κs within = c.type_bounds.send-J
+
+pub new-requires-send-J-Receipt : goal.new-requires-send-J-Receipt
+new-requires-send-J-Receipt g c κs within = c.type_bounds.send-J-Receipt
+
+pub from_residual-requires-in_err-push-room-F-From : goal.from_residual-requires-in_err-push-room-F-From
+from_residual-requires-in_err-push-room-F-From g c κs within = assumption
+
+pub drop-groups-requires-in_err-push-room-T-Destruct : goal.drop-groups-requires-in_err-push-room-T-Destruct
+drop-groups-requires-in_err-push-room-T-Destruct g c κs within = assumption
+
+pub drop-folks-requires-in_err-push-room-T-Destruct : goal.drop-folks-requires-in_err-push-room-T-Destruct
+drop-folks-requires-in_err-push-room-T-Destruct g c κs within = assumption
+
+pub drop-folks-requires-2-room-T-Destruct : goal.drop-folks-requires-2-room-T-Destruct
+drop-folks-requires-2-room-T-Destruct g c κs within = assumption

@@ -24,6 +24,8 @@ use Rattle.rcu_parts.proofs.Making.{hands_more, made_more}
 use Rattle.rcu_parts.proofs.Zips.{all_of, seat_and_rest, seats_over}
 use Rattle.rcu_parts.proofs.opening.open_hands.Given.{Over}
 use Rattle.rcu_lists.proofs.Outcomes.{if_ok_never}
+use Rattle.rcu_parts.proofs.Passing.{never_popped}
+use Rattle.rcu_holdings.proofs.Sizes.{in_places}
 use Rattle.rcu_parts.proofs.opening.open_hands.Goals as goal
 
 hand_fits : (g : Over) (c : goal.After-into_iter-seat-iterator g) → FitsInMemory (hand.the_row (param 0 g.row.J) (param 1 g.row.J-Receipt))
@@ -114,3 +116,93 @@ returns-in_err-push_back g c = let e = c.from_residual-in_err-push_back.ensures 
 
 pub returns-in_err-push : goal.returns-in_err-push
 returns-in_err-push g c = let e = c.from_residual-in_err-push.ensures in record { cpus = if_ok_never _ _ e; fronts = if_ok_never _ _ e; empty = if_ok_never _ _ e; hands = if_ok_never _ _ e; lanes = if_ok_never _ _ e }
+
+pub unreachable-unreachable : goal.unreachable-unreachable
+unreachable-unreachable g c = c.unreachable.result
+
+pub unreachable-requires-in_default-pop_front : goal.unreachable-requires-in_default-pop_front
+unreachable-requires-in_default-pop_front g c = let t = c.in_default-pop_front.ensures in never_popped _ _ _ t.items t.rest (c.loop-seat.invariant.many ∙ ap (λ (l : List Seat). length l) c.in-Some.ensures.steps.0)
+
+pub unreachable-unreachable-in_default-pop_front : goal.unreachable-unreachable-in_default-pop_front
+unreachable-unreachable-in_default-pop_front g c = c.unreachable-in_default-pop_front.result
+
+pub open_hand-requires-send-J : goal.open_hand-requires-send-J
+open_hand-requires-send-J g c κs within = c.type_bounds.send-J
+
+pub open_hand-requires-send-J-Receipt : goal.open_hand-requires-send-J-Receipt
+open_hand-requires-send-J-Receipt g c κs within = c.type_bounds.send-J-Receipt
+
+pub drop-hands-requires-room-T-Destruct : goal.drop-hands-requires-room-T-Destruct
+drop-hands-requires-room-T-Destruct g c κs within = assumption
+
+pub drop-folks-requires-room-T-Destruct : goal.drop-folks-requires-room-T-Destruct
+drop-folks-requires-room-T-Destruct g c κs within = assumption
+
+pub drop-fronts-requires-room-T-Destruct : goal.drop-fronts-requires-room-T-Destruct
+drop-fronts-requires-room-T-Destruct g c κs within = assumption
+
+pub drop-fronts-requires-room-T-Destruct-2 : goal.drop-fronts-requires-room-T-Destruct-2
+drop-fronts-requires-room-T-Destruct-2 g c κs within = assumption
+
+pub from_residual-requires-in_err-push_back-room-F-From : goal.from_residual-requires-in_err-push_back-room-F-From
+from_residual-requires-in_err-push_back-room-F-From g c κs within = assumption
+
+pub drop-hand-requires-in_err-push_back-3-room-T-Destruct : goal.drop-hand-requires-in_err-push_back-3-room-T-Destruct
+drop-hand-requires-in_err-push_back-3-room-T-Destruct g c κs within = assumption
+
+pub drop-hand-requires-in_err-push_back-3-room-T-Destruct-2 : goal.drop-hand-requires-in_err-push_back-3-room-T-Destruct-2
+drop-hand-requires-in_err-push_back-3-room-T-Destruct-2 g c κs within = assumption
+
+pub drop-hand-requires-in_err-push_back-3-room-T-Destruct-3 : goal.drop-hand-requires-in_err-push_back-3-room-T-Destruct-3
+drop-hand-requires-in_err-push_back-3-room-T-Destruct-3 g c κs within = assumption
+
+pub drop-hand-requires-in_err-push_back-4-room-S-Destruct : goal.drop-hand-requires-in_err-push_back-4-room-S-Destruct
+drop-hand-requires-in_err-push_back-4-room-S-Destruct g c κs within = assumption
+
+pub drop-hand-requires-in_err-push_back-4-room-V-Destruct : goal.drop-hand-requires-in_err-push_back-4-room-V-Destruct
+drop-hand-requires-in_err-push_back-4-room-V-Destruct g c κs within = assumption
+
+pub drop-hand-requires-in_err-push_back-4-room-V-Destruct-2 : goal.drop-hand-requires-in_err-push_back-4-room-V-Destruct-2
+drop-hand-requires-in_err-push_back-4-room-V-Destruct-2 g c κs within = assumption
+
+pub array_drop-hand-requires : goal.array_drop-hand-requires
+array_drop-hand-requires g c = let fits : FitsInMemory (batch.the_row (param 0 g.row.J)) = assumption in in_places _ _ _ _ _ _ _ _ _ _ _ _ _ _ _ _ _ _ fits
+
+pub drop-hands-requires-in_err-push_back-room-T-Destruct : goal.drop-hands-requires-in_err-push_back-room-T-Destruct
+drop-hands-requires-in_err-push_back-room-T-Destruct g c κs within = assumption
+
+pub drop-folks-requires-in_err-push_back-room-T-Destruct : goal.drop-folks-requires-in_err-push_back-room-T-Destruct
+drop-folks-requires-in_err-push_back-room-T-Destruct g c κs within = assumption
+
+pub drop-fronts-requires-in_err-push_back-room-T-Destruct : goal.drop-fronts-requires-in_err-push_back-room-T-Destruct
+drop-fronts-requires-in_err-push_back-room-T-Destruct g c κs within = assumption
+
+pub drop-fronts-requires-in_err-push_back-room-T-Destruct-2 : goal.drop-fronts-requires-in_err-push_back-room-T-Destruct-2
+drop-fronts-requires-in_err-push_back-room-T-Destruct-2 g c κs within = assumption
+
+pub from_residual-requires-in_err-push-room-F-From : goal.from_residual-requires-in_err-push-room-F-From
+from_residual-requires-in_err-push-room-F-From g c κs within = assumption
+
+pub drop-hands-requires-in_err-push-room-T-Destruct : goal.drop-hands-requires-in_err-push-room-T-Destruct
+drop-hands-requires-in_err-push-room-T-Destruct g c κs within = assumption
+
+pub drop-folks-requires-in_err-push-room-T-Destruct : goal.drop-folks-requires-in_err-push-room-T-Destruct
+drop-folks-requires-in_err-push-room-T-Destruct g c κs within = assumption
+
+pub drop-fronts-requires-in_err-push-room-T-Destruct : goal.drop-fronts-requires-in_err-push-room-T-Destruct
+drop-fronts-requires-in_err-push-room-T-Destruct g c κs within = assumption
+
+pub drop-fronts-requires-in_err-push-room-T-Destruct-2 : goal.drop-fronts-requires-in_err-push-room-T-Destruct-2
+drop-fronts-requires-in_err-push-room-T-Destruct-2 g c κs within = assumption
+
+pub drop-fronts-requires-2-room-T-Destruct : goal.drop-fronts-requires-2-room-T-Destruct
+drop-fronts-requires-2-room-T-Destruct g c κs within = assumption
+
+pub drop-fronts-requires-2-room-T-Destruct-2 : goal.drop-fronts-requires-2-room-T-Destruct-2
+drop-fronts-requires-2-room-T-Destruct-2 g c κs within = assumption
+
+pub returns-clause-empty : goal.returns-clause-empty
+returns-clause-empty g c = c.loop-seat.invariant.empty
+
+pub returns-clause-lanes : goal.returns-clause-lanes
+returns-clause-lanes g c = c.loop-seat.invariant.lanes

@@ -4,7 +4,7 @@ use Rattle.std.specs.Mem.{FitsInMemory}
 use denote.Param.{param}
 use Rattle.rcu_board.specs.Opened.{IsNewProcessor, is_offloadable}
 use Rattle.rcu_board.specs.declared.board.Board.{Board}
-use Rattle.rcu_holdings.proofs.Sizes.{in_struct}
+use Rattle.rcu_holdings.proofs.Sizes.{in_places, in_struct}
 use Rattle.rcu_holdings.specs.contracts.caller.Caller as caller
 use Rattle.rcu_lists.specs.contracts.batch.Batch as batch
 use Rattle.rcu_part_processor.specs.contracts.processor.Processor as row
@@ -54,3 +54,39 @@ returns-in_err-lists g c = let e = c.from_residual.ensures in record { processor
 
 pub returns-in_err-own : goal.returns-in_err-own
 returns-in_err-own g c = let e = c.from_residual-in_err-own.ensures in record { processor = if_ok_never _ _ e; lane = if_ok_never _ _ e }
+
+pub drop-front-requires-room-T-Destruct : goal.drop-front-requires-room-T-Destruct
+drop-front-requires-room-T-Destruct g c κs within = assumption
+
+pub drop-front-requires-room-T-Destruct-2 : goal.drop-front-requires-room-T-Destruct-2
+drop-front-requires-room-T-Destruct-2 g c κs within = assumption
+
+pub drop-front-requires-room-T-Destruct-3 : goal.drop-front-requires-room-T-Destruct-3
+drop-front-requires-room-T-Destruct-3 g c κs within = assumption
+
+pub drop-front-requires-in_err-own-room-S-Destruct : goal.drop-front-requires-in_err-own-room-S-Destruct
+drop-front-requires-in_err-own-room-S-Destruct g c κs within = assumption
+
+pub drop-front-requires-in_err-own-room-V-Destruct : goal.drop-front-requires-in_err-own-room-V-Destruct
+drop-front-requires-in_err-own-room-V-Destruct g c κs within = assumption
+
+pub drop-front-requires-in_err-own-room-V-Destruct-2 : goal.drop-front-requires-in_err-own-room-V-Destruct-2
+drop-front-requires-in_err-own-room-V-Destruct-2 g c κs within = assumption
+
+pub drop-lists-requires-room-P-Protocol : goal.drop-lists-requires-room-P-Protocol
+drop-lists-requires-room-P-Protocol g c κs within = assumption
+
+pub drop-lists-requires-room-T-Destruct : goal.drop-lists-requires-room-T-Destruct
+drop-lists-requires-room-T-Destruct g c κs within = assumption
+
+pub drop-lists-requires-room-V-Destruct : goal.drop-lists-requires-room-V-Destruct
+drop-lists-requires-room-V-Destruct g c κs within = assumption
+
+pub array_drop-lists-requires : goal.array_drop-lists-requires
+array_drop-lists-requires g c = let fits : FitsInMemory (batch.the_row (param 0 g.row.J)) = assumption in in_places _ _ _ _ _ _ _ _ _ _ _ _ _ _ _ _ _ _ fits
+
+pub new-processor-requires-send-J : goal.new-processor-requires-send-J
+new-processor-requires-send-J g c κs within = c.type_bounds.send-J
+
+pub new-processor-requires-send-J-Receipt : goal.new-processor-requires-send-J-Receipt
+new-processor-requires-send-J-Receipt g c κs within = c.type_bounds.send-J-Receipt

@@ -11,6 +11,8 @@ use Rattle.rcu_parts.proofs.Making.{fronts_more, fronts_same, processors_more}
 use Rattle.rcu_parts.proofs.Zips.{seat_taken}
 use Rattle.rcu_parts.proofs.opening.open_processors.Given.{Over}
 use Rattle.rcu_lists.proofs.Outcomes.{if_ok_never}
+use Rattle.rcu_parts.proofs.Passing.{all_there, below}
+use Rattle.std.specs.List.{AllZip, range_with_len}
 use Rattle.rcu_parts.proofs.opening.open_processors.Goals as goal
 
 fits : (g : Over) (c : goal.After-into_iter-seat-iterator g) → FitsInMemory (row.the_row (param 0 g.row.J) (param 1 g.row.J-Receipt))
@@ -66,3 +68,93 @@ returns-in_err-push g c = let e = c.from_residual-in_err-push.ensures in record 
 
 pub returns-in_err-push_back : goal.returns-in_err-push_back
 returns-in_err-push_back g c = let e = c.from_residual-in_err-push_back.ensures in record { processors = if_ok_never _ _ e; fronts = if_ok_never _ _ e }
+
+pub open_processor-requires-send-J : goal.open_processor-requires-send-J
+open_processor-requires-send-J g c κs within = c.type_bounds.send-J
+
+pub open_processor-requires-send-J-Receipt : goal.open_processor-requires-send-J-Receipt
+open_processor-requires-send-J-Receipt g c κs within = c.type_bounds.send-J-Receipt
+
+pub drop-fronts-requires-room-T-Destruct : goal.drop-fronts-requires-room-T-Destruct
+drop-fronts-requires-room-T-Destruct g c κs within = assumption
+
+pub drop-fronts-requires-room-T-Destruct-2 : goal.drop-fronts-requires-room-T-Destruct-2
+drop-fronts-requires-room-T-Destruct-2 g c κs within = assumption
+
+pub drop-processors-requires-room-T-Destruct : goal.drop-processors-requires-room-T-Destruct
+drop-processors-requires-room-T-Destruct g c κs within = assumption
+
+pub from_residual-requires-in_err-push-room-F-From : goal.from_residual-requires-in_err-push-room-F-From
+from_residual-requires-in_err-push-room-F-From g c κs within = assumption
+
+pub drop-front-requires-room-T-Destruct : goal.drop-front-requires-room-T-Destruct
+drop-front-requires-room-T-Destruct g c κs within = assumption
+
+pub drop-front-requires-room-T-Destruct-2 : goal.drop-front-requires-room-T-Destruct-2
+drop-front-requires-room-T-Destruct-2 g c κs within = assumption
+
+pub drop-front-requires-room-T-Destruct-3 : goal.drop-front-requires-room-T-Destruct-3
+drop-front-requires-room-T-Destruct-3 g c κs within = assumption
+
+pub drop-front-requires-in_err-push-room-S-Destruct : goal.drop-front-requires-in_err-push-room-S-Destruct
+drop-front-requires-in_err-push-room-S-Destruct g c κs within = assumption
+
+pub drop-front-requires-in_err-push-room-V-Destruct : goal.drop-front-requires-in_err-push-room-V-Destruct
+drop-front-requires-in_err-push-room-V-Destruct g c κs within = assumption
+
+pub drop-front-requires-in_err-push-room-V-Destruct-2 : goal.drop-front-requires-in_err-push-room-V-Destruct-2
+drop-front-requires-in_err-push-room-V-Destruct-2 g c κs within = assumption
+
+pub drop-fronts-requires-in_err-push-room-T-Destruct : goal.drop-fronts-requires-in_err-push-room-T-Destruct
+drop-fronts-requires-in_err-push-room-T-Destruct g c κs within = assumption
+
+pub drop-fronts-requires-in_err-push-room-T-Destruct-2 : goal.drop-fronts-requires-in_err-push-room-T-Destruct-2
+drop-fronts-requires-in_err-push-room-T-Destruct-2 g c κs within = assumption
+
+pub drop-processors-requires-in_err-push-room-T-Destruct : goal.drop-processors-requires-in_err-push-room-T-Destruct
+drop-processors-requires-in_err-push-room-T-Destruct g c κs within = assumption
+
+pub is_offloadable-requires : goal.is_offloadable-requires
+is_offloadable-requires g c = let i = c.loop-seat.invariant in let b = arc_value c.args.board.now in let ok = c.loop-seat.processors.ok.0 in let r = c.len-cpu.ensures in let ps = c.loop-seat.processors.items in
+    let same : c.len-cpu.result ≡ length ps = omega (arith, ok, r) in
+    below _ _ _ (seat_taken (IsNewProcessor b) (length ps) b.processors c.len-cpu.result c.loop-seat.seat-iterator.rest.items c.in-Some.seat c.next.new.self.rest.items i.seats i.many same c.in-Some.ensures.steps.0).1 b.few
+
+pub drop-front-requires-then-not-is_offloadable-room-T-Destruct : goal.drop-front-requires-then-not-is_offloadable-room-T-Destruct
+drop-front-requires-then-not-is_offloadable-room-T-Destruct g c κs within = assumption
+
+pub drop-front-requires-then-not-is_offloadable-room-T-Destruct-2 : goal.drop-front-requires-then-not-is_offloadable-room-T-Destruct-2
+drop-front-requires-then-not-is_offloadable-room-T-Destruct-2 g c κs within = assumption
+
+pub drop-front-requires-then-not-is_offloadable-room-T-Destruct-3 : goal.drop-front-requires-then-not-is_offloadable-room-T-Destruct-3
+drop-front-requires-then-not-is_offloadable-room-T-Destruct-3 g c κs within = assumption
+
+pub drop-front-requires-then-not-is_offloadable-2-room-S-Destruct : goal.drop-front-requires-then-not-is_offloadable-2-room-S-Destruct
+drop-front-requires-then-not-is_offloadable-2-room-S-Destruct g c κs within = assumption
+
+pub drop-front-requires-then-not-is_offloadable-2-room-V-Destruct : goal.drop-front-requires-then-not-is_offloadable-2-room-V-Destruct
+drop-front-requires-then-not-is_offloadable-2-room-V-Destruct g c κs within = assumption
+
+pub drop-front-requires-then-not-is_offloadable-2-room-V-Destruct-2 : goal.drop-front-requires-then-not-is_offloadable-2-room-V-Destruct-2
+drop-front-requires-then-not-is_offloadable-2-room-V-Destruct-2 g c κs within = assumption
+
+pub from_residual-requires-in_err-push_back-room-F-From : goal.from_residual-requires-in_err-push_back-room-F-From
+from_residual-requires-in_err-push_back-room-F-From g c κs within = assumption
+
+pub from_residual-requires-in_err-push_back-room-F-From-2 : goal.from_residual-requires-in_err-push_back-room-F-From-2
+from_residual-requires-in_err-push_back-room-F-From-2 g c κs within = assumption
+
+pub drop-fronts-requires-in_err-push_back-room-T-Destruct : goal.drop-fronts-requires-in_err-push_back-room-T-Destruct
+drop-fronts-requires-in_err-push_back-room-T-Destruct g c κs within = assumption
+
+pub drop-fronts-requires-in_err-push_back-room-T-Destruct-2 : goal.drop-fronts-requires-in_err-push_back-room-T-Destruct-2
+drop-fronts-requires-in_err-push_back-room-T-Destruct-2 g c κs within = assumption
+
+pub drop-processors-requires-in_err-push_back-room-T-Destruct : goal.drop-processors-requires-in_err-push_back-room-T-Destruct
+drop-processors-requires-in_err-push_back-room-T-Destruct g c κs within = assumption
+
+pub returns-clause-processors : goal.returns-clause-processors
+returns-clause-processors g c = let i = c.loop-seat.invariant in let b = arc_value c.args.board.now in let ps = c.loop-seat.processors.items in
+    subst (λ (n : ℕ). AllZip (IsFirstProcessor c.args.shape.now b) (range_with_len 0 n) ps) (all_there _ _ _ _ i.many c.in-None.ensures.steps.0 c.loop-seat.seat-iterator.rest.ok.0) i.processors
+
+pub returns-clause-fronts : goal.returns-clause-fronts
+returns-clause-fronts g c = c.loop-seat.invariant.fronts

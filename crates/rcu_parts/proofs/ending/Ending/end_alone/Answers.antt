@@ -72,3 +72,15 @@ keep-requires-clause-ran g c κs within = subst (λ x. vec_len x.ran < vec_capac
 
 pub keep-requires-clause-back : goal.keep-requires-clause-back
 keep-requires-clause-back g c κs within = subst (λ x. vec_len x.back < vec_capacity x.back) (sym (c.take_in.ensures.others)) c.requires.may.back
+
+pub into_state-seat-requires-send-J : goal.into_state-seat-requires-send-J
+into_state-seat-requires-send-J g c κs within = c.type_bounds.send-J
+
+pub into_state-seat-requires-send-J-Receipt : goal.into_state-seat-requires-send-J-Receipt
+into_state-seat-requires-send-J-Receipt g c κs within = c.type_bounds.send-J-Receipt
+
+pub end_local-requires-send-J : goal.end_local-requires-send-J
+end_local-requires-send-J g c κs within = c.type_bounds.send-J
+
+pub end_local-requires-send-J-Receipt : goal.end_local-requires-send-J-Receipt
+end_local-requires-send-J-Receipt g c κs within = c.type_bounds.send-J-Receipt

@@ -37,3 +37,21 @@ returns-clause-at g c = c.loop-processor.invariant.ready.at
 pub returns-clause-ends : goal.returns-clause-ends
 returns-clause-ends g c = all_ended g.J.Job.key_of g.J.Job.gives c.args.processors.items c.args.hands.items _ _ _ _ c.args.self.now c.loop-processor.self c.loop-processor.invariant
     (nil_from_length _ (let o = c.loop-processor.processor-iterator.rest.ok.0 in let n = c.in-None.ensures.steps.0 in omega (arith, o, n)))
+
+pub into_iter-processor-iterator-requires-room-T-Destruct : goal.into_iter-processor-iterator-requires-room-T-Destruct
+into_iter-processor-iterator-requires-room-T-Destruct g c κs within = assumption
+
+pub end_one-requires-send-J : goal.end_one-requires-send-J
+end_one-requires-send-J g c κs within = c.type_bounds.send-J
+
+pub end_one-requires-send-J-Receipt : goal.end_one-requires-send-J-Receipt
+end_one-requires-send-J-Receipt g c κs within = c.type_bounds.send-J-Receipt
+
+pub drop-processor-iterator-requires-room-T-Destruct : goal.drop-processor-iterator-requires-room-T-Destruct
+drop-processor-iterator-requires-room-T-Destruct g c κs within = assumption
+
+pub drop-hands-requires-room-T-Destruct : goal.drop-hands-requires-room-T-Destruct
+drop-hands-requires-room-T-Destruct g c κs within = assumption
+
+pub drop-members-requires-room-T-Destruct : goal.drop-members-requires-room-T-Destruct
+drop-members-requires-room-T-Destruct g c κs within = assumption

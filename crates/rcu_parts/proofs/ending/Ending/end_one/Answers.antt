@@ -1,12 +1,14 @@
-use Rattle.std.proofs.Common.{◌≡◌, ◌∙◌, None, sym}
+use Rattle.std.proofs.Common.{◌≡◌, ◌∙◌, Option, None, sym, subst}
 use Rattle.std.specs.Mem.{FitsInMemory}
 use denote.Param.{param}
-use Rattle.rcu_parts.specs.Ending.{board_at}
+use Rattle.rcu_gathering.specs.Parts.{HandPart}
+use Rattle.rcu_parts.specs.AtClose.{cpu_part}
+use Rattle.rcu_parts.specs.Ending.{EndsOne, board_at}
 use Rattle.rcu_part_hand.specs.Hands.{IsSoundHand, hand_board}
 use Rattle.rcu_part_group.specs.contracts.folk.Folk as folk_row
 use Rattle.rcu_part_hand.specs.contracts.hand.Hand as hand_row
 use Rattle.rcu_part_processor.specs.contracts.processor.Processor as row
-use Rattle.rcu_parts.proofs.OneByOne.{first_board, first_has_hand, first_member, first_of_hands, first_room, first_sound, may_end, none_for, one_for, ready_alone, ready_with}
+use Rattle.rcu_parts.proofs.OneByOne.{first_board, first_has_hand, first_member, first_of_hands, first_room, first_sound, may_end, none_for, one_for, others_are, ready_alone, ready_with, same_after, some_hand, some_member, some_room}
 use Rattle.rcu_parts.proofs.ending.Ending.end_one.Goals as goal
 
 pub end_alone-requires-after_bounds : goal.end_alone-requires-after_bounds
@@ -84,3 +86,44 @@ returns-clause-ready g c k rest i =
 
 pub is_offloadable-requires : goal.is_offloadable-requires
 is_offloadable-requires g c = assumption
+
+pub take_first-room-requires : goal.take_first-room-requires
+take_first-room-requires g c = let r = c.requires.ready in some_room g.J.Job.key_of g.J.Job.gives r.0 c.args.processor r.1 _ _ _ c.args.self.now r.2
+
+pub end_alone-requires-send-J : goal.end_alone-requires-send-J
+end_alone-requires-send-J g c κs within = c.type_bounds.send-J
+
+pub end_alone-requires-send-J-Receipt : goal.end_alone-requires-send-J-Receipt
+end_alone-requires-send-J-Receipt g c κs within = c.type_bounds.send-J-Receipt
+
+pub returns-then-not-is_offloadable-clause-board : goal.returns-then-not-is_offloadable-clause-board
+returns-then-not-is_offloadable-clause-board g c = c.end_alone.ensures.goes_on.board
+
+pub returns-then-not-is_offloadable-clause-hands : goal.returns-then-not-is_offloadable-clause-hands
+returns-then-not-is_offloadable-clause-hands g c = same_after c.args.processor _ (sym c.is_offloadable.ensures ∙ c.if-not-is_offloadable.true)
+
+pub returns-then-not-is_offloadable-clause-ends : goal.returns-then-not-is_offloadable-clause-ends
+returns-then-not-is_offloadable-clause-ends g c = let p = c.args.processor in subst (λ (h : Option (HandPart g.row.J.Denot g.row.J-Receipt.Denot)). EndsOne g.J.Job.key_of g.J.Job.gives (cpu_part p h) c.args.self.now c.end_alone.new.self)
+    (sym (none_for p c.args.hands.now.items (sym c.is_offloadable.ensures ∙ c.if-not-is_offloadable.true))) c.end_alone.ensures.ends
+
+pub take_first-member-requires : goal.take_first-member-requires
+take_first-member-requires g c = let r = c.requires.ready in some_member g.J.Job.key_of g.J.Job.gives r.0 c.args.processor r.1 _ _ _ c.args.self.now r.2 (sym c.is_offloadable.ensures ∙ c.if-not-is_offloadable.false)
+
+pub take_first-hand-requires : goal.take_first-hand-requires
+take_first-hand-requires g c = let r = c.requires.ready in some_hand g.J.Job.key_of g.J.Job.gives r.0 c.args.processor r.1 _ _ _ _ _ c.args.self.now r.2 c.take_first-member.ensures
+
+pub end_with_hand-requires-send-J : goal.end_with_hand-requires-send-J
+end_with_hand-requires-send-J g c κs within = c.type_bounds.send-J
+
+pub end_with_hand-requires-send-J-Receipt : goal.end_with_hand-requires-send-J-Receipt
+end_with_hand-requires-send-J-Receipt g c κs within = c.type_bounds.send-J-Receipt
+
+pub returns-clause-board : goal.returns-clause-board
+returns-clause-board g c = c.end_with_hand.ensures.goes_on.board
+
+pub returns-clause-hands : goal.returns-clause-hands
+returns-clause-hands g c = others_are c.args.processor c.take_first-hand.result _ _ (sym c.is_offloadable.ensures ∙ c.if-not-is_offloadable.false) c.take_first-hand.ensures
+
+pub returns-clause-ends : goal.returns-clause-ends
+returns-clause-ends g c = let p = c.args.processor in subst (λ (h : Option (HandPart g.row.J.Denot g.row.J-Receipt.Denot)). EndsOne g.J.Job.key_of g.J.Job.gives (cpu_part p h) c.args.self.now c.end_with_hand.new.self)
+    (sym (one_for p c.take_first-hand.result c.args.hands.now.items _ (sym c.is_offloadable.ensures ∙ c.if-not-is_offloadable.false) c.take_first-hand.ensures)) c.end_with_hand.ensures.ends

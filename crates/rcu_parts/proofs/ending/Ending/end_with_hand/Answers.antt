@@ -18,7 +18,7 @@ use Rattle.rcu_part_processor.specs.Processors.{board_of}
 use Rattle.rcu_part_group.specs.contracts.folk.Folk as folk_row
 use Rattle.rcu_part_hand.specs.contracts.hand.Hand as hand_row
 use Rattle.rcu_part_processor.specs.contracts.processor.Processor as row
-use Rattle.rcu_parts.proofs.Resting.{both_long, rests_with}
+use Rattle.rcu_parts.proofs.Resting.{both_long, rests_with, still_rests}
 use Rattle.rcu_parts.proofs.ending.Ending.end_with_hand.Given.{Over}
 use Rattle.rcu_parts.proofs.ending.Ending.end_with_hand.Goals.{Start}
 use Rattle.rcu_board.specs.declared.board.Board.{Board}
@@ -112,3 +112,40 @@ keep-requires-clause-ran g c κs within = subst (λ x. vec_len x.ran < vec_capac
 
 pub keep-requires-clause-back : goal.keep-requires-clause-back
 keep-requires-clause-back g c κs within = subst (λ x. vec_len x.back < vec_capacity x.back) (sym c.take_in-2.ensures.others) (subst (λ x. vec_len x.back < vec_capacity x.back) (sym c.take_in.ensures.others) c.requires.may.back)
+
+pub into_state-seat-requires-send-J : goal.into_state-seat-requires-send-J
+into_state-seat-requires-send-J g c κs within = c.type_bounds.send-J
+
+pub into_state-seat-requires-send-J-Receipt : goal.into_state-seat-requires-send-J-Receipt
+into_state-seat-requires-send-J-Receipt g c κs within = c.type_bounds.send-J-Receipt
+
+pub into_state-hands_seat-requires-send-J : goal.into_state-hands_seat-requires-send-J
+into_state-hands_seat-requires-send-J g c κs within = c.type_bounds.send-J
+
+pub into_state-hands_seat-requires-send-J-Receipt : goal.into_state-hands_seat-requires-send-J-Receipt
+into_state-hands_seat-requires-send-J-Receipt g c κs within = c.type_bounds.send-J-Receipt
+
+pub take_in-requires-2-clause-at : goal.take_in-requires-2-clause-at
+take_in-requires-2-clause-at g c κs within = c.take_in.ensures.same ∙ (c.requires.may.at ∙ ap (λ b. b.table.shared.table_id) (sym (ap board_at c.take_in.ensures.others)))
+
+pub take_in-requires-2-clause-rests : goal.take_in-requires-2-clause-rests
+take_in-requires-2-clause-rests g c κs within = still_rests (all_view c.args.self.now) (view c.into_state-seat.result.seat) (all_view c.take_in.new.self) c.take_in.ensures.view c.requires.may.rests
+    (subst (λ s. (view s.seat).running ≡ []) (sym c.into_state-seat.ensures) c.args.processor.state.lawful.rests)
+
+pub end_offloadable-requires-send-J : goal.end_offloadable-requires-send-J
+end_offloadable-requires-send-J g c κs within = c.type_bounds.send-J
+
+pub end_offloadable-requires-send-J-Receipt : goal.end_offloadable-requires-send-J-Receipt
+end_offloadable-requires-send-J-Receipt g c κs within = c.type_bounds.send-J-Receipt
+
+pub returns-clause-goes_on : goal.returns-clause-goes_on
+returns-clause-goes_on g c = let k = c.keep.ensures in let t = c.take_in.ensures in let u = c.take_in-2.ensures in record {
+  board = ap board_at k.others ∙ (ap board_at u.others ∙ ap board_at t.others);
+  same = ap (λ e. e.all.seat.table_id) k.others ∙ (u.same ∙ t.same);
+  rests = ap (λ e. (all_view e).running) k.others ∙ still_rests (all_view c.take_in.new.self) (view c.into_state-hands_seat.result.seat) (all_view c.take_in-2.new.self) u.view
+      (still_rests (all_view c.args.self.now) (view c.into_state-seat.result.seat) (all_view c.take_in.new.self) t.view c.requires.may.rests
+      (subst (λ s. (view s.seat).running ≡ []) (sym c.into_state-seat.ensures) c.args.processor.state.lawful.rests))
+      (subst (λ s. (view s.seat).running ≡ []) (sym c.into_state-hands_seat.ensures) c.args.hand.state.lawful.rests);
+  ran = (k.for_ran.0 ∙ (ap (λ e. vec_len e.ran + 1) u.others ∙ ap (λ e. vec_len e.ran + 1) t.others), k.for_ran.1 ∙ (ap (λ e. vec_capacity e.ran) u.others ∙ ap (λ e. vec_capacity e.ran) t.others));
+  back = (k.for_back.0 ∙ (ap (λ e. vec_len e.back + 1) u.others ∙ ap (λ e. vec_len e.back + 1) t.others), k.for_back.1 ∙ (ap (λ e. vec_capacity e.back) u.others ∙ ap (λ e. vec_capacity e.back) t.others));
+}

@@ -1,4 +1,5 @@
 use Rattle.rcu_lists.proofs.Outcomes.{if_ok_never}
+use Rattle.rcu_parts.proofs.Passing.{room_of}
 use Rattle.rcu_parts.proofs.room.Room.find.Goals as goal
 
 pub returns-in_err-find_ends : goal.returns-in_err-find_ends
@@ -18,3 +19,16 @@ returns-in_err-with_capacity-4 g c = if_ok_never _ _ c.from_residual-in_err-with
 
 pub find_ends-requires : goal.find_ends-requires
 find_ends-requires g c = assumption
+
+pub returns : goal.returns
+returns g c = let n = c.args.processors.now.ok.0 in record {
+  ends = c.in_ok-find_ends.ensures;
+  no_member = c.in_ok-with_capacity-4.ensures.items;
+  members = room_of _ _ _ _ c.len.ensures c.args.hands.now.ok.0 c.in_ok-with_capacity-4.ensures.capacity;
+  no_ran = c.in_ok-with_capacity.ensures.items;
+  ran = room_of _ _ _ _ c.len-n.ensures n c.in_ok-with_capacity.ensures.capacity;
+  no_back = c.in_ok-with_capacity-2.ensures.items;
+  back = room_of _ _ _ _ c.len-n.ensures n c.in_ok-with_capacity-2.ensures.capacity;
+  no_reports = c.in_ok-with_capacity-3.ensures.items;
+  reports = room_of _ _ _ _ c.len-n.ensures n c.in_ok-with_capacity-3.ensures.capacity;
+}
