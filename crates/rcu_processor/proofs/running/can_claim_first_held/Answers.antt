@@ -1,4 +1,4 @@
-use Rattle.std.proofs.Common.{◌≡◌, ◌≤◌, ◌∙◌, ◌&&◌, ◌%◌, Bool, true, false, ap, refl, subst, sym}
+use Rattle.std.proofs.Common.{◌≡◌, ◌≤◌, ◌∙◌, ◌&&◌, ◌%◌, ap, subst, sym}
 use Rattle.std.specs.Prelude.{◌==◌}
 use Rattle.rcu_law.specs.Numbers.{GREATEST_NUMBER}
 use Rattle.rcu_law.specs.Steps.{can_claim_held, front}
