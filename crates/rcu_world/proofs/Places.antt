@@ -1,5 +1,5 @@
 -- A loop over the places of a list
-use Rattle.std.proofs.Common.{◌≡◌, ℕ, zero, suc, ◌+◌, ◌-◌, ◌<◌, ◌≤◌, ◌==◌, Bool, false, arith}
+use Rattle.std.proofs.Common.{◌≡◌, ℕ, zero, suc, ◌+◌, ◌-◌, ◌<◌, ◌≤◌, ◌==◌, false, arith}
 
 -- each step leaves one less
 pub steps_on : (i n : ℕ) → i < n → n - (i + 1) < n - i
@@ -31,6 +31,9 @@ none_added n = omega arith
 
 pub least_none : (n : ℕ) → n ≤ n + 0
 least_none n = omega arith
+
+pub least_of : (n : ℕ) → 0 ≤ n
+least_of n = omega arith
 
 pub as_much : (n : ℕ) → n ≤ n
 as_much n = omega arith

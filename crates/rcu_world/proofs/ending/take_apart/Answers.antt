@@ -15,6 +15,12 @@ remove-jobs-requires g c =
     let r = room_there g.J.Job.key_of c.loop-processors.processors.items c.loop-processors.rooms.items l c.loop-processors.invariant.rooms in
     omega (arith, c.loop-processors.rooms.ok.0)
 
+pub drain-requires-send-J : goal.drain-requires-send-J
+drain-requires-send-J g c κs within = c.type_bounds.send-J
+
+pub drain-requires-send-J-Receipt : goal.drain-requires-send-J-Receipt
+drain-requires-send-J-Receipt g c κs within = c.type_bounds.send-J-Receipt
+
 pub drain-requires-after_bounds : goal.drain-requires-after_bounds
 drain-requires-after_bounds g c κs within =
     let l : 0 < length c.loop-processors.processors.items = subst (λ n. 0 < n) c.loop-processors.processors.ok.0 (some_left _ (sym c.is_empty.ensures ∙ c.loop-processors-test.true)) in
@@ -50,6 +56,12 @@ returns-clause-back g c =
     let e = none_left c.loop-processors.processors.items n in
     sym (append-nil (map (λ v. map g.J.Job.key_of v.items) c.loop-processors.back.items))
     ∙ ap (λ ps. map (λ v. map g.J.Job.key_of v.items) c.loop-processors.back.items ++ map left_keys (all_seen g.J.Job.key_of ps)) (sym e) ∙ c.loop-processors.invariant.back
+
+pub into_records-requires-send-J : goal.into_records-requires-send-J
+into_records-requires-send-J g c κs within = c.type_bounds.send-J
+
+pub into_records-requires-send-J-Receipt : goal.into_records-requires-send-J-Receipt
+into_records-requires-send-J-Receipt g c κs within = c.type_bounds.send-J-Receipt
 
 pub into_records-requires-after_bounds : goal.into_records-requires-after_bounds
 into_records-requires-after_bounds g c κs within = assumption

@@ -32,3 +32,9 @@ is_member_of-member-requires g c = c.requires
 pub returns : goal.returns
 returns g c = sym (c.loop-i.invariant ∙ any_end g.J.Job.key_of c.args.offloadable.now.items c.args.stride c.args.group is_wanting c.loop-i.i c.args.processors.now.items
     (subst (λ n. n ≤ c.loop-i.i) (c.len-i-end.ensures ∙ c.args.processors.now.ok.0) c.loop-i-test.false))
+
+pub wants_as-requires-send-J : goal.wants_as-requires-send-J
+wants_as-requires-send-J g c κs within = c.type_bounds.send-J
+
+pub wants_as-requires-send-J-Receipt : goal.wants_as-requires-send-J-Receipt
+wants_as-requires-send-J-Receipt g c κs within = c.type_bounds.send-J-Receipt

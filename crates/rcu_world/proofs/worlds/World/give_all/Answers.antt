@@ -37,6 +37,12 @@ returns-clause-events g c = made_all (Gives c.args.group) c.loop-cpu.cpu _ _ _ 0
 pub loop-cpu-smaller : goal.loop-cpu-smaller
 loop-cpu-smaller g c = steps_on _ _ c.loop-cpu-test.true
 
+pub give-put-requires-send-J : goal.give-put-requires-send-J
+give-put-requires-send-J g c κs within = c.type_bounds.send-J
+
+pub give-put-requires-send-J-Receipt : goal.give-put-requires-send-J-Receipt
+give-put-requires-send-J-Receipt g c κs within = c.type_bounds.send-J-Receipt
+
 pub give-put-requires-after_bounds : goal.give-put-requires-after_bounds
 give-put-requires-after_bounds g c κs within =
     let w = c.args.self.now.core.processors in

@@ -28,6 +28,12 @@ returns-clause-events g c = leads_all shuts c.loop-cpu.cpu _ _ _ (omega (arith, 
 pub loop-cpu-init : goal.loop-cpu-init
 loop-cpu-init g c = record { leads = leads_none shuts _; len = refl; rest = c.requires.rest; kept = c.requires.world }
 
+pub attempt-requires-send-J : goal.attempt-requires-send-J
+attempt-requires-send-J g c κs within = c.type_bounds.send-J
+
+pub attempt-requires-send-J-Receipt : goal.attempt-requires-send-J-Receipt
+attempt-requires-send-J-Receipt g c κs within = c.type_bounds.send-J-Receipt
+
 pub attempt-requires-after_bounds : goal.attempt-requires-after_bounds
 attempt-requires-after_bounds g c κs within = (assumption, c.loop-cpu.invariant.kept)
 
@@ -42,6 +48,12 @@ returns-in_err-attempt-clause-rest g c = subst IsAtRest (sym c.in_err-attempt.en
 
 pub returns-in_err-attempt-clause-len : goal.returns-in_err-attempt-clause-len
 returns-in_err-attempt-clause-len g c = c.attempt.ensures.len ∙ c.loop-cpu.invariant.len
+
+pub counts-requires-send-J : goal.counts-requires-send-J
+counts-requires-send-J g c κs within = c.type_bounds.send-J
+
+pub counts-requires-send-J-Receipt : goal.counts-requires-send-J-Receipt
+counts-requires-send-J-Receipt g c κs within = c.type_bounds.send-J-Receipt
 
 pub counts-requires-after_bounds : goal.counts-requires-after_bounds
 counts-requires-after_bounds g c κs within = (assumption, c.loop-cpu.invariant.kept.fit.few)

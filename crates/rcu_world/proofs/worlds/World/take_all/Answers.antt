@@ -37,6 +37,12 @@ returns-clause-events g c = made_all (Takes c.args.group) c.loop-cpu.cpu _ _ _ c
 pub loop-cpu-smaller : goal.loop-cpu-smaller
 loop-cpu-smaller g c = steps_on _ _ c.loop-cpu-test.true
 
+pub take-drawn-requires-send-J : goal.take-drawn-requires-send-J
+take-drawn-requires-send-J g c κs within = c.type_bounds.send-J
+
+pub take-drawn-requires-send-J-Receipt : goal.take-drawn-requires-send-J-Receipt
+take-drawn-requires-send-J-Receipt g c κs within = c.type_bounds.send-J-Receipt
+
 pub take-drawn-requires-after_bounds : goal.take-drawn-requires-after_bounds
 take-drawn-requires-after_bounds g c κs within =
     let w = c.args.self.now.core.processors in
