@@ -28,3 +28,7 @@ given_done blimit c e = from_done c.out c.joined (min blimit (done_count c.joine
 
 pub given_out : (blimit : ℕ) (c : Cpu) → is_nil c.out ≡ false → length (given blimit c) ≡ length c.out
 given_out blimit c e = from_out c.out c.joined (min blimit (done_count c.joined)) e
+
+-- so many are taken, where r are done, which a count n of them says, and the most is the less of the two
+pub taken_count : (most n d r count len : ℕ) → n ≡ d → d ≡ r → count ≡ min most n → len ≡ min count d → len ≡ min most r
+taken_count most n d r count len e f h i = omega arith

@@ -1,8 +1,11 @@
 -- A claim, in the words of the law
-use Rattle.std.proofs.Common.{◌≡◌, ℕ, ◌+◌, ◌≤◌, true, false, List, [], ◌∷◌, ◌++◌, map, Some, refl, sym}
+use Rattle.std.proofs.Common.{◌≡◌, ◌∙◌, ℕ, ◌+◌, ◌*◌, ◌/◌, ◌%◌, ◌≤◌, ◌&&◌, Bool, true, false, List, [], ◌∷◌, ◌++◌, map, Some, refl, sym, ap, arith, inl, inr}
+use Rattle.std.specs.Prelude.{◌==◌, nat_le}
+use Rattle.std.proofs.lemmas.Bool.{and_parts, cases_eq, eq-eqb, eqb-true, ne_eqb}
 use Rattle.rcu_law.specs.Calls.{Call}
 use Rattle.rcu_law.specs.LabelledLists.{Labelled, call_of, done_count}
 use Rattle.rcu_law.specs.Lists.{is_nil, tail}
+use Rattle.rcu_law.specs.Numbers.{snap}
 use Rattle.rcu_law.specs.States.{Cpu, Run}
 use Rattle.rcu_law.specs.Steps.{can_claim, can_claim_held, claims, front}
 use Rattle.rcu_law.specs.declared.who.Side.TheVariants as sides
@@ -25,3 +28,24 @@ held_first sight turn (x ∷ xs) h = refl
 
 pub ready_held : (c : Cpu) → can_claim sides.Hand c ≡ true → is_nil c.held ≡ false
 ready_held c h = held_first c.hand_sight c.turn c.held h
+
+-- an even turn is the number's where its half is the number
+half_turn : (turn n : ℕ) → turn % 2 ≡ 0 → (turn / 2 == n) ≡ (turn == 2 * n)
+half_turn turn n e = elim (cases_eq (turn / 2) n) [
+  | inl q ↦ eq-eqb (turn / 2) n q ∙ sym (eq-eqb turn (2 * n) (omega arith))
+  | inr d ↦ ne_eqb (turn / 2) n d ∙ sym (ne_eqb turn (2 * n) (λ q. d (omega arith)))
+]
+
+odd_turn : (turn n : ℕ) → (turn % 2 == 0) ≡ false → (turn == 2 * n) ≡ false
+odd_turn turn n e = ne_eqb turn (2 * n) (λ q. let t : false ≡ true = sym e ∙ eq-eqb (turn % 2) 0 (omega arith) in absurd cc)
+
+-- the hand's first callback may be claimed where its wait is over, the turn is even, and half of it is the callback's number
+module _ (sight turn : ℕ) (first : Call) (rest : List Call) where
+  pub held_even : (past : Bool) → past ≡ nat_le (snap first.stamp) sight → (past && (turn % 2 == 0)) ≡ true → (turn / 2 == first.number) ≡ can_claim_held sight (first ∷ rest) turn
+  held_even past e t =
+      let p = and_parts past (turn % 2 == 0) t in
+      half_turn turn first.number (eqb-true (turn % 2) 0 p.1) ∙ sym (ap (λ b. b && (turn == 2 * first.number)) (sym e ∙ p.0))
+
+  pub held_not : (past : Bool) → past ≡ nat_le (snap first.stamp) sight → (past && (turn % 2 == 0)) ≡ false → false ≡ can_claim_held sight (first ∷ rest) turn
+  held_not true e f = sym (odd_turn turn first.number f) ∙ ap (λ b. b && (turn == 2 * first.number)) e
+  held_not false e f = ap (λ b. b && (turn == 2 * first.number)) e

@@ -1,7 +1,6 @@
 -- A processor at rest, in the words of the law
-use Rattle.std.proofs.Common.{◌≡◌, ℕ, Bool, List, [], ◌<◌, arith, refl}
+use Rattle.std.proofs.Common.{◌≡◌, ℕ, Bool, List, [], arith, refl}
 use Rattle.std.specs.Prelude.{if◌then◌else◌}
-use Rattle.rcu_jobs.specs.declared.Record.{Record}
 use Rattle.rcu_law.specs.declared.modes.Mode.{Mode}
 use Rattle.rcu_law.specs.declared.modes.Mode.TheVariants.{Local, Offloaded}
 use Rattle.rcu_law.specs.Calls.{Call}

@@ -1,5 +1,5 @@
 -- What is left of a processor, taken out one after another
-use Rattle.std.proofs.Common.{◌≡◌, ℕ, ◌+◌, ◌<◌, ◌≤◌, true, false, List, [], ◌∷◌, ◌++◌, map, length, refl, ap, sym, ◌∙◌, subst, arith, append_assoc, length-append}
+use Rattle.std.proofs.Common.{◌≡◌, ℕ, ◌+◌, ◌<◌, ◌≤◌, true, false, List, [], ◌∷◌, ◌++◌, map, length, drop, refl, ap, sym, ◌∙◌, subst, arith, append_assoc, length-append}
 use Rattle.std.proofs.lemmas.List.{map-append, append-nil}
 use Rattle.std.specs.Option.{option_to_list}
 use Rattle.rcu_jobs.specs.declared.Callback.{Callback}
@@ -122,3 +122,8 @@ parts_keys c x0 x1 x2 x3 x4 e1 e2 e3 e4 = four_keys (joined_part c) (bypassed_pa
 -- the callbacks of a list of segments
 pub calls_waiting : {J : Type 0} (k : J → ℕ) (cs : List (Callback J)) (xs : List (Labelled J)) → cs ≡ callbacks_of xs → calls k cs ≡ map call_of (waits k xs)
 calls_waiting k cs xs e = ap (calls k) e ∙ sym (calls_as k xs)
+
+-- a list that is its own rest is empty
+pub none_first : {A : Type 0} (xs ys : List A) → xs ≡ ys → ys ≡ drop 1 xs → xs ≡ []
+none_first [] ys e r = refl
+none_first (x ∷ xs) ys e r = let n : length (x ∷ xs) ≡ length xs = ap length (e ∙ r) in absurd (omega arith)

@@ -64,3 +64,6 @@ answers_spent w number n z e l =
 
 pub answers_idle : (w : State) (number : ℕ) → number ≡ w.number → number % 4 ≡ 0 → w.needed ≤ number → drivers.Idle ≡ driver_answer w
 answers_idle w number n z l = answered w true false (nat_lt w.number GREATEST_NUMBER) (none_owes w.owing) (eq-eqb (w.number % 4) 0 (idle w number n z)) (le-ltb w.number w.needed (subst (λ x. w.needed ≤ x) n l)) refl refl
+
+pub driver_starts : (w new : State) (number : ℕ) → number ≡ w.number → number % 4 ≡ 0 → Leads w (where_enabled Start w) new → Leads w (driver_events w) new
+driver_starts w new number n z l = subst (λ b. Leads w (cond b (where_enabled Start w) (where_enabled End w)) new) (sym (eq-eqb (w.number % 4) 0 (idle w number n z))) l

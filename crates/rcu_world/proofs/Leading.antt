@@ -22,6 +22,10 @@ pub leads_done : (w new : State) (e : CoreEvent) → is_enabled w e ≡ true →
 leads_done w new e h n = subst (λ b. Leads w (cond b (e ∷ []) []) new) (sym h)
     (record { enabled = (h, tt); state = n ∙ sym (ap (λ b. cond b (after w e) w) h) })
 
+-- one event, which is enabled
+pub leads_event : (w new : State) (e : CoreEvent) → is_enabled w e ≡ true → new ≡ after w e → Leads w (e ∷ []) new
+leads_event w new e h n = record { enabled = (h, tt); state = n ∙ sym (ap (λ b. cond b (after w e) w) h) }
+
 pub leads_skipped : (w new : State) (e : CoreEvent) → is_enabled w e ≡ false → new ≡ w → Leads w (where_enabled e w) new
 leads_skipped w new e h n = subst (λ b. Leads w (cond b (e ∷ []) []) new) (sym h) (leads_nothing w new n)
 

@@ -1,8 +1,9 @@
 -- what a close finds room for, and what it hands back
 use Rattle.std.proofs.Common.{◌≡◌, ℕ, zero, suc, ◌+◌, ◌<◌, ◌≤◌, List, [], ◌∷◌, ◌++◌, length, map, take, drop, get_or, vec_len, vec_capacity, Fits, w64, ◌*◌, refl, ap, sym, ◌∙◌, subst, arith, append_assoc, length-append}
-use Rattle.std.proofs.lemmas.List.{drop_more, drop_all, take_all, length-map}
+use Rattle.std.proofs.lemmas.List.{drop_more, drop_all, take_all, take_more, length-map, map-append, append-nil}
 use Rattle.std.specs.Global.{Vec}
 use Rattle.std.specs.List.{AllByRecursion, remove}
+use Rattle.rcu_law.specs.declared.marks.Mark.{Mark}
 use Rattle.rcu_law.specs.declared.marks.Mark.TheVariants.{Back}
 use Rattle.rcu_law.specs.Places.{key_of, remaining_callbacks}
 use Rattle.rcu_law.specs.Closing.{shut_mark, shut_marks, back_marks}
@@ -148,3 +149,28 @@ backs_room job_key vs i v len cap later grown l e f c m =
     let x = length-map (map job_key v.items) (λ key. Back i key) in
     let y = length-map v.items job_key in
     omega (arith, v.ok.0)
+
+-- one more job is handed back
+pub backs_taken : {J : Type 0} (job_key : J → ℕ) (cpu i key : ℕ) (jobs from : List J) (job : J) (old marks new : List Mark) → from ≡ jobs → i < length from → job ≡ get_or from i job → key ≡ job_key job
+    → marks ≡ old ++ map (λ k. Back cpu k) (map job_key (take i jobs)) → new ≡ marks ++ Back cpu key ∷ [] → new ≡ old ++ map (λ k. Back cpu k) (map job_key (take (i + 1) jobs))
+backs_taken job_key cpu i key jobs from job old marks new s l e f h n =
+    let b : ℕ → Mark = λ k. Back cpu k in
+    let t : take (i + 1) jobs ≡ take i jobs ++ job ∷ [] = take_more jobs i job (subst (λ xs. i < length xs) s l) ∙ ap (λ x. take i jobs ++ x ∷ []) (sym (e ∙ ap (λ xs. get_or xs i job) s)) in
+    let m : map b (map job_key (take (i + 1) jobs)) ≡ map b (map job_key (take i jobs)) ++ b (job_key job) ∷ [] =
+    ap (λ xs. map b (map job_key xs)) t ∙ ap (map b) (map-append job_key (take i jobs) (job ∷ [])) ∙ map-append b (map job_key (take i jobs)) (job_key job ∷ []) in
+    n ∙ ap (λ xs. xs ++ b key ∷ []) h ∙ append_assoc old (map b (map job_key (take i jobs))) (b key ∷ []) ∙ ap (λ k. old ++ (map b (map job_key (take i jobs)) ++ b k ∷ [])) f ∙ ap (λ x. old ++ x) (sym m)
+
+-- room for the jobs of the next list
+pub back_room : {J : Type 0} (job_key : J → ℕ) (vs : List (Vec J)) (i : ℕ) (v : Vec J) (len cap : ℕ) → i < length vs → v ≡ get_or vs i v
+    → len + length (backs i (map (λ (v : Vec J). map job_key v.items) (drop i vs))) ≤ cap → len + vec_len v ≤ cap
+back_room job_key vs i v len cap l e m =
+    let b = ap length (backs_more job_key vs i v l e) in
+    let a = length-append (map (λ key. Back i key) (map job_key v.items)) (backs (i + 1) (map (λ (v : Vec _). map job_key v.items) (drop (i + 1) vs))) in
+    let x = length-map (map job_key v.items) (λ key. Back i key) in
+    let y = length-map v.items job_key in
+    omega (arith, v.ok.0)
+
+-- all lists are handed back
+pub backs_end : {J : Type 0} (job_key : J → ℕ) (vs : List (Vec J)) (i : ℕ) (marks all : List Mark) → length vs ≤ i
+    → all ≡ marks ++ backs i (map (λ (v : Vec J). map job_key v.items) (drop i vs)) → marks ≡ all
+backs_end job_key vs i marks all l e = sym (e ∙ ap (λ xs. marks ++ backs i (map (λ (v : Vec _). map job_key v.items) xs)) (drop_all i vs l) ∙ append-nil marks)

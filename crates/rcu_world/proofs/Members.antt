@@ -1,5 +1,5 @@
 -- a loop over all processors
-use Rattle.std.proofs.Common.{◌≡◌, ℕ, zero, suc, ◌<◌, ◌+◌, ◌/◌, ◌==◌, ◌&&◌, ◌||◌, Bool, true, false, cond, nat_lt, length, refl, subst, sym, List, [], ◌∷◌, ◌++◌, arith, get_or, ap, ◌∙◌, take, drop, set}
+use Rattle.std.proofs.Common.{◌≡◌, ℕ, zero, suc, ◌<◌, ◌≤◌, ◌+◌, ◌/◌, ◌==◌, ◌&&◌, ◌||◌, Bool, true, false, cond, nat_lt, length, refl, subst, sym, List, [], ◌∷◌, ◌++◌, arith, get_or, ap, ◌∙◌, take, drop, set}
 use Rattle.std.proofs.lemmas.Bool.{lt-ltb}
 use Rattle.rcu_law.specs.States.{State, is_member}
 use Rattle.rcu_law.specs.Events.{any_member, most_wanted}
@@ -10,7 +10,7 @@ use Rattle.rcu_world.specs.Members.{is_any, is_in_group, any_in_group, most_in_g
 use Rattle.rcu_processor.specs.declared.processor.Processor.{Processor}
 use Rattle.rcu_processor.specs.Views.{seen}
 use Rattle.rcu_world.specs.Views.{all_seen}
-use Rattle.std.proofs.lemmas.List.{drop_more, take_more_set, drop-set-lt, append_assoc, drop-drop}
+use Rattle.std.proofs.lemmas.List.{drop_all, drop_more, take_more_set, drop-set-lt, append_assoc, drop-drop}
 use Rattle.rcu_law.specs.States.{Cpu, empty_cpu}
 use Rattle.rcu_law.specs.Events.{each_cpu}
 use Rattle.rcu_world.specs.Members.{AreLookable, IsLookable}
@@ -110,3 +110,12 @@ pub most_more : {J R : Type 0} (key_of : J → ℕ) (offloadable : List Bool) (s
 most_more key_of offloadable stride g d i ps p b e l h m n =
     ap (λ x. most_in_group offloadable stride g d i (all_seen key_of x)) (drop_more ps i p l ∙ ap (λ y. y ∷ drop (i + 1) ps) (sym h))
     ∙ ap (λ x. most_in_group offloadable stride g x (i + 1) (all_seen key_of (drop (i + 1) ps))) (ap (λ x. cond x (needed_with d (seen key_of p).group_wanted) d) (sym m) ∙ sym n)
+
+-- no processor is left
+pub any_end : {J R : Type 0} (key_of : J → ℕ) (offloadable : List Bool) (stride g : ℕ) (test : Cpu → Bool) (i : ℕ) (ps : List (Processor J R)) → length ps ≤ i
+    → any_in_group offloadable stride g test i (all_seen key_of (drop i ps)) ≡ false
+any_end key_of offloadable stride g test i ps l = ap (λ x. any_in_group offloadable stride g test i (all_seen key_of x)) (drop_all i ps l)
+
+pub most_end : {J R : Type 0} (key_of : J → ℕ) (offloadable : List Bool) (stride g d i : ℕ) (ps : List (Processor J R)) → length ps ≤ i
+    → most_in_group offloadable stride g d i (all_seen key_of (drop i ps)) ≡ d
+most_end key_of offloadable stride g d i ps l = ap (λ x. most_in_group offloadable stride g d i (all_seen key_of x)) (drop_all i ps l)

@@ -31,6 +31,10 @@ pub second_fails : (a b : Bool) → b ≡ false → (a && b) ≡ false
 second_fails true b h = h
 second_fails false b h = refl
 
+-- a test that fails doesn't hold
+pub never : {A : Type 0} → false ≡ true → A
+never e = absurd cc
+
 -- a turn has room for its next steps
 pub turn_small : {turn : ℕ} → turn ≤ 2000000 → turn < 9223372036854775808
 turn_small t = omega arith

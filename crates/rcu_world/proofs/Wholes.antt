@@ -1,5 +1,5 @@
 -- loops that have come to their end
-use Rattle.std.proofs.Common.{◌≡◌, ℕ, List, Result, Ok, Err, subst}
+use Rattle.std.proofs.Common.{◌≡◌, ℕ, List, Result, Ok, Err, IsErr, IfOk, subst}
 use Rattle.std.specs.Result.{OnErr}
 use Rattle.rcu_law.specs.States.{State}
 use Rattle.rcu_law.specs.Events.{CoreEvent}
@@ -16,3 +16,8 @@ made_all F i n a b took gave e m = subst (λ k. Made (Upto F k) a b took gave) e
 pub on_err : {A E : Type 0} (P : Type 0) (r : Result A E) → P → OnErr r P
 on_err P (Ok x) p = tt
 on_err P (Err e) p = p
+
+-- what holds of a value holds where there is an error
+pub if_ok_never : {T E Q : Type 0} (r : Result T E) (P : T → Type 0) → IsErr r × Q → IfOk r P
+if_ok_never (Ok x) P h = absurd (let e = h.0 in cc)
+if_ok_never (Err x) P h = tt

@@ -1,4 +1,4 @@
-use Rattle.std.proofs.Common.{◌<◌, ◌≡◌, length, arith, subst, sym, ◌∙◌, drop, take, ◌+◌, ◌++◌, set}
+use Rattle.std.proofs.Common.{refl, ◌<◌, ◌≡◌, length, arith, subst, sym, ◌∙◌, drop, take, ◌+◌, ◌++◌, set}
 use Rattle.std.proofs.lemmas.List.{length-set, drop-set-lt, length-map, map-set}
 use Rattle.rcu_law.specs.Events.{each_cpu}
 use Rattle.rcu_world.specs.Members.{urge_step}
@@ -29,3 +29,21 @@ loop-i-preserved g c =
 
 pub returns-clause-urges : goal.returns-clause-urges
 returns-clause-urges g c = each_end (urge_step) c.loop-i.i _ (all_seen g.J.Job.key_of c.loop-i.processors.items) (omega (arith, length-map c.loop-i.processors.items (seen g.J.Job.key_of))) c.loop-i.invariant.done
+
+pub index_mut-p-requires : goal.index_mut-p-requires
+index_mut-p-requires g c = subst (λ n. c.loop-i.i < n) (c.len-i-end.ensures ∙ c.args.processors.now.ok.0 ∙ sym c.loop-i.invariant.len ∙ sym c.loop-i.processors.ok.0) c.loop-i-test.true
+
+pub urge-requires-send-J : goal.urge-requires-send-J
+urge-requires-send-J g c κs within = c.type_bounds.send-J
+
+pub urge-requires-send-J-Receipt : goal.urge-requires-send-J-Receipt
+urge-requires-send-J-Receipt g c κs within = c.type_bounds.send-J-Receipt
+
+pub urge-requires-after_bounds : goal.urge-requires-after_bounds
+urge-requires-after_bounds g c κs within = assumption
+
+pub loop-i-init : goal.loop-i-init
+loop-i-init g c = record { done = refl; rest = refl; len = refl; given = λ mark a. a }
+
+pub returns-clause-given : goal.returns-clause-given
+returns-clause-given g c = c.loop-i.invariant.given

@@ -1,5 +1,6 @@
-use Rattle.std.proofs.Common.{arith, ap, sym, ◌∙◌, ◌++◌, ◌<◌, length, vec_len, vec_capacity}
+use Rattle.std.proofs.Common.{arith, ap, sym, ◌∙◌, ◌++◌, ◌<◌, length, refl, subst, vec_len, vec_capacity}
 use Rattle.rcu_world.proofs.Ends.{shuts_end, shuts_step, open_mark, no_mark}
+use Rattle.rcu_world.proofs.Places.{as_much, least_none, most_added, room_for_least}
 use Rattle.std.proofs.lemmas.List.{append-nil}
 use Rattle.std.specs.Global.{Vec}
 use Rattle.rcu_law.specs.declared.marks.Mark.{Mark}
@@ -25,3 +26,15 @@ loop-cpu-preserved g c =
 
 pub returns-clause-marks : goal.returns-clause-marks
 returns-clause-marks g c = shuts_end g.J.Job.key_of c.args.processors.now.items c.loop-cpu.cpu c.loop-cpu.marks.items _ (omega arith) c.loop-cpu.invariant.all
+
+pub loop-cpu-init : goal.loop-cpu-init
+loop-cpu-init g c = record { all = refl; len = least_none _; capacity = as_much _ }
+
+pub index-requires : goal.index-requires
+index-requires g c = subst (λ n. c.loop-cpu.cpu < n) c.len-cpu-end.ensures c.loop-cpu-test.true
+
+pub push_reserved-requires : goal.push_reserved-requires
+push_reserved-requires g c = room_for_least _ _ _ _ _ _ _ c.loop-cpu.invariant.len c.loop-cpu-test.true c.len-cpu-end.ensures c.requires.room c.loop-cpu.invariant.capacity
+
+pub returns-clause-len : goal.returns-clause-len
+returns-clause-len g c = most_added _ _ _ _ _ c.loop-cpu.invariant.len c.loop-cpu.auto.cpu-end c.len-cpu-end.ensures

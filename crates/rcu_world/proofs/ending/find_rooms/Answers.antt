@@ -4,6 +4,12 @@ use Rattle.rcu_processor.specs.Views.{seen}
 use Rattle.rcu_world.proofs.Leaving.{all_at, exact_room, room_more, room_end}
 use Rattle.rcu_world.proofs.ending.find_rooms.Goals as goal
 
+pub left-requires-send-J : goal.left-requires-send-J
+left-requires-send-J g c κs within = c.type_bounds.send-J
+
+pub left-requires-send-J-Receipt : goal.left-requires-send-J-Receipt
+left-requires-send-J-Receipt g c κs within = c.type_bounds.send-J-Receipt
+
 pub left-requires-after_bounds : goal.left-requires-after_bounds
 left-requires-after_bounds g c κs within = (
   search rules,

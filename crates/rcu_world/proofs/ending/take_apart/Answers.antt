@@ -1,4 +1,4 @@
-use Rattle.std.proofs.Common.{◌<◌, ◌∙◌, ◌∷◌, [], arith, ap, length, map, rules, sym, refl, ◌++◌}
+use Rattle.std.proofs.Common.{◌<◌, ◌∙◌, ◌∷◌, [], arith, ap, length, map, subst, sym, refl, ◌++◌}
 use Rattle.std.proofs.lemmas.List.{map-append, append-nil}
 use Rattle.std.specs.List.{remove}
 use Rattle.std.proofs.lemmas.Bool.{eqb-true}
@@ -6,23 +6,30 @@ use Rattle.rcu_processor.specs.Leaving.{left_keys}
 use Rattle.rcu_processor.specs.Views.{records_of, seen}
 use Rattle.rcu_world.specs.Views.{all_seen}
 use Rattle.rcu_world.proofs.Leaving.{room_there, room_first, room_rest, moved_one, none_left, room_step}
+use Rattle.rcu_world.proofs.Places.{one_out, room_for_one, some_left}
 use Rattle.rcu_world.proofs.ending.take_apart.Goals as goal
 
 pub remove-jobs-requires : goal.remove-jobs-requires
 remove-jobs-requires g c =
-    let l : 0 < length c.loop-processors.processors.items = search rules in
+    let l : 0 < length c.loop-processors.processors.items = subst (λ n. 0 < n) c.loop-processors.processors.ok.0 (some_left _ (sym c.is_empty.ensures ∙ c.loop-processors-test.true)) in
     let r = room_there g.J.Job.key_of c.loop-processors.processors.items c.loop-processors.rooms.items l c.loop-processors.invariant.rooms in
     omega (arith, c.loop-processors.rooms.ok.0)
 
+pub drain-requires-send-J : goal.drain-requires-send-J
+drain-requires-send-J g c κs within = c.type_bounds.send-J
+
+pub drain-requires-send-J-Receipt : goal.drain-requires-send-J-Receipt
+drain-requires-send-J-Receipt g c κs within = c.type_bounds.send-J-Receipt
+
 pub drain-requires-after_bounds : goal.drain-requires-after_bounds
 drain-requires-after_bounds g c κs within =
-    let l : 0 < length c.loop-processors.processors.items = search rules in
+    let l : 0 < length c.loop-processors.processors.items = subst (λ n. 0 < n) c.loop-processors.processors.ok.0 (some_left _ (sym c.is_empty.ensures ∙ c.loop-processors-test.true)) in
     let r = room_first g.J.Job.key_of c.loop-processors.processors.items c.loop-processors.rooms.items c.remove-processor.result c.remove-jobs.result l c.remove-processor.ensures.value c.remove-jobs.ensures.value c.loop-processors.invariant.rooms in
     (assumption, omega (arith, r.1, ap length r.0, c.remove-jobs.result.ok.0))
 
 pub loop-processors-preserved : goal.loop-processors-preserved
 loop-processors-preserved g c =
-    let l : 0 < length c.loop-processors.processors.items = search rules in
+    let l : 0 < length c.loop-processors.processors.items = subst (λ n. 0 < n) c.loop-processors.processors.ok.0 (some_left _ (sym c.is_empty.ensures ∙ c.loop-processors-test.true)) in
     let r = room_first g.J.Job.key_of c.loop-processors.processors.items c.loop-processors.rooms.items c.remove-processor.result c.remove-jobs.result l c.remove-processor.ensures.value c.remove-jobs.ensures.value c.loop-processors.invariant.rooms in
     record {
       rooms = rw (c.remove-processor.ensures.items, c.remove-jobs.ensures.items) (room_rest g.J.Job.key_of c.loop-processors.processors.items c.loop-processors.rooms.items l c.loop-processors.invariant.rooms);
@@ -50,5 +57,29 @@ returns-clause-back g c =
     sym (append-nil (map (λ v. map g.J.Job.key_of v.items) c.loop-processors.back.items))
     ∙ ap (λ ps. map (λ v. map g.J.Job.key_of v.items) c.loop-processors.back.items ++ map left_keys (all_seen g.J.Job.key_of ps)) (sym e) ∙ c.loop-processors.invariant.back
 
+pub into_records-requires-send-J : goal.into_records-requires-send-J
+into_records-requires-send-J g c κs within = c.type_bounds.send-J
+
+pub into_records-requires-send-J-Receipt : goal.into_records-requires-send-J-Receipt
+into_records-requires-send-J-Receipt g c κs within = c.type_bounds.send-J-Receipt
+
 pub into_records-requires-after_bounds : goal.into_records-requires-after_bounds
 into_records-requires-after_bounds g c κs within = assumption
+
+pub loop-processors-init : goal.loop-processors-init
+loop-processors-init g c = record { rooms = c.requires.rooms; ran = refl; back = refl; ran_room = c.requires.ran_room; back_room = c.requires.back_room }
+
+pub remove-processor-requires : goal.remove-processor-requires
+remove-processor-requires g c = some_left _ (sym c.is_empty.ensures ∙ c.loop-processors-test.true)
+
+pub push_reserved-requires : goal.push_reserved-requires
+push_reserved-requires g c = room_for_one _ _ _ c.loop-processors.invariant.ran_room (some_left _ (sym c.is_empty.ensures ∙ c.loop-processors-test.true))
+
+pub push_reserved-requires-in-loop-processors : goal.push_reserved-requires-in-loop-processors
+push_reserved-requires-in-loop-processors g c = room_for_one _ _ _ c.loop-processors.invariant.back_room (some_left _ (sym c.is_empty.ensures ∙ c.loop-processors-test.true))
+
+pub loop-processors-smaller : goal.loop-processors-smaller
+loop-processors-smaller g c = one_out _ _ c.remove-processor.ensures.len
+
+pub drop-processors-requires-room-T-Destruct : goal.drop-processors-requires-room-T-Destruct
+drop-processors-requires-room-T-Destruct g c κs within = assumption

@@ -1,4 +1,4 @@
-use Rattle.std.proofs.Common.{◌<◌, ◌≡◌, length, arith, subst, sym, ap, ◌∙◌, drop, take, ◌+◌, ◌++◌, set, cond}
+use Rattle.std.proofs.Common.{refl, ◌<◌, ◌≡◌, length, arith, subst, sym, ap, ◌∙◌, drop, take, ◌+◌, ◌++◌, set, cond}
 use Rattle.std.proofs.lemmas.List.{length-set, drop-set-lt, length-map, map-set}
 use Rattle.rcu_law.specs.Events.{each_cpu}
 use Rattle.rcu_processor.specs.Members.{forgets}
@@ -30,3 +30,21 @@ loop-i-preserved g c =
 
 pub returns-clause-forgets : goal.returns-clause-forgets
 returns-clause-forgets g c = each_end (forget_step c.args.offloadable.now.items c.args.stride c.args.group) c.loop-i.i _ (all_seen g.J.Job.key_of c.loop-i.processors.items) (omega (arith, length-map c.loop-i.processors.items (seen g.J.Job.key_of))) c.loop-i.invariant.done
+
+pub index_mut-p-requires : goal.index_mut-p-requires
+index_mut-p-requires g c = subst (λ n. c.loop-i.i < n) (c.len-i-end.ensures ∙ c.args.processors.now.ok.0 ∙ sym c.loop-i.invariant.len ∙ sym c.loop-i.processors.ok.0) c.loop-i-test.true
+
+pub forget_as-requires-send-J : goal.forget_as-requires-send-J
+forget_as-requires-send-J g c κs within = c.type_bounds.send-J
+
+pub forget_as-requires-send-J-Receipt : goal.forget_as-requires-send-J-Receipt
+forget_as-requires-send-J-Receipt g c κs within = c.type_bounds.send-J-Receipt
+
+pub forget_as-requires-after_bounds : goal.forget_as-requires-after_bounds
+forget_as-requires-after_bounds g c κs within = assumption
+
+pub loop-i-init : goal.loop-i-init
+loop-i-init g c = record { done = refl; rest = refl; len = refl; given = λ mark a. a }
+
+pub returns-clause-given : goal.returns-clause-given
+returns-clause-given g c = c.loop-i.invariant.given

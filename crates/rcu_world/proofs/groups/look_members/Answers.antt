@@ -10,6 +10,12 @@ use Rattle.rcu_world.proofs.Members.{each_more, lookable_at, drop_again}
 use Rattle.rcu_world.proofs.Ends.{each_end}
 use Rattle.rcu_world.proofs.groups.look_members.Goals as goal
 
+pub look_as-requires-send-J : goal.look_as-requires-send-J
+look_as-requires-send-J g c κs within = c.type_bounds.send-J
+
+pub look_as-requires-send-J-Receipt : goal.look_as-requires-send-J-Receipt
+look_as-requires-send-J-Receipt g c κs within = c.type_bounds.send-J-Receipt
+
 pub look_as-requires-after_bounds : goal.look_as-requires-after_bounds
 look_as-requires-after_bounds g c κs within =
     let l : c.loop-i.i < length c.loop-i.processors.items = omega arith in

@@ -1,5 +1,5 @@
-use Rattle.std.proofs.Common.{◌∙◌, arith, ◌<◌, subst, refl}
-use Rattle.rcu_world.proofs.Members.{most_more}
+use Rattle.std.proofs.Common.{◌∙◌, arith, ◌<◌, ◌≤◌, subst, sym, refl}
+use Rattle.rcu_world.proofs.Members.{most_end, most_more}
 use Rattle.rcu_world.proofs.Places.{steps_on}
 use Rattle.rcu_world.proofs.groups.most_wanted.Goals as goal
 
@@ -22,3 +22,13 @@ loop-i-init g c = refl
 
 pub most_as-most-requires-after_bounds : goal.most_as-most-requires-after_bounds
 most_as-most-requires-after_bounds g c κs within = assumption
+
+pub returns : goal.returns
+returns g c = sym (c.loop-i.invariant ∙ most_end g.J.Job.key_of c.args.offloadable.now.items c.args.stride c.args.group c.loop-i.most c.loop-i.i c.args.processors.now.items
+    (subst (λ n. n ≤ c.loop-i.i) (c.len-i-end.ensures ∙ c.args.processors.now.ok.0) c.loop-i-test.false))
+
+pub most_as-most-requires-send-J : goal.most_as-most-requires-send-J
+most_as-most-requires-send-J g c κs within = c.type_bounds.send-J
+
+pub most_as-most-requires-send-J-Receipt : goal.most_as-most-requires-send-J-Receipt
+most_as-most-requires-send-J-Receipt g c κs within = c.type_bounds.send-J-Receipt

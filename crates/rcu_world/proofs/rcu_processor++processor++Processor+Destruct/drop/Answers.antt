@@ -12,3 +12,10 @@ drop-requires-9 g c = batch_fits g.row.J g.row.R assumption
 
 pub drop-requires-10 : goal.drop-requires-10
 drop-requires-10 g c = bypass_fits g.row.J g.row.R assumption
+
+-- what is in the lanes
+pub drop-requires-3-room-T-Destruct : goal.drop-requires-3-room-T-Destruct
+drop-requires-3-room-T-Destruct g c κs within = batch_fits g.row.J g.row.R assumption
+
+pub drop-requires-5-room-T-Destruct : goal.drop-requires-5-room-T-Destruct
+drop-requires-5-room-T-Destruct g c κs within = batch_fits g.row.J g.row.R assumption

@@ -36,5 +36,12 @@ drop-requires-4 g c κs = λ within. search (⊑_meet, ⊑_static) depth 40
 pub drop-self-requires-5 : goal.drop-self-requires-5
 drop-self-requires-5 g c κs within = within
 
+-- what is in the lanes
+pub drop-self-requires-2-room-T-Destruct : goal.drop-self-requires-2-room-T-Destruct
+drop-self-requires-2-room-T-Destruct g c κs within = batch_fits g.row.J g.row.J-Receipt assumption
+
+pub drop-self-requires-4-room-T-Destruct : goal.drop-self-requires-4-room-T-Destruct
+drop-self-requires-4-room-T-Destruct g c κs within = batch_fits g.row.J g.row.J-Receipt assumption
+
 pub returns : goal.returns
 returns g c = refl

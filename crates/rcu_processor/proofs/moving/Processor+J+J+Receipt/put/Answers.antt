@@ -1,7 +1,8 @@
-use Rattle.std.proofs.Common.{◌++◌, ◌∷◌, [], ◌∙◌, ap, ◌+◌}
+use Rattle.std.proofs.Common.{◌++◌, ◌∷◌, [], ◌∙◌, ap}
 use Rattle.rcu_law.specs.Releases.{pace_after_put}
 use Rattle.rcu_processor.specs.Batches.{batches, bypassed, pace}
 use Rattle.rcu_processor.specs.Views.{seen}
+use Rattle.rcu_lists.proofs.Outcomes.{on_err_said, on_ok_never}
 use Rattle.rcu_processor.proofs.Paces.{put_as}
 use Rattle.rcu_processor.proofs.Sizes.{batch_fits, bypass_fits}
 use Rattle.rcu_processor.proofs.moving.Processor+J+J+Receipt.put.Goals as goal
@@ -13,3 +14,12 @@ returns-clause-ok g c = let k = g.J.Job.key_of in let o = seen k c.args.self.now
 
 pub release-requires-after_bounds : goal.release-requires-after_bounds
 release-requires-after_bounds g c κs within = (bypass_fits g.row.J g.row.J-Receipt assumption, (batch_fits g.row.J g.row.J-Receipt assumption, c.in_ok-reserve.ensures.ok))
+
+pub returns-in_err-reserve-clause-ok : goal.returns-in_err-reserve-clause-ok
+returns-in_err-reserve-clause-ok g c = on_ok_never _ _ c.from_residual.ensures
+
+pub returns-in_err-reserve-clause-err : goal.returns-in_err-reserve-clause-err
+returns-in_err-reserve-clause-err g c = let k = g.J.Job.key_of in let o = seen k c.args.self.now in on_err_said _ _ (ap (λ z. record o { lane = batches k z }) c.reserve.ensures.items)
+
+pub returns-in_err-reserve-clause-given : goal.returns-in_err-reserve-clause-given
+returns-in_err-reserve-clause-given g c = λ mark a. a

@@ -1,7 +1,8 @@
-use Rattle.std.proofs.Common.{◌++◌, ◌∷◌, [], ◌∙◌, ap, sym, subst, map, ◌+◌}
+use Rattle.std.proofs.Common.{◌++◌, ◌∷◌, [], ◌∙◌, ap, sym, subst, map}
 use Rattle.rcu_processor.specs.Batches.{batch}
 use Rattle.rcu_processor.specs.Views.{run, seen, Given}
 use Rattle.rcu_processor.specs.Waits.{call}
+use Rattle.rcu_lists.proofs.Outcomes.{if_ok_never, on_err_said, on_ok_never}
 use Rattle.rcu_processor.proofs.Claims.{claims_held, ready_held}
 use Rattle.rcu_processor.proofs.Sizes.{batch_fits}
 use Rattle.rcu_processor.proofs.running.Processor+J+J+Receipt.claim_held.Goals as goal
@@ -19,3 +20,18 @@ returns-clause-ok g c = let k = g.J.Job.key_of in let o = seen k c.args.self.now
 
 pub returns-clause-given : goal.returns-clause-given
 returns-clause-given g c = λ mark a. (c.run_next-key.ensures.given (subst (Given g.J.Job.gives) (sym c.reserve.ensures.items) a.0), a.1)
+
+pub returns-in_err-reserve-clause-key : goal.returns-in_err-reserve-clause-key
+returns-in_err-reserve-clause-key g c = if_ok_never _ _ c.from_residual.ensures
+
+pub returns-in_err-reserve-clause-ok : goal.returns-in_err-reserve-clause-ok
+returns-in_err-reserve-clause-ok g c = on_ok_never _ _ c.from_residual.ensures
+
+pub returns-in_err-reserve-clause-err : goal.returns-in_err-reserve-clause-err
+returns-in_err-reserve-clause-err g c = let o = seen g.J.Job.key_of c.args.self.now in on_err_said _ _ (ap (λ rs. record o { runs = map run rs }) c.reserve.ensures.items)
+
+pub run_next-key-requires-after_bounds : goal.run_next-key-requires-after_bounds
+run_next-key-requires-after_bounds g c κs within = c.in_ok-reserve.ensures.ok
+
+pub returns-clause-key : goal.returns-clause-key
+returns-clause-key g c = c.run_next-key.ensures.key ∙ ap (λ x. x.key) c.take_first-callback.ensures.first

@@ -4,7 +4,7 @@ use Rattle.rcu_law.specs.Steps.{can_accept, accepts}
 use Rattle.rcu_world.proofs.Seen.{stepped, refused, given_at, absent, skipped}
 use Rattle.rcu_world.proofs.Readying.{ready_set}
 use denote.Param.{param}
-use Rattle.rcu_world.proofs.Sizes.{processor_fits}
+use Rattle.rcu_world.proofs.Sizes.{never, processor_fits}
 use Rattle.rcu_world.proofs.Entering.{accepted_fits}
 use Rattle.rcu_world.proofs.accepting.Core+J+J+Receipt.accept.Goals as goal
 
@@ -28,8 +28,20 @@ returns-clause-given g c = given_at g.J.Job.gives c.args.self.now c.args.cpu c.i
 pub returns-in-Err-reserve-clause-given : goal.returns-in-Err-reserve-clause-given
 returns-in-Err-reserve-clause-given g c = given_at g.J.Job.gives c.args.self.now c.args.cpu c.index_mut-p.result.now c.reserve-2.new.self (omega arith) c.index_mut-p.ensures.value c.reserve-2.ensures.given
 
+pub can_accept-requires-send-J : goal.can_accept-requires-send-J
+can_accept-requires-send-J g c κs within = c.type_bounds.send-J
+
+pub can_accept-requires-send-J-Receipt : goal.can_accept-requires-send-J-Receipt
+can_accept-requires-send-J-Receipt g c κs within = c.type_bounds.send-J-Receipt
+
 pub can_accept-requires-after_bounds : goal.can_accept-requires-after_bounds
 can_accept-requires-after_bounds g c κs within = processor_fits (param 0 g.row.J) (param 1 g.row.J-Receipt) assumption
+
+pub reserve-requires-2-send-J : goal.reserve-requires-2-send-J
+reserve-requires-2-send-J g c κs within = c.type_bounds.send-J
+
+pub reserve-requires-2-send-J-Receipt : goal.reserve-requires-2-send-J-Receipt
+reserve-requires-2-send-J-Receipt g c κs within = c.type_bounds.send-J-Receipt
 
 pub reserve-requires-2-after_bounds : goal.reserve-requires-2-after_bounds
 reserve-requires-2-after_bounds g c κs within = processor_fits (param 0 g.row.J) (param 1 g.row.J-Receipt) assumption
@@ -53,5 +65,26 @@ returns-in-Err-clause-answers g c =
 pub returns-in-Err-clause-given : goal.returns-in-Err-clause-given
 returns-in-Err-clause-given g c = given_at g.J.Job.gives c.args.self.now c.args.cpu c.index_mut-p.result.now c.index_mut-p.result.now (omega arith) c.index_mut-p.ensures.value (λ mark a. a)
 
+pub accept-requires-send-J : goal.accept-requires-send-J
+accept-requires-send-J g c κs within = c.type_bounds.send-J
+
+pub accept-requires-send-J-Receipt : goal.accept-requires-send-J-Receipt
+accept-requires-send-J-Receipt g c κs within = c.type_bounds.send-J-Receipt
+
 pub accept-requires-after_bounds : goal.accept-requires-after_bounds
 accept-requires-after_bounds g c κs within = (processor_fits (param 0 g.row.J) (param 1 g.row.J-Receipt) assumption, accepted_fits g.J.Job.key_of c.args.self.now c.args.cpu c.index_mut-p.result.now c.reserve-2.new.self c.requires.core (omega arith) c.index_mut-p.ensures.value (sym c.can_accept.ensures ∙ c.if-not-can_accept.false) c.reserve-2.ensures.same)
+
+pub returns-then-i-len-clause-ready : goal.returns-then-i-len-clause-ready
+returns-then-i-len-clause-ready g c = λ d. never d
+
+pub returns-then-not-can_accept-clause-ready : goal.returns-then-not-can_accept-clause-ready
+returns-then-not-can_accept-clause-ready g c = λ d. never d
+
+pub returns-in-Err-clause-ready : goal.returns-in-Err-clause-ready
+returns-in-Err-clause-ready g c = λ d. never d
+
+pub returns-in-Err-reserve-clause-ready : goal.returns-in-Err-reserve-clause-ready
+returns-in-Err-reserve-clause-ready g c = λ d. never d
+
+pub returns-then-i-len-clause-given : goal.returns-then-i-len-clause-given
+returns-then-i-len-clause-given g c = λ a. a

@@ -23,8 +23,20 @@ returns-in-Err-clause-given g c = given_at g.J.Job.gives c.args.self.now c.args.
 pub returns-in-Ok-clause-given : goal.returns-in-Ok-clause-given
 returns-in-Ok-clause-given g c = given_at g.J.Job.gives c.args.self.now c.args.cpu c.index_mut-p.result.now c.put.new.self (omega arith) c.index_mut-p.ensures.value c.put.ensures.given
 
+pub can_put-requires-send-J : goal.can_put-requires-send-J
+can_put-requires-send-J g c κs within = c.type_bounds.send-J
+
+pub can_put-requires-send-J-Receipt : goal.can_put-requires-send-J-Receipt
+can_put-requires-send-J-Receipt g c κs within = c.type_bounds.send-J-Receipt
+
 pub can_put-requires-after_bounds : goal.can_put-requires-after_bounds
 can_put-requires-after_bounds g c κs within = processor_fits (param 0 g.row.J) (param 1 g.row.J-Receipt) assumption
+
+pub put-requires-send-J : goal.put-requires-send-J
+put-requires-send-J g c κs within = c.type_bounds.send-J
+
+pub put-requires-send-J-Receipt : goal.put-requires-send-J-Receipt
+put-requires-send-J-Receipt g c κs within = c.type_bounds.send-J-Receipt
 
 pub put-requires-after_bounds : goal.put-requires-after_bounds
 put-requires-after_bounds g c κs within = processor_fits (param 0 g.row.J) (param 1 g.row.J-Receipt) assumption

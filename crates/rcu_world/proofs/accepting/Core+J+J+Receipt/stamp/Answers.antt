@@ -42,8 +42,20 @@ returns-in-Ok-true-clause-given g c = given_at g.J.Job.gives c.args.self.now c.a
 pub returns-in-Ok-false-clause-given : goal.returns-in-Ok-false-clause-given
 returns-in-Ok-false-clause-given g c = given_at g.J.Job.gives c.args.self.now c.args.cpu c.index_mut-p.result.now c.stamp.new.self (omega arith) c.index_mut-p.ensures.value c.stamp.ensures.given
 
+pub is_fresh-requires-send-J : goal.is_fresh-requires-send-J
+is_fresh-requires-send-J g c κs within = c.type_bounds.send-J
+
+pub is_fresh-requires-send-J-Receipt : goal.is_fresh-requires-send-J-Receipt
+is_fresh-requires-send-J-Receipt g c κs within = c.type_bounds.send-J-Receipt
+
 pub is_fresh-requires-after_bounds : goal.is_fresh-requires-after_bounds
 is_fresh-requires-after_bounds g c κs within = processor_fits (param 0 g.row.J) (param 1 g.row.J-Receipt) assumption
+
+pub stamp-requires-send-J : goal.stamp-requires-send-J
+stamp-requires-send-J g c κs within = c.type_bounds.send-J
+
+pub stamp-requires-send-J-Receipt : goal.stamp-requires-send-J-Receipt
+stamp-requires-send-J-Receipt g c κs within = c.type_bounds.send-J-Receipt
 
 pub stamp-requires-after_bounds : goal.stamp-requires-after_bounds
 stamp-requires-after_bounds g c κs within = (processor_fits (param 0 g.row.J) (param 1 g.row.J-Receipt) assumption, sym c.is_fresh.ensures ∙ c.if-not-is_fresh.false)

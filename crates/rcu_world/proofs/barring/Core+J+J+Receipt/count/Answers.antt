@@ -26,6 +26,12 @@ returns-clause-answers g c =
     (ap (λ x. x && is_none (count_at (barrier c.index_mut-b.result.now) c.args.cpu)) h ∙ sym c.is_uncounted.ensures ∙ c.if-not-is_uncounted.false)
     (c.count.ensures ∙ ap {B = Barrier} (λ k. record (barrier c.index_mut-b.result.now) { counts = set c.index_mut-b.result.now.counts.items c.args.cpu (Some k) }) n) refl
 
+pub count-count-requires-send-J : goal.count-count-requires-send-J
+count-count-requires-send-J g c κs within = c.type_bounds.send-J
+
+pub count-count-requires-send-J-Receipt : goal.count-count-requires-send-J-Receipt
+count-count-requires-send-J-Receipt g c κs within = c.type_bounds.send-J-Receipt
+
 pub count-count-requires-after_bounds : goal.count-count-requires-after_bounds
 count-count-requires-after_bounds g c κs within = processor_fits (param 0 g.row.J) (param 1 g.row.J-Receipt) assumption
 

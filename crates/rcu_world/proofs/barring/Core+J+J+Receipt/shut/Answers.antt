@@ -12,8 +12,20 @@ returns-clause-answers g c = stepped g.J.Job.key_of c.args.self.now c.args.cpu c
 pub returns-clause-given : goal.returns-clause-given
 returns-clause-given g c = given_at g.J.Job.gives c.args.self.now c.args.cpu c.index_mut-p.result.now c.shut.new.self (omega arith) c.index_mut-p.ensures.value c.shut.ensures.given
 
+pub is_open-requires-send-J : goal.is_open-requires-send-J
+is_open-requires-send-J g c κs within = c.type_bounds.send-J
+
+pub is_open-requires-send-J-Receipt : goal.is_open-requires-send-J-Receipt
+is_open-requires-send-J-Receipt g c κs within = c.type_bounds.send-J-Receipt
+
 pub is_open-requires-after_bounds : goal.is_open-requires-after_bounds
 is_open-requires-after_bounds g c κs within = processor_fits (param 0 g.row.J) (param 1 g.row.J-Receipt) assumption
+
+pub shut-requires-send-J : goal.shut-requires-send-J
+shut-requires-send-J g c κs within = c.type_bounds.send-J
+
+pub shut-requires-send-J-Receipt : goal.shut-requires-send-J-Receipt
+shut-requires-send-J-Receipt g c κs within = c.type_bounds.send-J-Receipt
 
 pub shut-requires-after_bounds : goal.shut-requires-after_bounds
 shut-requires-after_bounds g c κs within = processor_fits (param 0 g.row.J) (param 1 g.row.J-Receipt) assumption

@@ -32,6 +32,12 @@ returns-clause-answers g c =
     (ap (λ x. x && not (is_none (count_at (barrier c.index_mut-b.result.now) c.args.cpu))) h ∙ ap not (sym c.is_uncounted.ensures ∙ c.if-is_uncounted.false))
     (c.see.ensures ∙ ap {B = Barrier} (λ k. record (barrier c.index_mut-b.result.now) { seen = set c.index_mut-b.result.now.seen.items c.args.cpu (get_or c.index_mut-b.result.now.seen.items c.args.cpu false || nat_le (2 * value_or (count_at (barrier c.index_mut-b.result.now) c.args.cpu)) k) }) n) refl
 
+pub turn-turn-requires-send-J : goal.turn-turn-requires-send-J
+turn-turn-requires-send-J g c κs within = c.type_bounds.send-J
+
+pub turn-turn-requires-send-J-Receipt : goal.turn-turn-requires-send-J-Receipt
+turn-turn-requires-send-J-Receipt g c κs within = c.type_bounds.send-J-Receipt
+
 pub turn-turn-requires-after_bounds : goal.turn-turn-requires-after_bounds
 turn-turn-requires-after_bounds g c κs within = processor_fits (param 0 g.row.J) (param 1 g.row.J-Receipt) assumption
 

@@ -11,5 +11,11 @@ returns-clause-answers g c = (refl, ap {B = State} (λ x. record (state g.J.Job.
 pub returns-clause-given : goal.returns-clause-given
 returns-clause-given g c = c.urge_all.ensures.given c.args.self.now.qhimark
 
+pub urge_all-requires-send-J : goal.urge_all-requires-send-J
+urge_all-requires-send-J g c κs within = c.type_bounds.send-J
+
+pub urge_all-requires-send-J-Receipt : goal.urge_all-requires-send-J-Receipt
+urge_all-requires-send-J-Receipt g c κs within = c.type_bounds.send-J-Receipt
+
 pub urge_all-requires-after_bounds : goal.urge_all-requires-after_bounds
 urge_all-requires-after_bounds g c κs within = processor_fits (param 0 g.row.J) (param 1 g.row.J-Receipt) assumption

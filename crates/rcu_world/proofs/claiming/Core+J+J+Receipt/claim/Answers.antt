@@ -23,8 +23,20 @@ returns-in-Ok-claim-clause-answers g c = stepped g.J.Job.key_of c.args.self.now 
 pub returns-in-Ok-claim-clause-given : goal.returns-in-Ok-claim-clause-given
 returns-in-Ok-claim-clause-given g c = given_at g.J.Job.gives c.args.self.now c.args.cpu c.index_mut-p.result.now c.claim.new.self (omega arith) c.index_mut-p.ensures.value c.in-Ok-claim.ensures.given
 
+pub can_claim-requires-send-J : goal.can_claim-requires-send-J
+can_claim-requires-send-J g c κs within = c.type_bounds.send-J
+
+pub can_claim-requires-send-J-Receipt : goal.can_claim-requires-send-J-Receipt
+can_claim-requires-send-J-Receipt g c κs within = c.type_bounds.send-J-Receipt
+
 pub can_claim-requires-after_bounds : goal.can_claim-requires-after_bounds
 can_claim-requires-after_bounds g c κs within = (processor_fits (param 0 g.row.J) (param 1 g.row.J-Receipt) assumption, held_fits_at g.J.Job.key_of c.args.self.now c.args.cpu c.index_mut-p.result.now c.requires.core (omega arith) c.index_mut-p.ensures.value)
+
+pub claim-requires-send-J : goal.claim-requires-send-J
+claim-requires-send-J g c κs within = c.type_bounds.send-J
+
+pub claim-requires-send-J-Receipt : goal.claim-requires-send-J-Receipt
+claim-requires-send-J-Receipt g c κs within = c.type_bounds.send-J-Receipt
 
 pub claim-requires-after_bounds : goal.claim-requires-after_bounds
 claim-requires-after_bounds g c κs within =

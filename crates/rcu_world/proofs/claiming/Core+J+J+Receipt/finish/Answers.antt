@@ -12,8 +12,20 @@ returns-clause-answers g c = stepped g.J.Job.key_of c.args.self.now c.args.cpu c
 pub returns-clause-given : goal.returns-clause-given
 returns-clause-given g c = given_at g.J.Job.gives c.args.self.now c.args.cpu c.index_mut-p.result.now c.finish.new.self (omega arith) c.index_mut-p.ensures.value c.finish.ensures.given
 
+pub can_finish-requires-send-J : goal.can_finish-requires-send-J
+can_finish-requires-send-J g c κs within = c.type_bounds.send-J
+
+pub can_finish-requires-send-J-Receipt : goal.can_finish-requires-send-J-Receipt
+can_finish-requires-send-J-Receipt g c κs within = c.type_bounds.send-J-Receipt
+
 pub can_finish-requires-after_bounds : goal.can_finish-requires-after_bounds
 can_finish-requires-after_bounds g c κs within = processor_fits (param 0 g.row.J) (param 1 g.row.J-Receipt) assumption
+
+pub finish-requires-send-J : goal.finish-requires-send-J
+finish-requires-send-J g c κs within = c.type_bounds.send-J
+
+pub finish-requires-send-J-Receipt : goal.finish-requires-send-J-Receipt
+finish-requires-send-J-Receipt g c κs within = c.type_bounds.send-J-Receipt
 
 pub finish-requires-after_bounds : goal.finish-requires-after_bounds
 finish-requires-after_bounds g c κs within =

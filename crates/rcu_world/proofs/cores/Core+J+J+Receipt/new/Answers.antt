@@ -36,6 +36,12 @@ returns-clause-opens g c =
 pub returns-clause-given : goal.returns-clause-given
 returns-clause-given g c = c.loop-cpu.invariant.given
 
+pub new-requires-send-J : goal.new-requires-send-J
+new-requires-send-J g c κs within = c.type_bounds.send-J
+
+pub new-requires-send-J-Receipt : goal.new-requires-send-J-Receipt
+new-requires-send-J-Receipt g c κs within = c.type_bounds.send-J-Receipt
+
 pub new-requires-after_bounds : goal.new-requires-after_bounds
 new-requires-after_bounds g c κs within = processor_fits (param 0 g.row.J) (param 1 g.row.J-Receipt) assumption
 

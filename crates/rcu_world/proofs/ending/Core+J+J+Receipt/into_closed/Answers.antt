@@ -22,5 +22,17 @@ returns-clause-marks g c = c.add_backs.ensures
 pub add_shuts-requires-clause-room : goal.add_shuts-requires-clause-room
 add_shuts-requires-clause-room g c κs within = (processor_fits (param 0 g.row.J) (param 1 g.row.J-Receipt) assumption, shuts_room g.J.Job.key_of c.args.self.processors.items _ _ _ c.args.self.processors.ok.0 c.requires.more)
 
+pub take_apart-requires-send-J : goal.take_apart-requires-send-J
+take_apart-requires-send-J g c κs within = c.type_bounds.send-J
+
+pub take_apart-requires-send-J-Receipt : goal.take_apart-requires-send-J-Receipt
+take_apart-requires-send-J-Receipt g c κs within = c.type_bounds.send-J-Receipt
+
 pub take_apart-requires-after_bounds : goal.take_apart-requires-after_bounds
 take_apart-requires-after_bounds g c κs within = (processor_fits (param 0 g.row.J) (param 1 g.row.J-Receipt) assumption, (c.requires.jobs, (omega (arith, ap length c.requires.empty.0, c.args.room.ran.ok.0, c.requires.ran), omega (arith, ap length c.requires.empty.1, c.args.room.back.ok.0, c.requires.back))))
+
+pub add_shuts-requires-send-J : goal.add_shuts-requires-send-J
+add_shuts-requires-send-J g c κs within = c.type_bounds.send-J
+
+pub add_shuts-requires-send-J-Receipt : goal.add_shuts-requires-send-J-Receipt
+add_shuts-requires-send-J-Receipt g c κs within = c.type_bounds.send-J-Receipt

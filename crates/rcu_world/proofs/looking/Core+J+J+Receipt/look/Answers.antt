@@ -14,6 +14,12 @@ returns-clause-answers g c = happened g.J.Job.key_of c.args.self.now c.args.cpu 
 pub returns-clause-given : goal.returns-clause-given
 returns-clause-given g c = given_at g.J.Job.gives c.args.self.now c.args.cpu c.index_mut-p.result.now c.look.new.self (omega arith) c.index_mut-p.ensures.value c.look.ensures.given
 
+pub look-requires-send-J : goal.look-requires-send-J
+look-requires-send-J g c κs within = c.type_bounds.send-J
+
+pub look-requires-send-J-Receipt : goal.look-requires-send-J-Receipt
+look-requires-send-J-Receipt g c κs within = c.type_bounds.send-J-Receipt
+
 pub look-requires-after_bounds : goal.look-requires-after_bounds
 look-requires-after_bounds g c κs within = let l = subst (λ s. IsLookable s (seen g.J.Job.key_of c.index_mut-p.result.now).own) (sym c.number-number.ensures) (lookable_at g.J.Job.key_of c.args.self.now c.args.cpu c.index_mut-p.result.now c.requires.core (omega arith) c.index_mut-p.ensures.value) in (processor_fits (param 0 g.row.J) (param 1 g.row.J-Receipt) assumption, (l.small, l.may))
 

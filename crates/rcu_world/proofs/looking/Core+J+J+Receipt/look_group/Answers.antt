@@ -25,8 +25,20 @@ returns-clause-answers g c = (
 pub returns-clause-given : goal.returns-clause-given
 returns-clause-given g c = c.look_members.ensures.given c.args.self.now.qhimark
 
+pub look_members-requires-send-J : goal.look_members-requires-send-J
+look_members-requires-send-J g c κs within = c.type_bounds.send-J
+
+pub look_members-requires-send-J-Receipt : goal.look_members-requires-send-J-Receipt
+look_members-requires-send-J-Receipt g c κs within = c.type_bounds.send-J-Receipt
+
 pub look_members-requires-after_bounds : goal.look_members-requires-after_bounds
 look_members-requires-after_bounds g c κs within = (processor_fits (param 0 g.row.J) (param 1 g.row.J-Receipt) assumption, (c.requires.stride, subst (λ s. AreLookable s (all_seen g.J.Job.key_of c.args.self.now.processors.items)) (sym c.number-number.ensures) (lookable (state g.J.Job.key_of c.args.self.now) c.requires.core)))
+
+pub has_member-requires-send-J : goal.has_member-requires-send-J
+has_member-requires-send-J g c κs within = c.type_bounds.send-J
+
+pub has_member-requires-send-J-Receipt : goal.has_member-requires-send-J-Receipt
+has_member-requires-send-J-Receipt g c κs within = c.type_bounds.send-J-Receipt
 
 pub has_member-requires-after_bounds : goal.has_member-requires-after_bounds
 has_member-requires-after_bounds g c κs within = (processor_fits (param 0 g.row.J) (param 1 g.row.J-Receipt) assumption, c.requires.stride)

@@ -13,6 +13,12 @@ returns-clause-answers g c = stepped g.J.Job.key_of c.args.self.now c.args.cpu c
 pub returns-clause-given : goal.returns-clause-given
 returns-clause-given g c = given_at g.J.Job.gives c.args.self.now c.args.cpu c.index_mut-p.result.now c.look_hand.new.self (omega arith) c.index_mut-p.ensures.value c.look_hand.ensures.given
 
+pub look_hand-requires-send-J : goal.look_hand-requires-send-J
+look_hand-requires-send-J g c κs within = c.type_bounds.send-J
+
+pub look_hand-requires-send-J-Receipt : goal.look_hand-requires-send-J-Receipt
+look_hand-requires-send-J-Receipt g c κs within = c.type_bounds.send-J-Receipt
+
 pub look_hand-requires-after_bounds : goal.look_hand-requires-after_bounds
 look_hand-requires-after_bounds g c κs within = processor_fits (param 0 g.row.J) (param 1 g.row.J-Receipt) assumption
 

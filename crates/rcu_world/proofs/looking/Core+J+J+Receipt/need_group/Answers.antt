@@ -25,11 +25,29 @@ returns-clause-answers g c = (
 pub returns-clause-given : goal.returns-clause-given
 returns-clause-given g c = c.forget_members.ensures.given c.args.self.now.qhimark
 
+pub wants_member-requires-send-J : goal.wants_member-requires-send-J
+wants_member-requires-send-J g c κs within = c.type_bounds.send-J
+
+pub wants_member-requires-send-J-Receipt : goal.wants_member-requires-send-J-Receipt
+wants_member-requires-send-J-Receipt g c κs within = c.type_bounds.send-J-Receipt
+
 pub wants_member-requires-after_bounds : goal.wants_member-requires-after_bounds
 wants_member-requires-after_bounds g c κs within = (processor_fits (param 0 g.row.J) (param 1 g.row.J-Receipt) assumption, c.requires.stride)
 
+pub most_wanted-self-requires-send-J : goal.most_wanted-self-requires-send-J
+most_wanted-self-requires-send-J g c κs within = c.type_bounds.send-J
+
+pub most_wanted-self-requires-send-J-Receipt : goal.most_wanted-self-requires-send-J-Receipt
+most_wanted-self-requires-send-J-Receipt g c κs within = c.type_bounds.send-J-Receipt
+
 pub most_wanted-self-requires-after_bounds : goal.most_wanted-self-requires-after_bounds
 most_wanted-self-requires-after_bounds g c κs within = (processor_fits (param 0 g.row.J) (param 1 g.row.J-Receipt) assumption, c.requires.stride)
+
+pub forget_members-requires-send-J : goal.forget_members-requires-send-J
+forget_members-requires-send-J g c κs within = c.type_bounds.send-J
+
+pub forget_members-requires-send-J-Receipt : goal.forget_members-requires-send-J-Receipt
+forget_members-requires-send-J-Receipt g c κs within = c.type_bounds.send-J-Receipt
 
 pub forget_members-requires-after_bounds : goal.forget_members-requires-after_bounds
 forget_members-requires-after_bounds g c κs within = (processor_fits (param 0 g.row.J) (param 1 g.row.J-Receipt) assumption, c.requires.stride)

@@ -12,8 +12,20 @@ returns-in-Some-clause-answers g c = needed_at g.J.Job.key_of c.args.self.now c.
 pub returns-in-Some-clause-given : goal.returns-in-Some-clause-given
 returns-in-Some-clause-given g c = given_at g.J.Job.gives c.args.self.now c.args.cpu c.index_mut-p.result.now c.forget.new.self (omega arith) c.index_mut-p.ensures.value c.forget.ensures.given
 
+pub wanted-requires-send-J : goal.wanted-requires-send-J
+wanted-requires-send-J g c κs within = c.type_bounds.send-J
+
+pub wanted-requires-send-J-Receipt : goal.wanted-requires-send-J-Receipt
+wanted-requires-send-J-Receipt g c κs within = c.type_bounds.send-J-Receipt
+
 pub wanted-requires-after_bounds : goal.wanted-requires-after_bounds
 wanted-requires-after_bounds g c κs within = processor_fits (param 0 g.row.J) (param 1 g.row.J-Receipt) assumption
+
+pub forget-requires-send-J : goal.forget-requires-send-J
+forget-requires-send-J g c κs within = c.type_bounds.send-J
+
+pub forget-requires-send-J-Receipt : goal.forget-requires-send-J-Receipt
+forget-requires-send-J-Receipt g c κs within = c.type_bounds.send-J-Receipt
 
 pub forget-requires-after_bounds : goal.forget-requires-after_bounds
 forget-requires-after_bounds g c κs within = processor_fits (param 0 g.row.J) (param 1 g.row.J-Receipt) assumption

@@ -6,8 +6,20 @@ use Rattle.rcu_world.proofs.Seen.{absent, skipped, stepped, given_at}
 use Rattle.rcu_world.proofs.Sizes.{processor_fits, first_holds}
 use Rattle.rcu_world.proofs.moving.Core+J+J+Receipt.draw.Goals as goal
 
+pub can_draw-requires-send-J : goal.can_draw-requires-send-J
+can_draw-requires-send-J g c κs within = c.type_bounds.send-J
+
+pub can_draw-requires-send-J-Receipt : goal.can_draw-requires-send-J-Receipt
+can_draw-requires-send-J-Receipt g c κs within = c.type_bounds.send-J-Receipt
+
 pub can_draw-requires-after_bounds : goal.can_draw-requires-after_bounds
 can_draw-requires-after_bounds g c κs within = processor_fits (param 0 g.row.J) (param 1 g.row.J-Receipt) assumption
+
+pub draw-requires-send-J : goal.draw-requires-send-J
+draw-requires-send-J g c κs within = c.type_bounds.send-J
+
+pub draw-requires-send-J-Receipt : goal.draw-requires-send-J-Receipt
+draw-requires-send-J-Receipt g c κs within = c.type_bounds.send-J-Receipt
 
 pub draw-requires-after_bounds : goal.draw-requires-after_bounds
 draw-requires-after_bounds g c κs within = (processor_fits (param 0 g.row.J) (param 1 g.row.J-Receipt) assumption, first_holds _ _ (sym c.can_draw.ensures ∙ c.if-not-can_draw.false))

@@ -13,8 +13,20 @@ returns-clause-answers g c = stepped g.J.Job.key_of c.args.self.now c.args.cpu c
 pub returns-clause-given : goal.returns-clause-given
 returns-clause-given g c = given_at g.J.Job.gives c.args.self.now c.args.cpu c.index_mut-p.result.now c.fetch.new.self (omega arith) c.index_mut-p.ensures.value c.fetch.ensures.given
 
+pub can_fetch-requires-send-J : goal.can_fetch-requires-send-J
+can_fetch-requires-send-J g c κs within = c.type_bounds.send-J
+
+pub can_fetch-requires-send-J-Receipt : goal.can_fetch-requires-send-J-Receipt
+can_fetch-requires-send-J-Receipt g c κs within = c.type_bounds.send-J-Receipt
+
 pub can_fetch-requires-after_bounds : goal.can_fetch-requires-after_bounds
 can_fetch-requires-after_bounds g c κs within = processor_fits (param 0 g.row.J) (param 1 g.row.J-Receipt) assumption
+
+pub fetch-requires-send-J : goal.fetch-requires-send-J
+fetch-requires-send-J g c κs within = c.type_bounds.send-J
+
+pub fetch-requires-send-J-Receipt : goal.fetch-requires-send-J-Receipt
+fetch-requires-send-J-Receipt g c κs within = c.type_bounds.send-J-Receipt
 
 pub fetch-requires-after_bounds : goal.fetch-requires-after_bounds
 fetch-requires-after_bounds g c κs within = (processor_fits (param 0 g.row.J) (param 1 g.row.J-Receipt) assumption, second_holds _ _ (sym c.can_fetch.ensures ∙ c.if-not-can_fetch.false))

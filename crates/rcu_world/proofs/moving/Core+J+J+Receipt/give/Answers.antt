@@ -23,8 +23,20 @@ returns-in-Err-clause-given g c = given_at g.J.Job.gives c.args.self.now c.args.
 pub returns-in-Ok-clause-given : goal.returns-in-Ok-clause-given
 returns-in-Ok-clause-given g c = given_at g.J.Job.gives c.args.self.now c.args.cpu c.index_mut-p.result.now c.give.new.self (omega arith) c.index_mut-p.ensures.value c.give.ensures.given
 
+pub can_give-requires-send-J : goal.can_give-requires-send-J
+can_give-requires-send-J g c κs within = c.type_bounds.send-J
+
+pub can_give-requires-send-J-Receipt : goal.can_give-requires-send-J-Receipt
+can_give-requires-send-J-Receipt g c κs within = c.type_bounds.send-J-Receipt
+
 pub can_give-requires-after_bounds : goal.can_give-requires-after_bounds
 can_give-requires-after_bounds g c κs within = (processor_fits (param 0 g.row.J) (param 1 g.row.J-Receipt) assumption, c.requires.blimit)
+
+pub give-requires-send-J : goal.give-requires-send-J
+give-requires-send-J g c κs within = c.type_bounds.send-J
+
+pub give-requires-send-J-Receipt : goal.give-requires-send-J-Receipt
+give-requires-send-J-Receipt g c κs within = c.type_bounds.send-J-Receipt
 
 pub give-requires-after_bounds : goal.give-requires-after_bounds
 give-requires-after_bounds g c κs within = processor_fits (param 0 g.row.J) (param 1 g.row.J-Receipt) assumption

@@ -22,8 +22,20 @@ returns-in-Err-clause-given g c = given_at g.J.Job.gives c.args.self.now c.args.
 pub returns-in-Ok-clause-given : goal.returns-in-Ok-clause-given
 returns-in-Ok-clause-given g c = given_at g.J.Job.gives c.args.self.now c.args.cpu c.index_mut-p.result.now c.join.new.self (omega arith) c.index_mut-p.ensures.value c.join.ensures.given
 
+pub can_join-requires-send-J : goal.can_join-requires-send-J
+can_join-requires-send-J g c κs within = c.type_bounds.send-J
+
+pub can_join-requires-send-J-Receipt : goal.can_join-requires-send-J-Receipt
+can_join-requires-send-J-Receipt g c κs within = c.type_bounds.send-J-Receipt
+
 pub can_join-requires-after_bounds : goal.can_join-requires-after_bounds
 can_join-requires-after_bounds g c κs within = processor_fits (param 0 g.row.J) (param 1 g.row.J-Receipt) assumption
+
+pub join-requires-send-J : goal.join-requires-send-J
+join-requires-send-J g c κs within = c.type_bounds.send-J
+
+pub join-requires-send-J-Receipt : goal.join-requires-send-J-Receipt
+join-requires-send-J-Receipt g c κs within = c.type_bounds.send-J-Receipt
 
 pub join-requires-after_bounds : goal.join-requires-after_bounds
 join-requires-after_bounds g c κs within = processor_fits (param 0 g.row.J) (param 1 g.row.J-Receipt) assumption

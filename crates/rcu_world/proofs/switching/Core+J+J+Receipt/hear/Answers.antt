@@ -11,6 +11,12 @@ returns-clause-answers g c = stepped g.J.Job.key_of c.args.self.now c.args.cpu c
 pub returns-clause-given : goal.returns-clause-given
 returns-clause-given g c = given_at g.J.Job.gives c.args.self.now c.args.cpu c.index_mut-p.result.now c.hear.new.self (omega arith) c.index_mut-p.ensures.value c.hear.ensures.given
 
+pub hear-requires-send-J : goal.hear-requires-send-J
+hear-requires-send-J g c κs within = c.type_bounds.send-J
+
+pub hear-requires-send-J-Receipt : goal.hear-requires-send-J-Receipt
+hear-requires-send-J-Receipt g c κs within = c.type_bounds.send-J-Receipt
+
 pub hear-requires-after_bounds : goal.hear-requires-after_bounds
 hear-requires-after_bounds g c κs within = processor_fits (param 0 g.row.J) (param 1 g.row.J-Receipt) assumption
 

@@ -14,6 +14,12 @@ returns-clause-answers g c =
 pub returns-clause-given : goal.returns-clause-given
 returns-clause-given g c = given_at g.J.Job.gives c.args.self.now c.args.cpu c.index_mut-p.result.now c.heed-poured.new.self (omega arith) c.index_mut-p.ensures.value c.heed-poured.ensures.given
 
+pub heed-poured-requires-send-J : goal.heed-poured-requires-send-J
+heed-poured-requires-send-J g c κs within = c.type_bounds.send-J
+
+pub heed-poured-requires-send-J-Receipt : goal.heed-poured-requires-send-J-Receipt
+heed-poured-requires-send-J-Receipt g c κs within = c.type_bounds.send-J-Receipt
+
 pub heed-poured-requires-after_bounds : goal.heed-poured-requires-after_bounds
 heed-poured-requires-after_bounds g c κs within = processor_fits (param 0 g.row.J) (param 1 g.row.J-Receipt) assumption
 

@@ -13,8 +13,20 @@ returns-clause-answers g c = stepped g.J.Job.key_of c.args.self.now c.args.cpu c
 pub returns-clause-given : goal.returns-clause-given
 returns-clause-given g c = given_at g.J.Job.gives c.args.self.now c.args.cpu c.index_mut-p.result.now c.settle.new.self (omega arith) c.index_mut-p.ensures.value c.settle.ensures.given
 
+pub is_deoffloading-requires-send-J : goal.is_deoffloading-requires-send-J
+is_deoffloading-requires-send-J g c κs within = c.type_bounds.send-J
+
+pub is_deoffloading-requires-send-J-Receipt : goal.is_deoffloading-requires-send-J-Receipt
+is_deoffloading-requires-send-J-Receipt g c κs within = c.type_bounds.send-J-Receipt
+
 pub is_deoffloading-requires-after_bounds : goal.is_deoffloading-requires-after_bounds
 is_deoffloading-requires-after_bounds g c κs within = processor_fits (param 0 g.row.J) (param 1 g.row.J-Receipt) assumption
+
+pub settle-requires-send-J : goal.settle-requires-send-J
+settle-requires-send-J g c κs within = c.type_bounds.send-J
+
+pub settle-requires-send-J-Receipt : goal.settle-requires-send-J-Receipt
+settle-requires-send-J-Receipt g c κs within = c.type_bounds.send-J-Receipt
 
 pub settle-requires-after_bounds : goal.settle-requires-after_bounds
 settle-requires-after_bounds g c κs within = processor_fits (param 0 g.row.J) (param 1 g.row.J-Receipt) assumption

@@ -1,4 +1,4 @@
-use Rattle.rcu_world.proofs.Leading.{length_took, seen_there}
+use Rattle.rcu_world.proofs.Leading.{leads_event, length_took, seen_there}
 use Rattle.std.proofs.Common.{rules, refl, ◌≡◌, ◌<◌, ◌∙◌, ap, arith, length, subst, sym}
 use Rattle.std.proofs.lemmas.List.{length-map}
 use Rattle.rcu_law.specs.States.{cpu_at, has}
@@ -9,7 +9,7 @@ use Rattle.rcu_world.specs.Turns.{IsAtRestBut}
 use Rattle.rcu_world.proofs.Keeping.{answers_kept}
 use Rattle.rcu_world.proofs.Refusing.{refused_shut}
 use Rattle.rcu_world.proofs.Resting.{rest_accepted}
-use Rattle.rcu_world.proofs.Sizes.{second_holds}
+use Rattle.rcu_world.proofs.Sizes.{never, second_holds}
 use denote.Param.{param}
 use Rattle.rcu_world.proofs.Fitting.{core_fits, fits_there}
 use Rattle.rcu_world.proofs.worlds.World.accept_call.Goals as goal
@@ -72,3 +72,47 @@ returns-in-Memory-Some-clause-kept g c = record {
   fit = answers_kept g.J.Job.key_of _ (Accept c.args.cpu c.args.job) c.accept.result _ c.requires.world.fit c.accept.ensures.answers;
   given = c.accept.ensures.given c.requires.world.given;
 }
+
+-- an answer of the accept hands the job back where it hands back anything
+pub unreachable-requires : goal.unreachable-requires
+unreachable-requires g c = let e = c.in-Skipped-None.ensures.answers.2 in cc
+
+pub unreachable-requires-in-Memory-None : goal.unreachable-requires-in-Memory-None
+unreachable-requires-in-Memory-None g c = let e = c.in-Memory-None.ensures.answers.2 in cc
+
+pub returns-in-Skipped-Some-clause-same : goal.returns-in-Skipped-Some-clause-same
+returns-in-Skipped-Some-clause-same g c = c.in-Skipped-Some.ensures.answers.1
+
+pub returns-in-Skipped-Some-clause-len : goal.returns-in-Skipped-Some-clause-len
+returns-in-Skipped-Some-clause-len g c = ap (λ w. length w.cpus) c.in-Skipped-Some.ensures.answers.1
+
+pub returns-in-Skipped-Some-2-clause-same : goal.returns-in-Skipped-Some-2-clause-same
+returns-in-Skipped-Some-2-clause-same g c = c.in-Skipped-Some-2.ensures-1.answers.1
+
+pub returns-in-Skipped-Some-2-clause-len : goal.returns-in-Skipped-Some-2-clause-len
+returns-in-Skipped-Some-2-clause-len g c = ap (λ w. length w.cpus) c.in-Skipped-Some-2.ensures-1.answers.1
+
+pub returns-in-Memory-Some-clause-same : goal.returns-in-Memory-Some-clause-same
+returns-in-Memory-Some-clause-same g c = c.in-Memory-Some.ensures.answers.1
+
+pub returns-in-Memory-Some-clause-len : goal.returns-in-Memory-Some-clause-len
+returns-in-Memory-Some-clause-len g c = ap (λ w. length w.cpus) c.in-Memory-Some.ensures.answers.1
+
+pub returns-in-Done-clause-events : goal.returns-in-Done-clause-events
+returns-in-Done-clause-events g c = leads_event _ _ _ c.in-Done.ensures.answers.0 c.in-Done.ensures.answers.1
+
+-- an accept puts no list
+pub returns-in-Due-clause-events : goal.returns-in-Due-clause-events
+returns-in-Due-clause-events g c = never c.in-Due.ensures.answers.2
+
+pub returns-in-Due-clause-ready : goal.returns-in-Due-clause-ready
+returns-in-Due-clause-ready g c = never c.in-Due.ensures.answers.2
+
+pub returns-in-Due-clause-rest : goal.returns-in-Due-clause-rest
+returns-in-Due-clause-rest g c = never c.in-Due.ensures.answers.2
+
+pub returns-in-Due-clause-len : goal.returns-in-Due-clause-len
+returns-in-Due-clause-len g c = never c.in-Due.ensures.answers.2
+
+pub returns-in-Due-clause-kept : goal.returns-in-Due-clause-kept
+returns-in-Due-clause-kept g c = never c.in-Due.ensures.answers.2

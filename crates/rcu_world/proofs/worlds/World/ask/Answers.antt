@@ -24,3 +24,9 @@ returns-clause-answer g c = switch_asked (state g.J.Job.key_of c.args.self.now.c
 
 pub returns-clause-rest : goal.returns-clause-rest
 returns-clause-rest g c = c.perform-done.ensures.rest refl c.requires.rest
+
+pub perform-done-requires-send-J : goal.perform-done-requires-send-J
+perform-done-requires-send-J g c κs within = c.type_bounds.send-J
+
+pub perform-done-requires-send-J-Receipt : goal.perform-done-requires-send-J-Receipt
+perform-done-requires-send-J-Receipt g c κs within = c.type_bounds.send-J-Receipt

@@ -1,6 +1,6 @@
-use Rattle.std.proofs.Common.{length, subst, refl, ◌∙◌, sym}
+use Rattle.std.proofs.Common.{length, subst, refl, ◌∙◌, sym, inl, inr}
 use Rattle.rcu_law.specs.Events.CoreEvent.{Open, Urge}
-use Rattle.rcu_world.specs.Turns.{Leads, where_enabled, and_then, upto, counts_for}
+use Rattle.rcu_world.specs.Turns.{IsAtRest, Leads, where_enabled, and_then, upto, counts_for}
 use Rattle.rcu_world.specs.Views.{state}
 use Rattle.rcu_world.proofs.Leading.{leads_then}
 use Rattle.std.proofs.lemmas.List.{length-map}
@@ -18,3 +18,57 @@ returns-clause-answer g c = (sym c.in_default.ensures, c.len-barrier.ensures ∙
 
 pub returns-clause-rest : goal.returns-clause-rest
 returns-clause-rest g c = c.perform.ensures.rest refl (c.count_all.ensures.rest (c.attempt.ensures.rest refl c.requires.rest))
+
+pub barrier_fault-requires-send-J : goal.barrier_fault-requires-send-J
+barrier_fault-requires-send-J g c κs within = c.type_bounds.send-J
+
+pub barrier_fault-requires-send-J-Receipt : goal.barrier_fault-requires-send-J-Receipt
+barrier_fault-requires-send-J-Receipt g c κs within = c.type_bounds.send-J-Receipt
+
+pub barrier_fault-requires-after_bounds : goal.barrier_fault-requires-after_bounds
+barrier_fault-requires-after_bounds g c κs within = assumption
+
+pub returns-in-Some-clause-answer : goal.returns-in-Some-clause-answer
+returns-in-Some-clause-answer g c = inl (sym c.in-Some.ensures)
+
+pub returns-in-Some-clause-same : goal.returns-in-Some-clause-same
+returns-in-Some-clause-same g c = refl
+
+pub returns-in-Err-clause-answer : goal.returns-in-Err-clause-answer
+returns-in-Err-clause-answer g c = inr (sym c.in_default.ensures, refl)
+
+pub returns-in-Err-clause-same : goal.returns-in-Err-clause-same
+returns-in-Err-clause-same g c = c.in-Err.ensures.err
+
+pub returns-in-Err-clause-rest : goal.returns-in-Err-clause-rest
+returns-in-Err-clause-rest g c = subst IsAtRest (sym c.in-Err.ensures.err) c.requires.rest
+
+pub attempt-requires-send-J : goal.attempt-requires-send-J
+attempt-requires-send-J g c κs within = c.type_bounds.send-J
+
+pub attempt-requires-send-J-Receipt : goal.attempt-requires-send-J-Receipt
+attempt-requires-send-J-Receipt g c κs within = c.type_bounds.send-J-Receipt
+
+pub attempt-requires-after_bounds : goal.attempt-requires-after_bounds
+attempt-requires-after_bounds g c κs within = (assumption, c.requires.world)
+
+pub count_all-requires-send-J : goal.count_all-requires-send-J
+count_all-requires-send-J g c κs within = c.type_bounds.send-J
+
+pub count_all-requires-send-J-Receipt : goal.count_all-requires-send-J-Receipt
+count_all-requires-send-J-Receipt g c κs within = c.type_bounds.send-J-Receipt
+
+pub count_all-requires-after_bounds : goal.count_all-requires-after_bounds
+count_all-requires-after_bounds g c κs within = (assumption, c.attempt.ensures.kept)
+
+pub perform-requires-send-J : goal.perform-requires-send-J
+perform-requires-send-J g c κs within = c.type_bounds.send-J
+
+pub perform-requires-send-J-Receipt : goal.perform-requires-send-J-Receipt
+perform-requires-send-J-Receipt g c κs within = c.type_bounds.send-J-Receipt
+
+pub perform-requires-after_bounds : goal.perform-requires-after_bounds
+perform-requires-after_bounds g c κs within = (assumption, (c.count_all.ensures.kept, refl))
+
+pub returns-clause-len : goal.returns-clause-len
+returns-clause-len g c = c.perform.ensures.len ∙ c.count_all.ensures.len ∙ c.attempt.ensures.len

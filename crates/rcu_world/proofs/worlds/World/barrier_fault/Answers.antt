@@ -1,4 +1,5 @@
-use Rattle.std.proofs.Common.{◌∙◌, arith, sym}
+use Rattle.std.proofs.Common.{◌∙◌, ap, arith, sym}
+use Rattle.rcu_world.specs.Turns.{barrier_fault}
 use Rattle.rcu_world.specs.Views.{state}
 use Rattle.rcu_world.proofs.Entering.{not_there}
 use Rattle.rcu_world.proofs.Faults.{caller_absent, caller_there}
@@ -10,3 +11,6 @@ returns-in-Some g c = sym (caller_absent (state g.J.Job.key_of c.args.self.now.c
 
 pub returns-in-Some-2 : goal.returns-in-Some-2
 returns-in-Some-2 g c = c.ticket_fault.ensures ∙ sym (caller_there (state g.J.Job.key_of c.args.self.now.core) c.args.by c.args.tickets.now c.in-Some.cpu c.in-Some.is (has_at g.J.Job.key_of c.args.self.now.core c.in-Some.cpu (omega arith)))
+
+pub returns-in-None : goal.returns-in-None
+returns-in-None g c = c.ticket_fault-in-None.ensures ∙ sym (ap (λ b. barrier_fault (state g.J.Job.key_of c.args.self.now.core) b c.args.tickets.now) c.in-None.is)

@@ -1,12 +1,13 @@
-use Rattle.std.proofs.Common.{◌∷◌, [], ◌<◌, arith, subst}
+use Rattle.std.proofs.Common.{◌∷◌, [], ◌<◌, ◌∙◌, ap, arith, refl, subst, sym}
 use Rattle.rcu_law.specs.Events.CoreEvent.{Accept}
-use Rattle.rcu_world.specs.Turns.{stamp_events}
-use Rattle.rcu_world.proofs.Leading.{leads_then}
+use Rattle.rcu_world.specs.Turns.{IsAtRest, stamp_events}
+use Rattle.rcu_world.proofs.Leading.{leads_then, seen_there}
 use denote.Param.{param}
 use Rattle.rcu_world.proofs.Fitting.{fits_there}
 use Rattle.std.proofs.lemmas.List.{length-map}
 use Rattle.rcu_processor.specs.Views.{seen}
 use Rattle.rcu_world.proofs.Entering.{fresh_after}
+use Rattle.rcu_world.proofs.Wholes.{if_ok_never, on_err}
 use Rattle.rcu_world.proofs.worlds.World.call.Goals as goal
 
 pub count-number-requires-after_bounds : goal.count-number-requires-after_bounds
@@ -34,3 +35,26 @@ stamp_call-requires-after_bounds g c κs within = (
     ),
   ),
 )
+
+pub accept_call-requires-after_bounds : goal.accept_call-requires-after_bounds
+accept_call-requires-after_bounds g c κs within = (assumption, (c.requires.world, (c.requires.there, c.requires.rest)))
+
+pub returns-in_err-accept_call-clause-events : goal.returns-in_err-accept_call-clause-events
+returns-in_err-accept_call-clause-events g c = if_ok_never _ _ c.from_residual.ensures
+
+pub returns-in_err-accept_call-clause-ticket : goal.returns-in_err-accept_call-clause-ticket
+returns-in_err-accept_call-clause-ticket g c = if_ok_never _ _ c.from_residual.ensures
+
+pub returns-in_err-accept_call-clause-rest : goal.returns-in_err-accept_call-clause-rest
+returns-in_err-accept_call-clause-rest g c = subst IsAtRest (sym c.in_err-accept_call.ensures.same) c.requires.rest
+
+pub returns-clause-len : goal.returns-clause-len
+returns-clause-len g c = c.stamp_call.ensures.len ∙ c.accept_call.ensures.len
+
+pub returns-clause-ticket : goal.returns-clause-ticket
+returns-clause-ticket g c =
+    let l = subst (λ n. c.args.cpu < n) (length-map c.args.self.now.core.processors.items (seen g.J.Job.key_of)) c.requires.there in
+    (refl, c.count-number.ensures ∙ ap (λ x. x.count) (seen_there g.J.Job.key_of c.args.self.now.core c.args.cpu c.index.result.now l c.index.ensures))
+
+pub returns-in_err-accept_call-clause-same : goal.returns-in_err-accept_call-clause-same
+returns-in_err-accept_call-clause-same g c = on_err _ _ c.in_err-accept_call.ensures.same

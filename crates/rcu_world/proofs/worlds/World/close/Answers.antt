@@ -26,8 +26,20 @@ pub returns-in-Ok-clause-reports : goal.returns-in-Ok-clause-reports
 returns-in-Ok-clause-reports g c = subst (λ n. AreReported n c.into_closed.result.0.items c.into_closed.result.1.reports.items)
     (c.args.self.core.processors.ok.0 ∙ sym (length-map c.args.self.core.processors.items (seen g.J.Job.key_of))) c.into_closed.ensures.reports
 
+pub find_room-requires-send-J : goal.find_room-requires-send-J
+find_room-requires-send-J g c κs within = c.type_bounds.send-J
+
+pub find_room-requires-send-J-Receipt : goal.find_room-requires-send-J-Receipt
+find_room-requires-send-J-Receipt g c κs within = c.type_bounds.send-J-Receipt
+
 pub find_room-requires-after_bounds : goal.find_room-requires-after_bounds
 find_room-requires-after_bounds g c κs within = (core_fits (param 0 g.row.J) (param 1 g.row.J-Receipt) assumption, c.requires.fit)
+
+pub into_closed-requires-send-J : goal.into_closed-requires-send-J
+into_closed-requires-send-J g c κs within = c.type_bounds.send-J
+
+pub into_closed-requires-send-J-Receipt : goal.into_closed-requires-send-J-Receipt
+into_closed-requires-send-J-Receipt g c κs within = c.type_bounds.send-J-Receipt
 
 pub into_closed-requires-after_bounds : goal.into_closed-requires-after_bounds
 into_closed-requires-after_bounds g c κs within = (core_fits (param 0 g.row.J) (param 1 g.row.J-Receipt) assumption, c.in-Ok.ensures)

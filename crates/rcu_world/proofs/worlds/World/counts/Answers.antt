@@ -17,6 +17,12 @@ loop-cpu-init g c = record {
   each = λ p l. absurd (omega (arith, l));
 }
 
+pub count-requires-send-J : goal.count-requires-send-J
+count-requires-send-J g c κs within = c.type_bounds.send-J
+
+pub count-requires-send-J-Receipt : goal.count-requires-send-J-Receipt
+count-requires-send-J-Receipt g c κs within = c.type_bounds.send-J-Receipt
+
 pub count-requires-after_bounds : goal.count-requires-after_bounds
 count-requires-after_bounds g c κs within = fits_there (param 0 g.row.J) (param 1 g.row.J-Receipt) assumption
 

@@ -9,6 +9,12 @@ use denote.Param.{param}
 use Rattle.rcu_world.proofs.Fitting.{fits_there}
 use Rattle.rcu_world.proofs.worlds.World.draw_some.Goals as goal
 
+pub drawn_len-drawn-requires-send-J : goal.drawn_len-drawn-requires-send-J
+drawn_len-drawn-requires-send-J g c κs within = c.type_bounds.send-J
+
+pub drawn_len-drawn-requires-send-J-Receipt : goal.drawn_len-drawn-requires-send-J-Receipt
+drawn_len-drawn-requires-send-J-Receipt g c κs within = c.type_bounds.send-J-Receipt
+
 pub drawn_len-drawn-requires-after_bounds : goal.drawn_len-drawn-requires-after_bounds
 drawn_len-drawn-requires-after_bounds g c κs within = fits_there (param 0 g.row.J) (param 1 g.row.J-Receipt) assumption
 
@@ -77,3 +83,15 @@ returns-then-not-perform-clause-rest g c = λ r. c.perform.ensures.rest refl (c.
 
 pub returns-then-not-join-clause-rest : goal.returns-then-not-join-clause-rest
 returns-then-not-join-clause-rest g c = λ r. c.join.ensures.rest (c.perform.ensures.rest refl (c.loop-batch.invariant.rest r))
+
+pub perform-requires-send-J : goal.perform-requires-send-J
+perform-requires-send-J g c κs within = c.type_bounds.send-J
+
+pub perform-requires-send-J-Receipt : goal.perform-requires-send-J-Receipt
+perform-requires-send-J-Receipt g c κs within = c.type_bounds.send-J-Receipt
+
+pub join-requires-send-J : goal.join-requires-send-J
+join-requires-send-J g c κs within = c.type_bounds.send-J
+
+pub join-requires-send-J-Receipt : goal.join-requires-send-J-Receipt
+join-requires-send-J-Receipt g c κs within = c.type_bounds.send-J-Receipt

@@ -9,6 +9,12 @@ use denote.Param.{param}
 use Rattle.rcu_world.proofs.Fitting.{fits_there}
 use Rattle.rcu_world.proofs.worlds.World.give.Goals as goal
 
+pub given_len-ready-requires-send-J : goal.given_len-ready-requires-send-J
+given_len-ready-requires-send-J g c κs within = c.type_bounds.send-J
+
+pub given_len-ready-requires-send-J-Receipt : goal.given_len-ready-requires-send-J-Receipt
+given_len-ready-requires-send-J-Receipt g c κs within = c.type_bounds.send-J-Receipt
+
 pub given_len-ready-requires-after_bounds : goal.given_len-ready-requires-after_bounds
 given_len-ready-requires-after_bounds g c κs within = fits_there (param 0 g.row.J) (param 1 g.row.J-Receipt) assumption
 
@@ -36,3 +42,15 @@ index-requires g c = omega (arith, subst (λ n. c.args.cpu < n) (length-map c.ar
 
 pub returns-in-Ok-true-clause-rest : goal.returns-in-Ok-true-clause-rest
 returns-in-Ok-true-clause-rest g c = c.attempt.ensures.rest refl
+
+pub is_member-requires-send-J : goal.is_member-requires-send-J
+is_member-requires-send-J g c κs within = c.type_bounds.send-J
+
+pub is_member-requires-send-J-Receipt : goal.is_member-requires-send-J-Receipt
+is_member-requires-send-J-Receipt g c κs within = c.type_bounds.send-J-Receipt
+
+pub attempt-requires-send-J : goal.attempt-requires-send-J
+attempt-requires-send-J g c κs within = c.type_bounds.send-J
+
+pub attempt-requires-send-J-Receipt : goal.attempt-requires-send-J-Receipt
+attempt-requires-send-J-Receipt g c κs within = c.type_bounds.send-J-Receipt

@@ -9,6 +9,12 @@ use denote.Param.{param}
 use Rattle.rcu_world.proofs.Fitting.{fits_there}
 use Rattle.rcu_world.proofs.worlds.World.group_lists.Goals as goal
 
+pub group_lists-requires-send-J : goal.group_lists-requires-send-J
+group_lists-requires-send-J g c κs within = c.type_bounds.send-J
+
+pub group_lists-requires-send-J-Receipt : goal.group_lists-requires-send-J-Receipt
+group_lists-requires-send-J-Receipt g c κs within = c.type_bounds.send-J-Receipt
+
 pub group_lists-requires-after_bounds : goal.group_lists-requires-after_bounds
 group_lists-requires-after_bounds g c κs within = fits_there (param 0 g.row.J) (param 1 g.row.J-Receipt) assumption
 

@@ -13,3 +13,27 @@ returns-clause-events g c =
 
 pub returns-clause-rest : goal.returns-clause-rest
 returns-clause-rest g c = c.give_all-gave.ensures.rest (c.look_group.ensures.rest (c.take_all-took.ensures.rest c.requires.rest))
+
+pub take_all-took-requires-send-J : goal.take_all-took-requires-send-J
+take_all-took-requires-send-J g c κs within = c.type_bounds.send-J
+
+pub take_all-took-requires-send-J-Receipt : goal.take_all-took-requires-send-J-Receipt
+take_all-took-requires-send-J-Receipt g c κs within = c.type_bounds.send-J-Receipt
+
+pub look_group-requires-send-J : goal.look_group-requires-send-J
+look_group-requires-send-J g c κs within = c.type_bounds.send-J
+
+pub look_group-requires-send-J-Receipt : goal.look_group-requires-send-J-Receipt
+look_group-requires-send-J-Receipt g c κs within = c.type_bounds.send-J-Receipt
+
+pub give_all-gave-requires-send-J : goal.give_all-gave-requires-send-J
+give_all-gave-requires-send-J g c κs within = c.type_bounds.send-J
+
+pub give_all-gave-requires-send-J-Receipt : goal.give_all-gave-requires-send-J-Receipt
+give_all-gave-requires-send-J-Receipt g c κs within = c.type_bounds.send-J-Receipt
+
+pub waiting-held-requires-send-J : goal.waiting-held-requires-send-J
+waiting-held-requires-send-J g c κs within = c.type_bounds.send-J
+
+pub waiting-held-requires-send-J-Receipt : goal.waiting-held-requires-send-J-Receipt
+waiting-held-requires-send-J-Receipt g c κs within = c.type_bounds.send-J-Receipt

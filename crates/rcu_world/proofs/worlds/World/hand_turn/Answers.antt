@@ -12,6 +12,12 @@ pub returns-clause-events : goal.returns-clause-events
 returns-clause-events g c = leads_then (where_enabled (LookHand c.args.cpu)) (and_then (where_enabled (Fetch c.args.cpu)) (λ w. run_events c.args.cpu Hand c.run_some-ran.result.ran)) _ _ _ c.perform.ensures.leads.1
     (leads_then (where_enabled (Fetch c.args.cpu)) (λ w. run_events c.args.cpu Hand c.run_some-ran.result.ran) _ _ _ c.perform-2.ensures.leads.1 c.run_some-ran.ensures.leads)
 
+pub run_some-ran-requires-send-J : goal.run_some-ran-requires-send-J
+run_some-ran-requires-send-J g c κs within = c.type_bounds.send-J
+
+pub run_some-ran-requires-send-J-Receipt : goal.run_some-ran-requires-send-J-Receipt
+run_some-ran-requires-send-J-Receipt g c κs within = c.type_bounds.send-J-Receipt
+
 pub run_some-ran-requires-after_bounds : goal.run_some-ran-requires-after_bounds
 run_some-ran-requires-after_bounds g c κs within =
     let w = state g.J.Job.key_of c.args.self.now.core in

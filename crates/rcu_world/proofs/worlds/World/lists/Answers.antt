@@ -8,6 +8,12 @@ use Rattle.rcu_world.proofs.Fitting.{fits_there}
 use Rattle.rcu_world.proofs.Places.{in_vec}
 use Rattle.rcu_world.proofs.worlds.World.lists.Goals as goal
 
+pub lists-requires-send-J : goal.lists-requires-send-J
+lists-requires-send-J g c κs within = c.type_bounds.send-J
+
+pub lists-requires-send-J-Receipt : goal.lists-requires-send-J-Receipt
+lists-requires-send-J-Receipt g c κs within = c.type_bounds.send-J-Receipt
+
 pub lists-requires-after_bounds : goal.lists-requires-after_bounds
 lists-requires-after_bounds g c κs within = fits_there (param 0 g.row.J) (param 1 g.row.J-Receipt) assumption
 

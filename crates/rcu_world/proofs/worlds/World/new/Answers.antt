@@ -15,5 +15,11 @@ returns-clause-kept g c = record {
 pub returns-clause-rest : goal.returns-clause-rest
 returns-clause-rest g c = subst IsAtRest (sym c.in_ok-core.ensures.opens) (rest_opening c.args.shape.processors (plan c.args.shape))
 
+pub new-requires-send-J : goal.new-requires-send-J
+new-requires-send-J g c κs within = c.type_bounds.send-J
+
+pub new-requires-send-J-Receipt : goal.new-requires-send-J-Receipt
+new-requires-send-J-Receipt g c κs within = c.type_bounds.send-J-Receipt
+
 pub new-requires-after_bounds : goal.new-requires-after_bounds
 new-requires-after_bounds g c κs within = core_fits (param 0 g.row.J) (param 1 g.row.J-Receipt) assumption

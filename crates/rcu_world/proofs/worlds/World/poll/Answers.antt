@@ -28,6 +28,12 @@ returns-in_err-attempt-clause-rest g c = c.attempt.ensures.rest refl (c.see_all.
 pub returns-then-not-branch-clause-rest : goal.returns-then-not-branch-clause-rest
 returns-then-not-branch-clause-rest g c = c.attempt.ensures.rest refl (c.see_all.ensures.rest c.requires.rest)
 
+pub kept_counts-counts-requires-send-J : goal.kept_counts-counts-requires-send-J
+kept_counts-counts-requires-send-J g c κs within = c.type_bounds.send-J
+
+pub kept_counts-counts-requires-send-J-Receipt : goal.kept_counts-counts-requires-send-J-Receipt
+kept_counts-counts-requires-send-J-Receipt g c κs within = c.type_bounds.send-J-Receipt
+
 pub kept_counts-counts-requires-after_bounds : goal.kept_counts-counts-requires-after_bounds
 kept_counts-counts-requires-after_bounds g c κs within =
     let h = sym c.in_ok-attempt.ensures.enabled ∙ c.if-not-branch.false in
@@ -35,3 +41,15 @@ kept_counts-counts-requires-after_bounds g c κs within =
 
 pub returns-clause-rest : goal.returns-clause-rest
 returns-clause-rest g c = c.attempt.ensures.rest refl (c.see_all.ensures.rest c.requires.rest)
+
+pub see_all-requires-send-J : goal.see_all-requires-send-J
+see_all-requires-send-J g c κs within = c.type_bounds.send-J
+
+pub see_all-requires-send-J-Receipt : goal.see_all-requires-send-J-Receipt
+see_all-requires-send-J-Receipt g c κs within = c.type_bounds.send-J-Receipt
+
+pub attempt-requires-send-J : goal.attempt-requires-send-J
+attempt-requires-send-J g c κs within = c.type_bounds.send-J
+
+pub attempt-requires-send-J-Receipt : goal.attempt-requires-send-J-Receipt
+attempt-requires-send-J-Receipt g c κs within = c.type_bounds.send-J-Receipt

@@ -8,11 +8,29 @@ use denote.Param.{param}
 use Rattle.rcu_world.proofs.Fitting.{fits_there}
 use Rattle.rcu_world.proofs.worlds.World.release.Goals as goal
 
+pub is_urged-urged-requires-send-J : goal.is_urged-urged-requires-send-J
+is_urged-urged-requires-send-J g c κs within = c.type_bounds.send-J
+
+pub is_urged-urged-requires-send-J-Receipt : goal.is_urged-urged-requires-send-J-Receipt
+is_urged-urged-requires-send-J-Receipt g c κs within = c.type_bounds.send-J-Receipt
+
 pub is_urged-urged-requires-after_bounds : goal.is_urged-urged-requires-after_bounds
 is_urged-urged-requires-after_bounds g c κs within = fits_there (param 0 g.row.J) (param 1 g.row.J-Receipt) assumption
 
+pub is_released_in_tick-requires-send-J : goal.is_released_in_tick-requires-send-J
+is_released_in_tick-requires-send-J g c κs within = c.type_bounds.send-J
+
+pub is_released_in_tick-requires-send-J-Receipt : goal.is_released_in_tick-requires-send-J-Receipt
+is_released_in_tick-requires-send-J-Receipt g c κs within = c.type_bounds.send-J-Receipt
+
 pub is_released_in_tick-requires-after_bounds : goal.is_released_in_tick-requires-after_bounds
 is_released_in_tick-requires-after_bounds g c κs within = fits_there (param 0 g.row.J) (param 1 g.row.J-Receipt) assumption
+
+pub moment_of_tick-late-requires-send-J : goal.moment_of_tick-late-requires-send-J
+moment_of_tick-late-requires-send-J g c κs within = c.type_bounds.send-J
+
+pub moment_of_tick-late-requires-send-J-Receipt : goal.moment_of_tick-late-requires-send-J-Receipt
+moment_of_tick-late-requires-send-J-Receipt g c κs within = c.type_bounds.send-J-Receipt
 
 pub moment_of_tick-late-requires-after_bounds : goal.moment_of_tick-late-requires-after_bounds
 moment_of_tick-late-requires-after_bounds g c κs within = fits_there (param 0 g.row.J) (param 1 g.row.J-Receipt) assumption
@@ -42,3 +60,30 @@ returns-then-not-is_released_in_tick-clause-rest g c = c.perform.ensures.rest re
 
 pub returns-clause-rest : goal.returns-clause-rest
 returns-clause-rest g c = λ r. c.put.ensures.rest (c.perform.ensures.rest refl r)
+
+pub index-requires-3 : goal.index-requires-3
+index-requires-3 g c = subst (λ n. c.args.cpu < n) (sym c.perform.ensures.len ∙ length-map c.perform.new.self.core.processors.items (seen g.J.Job.key_of) ∙ sym c.perform.new.self.core.processors.ok.0) c.requires.there
+
+pub perform-requires-send-J : goal.perform-requires-send-J
+perform-requires-send-J g c κs within = c.type_bounds.send-J
+
+pub perform-requires-send-J-Receipt : goal.perform-requires-send-J-Receipt
+perform-requires-send-J-Receipt g c κs within = c.type_bounds.send-J-Receipt
+
+pub perform-requires-after_bounds : goal.perform-requires-after_bounds
+perform-requires-after_bounds g c κs within = (assumption, (c.requires.world, refl))
+
+pub put-requires-send-J : goal.put-requires-send-J
+put-requires-send-J g c κs within = c.type_bounds.send-J
+
+pub put-requires-send-J-Receipt : goal.put-requires-send-J-Receipt
+put-requires-send-J-Receipt g c κs within = c.type_bounds.send-J-Receipt
+
+pub put-requires-after_bounds : goal.put-requires-after_bounds
+put-requires-after_bounds g c κs within = (assumption, c.perform.ensures.kept)
+
+pub returns-clause-len : goal.returns-clause-len
+returns-clause-len g c = c.put.ensures.len ∙ c.perform.ensures.len
+
+pub returns-clause-shape : goal.returns-clause-shape
+returns-clause-shape g c = c.put.ensures.shape ∙ c.perform.ensures.shape

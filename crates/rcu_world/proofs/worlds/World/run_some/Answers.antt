@@ -1,4 +1,4 @@
-use Rattle.std.proofs.Common.{◌≡◌, true, false, cond, [], ◌∷◌, ◌∙◌, ◌<◌, ap, arith, sym, subst}
+use Rattle.std.proofs.Common.{◌≡◌, true, false, cond, [], ◌∷◌, ◌∙◌, ◌<◌, ◌≤◌, ap, arith, refl, sym, subst}
 use Rattle.std.proofs.lemmas.List.{length-map}
 use Rattle.rcu_jobs.specs.declared.Stop.TheVariants as stops
 use Rattle.rcu_law.specs.Events.{is_enabled, run}
@@ -6,13 +6,20 @@ use Rattle.rcu_law.specs.Events.CoreEvent.{Claim}
 use Rattle.rcu_law.specs.States.{cpu_at}
 use Rattle.rcu_processor.specs.Turns.{has_none}
 use Rattle.rcu_processor.specs.Views.{seen}
-use Rattle.rcu_world.specs.Turns.{stop_of}
+use Rattle.rcu_world.specs.Turns.{IsAtRest, Leads, run_events, stop_of}
 use Rattle.rcu_world.specs.Views.{state}
-use Rattle.rcu_world.proofs.Leading.{seen_there}
+use Rattle.rcu_world.proofs.Leading.{leads_nothing, seen_there}
+use Rattle.rcu_world.proofs.Places.{least_of, steps_on}
 use Rattle.rcu_world.proofs.Running.{ran_one, rest_ran, stops_memory, stops_early, stops_at_limit, claim_test}
 use denote.Param.{param}
 use Rattle.rcu_world.proofs.Fitting.{fits_there}
 use Rattle.rcu_world.proofs.worlds.World.run_some.Goals as goal
+
+pub why_no_claim-stop-requires-send-J : goal.why_no_claim-stop-requires-send-J
+why_no_claim-stop-requires-send-J g c κs within = c.type_bounds.send-J
+
+pub why_no_claim-stop-requires-send-J-Receipt : goal.why_no_claim-stop-requires-send-J-Receipt
+why_no_claim-stop-requires-send-J-Receipt g c κs within = c.type_bounds.send-J-Receipt
 
 pub why_no_claim-stop-requires-after_bounds : goal.why_no_claim-stop-requires-after_bounds
 why_no_claim-stop-requires-after_bounds g c κs within = fits_there (param 0 g.row.J) (param 1 g.row.J-Receipt) assumption
@@ -58,3 +65,78 @@ pub returns-clause-stop : goal.returns-clause-stop
 returns-clause-stop g c =
     let i = c.loop-ran.invariant in
     stops_at_limit c.args.by c.loop-ran.self.core.blimit c.loop-ran.ran (cpu_at (state g.J.Job.key_of c.loop-ran.self.core) c.args.cpu) (omega (arith, i.most, i.same)) (omega (arith, i.same))
+
+pub loop-ran-init : goal.loop-ran-init
+loop-ran-init g c = record {
+  leads = leads_nothing _ _ refl;
+  most = least_of _;
+  same = refl;
+  len = refl;
+  there = c.requires.there;
+  rest = c.requires.rest;
+  kept = c.requires.world;
+}
+
+pub attempt-requires-send-J : goal.attempt-requires-send-J
+attempt-requires-send-J g c κs within = c.type_bounds.send-J
+
+pub attempt-requires-send-J-Receipt : goal.attempt-requires-send-J-Receipt
+attempt-requires-send-J-Receipt g c κs within = c.type_bounds.send-J-Receipt
+
+pub attempt-requires-after_bounds : goal.attempt-requires-after_bounds
+attempt-requires-after_bounds g c κs within = (assumption, c.loop-ran.invariant.kept)
+
+pub perform-requires-send-J : goal.perform-requires-send-J
+perform-requires-send-J g c κs within = c.type_bounds.send-J
+
+pub perform-requires-send-J-Receipt : goal.perform-requires-send-J-Receipt
+perform-requires-send-J-Receipt g c κs within = c.type_bounds.send-J-Receipt
+
+pub perform-requires-after_bounds : goal.perform-requires-after_bounds
+perform-requires-after_bounds g c κs within = (assumption, (c.attempt.ensures.kept, refl))
+
+pub loop-ran-smaller : goal.loop-ran-smaller
+loop-ran-smaller g c = steps_on _ _ c.loop-ran-test.true
+
+-- no room for a claim
+pub returns-in-Err-clause-leads : goal.returns-in-Err-clause-leads
+returns-in-Err-clause-leads g c = subst (λ w. Leads (state g.J.Job.key_of c.args.self.now.core) (run_events c.args.cpu c.args.by c.loop-ran.ran) w) (sym c.in-Err.ensures.err) c.loop-ran.invariant.leads
+
+pub returns-in-Err-clause-most : goal.returns-in-Err-clause-most
+returns-in-Err-clause-most g c = subst (λ n. c.loop-ran.ran ≤ n) (sym (ap (λ s. s.blimit) c.attempt.ensures.shape ∙ c.loop-ran.invariant.same)) c.loop-ran.invariant.most
+
+pub returns-in-Err-clause-rest : goal.returns-in-Err-clause-rest
+returns-in-Err-clause-rest g c = subst IsAtRest (sym c.in-Err.ensures.err) c.loop-ran.invariant.rest
+
+pub returns-in-Err-clause-len : goal.returns-in-Err-clause-len
+returns-in-Err-clause-len g c = c.attempt.ensures.len ∙ c.loop-ran.invariant.len
+
+-- no claim
+pub returns-in-Ok-false-clause-leads : goal.returns-in-Ok-false-clause-leads
+returns-in-Ok-false-clause-leads g c =
+    let e : state g.J.Job.key_of c.attempt.new.self.core ≡ state g.J.Job.key_of c.loop-ran.self.core = c.in-Ok-false.ensures.leads.1.state ∙ ap (λ b. run (cond b (Claim c.args.cpu c.args.by ∷ []) []) (state g.J.Job.key_of c.loop-ran.self.core)) (sym c.in-Ok-false.ensures.enabled ∙ c.in-Ok-false.field-0-test) in
+    subst (λ w. Leads (state g.J.Job.key_of c.args.self.now.core) (run_events c.args.cpu c.args.by c.loop-ran.ran) w) (sym e) c.loop-ran.invariant.leads
+
+pub returns-in-Ok-false-clause-most : goal.returns-in-Ok-false-clause-most
+returns-in-Ok-false-clause-most g c = subst (λ n. c.loop-ran.ran ≤ n) (sym (ap (λ s. s.blimit) c.attempt.ensures.shape ∙ c.loop-ran.invariant.same)) c.loop-ran.invariant.most
+
+pub returns-in-Ok-false-clause-rest : goal.returns-in-Ok-false-clause-rest
+returns-in-Ok-false-clause-rest g c =
+    let e : state g.J.Job.key_of c.attempt.new.self.core ≡ state g.J.Job.key_of c.loop-ran.self.core = c.in-Ok-false.ensures.leads.1.state ∙ ap (λ b. run (cond b (Claim c.args.cpu c.args.by ∷ []) []) (state g.J.Job.key_of c.loop-ran.self.core)) (sym c.in-Ok-false.ensures.enabled ∙ c.in-Ok-false.field-0-test) in
+    subst IsAtRest (sym e) c.loop-ran.invariant.rest
+
+pub returns-in-Ok-false-clause-len : goal.returns-in-Ok-false-clause-len
+returns-in-Ok-false-clause-len g c = c.attempt.ensures.len ∙ c.loop-ran.invariant.len
+
+-- the limit
+pub returns-clause-leads : goal.returns-clause-leads
+returns-clause-leads g c = c.loop-ran.invariant.leads
+
+pub returns-clause-most : goal.returns-clause-most
+returns-clause-most g c = subst (λ n. c.loop-ran.ran ≤ n) (sym c.loop-ran.invariant.same) c.loop-ran.invariant.most
+
+pub returns-clause-rest : goal.returns-clause-rest
+returns-clause-rest g c = c.loop-ran.invariant.rest
+
+pub returns-clause-len : goal.returns-clause-len
+returns-clause-len g c = c.loop-ran.invariant.len

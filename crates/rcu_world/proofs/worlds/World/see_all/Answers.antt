@@ -31,3 +31,15 @@ loop-place-preserved g c =
 
 pub returns-clause-events : goal.returns-clause-events
 returns-clause-events g c = leads_all (turns_for c.args.barrier) c.loop-place.place _ _ _ (omega (arith, length-map c.args.self.now.core.processors.items (seen g.J.Job.key_of), c.args.self.now.core.processors.ok.0)) c.loop-place.invariant.leads
+
+pub has_seen-requires-send-J : goal.has_seen-requires-send-J
+has_seen-requires-send-J g c κs within = c.type_bounds.send-J
+
+pub has_seen-requires-send-J-Receipt : goal.has_seen-requires-send-J-Receipt
+has_seen-requires-send-J-Receipt g c κs within = c.type_bounds.send-J-Receipt
+
+pub perform-requires-send-J : goal.perform-requires-send-J
+perform-requires-send-J g c κs within = c.type_bounds.send-J
+
+pub perform-requires-send-J-Receipt : goal.perform-requires-send-J-Receipt
+perform-requires-send-J-Receipt g c κs within = c.type_bounds.send-J-Receipt

@@ -1,4 +1,4 @@
-use Rattle.std.proofs.Common.{rules, ◌∙◌, ◌≡◌, true, false}
+use Rattle.std.proofs.Common.{rules, ◌∙◌, ◌≡◌, sym, true, false}
 use Rattle.rcu_world.proofs.Leading.{length_took}
 use Rattle.rcu_world.specs.declared.events.Event.TheVariants.{Stamp}
 use Rattle.rcu_world.proofs.Keeping.{answers_kept}
@@ -8,6 +8,12 @@ use Rattle.rcu_world.specs.Views.{state}
 use Rattle.rcu_world.proofs.Fitting.{core_fits}
 use Rattle.rcu_world.proofs.Stamping.{stamp_done, stamp_due}
 use Rattle.rcu_world.proofs.worlds.World.stamp_call.Goals as goal
+
+pub put-requires-send-J : goal.put-requires-send-J
+put-requires-send-J g c κs within = c.type_bounds.send-J
+
+pub put-requires-send-J-Receipt : goal.put-requires-send-J-Receipt
+put-requires-send-J-Receipt g c κs within = c.type_bounds.send-J-Receipt
 
 pub put-requires-after_bounds : goal.put-requires-after_bounds
 put-requires-after_bounds g c κs within = (
@@ -36,6 +42,12 @@ returns-in-Done-clause-len g c = length_took g.J.Job.key_of _ (Stamp c.args.cpu 
 pub returns-in-Due-clause-len : goal.returns-in-Due-clause-len
 returns-in-Due-clause-len g c = c.put.ensures.len ∙ length_took g.J.Job.key_of _ (Stamp c.args.cpu c.args.moment c.args.lazy) _ c.in-Due.ensures.answers.1
 
+pub stamp-requires-send-J : goal.stamp-requires-send-J
+stamp-requires-send-J g c κs within = c.type_bounds.send-J
+
+pub stamp-requires-send-J-Receipt : goal.stamp-requires-send-J-Receipt
+stamp-requires-send-J-Receipt g c κs within = c.type_bounds.send-J-Receipt
+
 pub stamp-requires-after_bounds : goal.stamp-requires-after_bounds
 stamp-requires-after_bounds g c κs within = (core_fits (param 0 g.row.J) (param 1 g.row.J-Receipt) assumption, (c.requires.world.fit, c.requires.world.given))
 
@@ -47,3 +59,9 @@ returns-in-Due-clause-events g c = let a = c.in-Due.ensures.answers in stamp_due
 
 pub returns-in-Done-clause-events : goal.returns-in-Done-clause-events
 returns-in-Done-clause-events g c = let a = c.in-Done.ensures.answers in stamp_done (state g.J.Job.key_of c.args.self.now.core) _ c.args.cpu c.args.moment c.args.lazy a.0 a.1 a.2
+
+pub unreachable-requires : goal.unreachable-requires
+unreachable-requires g c = let e : true ≡ false = sym c.requires.fresh ∙ c.in-Skipped.ensures.answers.0 in cc
+
+pub returns-in-Due-clause-kept : goal.returns-in-Due-clause-kept
+returns-in-Due-clause-kept g c = c.put.ensures.kept

@@ -12,5 +12,11 @@ returns-clause-kept g c = record {
 pub returns-clause-offloaded : goal.returns-clause-offloaded
 returns-clause-offloaded g c = λ p o e. skipped_local g.J.Job.key_of _ _ c.args.event c.apply.result p c.requires.fit.core o e c.apply.ensures.answers
 
+pub apply-requires-send-J : goal.apply-requires-send-J
+apply-requires-send-J g c κs within = c.type_bounds.send-J
+
+pub apply-requires-send-J-Receipt : goal.apply-requires-send-J-Receipt
+apply-requires-send-J-Receipt g c κs within = c.type_bounds.send-J-Receipt
+
 pub apply-requires-after_bounds : goal.apply-requires-after_bounds
 apply-requires-after_bounds g c κs within = (core_fits (param 0 g.row.J) (param 1 g.row.J-Receipt) assumption, (c.requires.fit, c.requires.given))

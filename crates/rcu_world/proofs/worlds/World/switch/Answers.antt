@@ -9,8 +9,20 @@ use denote.Param.{param}
 use Rattle.rcu_world.proofs.Fitting.{fits_there}
 use Rattle.rcu_world.proofs.worlds.World.switch.Goals as goal
 
+pub is_switching-requires-send-J : goal.is_switching-requires-send-J
+is_switching-requires-send-J g c κs within = c.type_bounds.send-J
+
+pub is_switching-requires-send-J-Receipt : goal.is_switching-requires-send-J-Receipt
+is_switching-requires-send-J-Receipt g c κs within = c.type_bounds.send-J-Receipt
+
 pub is_switching-requires-after_bounds : goal.is_switching-requires-after_bounds
 is_switching-requires-after_bounds g c κs within = fits_there (param 0 g.row.J) (param 1 g.row.J-Receipt) assumption
+
+pub is_offloaded-requires-send-J : goal.is_offloaded-requires-send-J
+is_offloaded-requires-send-J g c κs within = c.type_bounds.send-J
+
+pub is_offloaded-requires-send-J-Receipt : goal.is_offloaded-requires-send-J-Receipt
+is_offloaded-requires-send-J-Receipt g c κs within = c.type_bounds.send-J-Receipt
 
 pub is_offloaded-requires-after_bounds : goal.is_offloaded-requires-after_bounds
 is_offloaded-requires-after_bounds g c κs within = fits_there (param 0 g.row.J) (param 1 g.row.J-Receipt) assumption
@@ -44,3 +56,15 @@ returns-then-not-is_offloaded-clause-rest g c = c.perform.ensures.rest refl
 
 pub returns-clause-rest : goal.returns-clause-rest
 returns-clause-rest g c = λ r. c.put.ensures.rest (c.perform.ensures.rest refl r)
+
+pub perform-requires-send-J : goal.perform-requires-send-J
+perform-requires-send-J g c κs within = c.type_bounds.send-J
+
+pub perform-requires-send-J-Receipt : goal.perform-requires-send-J-Receipt
+perform-requires-send-J-Receipt g c κs within = c.type_bounds.send-J-Receipt
+
+pub put-requires-send-J : goal.put-requires-send-J
+put-requires-send-J g c κs within = c.type_bounds.send-J
+
+pub put-requires-send-J-Receipt : goal.put-requires-send-J-Receipt
+put-requires-send-J-Receipt g c κs within = c.type_bounds.send-J-Receipt

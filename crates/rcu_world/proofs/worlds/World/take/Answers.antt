@@ -13,3 +13,21 @@ returns-clause-events g c = takes_made c.args.group c.args.cpu _ _ _ _ (sym c.is
 
 pub returns-clause-rest : goal.returns-clause-rest
 returns-clause-rest g c = λ r. c.draw_some.ensures.rest (c.join.ensures.rest r)
+
+pub is_member-requires-send-J : goal.is_member-requires-send-J
+is_member-requires-send-J g c κs within = c.type_bounds.send-J
+
+pub is_member-requires-send-J-Receipt : goal.is_member-requires-send-J-Receipt
+is_member-requires-send-J-Receipt g c κs within = c.type_bounds.send-J-Receipt
+
+pub join-requires-send-J : goal.join-requires-send-J
+join-requires-send-J g c κs within = c.type_bounds.send-J
+
+pub join-requires-send-J-Receipt : goal.join-requires-send-J-Receipt
+join-requires-send-J-Receipt g c κs within = c.type_bounds.send-J-Receipt
+
+pub draw_some-requires-send-J : goal.draw_some-requires-send-J
+draw_some-requires-send-J g c κs within = c.type_bounds.send-J
+
+pub draw_some-requires-send-J-Receipt : goal.draw_some-requires-send-J-Receipt
+draw_some-requires-send-J-Receipt g c κs within = c.type_bounds.send-J-Receipt

@@ -1,4 +1,4 @@
-use Rattle.std.proofs.Common.{◌∙◌, arith, refl}
+use Rattle.std.proofs.Common.{◌<◌, ◌∙◌, arith, refl, subst, sym}
 use Rattle.rcu_world.specs.GroupTurns.{Takes}
 use Rattle.rcu_world.specs.Views.{state}
 use Rattle.rcu_world.proofs.Drawing.{upto_more, upto_none}
@@ -36,3 +36,23 @@ returns-clause-events g c = made_all (Takes c.args.group) c.loop-cpu.cpu _ _ _ c
 
 pub loop-cpu-smaller : goal.loop-cpu-smaller
 loop-cpu-smaller g c = steps_on _ _ c.loop-cpu-test.true
+
+pub take-drawn-requires-send-J : goal.take-drawn-requires-send-J
+take-drawn-requires-send-J g c κs within = c.type_bounds.send-J
+
+pub take-drawn-requires-send-J-Receipt : goal.take-drawn-requires-send-J-Receipt
+take-drawn-requires-send-J-Receipt g c κs within = c.type_bounds.send-J-Receipt
+
+pub take-drawn-requires-after_bounds : goal.take-drawn-requires-after_bounds
+take-drawn-requires-after_bounds g c κs within =
+    let w = c.args.self.now.core.processors in
+    (assumption, (c.loop-cpu.invariant.kept, subst (λ n. c.loop-cpu.cpu < n) (c.len-cpu-end.ensures ∙ w.ok.0 ∙ sym (length-map w.items (seen g.J.Job.key_of)) ∙ sym c.loop-cpu.invariant.len) c.loop-cpu-test.true))
+
+pub returns-clause-rest : goal.returns-clause-rest
+returns-clause-rest g c = c.loop-cpu.invariant.rest
+
+pub returns-clause-len : goal.returns-clause-len
+returns-clause-len g c = c.loop-cpu.invariant.len
+
+pub returns-clause-kept : goal.returns-clause-kept
+returns-clause-kept g c = c.loop-cpu.invariant.kept

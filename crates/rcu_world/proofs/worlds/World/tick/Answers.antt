@@ -12,6 +12,12 @@ returns-clause-events g c =
           (leads_then (offloadable_events c.args.cpu c.args.moment o.0) (λ w. run_events c.args.cpu Local c.run_some.result.ran) _ _ _ o.1 c.run_some.ensures.leads),
     )
 
+pub run_some-requires-send-J : goal.run_some-requires-send-J
+run_some-requires-send-J g c κs within = c.type_bounds.send-J
+
+pub run_some-requires-send-J-Receipt : goal.run_some-requires-send-J-Receipt
+run_some-requires-send-J-Receipt g c κs within = c.type_bounds.send-J-Receipt
+
 pub run_some-requires-after_bounds : goal.run_some-requires-after_bounds
 run_some-requires-after_bounds g c κs within = (
   search rules,

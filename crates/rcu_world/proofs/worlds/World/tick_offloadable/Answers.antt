@@ -11,3 +11,21 @@ returns-clause-leads g c = offloadable_stages c.args.cpu c.args.moment c.is_set.
 
 pub returns-clause-rest : goal.returns-clause-rest
 returns-clause-rest g c = λ r. c.perform.ensures.rest refl (c.switch.ensures.rest (c.release.ensures.rest r))
+
+pub release-requires-send-J : goal.release-requires-send-J
+release-requires-send-J g c κs within = c.type_bounds.send-J
+
+pub release-requires-send-J-Receipt : goal.release-requires-send-J-Receipt
+release-requires-send-J-Receipt g c κs within = c.type_bounds.send-J-Receipt
+
+pub switch-requires-send-J : goal.switch-requires-send-J
+switch-requires-send-J g c κs within = c.type_bounds.send-J
+
+pub switch-requires-send-J-Receipt : goal.switch-requires-send-J-Receipt
+switch-requires-send-J-Receipt g c κs within = c.type_bounds.send-J-Receipt
+
+pub perform-requires-send-J : goal.perform-requires-send-J
+perform-requires-send-J g c κs within = c.type_bounds.send-J
+
+pub perform-requires-send-J-Receipt : goal.perform-requires-send-J-Receipt
+perform-requires-send-J-Receipt g c κs within = c.type_bounds.send-J-Receipt

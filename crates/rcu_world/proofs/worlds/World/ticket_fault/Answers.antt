@@ -12,6 +12,12 @@ use Rattle.rcu_world.proofs.Leading.{seen_there}
 use Rattle.rcu_world.proofs.Seen.{has_at}
 use Rattle.rcu_world.proofs.worlds.World.ticket_fault.Goals as goal
 
+pub count-count-requires-send-J : goal.count-count-requires-send-J
+count-count-requires-send-J g c κs within = c.type_bounds.send-J
+
+pub count-count-requires-send-J-Receipt : goal.count-count-requires-send-J-Receipt
+count-count-requires-send-J-Receipt g c κs within = c.type_bounds.send-J-Receipt
+
 pub count-count-requires-after_bounds : goal.count-count-requires-after_bounds
 count-count-requires-after_bounds g c κs within = fits_there (param 0 g.row.J) (param 1 g.row.J-Receipt) assumption
 

@@ -11,8 +11,20 @@ use Rattle.rcu_world.proofs.Fitting.{fits_there}
 use Rattle.rcu_world.proofs.Places.{steps_on}
 use Rattle.rcu_world.proofs.worlds.World.waiting.Goals as goal
 
+pub drawn_len-drawn-requires-send-J : goal.drawn_len-drawn-requires-send-J
+drawn_len-drawn-requires-send-J g c κs within = c.type_bounds.send-J
+
+pub drawn_len-drawn-requires-send-J-Receipt : goal.drawn_len-drawn-requires-send-J-Receipt
+drawn_len-drawn-requires-send-J-Receipt g c κs within = c.type_bounds.send-J-Receipt
+
 pub drawn_len-drawn-requires-after_bounds : goal.drawn_len-drawn-requires-after_bounds
 drawn_len-drawn-requires-after_bounds g c κs within = fits_there (param 0 g.row.J) (param 1 g.row.J-Receipt) assumption
+
+pub out_len-out-requires-send-J : goal.out_len-out-requires-send-J
+out_len-out-requires-send-J g c κs within = c.type_bounds.send-J
+
+pub out_len-out-requires-send-J-Receipt : goal.out_len-out-requires-send-J-Receipt
+out_len-out-requires-send-J-Receipt g c κs within = c.type_bounds.send-J-Receipt
 
 pub out_len-out-requires-after_bounds : goal.out_len-out-requires-after_bounds
 out_len-out-requires-after_bounds g c κs within = fits_there (param 0 g.row.J) (param 1 g.row.J-Receipt) assumption
@@ -68,6 +80,12 @@ index-p-requires g c = subst (λ n. c.loop-cpu.cpu < n) c.len-cpu-end.ensures c.
 
 pub loop-cpu-smaller : goal.loop-cpu-smaller
 loop-cpu-smaller g c = steps_on _ _ c.loop-cpu-test.true
+
+pub is_member-requires-send-J : goal.is_member-requires-send-J
+is_member-requires-send-J g c κs within = c.type_bounds.send-J
+
+pub is_member-requires-send-J-Receipt : goal.is_member-requires-send-J-Receipt
+is_member-requires-send-J-Receipt g c κs within = c.type_bounds.send-J-Receipt
 
 pub is_member-requires-after_bounds : goal.is_member-requires-after_bounds
 is_member-requires-after_bounds g c κs within = (assumption, (c.requires, subst (λ n. c.loop-cpu.cpu < n) (c.len-cpu-end.ensures ∙ c.args.self.now.core.processors.ok.0 ∙ sym (length-map c.args.self.now.core.processors.items (seen g.J.Job.key_of))) c.loop-cpu-test.true))
