@@ -1,6 +1,6 @@
 //! The part that asks for switches, shuts, opens barriers and halts.
 
-ghost use Rattle.std.specs.Prelude.{◌≡◌};
+ghost use Rattle.std.specs.Prelude.{◌≡◌, ◌≤◌};
 ghost use Rattle.std.specs.Arc.{arc_value};
 ghost use Rattle.rcu_board.specs.Seats.{view, AtBoard};
 ghost use Rattle.rcu_board.specs.declared.board.Role.{Role};
@@ -41,6 +41,14 @@ impl Control {
         Control { board, seat }
     }
 
+    /// How many processors there are, 1 to 32: as many as a barrier counts that this board's parts may poll.
+    pub fn processors(&self) -> u64
+        ensures board { result ≡ (control_board self.now).processors }
+        ensures few { result ≤ 32 }
+    {
+        self.board.processors()
+    }
+
     /// Asks that processor `p` be offloaded, which its next tick heeds.
     ///
     /// # Errors
@@ -70,7 +78,7 @@ impl Control {
         ensures same { SamePart (control_board self.old) (control_board self.new) (control_seat self.old) (control_seat self.new) }
         ensures asks { SwitchesBy (control_board self.old) p (from_bool on) result (control_view self.old) (control_view self.new) }
     {
-        if p >= self.board.processors() {
+        if p >= self.processors() {
             return Err(SwitchFault::NoProcessor(p));
         }
         if !self.board.is_offloadable(p) {
@@ -86,7 +94,7 @@ impl Control {
         ensures many { result.n ≡ (control_board self.old).processors }
         ensures shuts { Shuts (control_board self.old).processors result (control_view self.old) (control_view self.new) }
     {
-        let n = self.board.processors();
+        let n = self.processors();
         let mut counts = Counts::new(n);
         for p in 0..n {
             let count = shut_one(&self.board, &mut self.seat, p);

@@ -63,6 +63,27 @@ fn run_in_order(rt: HostRuntime) -> Result<(), Fail> {
     Ok(())
 }
 
+// A boxed job makes its call: a body that answers the key's rest by itself meets the promise of the receipt, too.
+#[test]
+fn boxed_call_is_made(rt: HostRuntime) -> Result<(), Fail> {
+    let made = Arc::new(rt.alloc(), AtomicU64::new(0))?;
+    let raised = Arc::try_clone(&made)?;
+    let call: Box<dyn FnOnce() -> u64 + Send> = Box::new(
+        rt.alloc(),
+        move || -> u64
+            ensures { result ≡ 7 }
+        {
+            raised.store(1, Ordering::SeqCst);
+            7
+        },
+    )?;
+    let job = BoxedJob::<65536>::new(KEY_STEP + 7, call);
+    assert_eq!(rt; made.load(Ordering::SeqCst), 0);
+    assert_eq!(rt; job.run(), 7);
+    assert_eq!(rt; made.load(Ordering::SeqCst), 1);
+    Ok(())
+}
+
 #[test]
 fn dropped_unrun(rt: HostRuntime) -> Result<(), Fail> {
     let count = Arc::new(rt.alloc(), AtomicU64::new(0))?;
