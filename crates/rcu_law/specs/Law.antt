@@ -1,6 +1,7 @@
 -- The law: what holds of every history (`docs/specification/definitions.md`, "The law").
 -- It speaks of one list of marks. There is no segment, mask, bypass list, lane, group, mode or sequence number in it.
-use Rattle.std.specs.Prelude.{ℕ, ◌<◌, ◌≡◌, ◌==◌, if◌then◌else◌, List, [], ◌∷◌, ◌++◌, length, map, take, All, Some}
+-- "Given" speaks of the records beside the marks: `AreRecords` in Invariant, and `Given` of rcu_jobs for the receipts.
+use Rattle.std.specs.Prelude.{ℕ, ◌<◌, ◌≡◌, ◌==◌, if◌then◌else◌, List, [], ◌∷◌, ◌++◌, length, take, Some}
 use Rattle.std.specs.List.{flat_map, slice_get}
 use Rattle.rcu_law.specs.declared.marks.Mark.{Mark}
 use Rattle.rcu_law.specs.declared.marks.Mark.TheVariants.{Accepted, Reported, Ran, Opened, Passed, Shut, Back}
@@ -89,12 +90,6 @@ IsShut h = (p i j key : ℕ) → slice_get h i ≡ Some (Shut p) → slice_get h
 pub record IsSettled (h : List Mark) : Type 0 where
   pub accounted : (p : ℕ) → accepted p h ≡ ran p h ++ back p h
   pub shut : (p i key : ℕ) → slice_get h i ≡ Some (Back p key) → (j : ℕ) × (j < i) × (slice_get h j ≡ Some (Shut p))
-
--- "Given": p has as many records as `Ran` marks, the k-th has the key of the k-th `Ran` of p, and each receipt is as the
--- job's promise wants it for its key
-pub record IsGiven {Record : Type 0} (key : Record → ℕ) (Gives : Record → Type 0) (records : List Record) (p : ℕ) (h : List Mark) : Type 0 where
-  pub keys : map key records ≡ ran p h
-  pub receipts : All Gives records
 
 -- the four laws of one history
 pub record IsSound (n : ℕ) (h : List Mark) : Type 0 where
