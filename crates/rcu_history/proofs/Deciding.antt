@@ -9,7 +9,7 @@ use Rattle.rcu_law.specs.declared.marks.Mark.TheVariants.{Accepted, Reported, Ra
 use Rattle.rcu_law.specs.Law.{accepted, back, ran, IsAccepted, IsCovered, IsLawful, IsSound}
 use Rattle.rcu_law.proofs.Law.{accepted_within}
 use Rattle.rcu_history.specs.declared.counting.Kind.TheVariants as kinds
-use Rattle.rcu_history.specs.Fits.{Fits, HaveRun, IsDue, IsShutBefore}
+use Rattle.rcu_history.specs.Fits.{Fits, HasReported, HaveRun, IsDue, IsShutBefore}
 use Rattle.rcu_history.specs.Kinds.{IsNth}
 use Rattle.rcu_history.specs.Returns.{IsReturned, Settles, SettlesAs}
 use Rattle.rcu_history.proofs.Fitting.{accepted_once, fits_lawful, is_accepted, lawful_with}
@@ -110,3 +110,10 @@ settles_past h u g = record { is = λ m e. absurd (let l : u < length h = slice_
 -- what stands at a place is what a look there finds
 pub found_at : (h : List Mark) (i : ℕ) (d m : Mark) → slice_get h i ≡ Some m → get_or h i d ≡ m
 found_at h i d m e = get_or_from_slice_get h i m d e
+
+-- the reports after a place cover it up to the end
+pub covers : (n : ℕ) (h : List Mark) (after : ℕ) → ((q : ℕ) → q < n → HasReported h after q) → IsCovered n h after (length h)
+covers n h after each = record { each = λ q l. let r = each q l in (r.place, r.later, slice_get_within h r.place (Reported q) r.stands, r.stands) }
+
+pub reports : (n : ℕ) (h : List Mark) (after q : ℕ) → q < n → IsCovered n h after (length h) → HasReported h after q
+reports n h after q l covered = let e = covered.each q l in record { place = e.0; later = e.1; stands = e.3 }

@@ -6,6 +6,12 @@ use Rattle.rcu_law.specs.declared.marks.Mark.{Mark}
 use Rattle.rcu_law.specs.declared.marks.Mark.TheVariants.{Accepted, Reported, Ran, Opened, Passed, Shut, Back}
 use Rattle.rcu_law.specs.Law.{IsCovered, accepted, ran}
 
+-- q reported after a place
+pub record HasReported (h : List Mark) (after q : ℕ) : Type 0 where
+  pub place : ℕ
+  pub later : after < place
+  pub stands : slice_get h place ≡ Some (Reported q)
+
 -- p was shut
 pub record IsShutBefore (h : List Mark) (p : ℕ) : Type 0 where
   pub place : ℕ

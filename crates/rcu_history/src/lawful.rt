@@ -1,17 +1,15 @@
 //! Whether a history is lawful, mark by mark.
 
-ghost use Rattle.std.specs.Prelude.{◌≡◌, ◌≤◌, ◌<◌, ◌↔◌, ℕ, Some, true, length};
-ghost use Rattle.std.specs.List.{slice_get};
+ghost use Rattle.std.specs.Prelude.{◌≡◌, ◌≤◌, ◌↔◌, true, length};
 ghost use Rattle.rcu_law.specs.Law.{IsCovered, IsLawful};
-ghost use Rattle.rcu_law.specs.declared.marks.Mark.TheVariants.{Reported};
-ghost use Rattle.rcu_history.specs.Fits.{Fits, HaveRun, IsDue, IsFresh, IsOver, IsShutBefore};
+ghost use Rattle.rcu_history.specs.Fits.{Fits, HasReported, HaveRun, IsDue, IsFresh, IsOver, IsShutBefore};
 
 use crate::counting::{Kind, many_of, nth_of};
 use rcu_law::marks::Mark;
 
 /// Whether `q` reported after this place.
 fn has_reported(history: &[Mark], after: usize, q: u64) -> bool
-    ensures { result ≡ true ↔ ((i : ℕ) × (after < i) × (i < length history.now) × (slice_get history.now i ≡ Some (Reported q))) }
+    ensures { result ≡ true ↔ HasReported history.now after q }
 {
     for place in 0..history.len() {
         if place > after && history[place] == Mark::Reported(q) {
