@@ -51,3 +51,30 @@ returns-in-Err-clause-rest g c = elim c.if-eq.branch [
   | then-eq w ↦ subst (λ x. IsAtRest (state g.J.Job.key_of x.core)) (sym w.world-is) w.call_rcu_lazy-answer.ensures.rest
   | else-eq w ↦ subst (λ x. IsAtRest (state g.J.Job.key_of x.core)) (sym w.world-is) w.call_rcu-answer.ensures.rest
 ]
+
+pub processors-requires-send-J : goal.processors-requires-send-J
+processors-requires-send-J g c κs within = c.type_bounds.send-J
+
+pub processors-requires-send-J-Receipt : goal.processors-requires-send-J-Receipt
+processors-requires-send-J-Receipt g c κs within = c.type_bounds.send-J-Receipt
+
+pub call_rcu_lazy-answer-requires-send-J : goal.call_rcu_lazy-answer-requires-send-J
+call_rcu_lazy-answer-requires-send-J g c κs within = c.type_bounds.send-J
+
+pub call_rcu_lazy-answer-requires-send-J-Receipt : goal.call_rcu_lazy-answer-requires-send-J-Receipt
+call_rcu_lazy-answer-requires-send-J-Receipt g c κs within = c.type_bounds.send-J-Receipt
+
+pub call_rcu-answer-requires-send-J : goal.call_rcu-answer-requires-send-J
+call_rcu-answer-requires-send-J g c κs within = c.type_bounds.send-J
+
+pub call_rcu-answer-requires-send-J-Receipt : goal.call_rcu-answer-requires-send-J-Receipt
+call_rcu-answer-requires-send-J-Receipt g c κs within = c.type_bounds.send-J-Receipt
+
+pub processors-requires-after_bounds : goal.processors-requires-after_bounds
+processors-requires-after_bounds g c κs within = assumption
+
+pub call_rcu_lazy-answer-requires-after_bounds : goal.call_rcu_lazy-answer-requires-after_bounds
+call_rcu_lazy-answer-requires-after_bounds g c κs within = (assumption, (c.requires.world, (subst (λ n. c.args.cpu < n) c.processors.ensures c.if-cpu-processors.false, c.requires.rest)))
+
+pub call_rcu-answer-requires-after_bounds : goal.call_rcu-answer-requires-after_bounds
+call_rcu-answer-requires-after_bounds g c κs within = (assumption, (c.requires.world, (subst (λ n. c.args.cpu < n) c.processors.ensures c.if-cpu-processors.false, c.requires.rest)))

@@ -1,7 +1,4 @@
-use Rattle.std.proofs.Common.{rules, ◌<◌, ◌≤◌, ◌∙◌, length, subst, sym}
-use Rattle.std.specs.Mem.{FitsInMemory}
-use denote.Param.{param}
-use Rattle.rcu_world.specs.contracts.worlds.World as world
+use Rattle.std.proofs.Common.{◌<◌, ◌≤◌, ◌∙◌, length, subst, sym}
 use Rattle.rcu_world.specs.Views.{state}
 use Rattle.rcu_core_replay.specs.Outcomes.{IsHand}
 use Rattle.rcu_core_replay.proofs.Refusals.{no_hand, not_offloadable}
@@ -9,7 +6,7 @@ use Rattle.rcu_core_replay.proofs.commands.hand.Goals as goal
 
 pub returns-then-not-has_hand-clause-line : goal.returns-then-not-has_hand-clause-line
 returns-then-not-has_hand-clause-line g c =
-    let there : c.args.cpu < length (state g.J.Job.key_of c.args.world.now.core).cpus = search rules in
+    let there : c.args.cpu < length (state g.J.Job.key_of c.args.world.now.core).cpus = subst (λ n. c.args.cpu < n) c.processors.ensures c.if-cpu-processors.false in
     let w = state g.J.Job.key_of c.args.world.now.core in
     subst (λ l. IsHand w c.args.cpu l w) (sym c.not_offloadable.ensures) (not_offloadable w c.args.cpu there (sym c.has_hand.ensures ∙ c.if-not-has_hand.true))
 
@@ -19,6 +16,28 @@ returns-then-cpu-processors-clause-line g c =
     no_hand _ c.args.cpu gone c.no_such.result c.no_such.ensures
 
 pub hand_turn-requires-after_bounds : goal.hand_turn-requires-after_bounds
-hand_turn-requires-after_bounds g c κs within =
-    let fits : FitsInMemory (world.the_row (param 0 g.row.J) (param 1 g.row.J-Receipt)) = search rules in
-    (fits, (c.requires.world, (sym c.has_hand.ensures ∙ c.if-not-has_hand.false, c.requires.rest)))
+hand_turn-requires-after_bounds g c κs within = (assumption, (c.requires.world, (sym c.has_hand.ensures ∙ c.if-not-has_hand.false, c.requires.rest)))
+
+pub processors-requires-send-J : goal.processors-requires-send-J
+processors-requires-send-J g c κs within = c.type_bounds.send-J
+
+pub processors-requires-send-J-Receipt : goal.processors-requires-send-J-Receipt
+processors-requires-send-J-Receipt g c κs within = c.type_bounds.send-J-Receipt
+
+pub has_hand-requires-send-J : goal.has_hand-requires-send-J
+has_hand-requires-send-J g c κs within = c.type_bounds.send-J
+
+pub has_hand-requires-send-J-Receipt : goal.has_hand-requires-send-J-Receipt
+has_hand-requires-send-J-Receipt g c κs within = c.type_bounds.send-J-Receipt
+
+pub hand_turn-requires-send-J : goal.hand_turn-requires-send-J
+hand_turn-requires-send-J g c κs within = c.type_bounds.send-J
+
+pub hand_turn-requires-send-J-Receipt : goal.hand_turn-requires-send-J-Receipt
+hand_turn-requires-send-J-Receipt g c κs within = c.type_bounds.send-J-Receipt
+
+pub processors-requires-after_bounds : goal.processors-requires-after_bounds
+processors-requires-after_bounds g c κs within = assumption
+
+pub has_hand-requires-after_bounds : goal.has_hand-requires-after_bounds
+has_hand-requires-after_bounds g c κs within = assumption

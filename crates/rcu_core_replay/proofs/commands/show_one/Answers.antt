@@ -1,4 +1,5 @@
 use Rattle.std.proofs.Common.{rules, ◌≡◌, None, Some}
+use Rattle.rcu_world.proofs.Wholes.{if_ok_never}
 use Rattle.rcu_core_replay.proofs.Showing.{own_alone, own_and_group}
 use Rattle.rcu_core_replay.proofs.commands.show_one.Goals as goal
 
@@ -11,3 +12,18 @@ pub returns-in-None : goal.returns-in-None
 returns-in-None g c =
     let none : c.group_lists.result ≡ None = search rules in
     own_alone _ c.args.cpu _ _ c.lists.result c.group_lists.result c.lists.ensures c.group_lists.ensures c.in_ok-write_lists.ensures none
+
+pub lists-requires-send-J : goal.lists-requires-send-J
+lists-requires-send-J g c κs within = c.type_bounds.send-J
+
+pub group_lists-requires-send-J : goal.group_lists-requires-send-J
+group_lists-requires-send-J g c κs within = c.type_bounds.send-J
+
+pub lists-requires-after_bounds : goal.lists-requires-after_bounds
+lists-requires-after_bounds g c κs within = (assumption, c.requires)
+
+pub group_lists-requires-after_bounds : goal.group_lists-requires-after_bounds
+group_lists-requires-after_bounds g c κs within = assumption
+
+pub returns-in_err-write_lists : goal.returns-in_err-write_lists
+returns-in_err-write_lists g c = if_ok_never _ _ c.from_residual.ensures

@@ -1,13 +1,11 @@
-use Rattle.std.proofs.Common.{◌≡◌, ℕ, List, length, refl, subst, sym, true}
+use Rattle.std.proofs.Common.{refl, subst, true}
 use Rattle.rcu_core_replay.specs.Printed.{Prints}
 use Rattle.rcu_core_replay.specs.Scripts.{Replays}
 use Rattle.rcu_jobs.specs.Promised.{Promised}
-use Rattle.rcu_law.specs.Closing.{closing}
 use Rattle.rcu_law.specs.States.{State, opening}
 use Rattle.rcu_script.proofs.Scripts.{writes_then}
 use Rattle.rcu_script.specs.Lines.{whole_totals}
 use Rattle.rcu_script.specs.Scripts.{PrintsScript, Writes}
-use Rattle.rcu_world.specs.Leaving.{AreHandedBack, AreRecorded, AreReported}
 use Rattle.rcu_world.specs.Views.{state}
 use Rattle.rcu_world.specs.Worlds.{plan}
 use Rattle.rcu_core_replay.proofs.replaying.replay.Goals as goal

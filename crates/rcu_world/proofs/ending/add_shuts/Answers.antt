@@ -38,3 +38,12 @@ push_reserved-requires g c = room_for_least _ _ _ _ _ _ _ c.loop-cpu.invariant.l
 
 pub returns-clause-len : goal.returns-clause-len
 returns-clause-len g c = most_added _ _ _ _ _ c.loop-cpu.invariant.len c.loop-cpu.auto.cpu-end c.len-cpu-end.ensures
+
+pub is_open-requires-send-J : goal.is_open-requires-send-J
+is_open-requires-send-J g c κs within = c.type_bounds.send-J
+
+pub is_open-requires-send-J-Receipt : goal.is_open-requires-send-J-Receipt
+is_open-requires-send-J-Receipt g c κs within = c.type_bounds.send-J-Receipt
+
+pub is_open-requires-after_bounds : goal.is_open-requires-after_bounds
+is_open-requires-after_bounds g c κs within = assumption

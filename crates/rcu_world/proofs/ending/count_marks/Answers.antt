@@ -1,4 +1,4 @@
-use Rattle.std.proofs.Common.{length, ◌<◌, ◌≤◌, ◌∙◌, ap, get_or, subst, rules}
+use Rattle.std.proofs.Common.{length, ◌<◌, ◌≤◌, ◌∙◌, ap, get_or, subst}
 use Rattle.rcu_processor.specs.Leaving.{IsCounted}
 use Rattle.rcu_processor.specs.Views.{seen}
 use Rattle.rcu_world.proofs.Leaving.{all_at, one_fits, more_fits, marks_sum, marks_most, marks_end}
@@ -12,7 +12,7 @@ left-requires-send-J-Receipt g c κs within = c.type_bounds.send-J-Receipt
 
 pub left-requires-after_bounds : goal.left-requires-after_bounds
 left-requires-after_bounds g c κs within = (
-  search rules,
+  assumption,
   all_at (λ p. IsCounted (seen g.J.Job.key_of p)) c.args.processors.now.items c.loop-p.p-index c.p-item.result
       (subst (λ x. c.loop-p.p-index < length x) c.deref-p-items.ensures.value c.loop-p-test.true) (c.p-item.is ∙ ap (λ x. get_or x c.loop-p.p-index c.p-item.result) c.deref-p-items.ensures.value) c.requires.counted,
 )

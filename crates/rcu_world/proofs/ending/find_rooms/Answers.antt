@@ -1,7 +1,8 @@
-use Rattle.std.proofs.Common.{length, ◌<◌, ◌≤◌, ◌∙◌, ap, get_or, subst, rules}
+use Rattle.std.proofs.Common.{length, ◌<◌, ◌≤◌, ◌∙◌, ap, get_or, subst}
 use Rattle.rcu_processor.specs.Leaving.{IsCounted}
 use Rattle.rcu_processor.specs.Views.{seen}
 use Rattle.rcu_world.proofs.Leaving.{all_at, exact_room, room_more, room_end}
+use Rattle.rcu_world.proofs.Wholes.{if_ok_never}
 use Rattle.rcu_world.proofs.ending.find_rooms.Goals as goal
 
 pub left-requires-send-J : goal.left-requires-send-J
@@ -12,7 +13,7 @@ left-requires-send-J-Receipt g c κs within = c.type_bounds.send-J-Receipt
 
 pub left-requires-after_bounds : goal.left-requires-after_bounds
 left-requires-after_bounds g c κs within = (
-  search rules,
+  assumption,
   all_at (λ p. IsCounted (seen g.J.Job.key_of p)) c.args.processors.now.items c.loop-p.p-index c.p-item.result
       (subst (λ x. c.loop-p.p-index < length x) c.deref-p-items.ensures.value c.loop-p-test.true) (c.p-item.is ∙ ap (λ x. get_or x c.loop-p.p-index c.p-item.result) c.deref-p-items.ensures.value) c.requires,
 )
@@ -23,3 +24,15 @@ loop-p-preserved g c = rw c.in_ok-push.ensures.items (room_more g.J.Job.key_of c
 
 pub returns : goal.returns
 returns g c = room_end g.J.Job.key_of c.args.processors.now.items c.loop-p.rooms.items c.loop-p.p-index (subst (λ x. length x ≤ c.loop-p.p-index) c.deref-p-items.ensures.value c.loop-p-test.false) c.loop-p.invariant
+
+pub offset_bounds-p-items-p-index : goal.offset_bounds-p-items-p-index
+offset_bounds-p-items-p-index g c = c.loop-p.auto.p-index-end
+
+pub bounds-p-items-p-index : goal.bounds-p-items-p-index
+bounds-p-items-p-index g c = c.loop-p-test.true
+
+pub returns-in_err-with_capacity : goal.returns-in_err-with_capacity
+returns-in_err-with_capacity g c = if_ok_never _ _ c.from_residual.ensures
+
+pub returns-in_err-push : goal.returns-in_err-push
+returns-in_err-push g c = if_ok_never _ _ c.from_residual-in_err-push.ensures

@@ -1,4 +1,4 @@
-use Rattle.std.proofs.Common.{◌<◌, ◌≡◌, length, arith, subst, sym, ap, ◌∙◌, drop, take, ◌+◌, ◌++◌, set, cond, rules}
+use Rattle.std.proofs.Common.{◌<◌, ◌≡◌, length, arith, subst, sym, ap, ◌∙◌, drop, take, ◌+◌, ◌++◌, set, cond}
 use Rattle.std.proofs.lemmas.List.{length-set, drop-set-lt, length-map, map-set}
 use Rattle.rcu_law.specs.Steps.{group_looks}
 use Rattle.rcu_law.specs.Events.{each_cpu}
@@ -23,7 +23,7 @@ look_as-requires-after_bounds g c κs within =
     (subst (λ n. c.loop-i.i < n) (sym (length-map c.loop-i.processors.items (seen g.J.Job.key_of))) l)
     (length-map c.loop-i.processors.items (seen g.J.Job.key_of) ∙ c.loop-i.invariant.len ∙ sym (length-map c.args.processors.now.items (seen g.J.Job.key_of)))
     (seen_at g.J.Job.key_of c.loop-i.processors.items c.loop-i.i c.index_mut-p.result.now l c.index_mut-p.ensures.value) c.loop-i.invariant.rest in
-    (search rules, (f.small, f.may))
+    (assumption, (f.small, f.may))
 
 pub loop-i-preserved : goal.loop-i-preserved
 loop-i-preserved g c =

@@ -1,5 +1,5 @@
 use Rattle.rcu_world.proofs.Leading.{leads_event, length_took, seen_there}
-use Rattle.std.proofs.Common.{rules, refl, ◌≡◌, ◌<◌, ◌∙◌, ap, arith, length, subst, sym}
+use Rattle.std.proofs.Common.{refl, ◌≡◌, ◌<◌, ◌∙◌, ap, arith, length, subst, sym}
 use Rattle.std.proofs.lemmas.List.{length-map}
 use Rattle.rcu_law.specs.States.{cpu_at, has}
 use Rattle.rcu_processor.specs.Views.{seen}
@@ -36,10 +36,10 @@ pub returns-in-Skipped-Some-clause-refused : goal.returns-in-Skipped-Some-clause
 returns-in-Skipped-Some-clause-refused g c =
     let l : c.args.cpu < length c.args.self.now.core.processors.items = subst (λ n. c.args.cpu < n) (length-map c.args.self.now.core.processors.items (seen g.J.Job.key_of)) c.requires.there in
     let e = c.count-count.ensures ∙ ap (λ x. x.count) (seen_there g.J.Job.key_of c.args.self.now.core c.args.cpu c.index.result.now l c.index.ensures) in
-    (search rules, omega (arith, e))
+    (let j = c.in-Skipped-Some.ensures.answers.2 in cc, omega (arith, e))
 
 pub returns-in-Memory-Some-clause-refused : goal.returns-in-Memory-Some-clause-refused
-returns-in-Memory-Some-clause-refused g c = (search rules, second_holds (has (state g.J.Job.key_of c.args.self.now.core) c.args.cpu) _ c.in-Memory-Some.ensures.answers.0)
+returns-in-Memory-Some-clause-refused g c = (let j = c.in-Memory-Some.ensures.answers.2 in cc, second_holds (has (state g.J.Job.key_of c.args.self.now.core) c.args.cpu) _ c.in-Memory-Some.ensures.answers.0)
 
 pub returns-in-Skipped-Some-2-clause-refused : goal.returns-in-Skipped-Some-2-clause-refused
 returns-in-Skipped-Some-2-clause-refused g c =
@@ -47,7 +47,7 @@ returns-in-Skipped-Some-2-clause-refused g c =
     let l : c.args.cpu < length c.args.self.now.core.processors.items = subst (λ n. c.args.cpu < n) (length-map c.args.self.now.core.processors.items (seen g.J.Job.key_of)) c.requires.there in
     let e : c.count-count.result ≡ (cpu_at w c.args.cpu).count = c.count-count.ensures ∙ ap (λ x. x.count) (seen_there g.J.Job.key_of c.args.self.now.core c.args.cpu c.index.result.now l c.index.ensures) in
     let b : (cpu_at w c.args.cpu).count < c.args.self.now.core.limit = omega (arith, e) in
-    (search rules, omega (arith, b), refused_shut w c.args.cpu (g.J.Job.key_of c.args.job) c.requires.there b (c.requires.rest.each c.args.cpu).fresh c.in-Skipped-Some-2.ensures-1.answers.0)
+    (let j = c.in-Skipped-Some-2.ensures-1.answers.2 in cc, omega (arith, b), refused_shut w c.args.cpu (g.J.Job.key_of c.args.job) c.requires.there b (c.requires.rest.each c.args.cpu).fresh c.in-Skipped-Some-2.ensures-1.answers.0)
 
 pub index-requires : goal.index-requires
 index-requires g c = omega (arith, subst (λ n. c.args.cpu < n) (length-map c.args.self.now.core.processors.items (seen g.J.Job.key_of)) c.requires.there, c.args.self.now.core.processors.ok.0)

@@ -14,3 +14,21 @@ returns-in-Some-2 g c = c.ticket_fault.ensures ∙ sym (caller_there (state g.J.
 
 pub returns-in-None : goal.returns-in-None
 returns-in-None g c = c.ticket_fault-in-None.ensures ∙ sym (ap (λ b. barrier_fault (state g.J.Job.key_of c.args.self.now.core) b c.args.tickets.now) c.in-None.is)
+
+pub ticket_fault-requires-send-J : goal.ticket_fault-requires-send-J
+ticket_fault-requires-send-J g c κs within = c.type_bounds.send-J
+
+pub ticket_fault-requires-send-J-Receipt : goal.ticket_fault-requires-send-J-Receipt
+ticket_fault-requires-send-J-Receipt g c κs within = c.type_bounds.send-J-Receipt
+
+pub ticket_fault-requires-after_bounds : goal.ticket_fault-requires-after_bounds
+ticket_fault-requires-after_bounds g c κs within = assumption
+
+pub ticket_fault-requires-in-None-send-J : goal.ticket_fault-requires-in-None-send-J
+ticket_fault-requires-in-None-send-J g c κs within = c.type_bounds.send-J
+
+pub ticket_fault-requires-in-None-send-J-Receipt : goal.ticket_fault-requires-in-None-send-J-Receipt
+ticket_fault-requires-in-None-send-J-Receipt g c κs within = c.type_bounds.send-J-Receipt
+
+pub ticket_fault-requires-in-None-after_bounds : goal.ticket_fault-requires-in-None-after_bounds
+ticket_fault-requires-in-None-after_bounds g c κs within = assumption

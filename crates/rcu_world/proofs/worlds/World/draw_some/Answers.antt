@@ -95,3 +95,30 @@ join-requires-send-J g c κs within = c.type_bounds.send-J
 
 pub join-requires-send-J-Receipt : goal.join-requires-send-J-Receipt
 join-requires-send-J-Receipt g c κs within = c.type_bounds.send-J-Receipt
+
+pub perform-requires-after_bounds : goal.perform-requires-after_bounds
+perform-requires-after_bounds g c κs within = (assumption, (c.loop-batch.invariant.kept, refl))
+
+pub join-requires-after_bounds : goal.join-requires-after_bounds
+join-requires-after_bounds g c κs within = (assumption, c.perform.ensures.kept)
+
+pub returns-then-not-perform-clause-len : goal.returns-then-not-perform-clause-len
+returns-then-not-perform-clause-len g c = c.perform.ensures.len ∙ c.loop-batch.invariant.len
+
+pub returns-then-not-join-clause-len : goal.returns-then-not-join-clause-len
+returns-then-not-join-clause-len g c = c.join.ensures.len ∙ c.perform.ensures.len ∙ c.loop-batch.invariant.len
+
+pub returns-clause-len : goal.returns-clause-len
+returns-clause-len g c = c.loop-batch.invariant.len
+
+pub returns-then-not-perform-clause-shape : goal.returns-then-not-perform-clause-shape
+returns-then-not-perform-clause-shape g c = c.perform.ensures.shape ∙ c.loop-batch.invariant.shape
+
+pub returns-then-not-join-clause-shape : goal.returns-then-not-join-clause-shape
+returns-then-not-join-clause-shape g c = c.join.ensures.shape ∙ c.perform.ensures.shape ∙ c.loop-batch.invariant.shape
+
+pub returns-clause-shape : goal.returns-clause-shape
+returns-clause-shape g c = c.loop-batch.invariant.shape
+
+pub returns-clause-rest : goal.returns-clause-rest
+returns-clause-rest g c = c.loop-batch.invariant.rest

@@ -54,3 +54,12 @@ attempt-requires-send-J g c κs within = c.type_bounds.send-J
 
 pub attempt-requires-send-J-Receipt : goal.attempt-requires-send-J-Receipt
 attempt-requires-send-J-Receipt g c κs within = c.type_bounds.send-J-Receipt
+
+pub is_member-requires-after_bounds : goal.is_member-requires-after_bounds
+is_member-requires-after_bounds g c κs within = (assumption, (c.requires.world, c.requires.there))
+
+pub returns-then-not-is_member-clause-rest : goal.returns-then-not-is_member-clause-rest
+returns-then-not-is_member-clause-rest g c = λ r. r
+
+pub attempt-requires-after_bounds : goal.attempt-requires-after_bounds
+attempt-requires-after_bounds g c κs within = (assumption, c.requires.world)

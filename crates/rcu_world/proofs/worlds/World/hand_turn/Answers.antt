@@ -2,7 +2,7 @@ use Rattle.rcu_law.specs.declared.who.Side.TheVariants.{Hand}
 use Rattle.rcu_law.specs.Events.CoreEvent.{LookHand, Fetch}
 use Rattle.rcu_world.specs.Turns.{where_enabled, run_events, and_then}
 use Rattle.rcu_world.proofs.Leading.{leads_then}
-use Rattle.std.proofs.Common.{rules, ◌<◌, ◌∙◌, subst, sym, refl, length}
+use Rattle.std.proofs.Common.{◌<◌, ◌∙◌, subst, sym, refl, length}
 use Rattle.std.proofs.lemmas.Bool.{and_parts, ltb-true}
 use Rattle.rcu_law.specs.States.{has}
 use Rattle.rcu_world.specs.Views.{state}
@@ -22,7 +22,7 @@ pub run_some-ran-requires-after_bounds : goal.run_some-ran-requires-after_bounds
 run_some-ran-requires-after_bounds g c κs within =
     let w = state g.J.Job.key_of c.args.self.now.core in
     let l = ltb-true c.args.cpu (length w.cpus) (and_parts (has w c.args.cpu) _ c.requires.there).0 in (
-      search rules,
+      assumption,
       (
         c.perform-2.ensures.kept,
         (

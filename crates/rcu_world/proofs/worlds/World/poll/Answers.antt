@@ -1,4 +1,4 @@
-use Rattle.std.proofs.Common.{◌∙◌, ap, sym, refl, length, ◌++◌, ◌∷◌, [], rules}
+use Rattle.std.proofs.Common.{◌∙◌, ap, sym, refl, length, ◌++◌, ◌∷◌, []}
 use Rattle.rcu_law.specs.Events.CoreEvent.{Pass}
 use Rattle.rcu_law.specs.declared.marks.Mark.TheVariants.{Passed}
 use Rattle.rcu_world.specs.Polls.{turns_for}
@@ -37,7 +37,7 @@ kept_counts-counts-requires-send-J-Receipt g c κs within = c.type_bounds.send-J
 pub kept_counts-counts-requires-after_bounds : goal.kept_counts-counts-requires-after_bounds
 kept_counts-counts-requires-after_bounds g c κs within =
     let h = sym c.in_ok-attempt.ensures.enabled ∙ c.if-not-branch.false in
-    (search rules, (c.in_ok-attempt.ensures.kept.fit.few, passed_there _ _ c.args.barrier h c.in_ok-attempt.ensures.leads.1))
+    (assumption, (c.in_ok-attempt.ensures.kept.fit.few, passed_there _ _ c.args.barrier h c.in_ok-attempt.ensures.leads.1))
 
 pub returns-clause-rest : goal.returns-clause-rest
 returns-clause-rest g c = c.attempt.ensures.rest refl (c.see_all.ensures.rest c.requires.rest)

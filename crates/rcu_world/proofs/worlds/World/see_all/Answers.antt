@@ -1,6 +1,6 @@
 use Rattle.std.proofs.Common.{◌∙◌, sym, refl, arith}
 use Rattle.rcu_world.specs.Polls.{turns_for}
-use Rattle.rcu_world.proofs.Leading.{leads_upto}
+use Rattle.rcu_world.proofs.Leading.{leads_none, leads_upto}
 use Rattle.rcu_world.proofs.Passing.{history_turned, seen_skipped, seen_turned}
 use Rattle.std.proofs.lemmas.List.{length-map}
 use Rattle.rcu_processor.specs.Views.{seen}
@@ -43,3 +43,24 @@ perform-requires-send-J g c κs within = c.type_bounds.send-J
 
 pub perform-requires-send-J-Receipt : goal.perform-requires-send-J-Receipt
 perform-requires-send-J-Receipt g c κs within = c.type_bounds.send-J-Receipt
+
+pub has_seen-requires-after_bounds : goal.has_seen-requires-after_bounds
+has_seen-requires-after_bounds g c κs within = assumption
+
+pub perform-requires-after_bounds : goal.perform-requires-after_bounds
+perform-requires-after_bounds g c κs within = (assumption, (c.loop-place.invariant.kept, refl))
+
+pub loop-place-init : goal.loop-place-init
+loop-place-init g c = record { leads = leads_none (turns_for c.args.barrier) _; history = refl; len = refl; rest = λ r. r; kept = c.requires }
+
+pub returns-clause-history : goal.returns-clause-history
+returns-clause-history g c = c.loop-place.invariant.history
+
+pub returns-clause-rest : goal.returns-clause-rest
+returns-clause-rest g c = c.loop-place.invariant.rest
+
+pub returns-clause-len : goal.returns-clause-len
+returns-clause-len g c = c.loop-place.invariant.len
+
+pub returns-clause-kept : goal.returns-clause-kept
+returns-clause-kept g c = c.loop-place.invariant.kept

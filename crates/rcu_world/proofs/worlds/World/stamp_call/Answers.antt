@@ -1,4 +1,4 @@
-use Rattle.std.proofs.Common.{rules, ◌∙◌, ◌≡◌, sym, true, false}
+use Rattle.std.proofs.Common.{◌∙◌, ◌≡◌, sym, true, false}
 use Rattle.rcu_world.proofs.Leading.{length_took}
 use Rattle.rcu_world.specs.declared.events.Event.TheVariants.{Stamp}
 use Rattle.rcu_world.proofs.Keeping.{answers_kept}
@@ -17,7 +17,7 @@ put-requires-send-J-Receipt g c κs within = c.type_bounds.send-J-Receipt
 
 pub put-requires-after_bounds : goal.put-requires-after_bounds
 put-requires-after_bounds g c κs within = (
-  search rules,
+  assumption,
   record {
     fit = answers_kept g.J.Job.key_of _ (Stamp c.args.cpu c.args.moment c.args.lazy) c.stamp.result _ c.requires.world.fit c.stamp.ensures.answers;
     given = c.stamp.ensures.given c.requires.world.given;

@@ -31,3 +31,9 @@ draw_some-requires-send-J g c κs within = c.type_bounds.send-J
 
 pub draw_some-requires-send-J-Receipt : goal.draw_some-requires-send-J-Receipt
 draw_some-requires-send-J-Receipt g c κs within = c.type_bounds.send-J-Receipt
+
+pub is_member-requires-after_bounds : goal.is_member-requires-after_bounds
+is_member-requires-after_bounds g c κs within = (assumption, (c.requires.world, c.requires.there))
+
+pub returns-then-not-is_member-clause-rest : goal.returns-then-not-is_member-clause-rest
+returns-then-not-is_member-clause-rest g c = λ r. r

@@ -1,7 +1,7 @@
 use Rattle.rcu_law.specs.declared.who.Side.TheVariants.{Local}
 use Rattle.rcu_world.specs.Turns.{look_events, offloadable_events, run_events, and_then}
 use Rattle.rcu_world.proofs.Leading.{leads_then}
-use Rattle.std.proofs.Common.{rules, ◌<◌, ◌∙◌, subst, sym}
+use Rattle.std.proofs.Common.{◌<◌, ◌∙◌, subst, sym}
 use Rattle.rcu_world.proofs.worlds.World.tick.Goals as goal
 
 pub returns-clause-events : goal.returns-clause-events
@@ -20,7 +20,7 @@ run_some-requires-send-J-Receipt g c κs within = c.type_bounds.send-J-Receipt
 
 pub run_some-requires-after_bounds : goal.run_some-requires-after_bounds
 run_some-requires-after_bounds g c κs within = (
-  search rules,
+  assumption,
   (
     c.tick_offloadable.ensures.kept,
     (
