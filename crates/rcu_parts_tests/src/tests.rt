@@ -196,6 +196,15 @@ fn with_driver(alloc: Global) -> Option<(Processor<BoxedJob<0>>, Driver)> {
 /// A Local processor's tick before and after a grace period: it runs what it accepted, in order, at most `blimit`.
 fn tick_by_hand(alloc: Global) -> Option<[Ticked; 4]> {
     let (mut processor, mut driver) = with_driver(alloc)?;
+    ticks_of(alloc, &mut processor, &mut driver)
+}
+
+// (of its own, so that what fails here drops no parts)
+fn ticks_of(
+    alloc: Global,
+    processor: &mut Processor<BoxedJob<0>>,
+    driver: &mut Driver,
+) -> Option<[Ticked; 4]> {
     processor.call_rcu(1, job(alloc, 7).ok()?).ok()?;
     processor.call_rcu(1, job(alloc, 8).ok()?).ok()?;
     processor.call_rcu(1, job(alloc, 9).ok()?).ok()?;
@@ -245,6 +254,15 @@ pub(crate) fn with_control(
 /// Deoffloading until the hand has run what went over the lane.
 fn leave_by_hand(alloc: Global) -> Option<[Lists; 3]> {
     let (mut processor, mut control) = with_control(alloc, true, 3)?;
+    answers_of(alloc, &mut processor, &mut control)
+}
+
+// (of its own, as `ticks_of`)
+fn answers_of(
+    alloc: Global,
+    processor: &mut Processor<BoxedJob<0>>,
+    control: &mut Control,
+) -> Option<[Lists; 3]> {
     processor.call_rcu_lazy(1, job(alloc, 7).ok()?).ok()?;
     processor.tick(1);
     let held = processor.lists();

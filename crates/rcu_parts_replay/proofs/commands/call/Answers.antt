@@ -30,3 +30,12 @@ returns-in-Err-clause-same g c = zip_changed (λ p q. SameProcessor p.state q.st
 
 pub returns-in-Err-clause-sound : goal.returns-in-Err-clause-sound
 returns-in-Err-clause-sound g c = all_changed (λ p. IsSound g.J.Job.key_of g.J.Job.gives p.state) c.args.processors.now.items c.args.cpu c.index_mut.result.now c.call_one.new.processor (omega arith) c.index_mut.ensures.value c.call_one.ensures.sound
+
+pub call_one-requires-send-J : goal.call_one-requires-send-J
+call_one-requires-send-J g c κs within = c.type_bounds.send-J
+
+pub call_one-requires-send-J-Receipt : goal.call_one-requires-send-J-Receipt
+call_one-requires-send-J-Receipt g c κs within = c.type_bounds.send-J-Receipt
+
+pub call_one-requires-after_bounds : goal.call_one-requires-after_bounds
+call_one-requires-after_bounds g c κs within = assumption

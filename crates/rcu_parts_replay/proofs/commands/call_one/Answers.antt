@@ -14,3 +14,27 @@ returns-in_default g c = record {
   same = c.call_rcu.ensures.same;
   sound = c.call_rcu.ensures.sound;
 }
+
+pub call_rcu_lazy-requires-send-J : goal.call_rcu_lazy-requires-send-J
+call_rcu_lazy-requires-send-J g c κs within = c.type_bounds.send-J
+
+pub call_rcu_lazy-requires-send-J-Receipt : goal.call_rcu_lazy-requires-send-J-Receipt
+call_rcu_lazy-requires-send-J-Receipt g c κs within = c.type_bounds.send-J-Receipt
+
+pub call_rcu_lazy-requires-after_bounds : goal.call_rcu_lazy-requires-after_bounds
+call_rcu_lazy-requires-after_bounds g c κs within = assumption
+
+pub call_rcu-requires-send-J : goal.call_rcu-requires-send-J
+call_rcu-requires-send-J g c κs within = c.type_bounds.send-J
+
+pub call_rcu-requires-send-J-Receipt : goal.call_rcu-requires-send-J-Receipt
+call_rcu-requires-send-J-Receipt g c κs within = c.type_bounds.send-J-Receipt
+
+pub call_rcu-requires-after_bounds : goal.call_rcu-requires-after_bounds
+call_rcu-requires-after_bounds g c κs within = assumption
+
+pub returns-in-Lazy-clause-same : goal.returns-in-Lazy-clause-same
+returns-in-Lazy-clause-same g c = c.call_rcu_lazy.ensures.same
+
+pub returns-in-Lazy-clause-sound : goal.returns-in-Lazy-clause-sound
+returns-in-Lazy-clause-sound g c = c.call_rcu_lazy.ensures.sound

@@ -27,3 +27,21 @@ returns-clause-line g c = let found = c.in-Some.ensures.found in (
 pub returns-clause-same : goal.returns-clause-same
 returns-clause-same g c =
     zip_changed (λ x y. SameGroup x.state y.state) (λ x. same_group x.state) c.args.groups.now.items c.in-Some.place c.index_mut.result.now c.turn-turn.new.self c.in-Some.ensures.found.0 c.index_mut.ensures.value c.turn-turn.ensures.same
+
+pub place_of_group-requires-send-J : goal.place_of_group-requires-send-J
+place_of_group-requires-send-J g c κs within = c.type_bounds.send-J
+
+pub place_of_group-requires-send-J-Receipt : goal.place_of_group-requires-send-J-Receipt
+place_of_group-requires-send-J-Receipt g c κs within = c.type_bounds.send-J-Receipt
+
+pub place_of_group-requires-after_bounds : goal.place_of_group-requires-after_bounds
+place_of_group-requires-after_bounds g c κs within = assumption
+
+pub turn-turn-requires-send-J : goal.turn-turn-requires-send-J
+turn-turn-requires-send-J g c κs within = c.type_bounds.send-J
+
+pub turn-turn-requires-send-J-Receipt : goal.turn-turn-requires-send-J-Receipt
+turn-turn-requires-send-J-Receipt g c κs within = c.type_bounds.send-J-Receipt
+
+pub turn-turn-requires-after_bounds : goal.turn-turn-requires-after_bounds
+turn-turn-requires-after_bounds g c κs within = assumption

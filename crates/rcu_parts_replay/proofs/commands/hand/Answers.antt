@@ -39,3 +39,21 @@ returns-clause-same g c =
 pub returns-clause-sound : goal.returns-clause-sound
 returns-clause-sound g c =
     all_changed (λ h. IsSoundHand g.J.Job.key_of g.J.Job.gives h.state) c.args.hands.now.items c.in-Some.place c.index_mut.result.now c.turn-turn.new.self c.in-Some.ensures.found.0 c.index_mut.ensures.value c.turn-turn.ensures.sound
+
+pub place_of_hand-requires-send-J : goal.place_of_hand-requires-send-J
+place_of_hand-requires-send-J g c κs within = c.type_bounds.send-J
+
+pub place_of_hand-requires-send-J-Receipt : goal.place_of_hand-requires-send-J-Receipt
+place_of_hand-requires-send-J-Receipt g c κs within = c.type_bounds.send-J-Receipt
+
+pub place_of_hand-requires-after_bounds : goal.place_of_hand-requires-after_bounds
+place_of_hand-requires-after_bounds g c κs within = assumption
+
+pub turn-turn-requires-send-J : goal.turn-turn-requires-send-J
+turn-turn-requires-send-J g c κs within = c.type_bounds.send-J
+
+pub turn-turn-requires-send-J-Receipt : goal.turn-turn-requires-send-J-Receipt
+turn-turn-requires-send-J-Receipt g c κs within = c.type_bounds.send-J-Receipt
+
+pub turn-turn-requires-after_bounds : goal.turn-turn-requires-after_bounds
+turn-turn-requires-after_bounds g c κs within = assumption

@@ -18,3 +18,12 @@ loop-place-preserved g c =
 pub returns-clause-none : goal.returns-clause-none
 returns-clause-none g c =
     All-same (λ x. x.state.group ≢ c.args.number) c.args.groups.now.items _ (sym (take_all c.loop-place.place c.args.groups.now.items (omega arith))) c.loop-place.invariant
+
+pub number-requires-send-J : goal.number-requires-send-J
+number-requires-send-J g c κs within = c.type_bounds.send-J
+
+pub number-requires-send-J-Receipt : goal.number-requires-send-J-Receipt
+number-requires-send-J-Receipt g c κs within = c.type_bounds.send-J-Receipt
+
+pub number-requires-after_bounds : goal.number-requires-after_bounds
+number-requires-after_bounds g c κs within = assumption

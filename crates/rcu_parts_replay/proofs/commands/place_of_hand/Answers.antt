@@ -18,3 +18,12 @@ loop-place-preserved g c =
 pub returns-clause-none : goal.returns-clause-none
 returns-clause-none g c =
     All-same (λ x. x.state.cpu ≢ c.args.cpu) c.args.hands.now.items _ (sym (take_all c.loop-place.place c.args.hands.now.items (omega arith))) c.loop-place.invariant
+
+pub cpu-requires-send-J : goal.cpu-requires-send-J
+cpu-requires-send-J g c κs within = c.type_bounds.send-J
+
+pub cpu-requires-send-J-Receipt : goal.cpu-requires-send-J-Receipt
+cpu-requires-send-J-Receipt g c κs within = c.type_bounds.send-J-Receipt
+
+pub cpu-requires-after_bounds : goal.cpu-requires-after_bounds
+cpu-requires-after_bounds g c κs within = assumption

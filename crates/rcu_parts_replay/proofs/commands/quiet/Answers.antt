@@ -25,3 +25,12 @@ returns-in-None-clause-same g c = zip_changed (λ p q. SameProcessor p.state q.s
 
 pub returns-in-None-clause-sound : goal.returns-in-None-clause-sound
 returns-in-None-clause-sound g c = all_changed (λ p. IsSound g.J.Job.key_of g.J.Job.gives p.state) c.args.processors.now.items c.args.cpu c.index_mut.result.now c.quiescent.new.self (omega arith) c.index_mut.ensures.value c.quiescent.ensures.sound
+
+pub quiescent-requires-send-J : goal.quiescent-requires-send-J
+quiescent-requires-send-J g c κs within = c.type_bounds.send-J
+
+pub quiescent-requires-send-J-Receipt : goal.quiescent-requires-send-J-Receipt
+quiescent-requires-send-J-Receipt g c κs within = c.type_bounds.send-J-Receipt
+
+pub quiescent-requires-after_bounds : goal.quiescent-requires-after_bounds
+quiescent-requires-after_bounds g c κs within = assumption

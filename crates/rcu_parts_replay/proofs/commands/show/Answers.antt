@@ -14,3 +14,12 @@ loop-cpu-preserved g c =
 pub returns : goal.returns
 returns g c =
     all_shown c.args.groups.now.items c.args.processors.now.items c.loop-cpu.cpu (take_all c.loop-cpu.cpu c.args.processors.now.items (omega arith)) (g.W.Write.contents c.args.writer.now) (g.W.Write.contents c.loop-cpu.writer) c.loop-cpu.invariant
+
+pub show_one-requires-send-J : goal.show_one-requires-send-J
+show_one-requires-send-J g c κs within = c.type_bounds.send-J
+
+pub show_one-requires-send-J-Receipt : goal.show_one-requires-send-J-Receipt
+show_one-requires-send-J-Receipt g c κs within = c.type_bounds.send-J-Receipt
+
+pub show_one-requires-after_bounds : goal.show_one-requires-after_bounds
+show_one-requires-after_bounds g c κs within = assumption

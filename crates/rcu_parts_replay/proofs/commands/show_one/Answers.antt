@@ -7,3 +7,15 @@ returns-in-Some g c =
 
 pub returns-in-None : goal.returns-in-None
 returns-in-None g c = own_alone c.args.groups.now.items c.args.cpu c.args.processor.now c.lists.result c.lists.ensures _ _ c.in_ok-write_lists.ensures c.in-None.ensures
+
+pub lists-requires-send-J : goal.lists-requires-send-J
+lists-requires-send-J g c κs within = c.type_bounds.send-J
+
+pub lists-requires-after_bounds : goal.lists-requires-after_bounds
+lists-requires-after_bounds g c κs within = assumption
+
+pub shown_in-requires-send-J : goal.shown_in-requires-send-J
+shown_in-requires-send-J g c κs within = c.type_bounds.send-J
+
+pub shown_in-requires-after_bounds : goal.shown_in-requires-after_bounds
+shown_in-requires-after_bounds g c κs within = assumption

@@ -15,3 +15,12 @@ loop-place-preserved g c =
 
 pub returns : goal.returns
 returns g c = All-same (λ x. ShownFor c.args.cpu None (members_of x.state)) c.args.groups.now.items _ (sym (take_all c.loop-place.place c.args.groups.now.items (omega arith))) c.loop-place.invariant
+
+pub lists-requires-send-J : goal.lists-requires-send-J
+lists-requires-send-J g c κs within = c.type_bounds.send-J
+
+pub lists-requires-send-J-Receipt : goal.lists-requires-send-J-Receipt
+lists-requires-send-J-Receipt g c κs within = c.type_bounds.send-J-Receipt
+
+pub lists-requires-after_bounds : goal.lists-requires-after_bounds
+lists-requires-after_bounds g c κs within = assumption

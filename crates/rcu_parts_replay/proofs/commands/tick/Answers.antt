@@ -16,3 +16,12 @@ returns-clause-same g c = zip_changed (λ p q. SameProcessor p.state q.state) (�
 
 pub returns-clause-sound : goal.returns-clause-sound
 returns-clause-sound g c = all_changed (λ p. IsSound g.J.Job.key_of g.J.Job.gives p.state) c.args.processors.now.items c.args.cpu c.index_mut.result.now c.tick-ticked.new.self (omega arith) c.index_mut.ensures.value c.tick-ticked.ensures.sound
+
+pub tick-ticked-requires-send-J : goal.tick-ticked-requires-send-J
+tick-ticked-requires-send-J g c κs within = c.type_bounds.send-J
+
+pub tick-ticked-requires-send-J-Receipt : goal.tick-ticked-requires-send-J-Receipt
+tick-ticked-requires-send-J-Receipt g c κs within = c.type_bounds.send-J-Receipt
+
+pub tick-ticked-requires-after_bounds : goal.tick-ticked-requires-after_bounds
+tick-ticked-requires-after_bounds g c κs within = assumption

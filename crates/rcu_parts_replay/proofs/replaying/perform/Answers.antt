@@ -28,3 +28,12 @@ answer-requires-after_bounds g c κs within =
     let q : FitsInMemory (group_row.the_row (param 0 g.row.J) receipt) = c.requires-raw.1.1.1.1.0 in
     let h : FitsInMemory (hand_row.the_row (param 0 g.row.J) receipt) = c.requires-raw.1.1.1.1.1.0 in
     (p, (q, (h, (c.requires.job, (sym c.is_show.ensures ∙ c.if-is_show.false, c.requires.ours)))))
+
+pub show-requires-send-J : goal.show-requires-send-J
+show-requires-send-J g c κs within = c.type_bounds.send-J
+
+pub show-requires-after_bounds : goal.show-requires-after_bounds
+show-requires-after_bounds g c κs within = assumption
+
+pub answer-requires-send-J : goal.answer-requires-send-J
+answer-requires-send-J g c κs within = c.type_bounds.send-J

@@ -1,4 +1,4 @@
-use Rattle.std.proofs.Common.{ℕ, List, refl}
+use Rattle.std.proofs.Common.{refl}
 use Rattle.rcu_parts_replay.specs.Printed.{Prints}
 use Rattle.rcu_parts_replay.specs.Scripts.{Replays}
 use Rattle.rcu_script.specs.Scripts.{PrintsScript}
