@@ -13,3 +13,9 @@ returns-clause-same g c = zip_changed (λ p q. SameProcessor p.state q.state) (�
 
 pub returns-clause-sound : goal.returns-clause-sound
 returns-clause-sound g c = all_changed (λ p. IsSound g.J.Job.key_of g.J.Job.gives p.state) c.args.processors.now.items c.args.cpu c.index_mut.result.now c.act_one.new.processor (omega arith) c.index_mut.ensures.value c.act_one.ensures.sound
+
+pub act_one-requires-send-J : goal.act_one-requires-send-J
+act_one-requires-send-J g c κs within = assumption
+
+pub act_one-requires-after_bounds : goal.act_one-requires-after_bounds
+act_one-requires-after_bounds g c κs within = assumption

@@ -9,16 +9,16 @@ use Rattle.rcu_phases.proofs.playing.play.Goals as goal
 
 pub run_phases-requires-after_bounds : goal.run_phases-requires-after_bounds
 run_phases-requires-after_bounds g c κs within =
-    let p : FitsInMemory (processor.the_row (param 0 g.row.J) receipt) = c.requires-raw.1.1.1.1.0 in
-    let q : FitsInMemory (group.the_row (param 0 g.row.J) receipt) = c.requires-raw.1.1.1.1.1.0 in
-    let h : FitsInMemory (hand.the_row (param 0 g.row.J) receipt) = c.requires-raw.1.1.1.1.1.1.0 in
+    let p : FitsInMemory (processor.the_row (param 0 g.row.J) receipt) = assumption in
+    let q : FitsInMemory (group.the_row (param 0 g.row.J) receipt) = assumption in
+    let h : FitsInMemory (hand.the_row (param 0 g.row.J) receipt) = assumption in
     (p, (q, h))
 
 pub close-requires-after_bounds : goal.close-requires-after_bounds
 close-requires-after_bounds g c κs within = let key_of = g.J.Job.key_of in let gives = g.J.Job.gives in
-    let p : FitsInMemory (processor.the_row (param 0 g.row.J) receipt) = c.requires-raw.1.1.1.1.0 in
-    let q : FitsInMemory (group.the_row (param 0 g.row.J) receipt) = c.requires-raw.1.1.1.1.1.0 in
-    let h : FitsInMemory (hand.the_row (param 0 g.row.J) receipt) = c.requires-raw.1.1.1.1.1.1.0 in
+    let p : FitsInMemory (processor.the_row (param 0 g.row.J) receipt) = assumption in
+    let q : FitsInMemory (group.the_row (param 0 g.row.J) receipt) = assumption in
+    let h : FitsInMemory (hand.the_row (param 0 g.row.J) receipt) = assumption in
     let old = c.args.parts in let new = c.dismiss-ended.result.0 in let from = c.assemble-company.ensures in let to = c.dismiss-ended.ensures in let kept = c.in_ok-run_phases.ensures in
     let same = stay_same_parts key_of gives old new c.assemble-company.result c.in_ok-run_phases.field-0 from to kept in
     (p, (q, (h, (c.same_parts.ensures.one old new same c.requires.parts, stay_sound_parts key_of gives old new c.assemble-company.result c.in_ok-run_phases.field-0 from to kept c.requires.sound))))

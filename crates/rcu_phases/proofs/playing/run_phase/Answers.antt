@@ -10,9 +10,9 @@ use Rattle.rcu_phases.proofs.playing.run_phase.Goals as goal
 
 pub join-near-requires-after_bounds : goal.join-near-requires-after_bounds
 join-near-requires-after_bounds g c κs within =
-    let p : FitsInMemory (processor.the_row (param 0 g.row.J) receipt) = c.requires-raw.1.1.1.1.0 in
-    let q : FitsInMemory (group.the_row (param 0 g.row.J) receipt) = c.requires-raw.1.1.1.1.1.0 in
-    let h : FitsInMemory (hand.the_row (param 0 g.row.J) receipt) = c.requires-raw.1.1.1.1.1.1 in
+    let p : FitsInMemory (processor.the_row (param 0 g.row.J) receipt) = assumption in
+    let q : FitsInMemory (group.the_row (param 0 g.row.J) receipt) = assumption in
+    let h : FitsInMemory (hand.the_row (param 0 g.row.J) receipt) = assumption in
     let send = c.type_bounds.send-J in let sync = c.type_bounds.sync-R in ((p, ((search sendable, search sendable), (search sendable, search sendable))), (q, (h, ((search sendable, search sendable), (search sendable, search sendable)))))
 
 pub returns : goal.returns

@@ -1,4 +1,5 @@
-use Rattle.std.proofs.Common.{arith, refl, rules}
+use Rattle.std.proofs.Math.ListN.{length-set}
+use Rattle.std.proofs.Common.{arith, refl, ◌∙◌}
 use Rattle.rcu_part_hand.proofs.HandRuns.{same_hand}
 use Rattle.rcu_part_hand.specs.Hands.{IsSoundHand, SameHand}
 use Rattle.rcu_phases.proofs.Changing.{all_changed, zip_changed}
@@ -13,5 +14,11 @@ loop-place-preserved g c = let i = c.loop-place.invariant in let hands = c.loop-
     let same = zip_changed (λ h i. SameHand h.state i.state) (λ h. same_hand h.state) hands c.loop-place.place c.index_mut.result.now c.turn.new.self (omega arith) c.index_mut.ensures.value c.turn.ensures.same in
     let sound = all_changed (λ h. IsSoundHand g.J.Job.key_of g.J.Job.gives h.state) hands c.loop-place.place c.index_mut.result.now c.turn.new.self (omega arith) c.index_mut.ensures.value c.turn.ensures.sound in record {
       keeps = hands_again g.J.Job.key_of g.J.Job.gives _ hands _ i.keeps (record { same = same; sound = sound });
-      long = search rules;
+      long = length-set hands c.loop-place.place c.turn.new.self ∙ i.long;
     }
+
+pub turn-requires-send-J : goal.turn-requires-send-J
+turn-requires-send-J g c κs within = assumption
+
+pub turn-requires-after_bounds : goal.turn-requires-after_bounds
+turn-requires-after_bounds g c κs within = assumption

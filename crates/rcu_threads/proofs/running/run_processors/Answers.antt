@@ -1,4 +1,4 @@
-use Rattle.std.proofs.Common.{rules, subst}
+use Rattle.std.proofs.Common.{subst}
 use Rattle.rcu_control.specs.Parts.{control_view}
 use Rattle.rcu_threads.specs.Calls.{HasCalled}
 use Rattle.rcu_threads.specs.Parts.{ProcessorStays}

@@ -9,3 +9,9 @@ loop-preserved c = keeps_again _ _ _ _ _ _ c.loop.invariant c.round-called.ensur
 
 pub returns-then-has_accepted : goal.returns-then-has_accepted
 returns-then-has_accepted c = c.loop.invariant
+
+pub returns-then-eq : goal.returns-then-eq
+returns-then-eq c = keeps_again _ _ _ _ _ _ c.loop.invariant c.round-called.ensures
+
+pub returns : goal.returns
+returns c = c.loop.invariant
