@@ -35,7 +35,8 @@ static long long nanoseconds(void)
 static void run(struct rcu_head *head)
 {
     struct job *job = caa_container_of(head, struct job, head);
-    *job->sum += job->add;
+    /* (a thread that moves to another processor has callbacks in two callback threads) */
+    __atomic_fetch_add(job->sum, job->add, __ATOMIC_RELAXED);
     free(job);
 }
 
