@@ -2,7 +2,8 @@
 //! (docs/specification/definitions.md, "The law"). The answers are exactly the definitions of `rcu_law`, in whose words the
 //! headline of the core is proved; so whoever doubts a definition can run it, on real histories and on bad ones.
 //!
-//! It is written to be read, and takes a time of the third power of the history's length.
+//! It is written to be read, and not to be fast: where barriers are many, its time is of the fourth power of the history's
+//! length.
 #![tactic(auto)]
 
 mod closed;
