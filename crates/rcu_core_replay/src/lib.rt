@@ -6,4 +6,4 @@
 mod commands;
 mod replaying;
 
-pub use replaying::replay;
+pub use replaying::{answer, replay};

@@ -72,7 +72,11 @@ fn perform_all<J: Job<Receipt = u64>, W: Write>(
 
 /// The line that answers a command other than `show`, with its job if it is a call. `opened` is the name of the barrier
 /// that is open.
-fn answer<J: Job<Receipt = u64>>(
+///
+/// # Errors
+///
+/// Want of memory, but for a call's, which is a line.
+pub fn answer<J: Job<Receipt = u64>>(
     alloc: Global,
     world: &mut World<J>,
     opened: &mut Option<u64>,

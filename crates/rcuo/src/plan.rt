@@ -68,14 +68,56 @@ fn refused(error: clap::Error) -> Refusal
     }
 }
 
+/// The version of the project (CHANGELOG.md).
+const VERSION: &str = "0.1.0";
+
+const ABOUT: &str =
+    "Replays or runs a runtime of deferred work, as the setup on standard input says";
+
+const STATUSES: &str =
+    "The setup is a TOML document (docs/specification/tables.md, \"Setup keys\"). What the calls answer goes to standard output.
+
+Exit status: 0 done; 1 a fault, which standard error names in one line; 2 the words were refused.
+
+Example: rcuo replay < examples/first-run.toml";
+
+const ABOUT_REPLAY: &str =
+    "Runs the setup's script in one thread, a call for each command, and prints each answer, and then the totals";
+
+const AFTER_REPLAY: &str =
+    "Reads a setup with a script; writes a line for each command, and at the end a line for each processor and the reports.
+
+Exit status: 0 done; 1 a fault; 2 the words were refused.
+
+Example: rcuo replay < examples/switching-under-load.toml";
+
+const ABOUT_THREADS: &str =
+    "Runs each part in a thread of its own, with the setup's number of calls on each processor, and prints the totals";
+
+const AFTER_THREADS: &str =
+    "Reads a setup whose calls say how many calls each processor makes; writes a line for each processor.
+
+Exit status: 0 done; 1 a fault; 2 the words were refused.
+
+Example: rcuo threads < examples/threads-4.toml";
+
 fn command<'a>(alloc: Global) -> Result<clap::Command<'a>, AllocError>
     ensures { IfOk result (λ c. app_of c ≡ rcuo) }
 {
+    let replay = clap::Command::new(alloc, "replay")
+        .about(ABOUT_REPLAY)
+        .after_help(AFTER_REPLAY);
+    let threads = clap::Command::new(alloc, "threads")
+        .about(ABOUT_THREADS)
+        .after_help(AFTER_THREADS);
     clap::Command::new(alloc, "rcuo")
+        .version(VERSION)
+        .about(ABOUT)
+        .after_help(STATUSES)
         .no_binary_name(true)
         .subcommand_required(true)
-        .subcommand(clap::Command::new(alloc, "replay"))?
-        .subcommand(clap::Command::new(alloc, "threads"))
+        .subcommand(replay)?
+        .subcommand(threads)
 }
 
 fn subcommand_of(alloc: Global, words: &[String]) -> Result<Subcommand, clap::Error>

@@ -1,0 +1,119 @@
+//! The rows of callbacks: where each waits, and how it ends.
+
+use crate::places::{Place, place_of};
+use crate::playing::{Run, Step};
+use crate::rows::{COLUMN, left_of, middle_of};
+use rcu_script::{Line, Verb};
+use std::io;
+use std::io::Write;
+
+/// The height of a callback's bar.
+const BAR: u64 = 8;
+
+/// How a callback's row ends.
+#[derive(Clone, Copy, Debug, PartialEq, Eq)]
+enum End {
+    /// The processor ran it, in its tick.
+    Tick,
+    /// The hand ran it.
+    Hand,
+}
+
+/// Where a processor's callback waits after a step.
+fn place_after(step: &Step, cpu: u64, number: u64) -> Option<Place> {
+    let shown = step.shown.get(cpu as usize)?;
+    place_of(number, shown)
+}
+
+/// Whether a processor's callback ran in a step or before.
+fn has_run(step: &Step, cpu: u64, number: u64) -> bool {
+    match step.shown.get(cpu as usize) {
+        Some(shown) => number < shown.ran,
+        None => false,
+    }
+}
+
+/// Who ran what ran in this step.
+fn end_of(step: &Step) -> End {
+    match step.line {
+        Some(
+            Line::Ran {
+                verb: Verb::Hand,
+                ..
+            },
+        ) => End::Hand,
+        _ => End::Tick,
+    }
+}
+
+/// Writes the bar of one column.
+fn write_bar<W: Write>(place: Place, column: usize, y: u64, writer: &mut W) -> io::Result<()> {
+    let class = match place {
+        Place::Own => "own",
+        Place::Bypass => "bypass",
+        Place::Group => "group",
+    };
+    let x = middle_of(column);
+    let top = y.saturating_sub(BAR / 2);
+    writeln!(
+        writer,
+        "<rect class=\"{class}\" x=\"{x}\" y=\"{top}\" width=\"{COLUMN}\" height=\"{BAR}\"/>"
+    )
+}
+
+/// Writes the end of a callback that ran.
+fn write_end<W: Write>(end: End, column: usize, y: u64, writer: &mut W) -> io::Result<()> {
+    let x = middle_of(column);
+    match end {
+        End::Tick => writeln!(
+            writer,
+            "<circle class=\"ran\" cx=\"{x}\" cy=\"{y}\" r=\"5\"/>"
+        ),
+        End::Hand => writeln!(
+            writer,
+            "<path class=\"ran\" transform=\"translate({x} {y})\" d=\"M0 -6L6 0L0 6L-6 0Z\"/>"
+        ),
+    }
+}
+
+/// Writes the end of a callback that is handed back when the runtime is closed.
+fn write_back<W: Write>(run: &Run, y: u64, writer: &mut W) -> io::Result<()> {
+    let x = middle_of(run.steps.len());
+    let (x, y) = (x.saturating_sub(5), y.saturating_sub(5));
+    writeln!(
+        writer,
+        "<rect class=\"back\" x=\"{x}\" y=\"{y}\" width=\"10\" height=\"10\"/>"
+    )
+}
+
+/// Writes a callback's row, whose middle is at `y`.
+pub fn write_callback<W: Write>(
+    run: &Run,
+    cpu: u64,
+    number: u64,
+    y: u64,
+    writer: &mut W,
+) -> io::Result<()> {
+    for (column, step) in run.steps.iter().enumerate() {
+        if has_run(step, cpu, number) {
+            return write_end(end_of(step), column, y, writer);
+        }
+        if let Some(place) = place_after(step, cpu, number) {
+            write_bar(place, column, y, writer)?;
+        }
+    }
+    if run.commands > run.steps.len() {
+        // (what becomes of it is beyond the picture)
+        return Ok(());
+    }
+    write_back(run, y, writer)
+}
+
+/// Writes the name of a callback's row.
+pub fn write_number<W: Write>(number: u64, y: u64, writer: &mut W) -> io::Result<()> {
+    let (x, y) = (left_of(0).saturating_sub(8), y.saturating_add(3));
+    writeln!(
+        writer,
+        "<text class=\"number\" x=\"{x}\" y=\"{y}\">{number}</text>"
+    )
+}

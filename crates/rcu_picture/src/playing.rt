@@ -1,0 +1,200 @@
+//! The run of a script over the core, command by command.
+
+ghost use Rattle.std.specs.Prelude.{◌≡◌, ◌<◌, length};
+ghost use Rattle.rcu_world.specs.Turns.{IsAtRest};
+ghost use Rattle.rcu_world.specs.Views.{state};
+ghost use Rattle.rcu_world.specs.Worlds.{IsWorld};
+
+use crate::places::Shown;
+use rcu_core_replay::answer;
+use rcu_jobs::{Job, Lists, Mode};
+use rcu_law::marks::Mark;
+use rcu_script::{Fault, Line, is_show, route_of};
+use rcu_setup::{Command, Setup};
+use rcu_world::World;
+use std::alloc::Global;
+
+/// The most commands of a script that are drawn: more can't be read.
+pub const MOST_STEPS: usize = 500;
+
+/// The job of a call line: it has a key, and answers it.
+#[derive(Clone, Copy, Drop)]
+pub struct KeyJob {
+    key: u64,
+}
+
+impl Job for KeyJob {
+    type Receipt = u64;
+
+    ghost key_of = { λ job. job.key };
+
+    ghost gives = { λ key receipt. receipt ≡ key };
+
+    fn key(&self) -> u64 {
+        self.key
+    }
+
+    fn run(self) -> u64 {
+        self.key
+    }
+}
+
+/// A command's answer, and what each processor shows after it.
+#[derive(Drop)]
+pub struct Step {
+    /// The line that `replay` prints, or `show`.
+    pub text: String,
+    /// The answer, None of `show`.
+    pub line: Option<Line>,
+    pub shown: Vec<Shown>,
+}
+
+/// The run of a script.
+#[derive(Drop)]
+pub struct Run {
+    /// Of each processor whether it has a hand.
+    pub hands: Vec<bool>,
+    /// The groups that have a part.
+    pub groups: Vec<u64>,
+    pub steps: Vec<Step>,
+    /// How many commands the script has; of the first [`MOST_STEPS`] there are steps.
+    pub commands: usize,
+}
+
+impl Run {
+    /// How many columns the picture has: one for each step, and one for what is handed back at the end.
+    pub fn columns(&self) -> usize {
+        self.steps.len().saturating_add(1)
+    }
+}
+
+/// How many callbacks of the processor ran.
+fn ran_of(history: &[Mark], cpu: u64) -> u64 {
+    let mut ran = 0u64;
+    for mark in history {
+        match mark {
+            Mark::Ran(of, _) if *of == cpu => ran = ran.saturating_add(1),
+            _ => {}
+        }
+    }
+    ran
+}
+
+/// How many callbacks a list of these four segments has.
+fn total(lengths: [u64; 4]) -> u64 {
+    let [done, wait, ready, next] = lengths;
+    done.saturating_add(wait)
+        .saturating_add(ready)
+        .saturating_add(next)
+}
+
+/// What a processor shows.
+fn shown(lists: Lists, ran: u64) -> Shown {
+    match lists {
+        Lists::Cpu {
+            mode,
+            accepted,
+            bypass,
+            lengths,
+            ..
+        } => Shown {
+            mode,
+            accepted,
+            own: total(lengths),
+            bypass,
+            ran,
+        },
+        Lists::Folk { .. } => Shown {
+            mode: Mode::Local,
+            accepted: 0,
+            own: 0,
+            bypass: 0,
+            ran,
+        },
+    }
+}
+
+/// What all processors show.
+fn all_shown(alloc: Global, world: &World<KeyJob>) -> Result<Vec<Shown>, Fault>
+    requires { IsWorld KeyJob.key_of KeyJob.gives world.now.core }
+{
+    let mut all = Vec::new(alloc);
+    let history = world.history();
+    for cpu in 0..world.processors() {
+        all.push(shown(world.lists(cpu), ran_of(history, cpu)))?;
+    }
+    Ok(all)
+}
+
+/// One command, the `at`-th, and what it answers. `opened` is the name of the barrier that is open.
+fn perform(
+    alloc: Global,
+    world: &mut World<KeyJob>,
+    opened: &mut Option<u64>,
+    command: &Command,
+    at: usize,
+) -> Result<Step, Fault>
+    requires world { IsWorld KeyJob.key_of KeyJob.gives world.old.core }
+    requires rest { IsAtRest (state KeyJob.key_of world.old.core) }
+    ensures kept { IsWorld KeyJob.key_of KeyJob.gives world.new.core }
+    ensures rest { IsAtRest (state KeyJob.key_of world.new.core) }
+{
+    if is_show(command) {
+        let text = format!(in alloc; "show")?;
+        let shown = all_shown(alloc, world)?;
+        return Ok(Step {
+            text,
+            line: None,
+            shown,
+        });
+    }
+    let job = route_of(command).map(|_| KeyJob { key: at as u64 });
+    let line = answer(alloc, world, opened, command, job)?;
+    let text = format!(in alloc; "{line}")?;
+    let shown = all_shown(alloc, world)?;
+    Ok(Step {
+        text,
+        line: Some(line),
+        shown,
+    })
+}
+
+/// Of each processor whether it has a hand.
+fn hands(alloc: Global, world: &World<KeyJob>) -> Result<Vec<bool>, Fault> {
+    let mut hands = Vec::new(alloc);
+    for cpu in 0..world.processors() {
+        hands.push(world.has_hand(cpu))?;
+    }
+    Ok(hands)
+}
+
+/// The groups that have a part.
+fn groups(alloc: Global, world: &World<KeyJob>) -> Result<Vec<u64>, Fault> {
+    let mut groups = Vec::new(alloc);
+    for group in 0..world.processors() {
+        if world.has_group(group) {
+            groups.push(group)?;
+        }
+    }
+    Ok(groups)
+}
+
+/// Runs the first [`MOST_STEPS`] commands of the setup's script.
+///
+/// # Errors
+///
+/// Want of memory.
+pub fn play(alloc: Global, setup: &Setup) -> Result<Run, Fault> {
+    let mut world = World::new(alloc, setup.shape)?;
+    let mut steps = Vec::new(alloc);
+    let mut opened = None;
+    for (at, command) in setup.script.iter().take(MOST_STEPS).enumerate() {
+        steps.push(perform(alloc, &mut world, &mut opened, command, at)?)?;
+    }
+    Ok(Run {
+        hands: hands(alloc, &world)?,
+        groups: groups(alloc, &world)?,
+        steps,
+        commands: setup.script.len(),
+    })
+}

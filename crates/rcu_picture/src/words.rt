@@ -1,0 +1,87 @@
+//! The words of the command line.
+
+use clap::error::ErrorKind;
+use clap::{Arg, ArgAction};
+use rcu_script::Fault;
+use std::alloc::{AllocError, Global};
+use std::io;
+
+/// What is written.
+#[derive(Clone, Copy, Debug, PartialEq, Eq)]
+pub enum Form {
+    /// The picture alone.
+    Svg,
+    /// A page with the picture and the text of each event.
+    Html,
+}
+
+/// Why there is no picture.
+#[derive(Debug, Drop)]
+pub enum Refusal {
+    /// The words of the command line were refused; clap's text says why.
+    Words(clap::Error),
+    /// A word of the command line is no text.
+    NoText,
+    /// The setup can't be had, or the picture can't be written.
+    Fault(Fault),
+}
+
+impl From<Fault> for Refusal {
+    fn from(fault: Fault) -> Refusal {
+        Refusal::Fault(fault)
+    }
+}
+
+impl From<clap::Error> for Refusal {
+    fn from(error: clap::Error) -> Refusal {
+        if error.kind() == ErrorKind::OutOfMemory {
+            Refusal::Fault(Fault::memory())
+        } else {
+            Refusal::Words(error)
+        }
+    }
+}
+
+/// The words of the command line after the program's name.
+pub fn words(rt: &HostRuntime) -> Result<Vec<String>, Refusal> {
+    let mut words = Vec::new(rt.alloc());
+    let given = match std::env::args(rt) {
+        Ok(given) => given,
+        Err(error) if error.kind() == io::ErrorKind::OutOfMemory => {
+            return Err(Refusal::Fault(Fault::memory()));
+        }
+        Err(_) => return Err(Refusal::NoText),
+    };
+    for word in given.skip(1) {
+        let Ok(()) = words.push(word) else {
+            return Err(Refusal::Fault(Fault::memory()));
+        };
+    }
+    Ok(words)
+}
+
+fn command<'a>(alloc: Global) -> Result<clap::Command<'a>, AllocError> {
+    clap::Command::new(alloc, "rcu_picture")
+        .no_binary_name(true)
+        .about("Draws the run of a setup's script, which it reads from standard input, as an SVG")
+        .after_help("rcu_picture < examples/first-run.toml > first-run.svg")
+        .arg(
+            Arg::new(alloc, "html")
+                .long("html")
+                .help("write a page with the picture and the text of each event")
+                .action(ArgAction::SetTrue),
+        )
+}
+
+/// What the words ask for.
+pub fn read_form(alloc: Global, words: &[String]) -> Result<Form, Refusal> {
+    let Ok(command) = command(alloc) else {
+        return Err(Refusal::Fault(Fault::memory()));
+    };
+    let matches = command.try_get_matches_from(words)?;
+    if matches.get_flag("html") {
+        Ok(Form::Html)
+    } else {
+        Ok(Form::Svg)
+    }
+}
