@@ -1,14 +1,15 @@
 //! Reading a bounded text.
 
-ghost use Rattle.std.specs.Prelude.{◌≡◌, ◌<◌, ◌≤◌, IfOk, IfSome, take, vec_len, length};
-ghost use Rattle.rcu_reading.specs.Reading.{TakesAtMost, TakesPiece};
+ghost use Rattle.std.specs.Prelude.{◌≡◌, ◌<◌, ◌≤◌, IfErr, IfOk, IfSome, take, vec_len, length};
+ghost use Rattle.rcu_reading.specs.Reading.{IsFailedRead, TakesAtMost, TakesPiece};
 
 use rcu_script::Fault;
 use std::alloc::Global;
 use std::io::Read;
 
 fn zeros(alloc: Global, len: usize) -> Result<Vec<u8>, Fault>
-    ensures { IfOk result (λ v. vec_len v ≡ len) }
+    ensures len { IfOk result (λ v. vec_len v ≡ len) }
+    ensures err { IfErr result IsFailedRead }
 {
     Ok(vec![in alloc; 0u8; len]?)
 }
@@ -24,6 +25,7 @@ pub fn read_text<R: Read>(
     ensures short { IfOk result (λ v. vec_len v ≤ most) }
     ensures whole { IfOk result (λ v. IfSome (R.remaining reader.old) (λ bytes. v.items ≡ take most bytes)) }
     ensures most { TakesAtMost most (R.remaining reader.old) (R.remaining reader.new) }
+    ensures err { IfErr result IsFailedRead }
 {
     let mut buffer = zeros(alloc, piece)?;
     let mut text = Vec::new(alloc);
@@ -39,7 +41,8 @@ pub fn read_text<R: Read>(
 /// One read, whose bytes are added to the text. It answers whether any came.
 fn read_piece<R: Read>(reader: &mut R, text: &mut Vec<u8>, buffer: &mut [u8]) -> Result<bool, Fault>
     requires { 0 < length buffer.old }
-    ensures { TakesPiece (R.remaining reader.old) (R.remaining reader.new) text.old.items text.new.items (length buffer.old) result }
+    ensures piece { TakesPiece (R.remaining reader.old) (R.remaining reader.new) text.old.items text.new.items (length buffer.old) result }
+    ensures err { IfErr result IsFailedRead }
 {
     match reader.read(buffer) {
         Ok(0) => Ok(false),

@@ -1,8 +1,8 @@
 //! The setup that a reader holds.
 
-ghost use Rattle.std.specs.Prelude.{◌≡◌, IfOk, IfSome, Ok};
+ghost use Rattle.std.specs.Prelude.{◌≡◌, IfErr, IfOk, IfSome, Ok};
 ghost use Rattle.rcu_setup.specs.Setup.{setup_of, setup_view};
-ghost use Rattle.rcu_reading.specs.Reading.{TakesAtMost};
+ghost use Rattle.rcu_reading.specs.Reading.{IsFaultOf, TakesAtMost};
 
 use crate::read::read_text;
 use rcu_script::Fault;
@@ -24,6 +24,7 @@ const PIECE: usize = 4096;
 pub fn setup_of<R: Read>(alloc: Global, reader: &mut R) -> Result<Setup, Fault>
     ensures most { TakesAtMost MOST_READ (R.remaining reader.old) (R.remaining reader.new) }
     ensures exact { IfSome (R.remaining reader.old) (λ bytes. IfOk result (λ setup. setup_of bytes ≡ Ok (setup_view setup))) }
+    ensures fault { IfSome (R.remaining reader.old) (λ bytes. IfErr result (λ fault. IsFaultOf bytes fault)) }
 {
     let bytes = read_text(alloc, reader, MOST_READ, PIECE)?;
     let Ok(text) = std::str::from_utf8(bytes.as_slice()) else {

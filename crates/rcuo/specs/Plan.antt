@@ -1,6 +1,7 @@
 -- What the words of the command line name: docs/specification/program.md, "Command line".
-use Rattle.std.specs.Prelude.{◌≡◌, ℕ, ◌∷◌, [], List, codes, true, ◌*◌, count_by}
+use Rattle.std.specs.Prelude.{◌≡◌, ℕ, ◌∷◌, [], List, codes, true, ◌*◌, count_by, ⊤}
 use Rattle.rcu_script.specs.Calls.{is_call}
+use Rattle.rcu_reading.specs.Reading.{IsFaultOf}
 use Rattle.rcu_setup.specs.declared.setup.Setup.{Setup}
 use Rattle.rcuo.specs.declared.plan.Refusal.{Refusal}
 use Rattle.rcuo.specs.declared.plan.Refusal.TheVariants as refusal
@@ -13,6 +14,12 @@ abbrev pub RefusesWords : Refusal → Type 0
 RefusesWords (refusal.Words e) = Unit {0}
 RefusesWords refusal.NoText = Unit {0}
 RefusesWords (refusal.Fault f) = ⊥
+
+-- the fault that is named, if the words were taken, is that of these bytes
+abbrev pub NamesFaultOf : List ℕ → Refusal → Type 0
+NamesFaultOf bytes (refusal.Words e) = ⊤
+NamesFaultOf bytes refusal.NoText = ⊤
+NamesFaultOf bytes (refusal.Fault f) = IsFaultOf bytes f
 
 -- the word that names a subcommand
 abbrev pub word_of : Subcommand → List ℕ

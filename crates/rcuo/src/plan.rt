@@ -1,10 +1,10 @@
 //! What a run is to do: the subcommand that the words name, and the setup that is read.
 
-ghost use Rattle.std.specs.Prelude.{◌≡◌, ◌≢◌, IfErr, IfOk, IfSome, Ok, map, string_bytes};
+ghost use Rattle.std.specs.Prelude.{◌≡◌, ◌≢◌, ℕ, List, IfErr, IfOk, IfSome, Ok, map, string_bytes};
 ghost use Rattle.clap.specs.Words.{app_of, kind_of};
 ghost use Rattle.rcu_setup.specs.Setup.{setup_of, setup_view};
 ghost use Rattle.rcu_reading.specs.Reading.{TakesAtMost};
-ghost use Rattle.rcuo.specs.Plan.{Names, RefusesWords, rcuo};
+ghost use Rattle.rcuo.specs.Plan.{NamesFaultOf, Names, RefusesWords, rcuo};
 
 use clap::error::ErrorKind;
 use rcu_reading::{MOST_READ, setup_of};
@@ -59,7 +59,8 @@ pub struct Plan {
 }
 
 fn refused(error: clap::Error) -> Refusal
-    ensures { RefusesWords result → kind_of error ≢ ErrorKind.OutOfMemory }
+    ensures words { RefusesWords result → kind_of error ≢ ErrorKind.OutOfMemory }
+    ensures fault { (bytes : List ℕ) → NamesFaultOf bytes result }
 {
     if error.kind() == ErrorKind::OutOfMemory {
         Refusal::Fault(Fault::memory())
@@ -143,8 +144,10 @@ pub fn read_plan<R: Read>(alloc: Global, words: &[String], reader: &mut R) -> Re
     ensures taken { (s : Subcommand) → Names (map string_bytes words.now) s → IfErr result (λ e. ¬ RefusesWords e) }
     ensures named { (s : Subcommand) → Names (map string_bytes words.now) s → IfOk result (λ plan. plan.subcommand ≡ s) }
     ensures most { TakesAtMost MOST_READ (R.remaining reader.old) (R.remaining reader.new) }
-    // The setup is the one of the bytes read.
+    ensures untouched { IfErr result (λ e. RefusesWords e → R.remaining reader.new ≡ R.remaining reader.old) }
+    // The setup is the one of the bytes read, and so is a fault that is named.
     ensures exact { IfSome (R.remaining reader.old) (λ bytes. IfOk result (λ plan. setup_of bytes ≡ Ok (setup_view plan.setup))) }
+    ensures fault { IfSome (R.remaining reader.old) (λ bytes. IfErr result (λ e. NamesFaultOf bytes e)) }
 {
     let subcommand = match subcommand_of(alloc, words) {
         Ok(subcommand) => subcommand,
