@@ -94,8 +94,8 @@ impl<J: Job> Hand<J> {
             cpu,
             blimit,
             ran,
-            held,
             claimed,
+            held,
         };
         Begins::Runs(RunningHand { state }, job)
     }
@@ -140,8 +140,8 @@ impl<J: Job> RunningHand<J> {
             cpu,
             blimit,
             mut ran,
-            held,
             claimed,
+            held,
         } = self.state;
         end_claim(&board, &mut seat);
         ran.push_reserved(Record {

@@ -24,9 +24,9 @@ pub struct RunningHandState<J, R> {
     /// How many callbacks a turn runs at most.
     pub blimit: u64,
     pub ran: Vec<Record<R>>,
-    pub held: Held<J>,
     /// The callback whose claim runs.
     pub claimed: ClaimedCallback,
+    pub held: Held<J>,
     ghost here: { AtBoard (arc_value board) seat },
     ghost role: { seat.role ≡ Role.Hand cpu },
     ghost small: { claimed.number < 1000000 },
