@@ -8,7 +8,8 @@ use Rattle.rcu_law.specs.States.{State, cpu_at, has, with_mark, with_board, owes
 use Rattle.rcu_law.specs.Steps.{is_side, can_finish, finishes}
 use Rattle.rcu_law.specs.declared.who.Side.{Side}
 use Rattle.rcu_law.specs.Lists.{none_owes}
-use Rattle.rcu_law.specs.Numbers.{GREATEST_NUMBER, begun}
+use Rattle.rcu_numbers.specs.declared.sequence.TheConstants.{GREATEST_NUMBER}
+use Rattle.rcu_law.specs.Numbers.{begun}
 use Rattle.rcu_law.specs.Events.{is_enabled, after}
 use Rattle.rcu_law.specs.Events.CoreEvent.{Report, Start, End, Finish, Shut as Shutting}
 use Rattle.rcu_law.specs.Invariant.{reports, report_of, owed, IsBoard, running_part, IsCore}

@@ -1,7 +1,7 @@
 -- Room: the bounds that the numbers of the core have, and the condition of `accelerate`.
 use Rattle.std.proofs.Common.{◌≡◌, ℕ, ◌<◌, ◌≤◌, length, map, ap, sym, subst, ◌∙◌, arith, get_or, length-append}
 use Rattle.std.proofs.lemmas.List.{get_or_default}
-use Rattle.rcu_law.specs.Numbers.{GREATEST_NUMBER}
+use Rattle.rcu_numbers.specs.declared.sequence.TheConstants.{GREATEST_NUMBER}
 use Rattle.rcu_law.specs.LabelledLists.{advance, newest}
 use Rattle.rcu_law.specs.Law.{accepted, ran}
 use Rattle.rcu_law.specs.States.{State, Cpu, empty_cpu, cpu_at}

@@ -10,7 +10,9 @@ use Rattle.rcu_law.specs.declared.modes.Mode.{Mode}
 use Rattle.rcu_law.specs.declared.modes.Mode.TheVariants.{Local, Offloading, Offloaded, Deoffloading}
 use Rattle.rcu_law.specs.declared.who.Side.{Side}
 use Rattle.rcu_law.specs.Lists.{is_nil, is_none}
-use Rattle.rcu_law.specs.Numbers.{snap, begun, GREATEST_NUMBER}
+use Rattle.rcu_numbers.specs.Numbers.{snap_of}
+use Rattle.rcu_numbers.specs.declared.sequence.TheConstants.{GREATEST_NUMBER}
+use Rattle.rcu_law.specs.Numbers.{begun}
 use Rattle.rcu_law.specs.Calls.{Call}
 use Rattle.rcu_law.specs.LabelledLists.{Labelled, IsLabelledList, IsUpTo, MayAccelerate, advance, newest}
 use Rattle.rcu_law.specs.Law.{accepted, ran, IsAccepted, IsLawful}
@@ -99,7 +101,7 @@ IsRunningByTurn c = c.turn % 2 ≡ running_part c.running
 -- each ran by a part whose sight was at least `snap(stamp)`; that sight is the record's ready
 -- (`docs/specification/rules.md`, "Callbacks and stamps")
 abbrev pub AreReady : List Run → Type 0
-AreReady runs = AllByRecursion (λ r. snap r.call.stamp ≤ r.ready) runs
+AreReady runs = AllByRecursion (λ r. snap_of r.call.stamp ≤ r.ready) runs
 
 -- "Given", but for the receipts: p has as many records as `Ran` marks, the k-th has the key of the k-th `Ran` of p, and
 -- each was ready; its numbers are 0, 1, 2, .. (`docs/specification/surface.md`, "Shared answer types")
@@ -112,15 +114,15 @@ pub record AreRecords (p : ℕ) (w : State) : Type 0 where
 
 -- a label is no earlier than the stamp allows: done only by a sight of `snap(stamp)` or more, and no number below it
 abbrev pub IsLabelFor : ℕ → ℕ → Label → Type 0
-IsLabelFor sight stamp Done = snap stamp ≤ sight
-IsLabelFor sight stamp (At m) = snap stamp ≤ m
+IsLabelFor sight stamp Done = snap_of stamp ≤ sight
+IsLabelFor sight stamp (At m) = snap_of stamp ≤ m
 IsLabelFor sight stamp Bare = Unit {0}
 
 -- a labelled list that was last looked at by a part with this sight; no number in it is above what a look of now would give
 pub record IsLabelledAt (sight number : ℕ) (ws : List Labelled) : Type 0 where
   pub list : IsLabelledList ws
   pub due : AllByRecursion (λ w. IsLabelFor sight w.call.stamp w.label) ws
-  pub most : AllByRecursion (λ w. IsUpTo (snap number) w.label) ws
+  pub most : AllByRecursion (λ w. IsUpTo (snap_of number) w.label) ws
 
 -- the own list and the group's list are labelled lists
 abbrev pub AreLabelledAt : ℕ → Cpu → Type 0
@@ -186,5 +188,5 @@ pub record IsCore (w : State) : Type 0 where
 pub record HasLabelledLists (w : State) (p : ℕ) : Type 0 where
   pub own : IsLabelledList (cpu_at w p).own
   pub joined : IsLabelledList (cpu_at w p).joined
-  pub own_accelerates : MayAccelerate (snap (newest w.number (advance w.number (cpu_at w p).own))) (advance w.number (cpu_at w p).own)
-  pub joined_accelerates : MayAccelerate (snap (newest w.number (advance w.number (cpu_at w p).joined))) (advance w.number (cpu_at w p).joined)
+  pub own_accelerates : MayAccelerate (snap_of (newest w.number (advance w.number (cpu_at w p).own))) (advance w.number (cpu_at w p).own)
+  pub joined_accelerates : MayAccelerate (snap_of (newest w.number (advance w.number (cpu_at w p).joined))) (advance w.number (cpu_at w p).joined)

@@ -1,7 +1,7 @@
 //! The law of the core, and the core as a pure machine of all its events.
 //!
 //! Read `specs/Law.antt` for what is proved of a history, `specs/Events.antt` for the machine, and the contracts below for
-//! what holds of it. The crate stands on no other one.
+//! what holds of it. Grace-period numbers are those of rcu_numbers.
 #![tactic(auto)]
 
 pub mod labels;
@@ -20,7 +20,6 @@ ghost use Rattle.rcu_law.specs.declared.modes.Mode.TheVariants.{Local};
 ghost use Rattle.rcu_law.specs.declared.who.Side.TheVariants as sides;
 ghost use Rattle.rcu_law.specs.Law.{IsLawful, IsClosed, HasNothingAcceptedAfterBack};
 ghost use Rattle.rcu_law.specs.Closing.{closing};
-ghost use Rattle.rcu_law.specs.Numbers.{IsSnapOf, snap};
 
 /// Whatever events come to a core of `n` processors, its history is lawful, what `close` makes of it is closed, and the
 /// records of each processor are those of its `Ran` marks, each made at a sight of `snap(stamp)` or more
@@ -52,10 +51,4 @@ pub fn lists_stay_labelled()
 /// A law over the definitions alone: a closed history has no `Accepted(p)` after the first `Back` of `p`.
 pub fn nothing_accepted_after_back()
     ensures { (n : ℕ) (history : List Mark) → IsClosed n history → HasNothingAcceptedAfterBack history }
-{}
-
-/// The formula of `snap` gives the least `4m` for which a whole grace period lies after `s` and before it
-/// (`docs/specification/definitions.md`, "Numbers").
-pub fn snap_is_least()
-    ensures { (s : ℕ) → IsSnapOf s (snap s) }
 {}

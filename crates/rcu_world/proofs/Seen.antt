@@ -7,7 +7,7 @@ use Rattle.std.specs.List.{AllByRecursion}
 use Rattle.rcu_law.specs.States.{State, Barrier, no_barrier, Cpu, empty_cpu, cpu_at, has}
 use Rattle.rcu_law.specs.Lists.{is_none}
 use Rattle.rcu_law.specs.declared.marks.Mark.{Mark}
-use Rattle.rcu_law.specs.Numbers.{GREATEST_NUMBER}
+use Rattle.rcu_numbers.specs.declared.sequence.TheConstants.{GREATEST_NUMBER}
 use Rattle.rcu_law.specs.States.{barrier_at, is_open, with_barrier, added, with_mark, with_cpu}
 use Rattle.rcu_law.specs.Lists.{needed_with}
 use Rattle.rcu_law.specs.Invariant.{IsCore}
