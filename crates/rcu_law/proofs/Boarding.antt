@@ -60,7 +60,6 @@ core_with_board w s owing l k b = record {
   opened = k.opened;
   passed = k.passed;
   there = k.there;
-  limits = k.limits;
   lawful = k.lawful;
 }
 
@@ -73,7 +72,6 @@ report_step w p k l true o = record {
   opened = opened_after w.history (Reported p) (length w.barriers) (λ b e. absurd cc) k.opened;
   passed = passed_after w.history (Reported p) (length w.barriers) (λ b e. absurd cc) k.passed;
   there = there_after w.history (Reported p) (length w.cpus) (λ q key e. absurd cc) k.there;
-  limits = k.limits;
   lawful = lawful_next (length w.cpus) w.history (Reported p) tt k.lawful;
 }
 

@@ -3,7 +3,7 @@
 ghost use Rattle.std.specs.Prelude.{◌≡◌, ℕ, length, true, IfOk, IfErr, None};
 ghost use Rattle.rcu_law.specs.Law.{IsClosed, IsLawful};
 ghost use Rattle.rcu_law.specs.Closing.{closing};
-ghost use Rattle.rcu_world.specs.Leaving.{AreHandedBack, AreRecorded, AreReported};
+ghost use Rattle.rcu_world.specs.Leaving.{AreHandedBack, AreRecorded, AreReported, AreRunsOf};
 ghost use Rattle.rcu_world.specs.Events.{Answers, Runs};
 ghost use Rattle.rcu_world.specs.Turns.{IsAtRest};
 ghost use Rattle.rcu_world.specs.Views.{state};
@@ -87,6 +87,7 @@ impl<J: Job> World<J> {
         ensures marks { IfOk result (λ r. r.0.items ≡ closing (state J.key_of self.core)) }
         ensures closed { IfOk result (λ r. IsClosed (length (state J.key_of self.core).cpus) r.0.items) }
         ensures ran { IfOk result (λ r. AreRecorded J.gives (length (state J.key_of self.core).cpus) r.0.items r.1.ran.items) }
+        ensures runs { IfOk result (λ r. AreRunsOf (state J.key_of self.core) r.1.ran.items) }
         ensures back { IfOk result (λ r. AreHandedBack J.key_of (length (state J.key_of self.core).cpus) r.0.items r.1.back.items) }
         ensures reports { IfOk result (λ r. AreReported (length (state J.key_of self.core).cpus) r.0.items r.1.reports.items) }
         ensures err { IfErr result (λ back. back ≡ self) }
