@@ -45,7 +45,7 @@ fn boxed_jobs_run(rt: HostRuntime) -> Result<(), Fail> {
         cpu: 0,
         by: Side::Local,
     })?;
-    let answers = world.run(rt.alloc(), events).ok().ok_or("no room")?;
+    let answers = world.run(events).ok().ok_or("no room")?;
     assert_eq!(rt; answers.len(), 9);
     for answer in &answers {
         assert!(rt; matches!(answer, Answer::Done));
@@ -229,7 +229,7 @@ fn turn_word_claims(rt: HostRuntime) -> Result<(), Fail> {
             by: Side::Hand,
         })?;
     }
-    let answers = world.run(rt.alloc(), events).ok().ok_or("no room")?;
+    let answers = world.run(events).ok().ok_or("no room")?;
     let mut won = answers
         .iter()
         .skip(made)
