@@ -101,12 +101,13 @@ next_of : (n : ℕ) (h : List Mark) (m : Mark) → IsOrdered h → Fits n h m �
 next_of n h (Accepted p key) ordered fit = λ i e. fit (record { place = i; stands = e })
 next_of n h (Reported q) ordered fit = tt
 next_of n h (Ran p key) ordered fit = due_next n h p key ordered fit
-next_of n h (Opened b) ordered fit = λ e p k t s a.
-    let r : length (accepted p (take t h)) < length (ran p (take e h)) = (fit.each e s).each p a.key t (slice_get_within h t (Accepted p a.key) a.stands) a.stands in
-    ran_at h p k e (omega (arith, a.before))
-next_of n h (Passed b) ordered fit = λ o p k t s a l.
-    let r : length (accepted p (take t h)) < length (ran p (take (length h) h)) = (fit.each o s).each p a.key t l a.stands in
-    ran_at h p k (length h) (omega (arith, a.before))
+next_of n h (Opened b) ordered fit = λ i e. fit (record { place = i; stands = e })
+next_of n h (Passed b) ordered fit = record {
+  opened = (fit.opened.place, fit.opened.stands);
+  ran = λ o p k t s a l.
+      let r : length (accepted p (take t h)) < length (ran p (take (length h) h)) = (fit.each o s).each p a.key t l a.stands in
+      ran_at h p k (length h) (omega (arith, a.before));
+}
 next_of n h (Shut p) ordered fit = tt
 next_of n h (Back p key) ordered fit = tt
 
@@ -158,11 +159,12 @@ module _ (n : ℕ) (h : List Mark) where
       omega arith
   fits_of_sound (Reported q) sound = tt
   fits_of_sound (Ran p key) sound = due_of p key sound
-  fits_of_sound (Opened b) sound = record {
-    each = λ e s. ran_all (Opened b) (length h) e (omega arith) (let w : e < length h = slice_get_within h e (Passed b) s in omega arith)
-        (λ p k t a l. sound.barred b (length h) e p k t (get_last h (Opened b)) (get_some_before h (Opened b) (Passed b) e s) a l);
-  }
+  fits_of_sound (Opened b) sound = λ s.
+      let e : s.place ≡ length h = sound.opened.once b s.place (length h) (get_some_before h (Opened b) (Opened b) s.place s.stands) (get_last h (Opened b)) in
+      let w : s.place < length h = slice_get_within h s.place (Opened b) s.stands in
+      omega arith
   fits_of_sound (Passed b) sound = record {
+    opened = (let o = sound.opened.before b (length h) (get_last h (Passed b)) in record { place = o.0; stands = sym (get_before h (Passed b) o.0 o.1) ∙ o.2 });
     each = λ o s. ran_all (Passed b) o (length h) (let w : o < length h = slice_get_within h o (Opened b) s in omega arith) (omega arith)
         (λ p k t a l. sound.barred b o (length h) p k t (get_some_before h (Passed b) (Opened b) o s) (get_last h (Passed b)) a l);
   }

@@ -28,20 +28,22 @@ pub record IsDue (n : ℕ) (h : List Mark) (p key : ℕ) : Type 0 where
 pub record HaveRun (h : List Mark) (a r : ℕ) : Type 0 where
   pub each : (p key t : ℕ) → t < a → slice_get h t ≡ Some (Accepted p key) → length (accepted p (take t h)) < length (ran p (take r h))
 
--- what was accepted before a barrier was opened has run
-pub record IsOver (h : List Mark) (b : ℕ) : Type 0 where
-  pub each : (o : ℕ) → slice_get h o ≡ Some (Opened b) → HaveRun h o (length h)
+-- barrier b was opened
+pub record IsOpenedBefore (h : List Mark) (b : ℕ) : Type 0 where
+  pub place : ℕ
+  pub stands : slice_get h place ≡ Some (Opened b)
 
--- what is accepted had run before a barrier of this name passed
-pub record IsFresh (h : List Mark) (b : ℕ) : Type 0 where
-  pub each : (e : ℕ) → slice_get h e ≡ Some (Passed b) → HaveRun h (length h) e
+-- a barrier was opened, and what was accepted before that has run
+pub record IsOver (h : List Mark) (b : ℕ) : Type 0 where
+  pub opened : IsOpenedBefore h b
+  pub each : (o : ℕ) → slice_get h o ≡ Some (Opened b) → HaveRun h o (length h)
 
 -- the mark may be added to the history of n processors
 abbrev pub Fits : ℕ → List Mark → Mark → Type 0
 Fits n h (Accepted p key) = IsShutBefore h p → ⊥
 Fits n h (Reported q) = Unit {0}
 Fits n h (Ran p key) = IsDue n h p key
-Fits n h (Opened b) = IsFresh h b
+Fits n h (Opened b) = IsOpenedBefore h b → ⊥
 Fits n h (Passed b) = IsOver h b
 Fits n h (Shut p) = Unit {0}
 Fits n h (Back p key) = Unit {0}

@@ -2,7 +2,7 @@
 
 ghost use Rattle.std.specs.Prelude.{◌≡◌, ◌≤◌, ◌↔◌, true, length};
 ghost use Rattle.rcu_law.specs.Law.{IsCovered, IsLawful};
-ghost use Rattle.rcu_history.specs.Fits.{Fits, HasReported, HaveRun, IsDue, IsFresh, IsOver, IsShutBefore};
+ghost use Rattle.rcu_history.specs.Fits.{Fits, HasReported, HaveRun, IsDue, IsOpenedBefore, IsOver, IsShutBefore};
 
 use crate::counting::{Kind, many_of, nth_of};
 use rcu_law::marks::Mark;
@@ -71,7 +71,19 @@ fn have_run(history: &[Mark], accepted: usize, ran: usize) -> bool
     true
 }
 
-/// Whether all that was accepted before barrier `b` was opened has run.
+/// Whether barrier `b` was opened.
+fn was_opened(history: &[Mark], b: u64) -> bool
+    ensures { result ≡ true ↔ IsOpenedBefore history.now b }
+{
+    for mark in history {
+        if *mark == Mark::Opened(b) {
+            return true;
+        }
+    }
+    false
+}
+
+/// Whether barrier `b` was opened, and all that was accepted before that has run.
 fn is_over(history: &[Mark], b: u64) -> bool
     ensures { result ≡ true ↔ IsOver history.now b }
 {
@@ -80,19 +92,7 @@ fn is_over(history: &[Mark], b: u64) -> bool
             return false;
         }
     }
-    true
-}
-
-/// Whether all that is accepted had run before a barrier of the name `b` passed.
-fn is_fresh(history: &[Mark], b: u64) -> bool
-    ensures { result ≡ true ↔ IsFresh history.now b }
-{
-    for place in 0..history.len() {
-        if history[place] == Mark::Passed(b) && !have_run(history, history.len(), place) {
-            return false;
-        }
-    }
-    true
+    was_opened(history, b)
 }
 
 /// Whether a mark may be added to a history of `n` processors.
@@ -102,13 +102,13 @@ fn fits(n: u64, history: &[Mark], mark: Mark) -> bool
     match mark {
         Mark::Accepted(p, _) => !has_shut(history, p),
         Mark::Ran(p, key) => is_due(n, history, p, key),
-        Mark::Opened(b) => is_fresh(history, b),
+        Mark::Opened(b) => !was_opened(history, b),
         Mark::Passed(b) => is_over(history, b),
         Mark::Reported(_) | Mark::Shut(_) | Mark::Back(_, _) => true,
     }
 }
 
-/// Whether a history of `n` processors is lawful: ordered, graced, barred and shut in every prefix
+/// Whether a history of `n` processors is lawful: ordered, graced, barred, opened and shut in every prefix
 /// (docs/specification/definitions.md, "The law").
 pub fn is_lawful(n: u64, history: &[Mark]) -> bool
     ensures { result ≡ true ↔ IsLawful n history.now }

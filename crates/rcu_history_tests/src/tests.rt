@@ -54,7 +54,24 @@ fn passed_before_it_ran(rt: HostRuntime) -> Result<(), Fail> {
     assert!(rt; is_lawful(1, &late));
     // (what is accepted after a barrier was opened is no concern of it)
     assert!(rt; is_lawful(1, &[Opened(0), Accepted(0, 7), Passed(0)]));
-    assert!(rt; is_lawful(1, &[Accepted(0, 7), Opened(0), Passed(1)]));
+    assert!(rt; is_lawful(1, &[Opened(0), Opened(1), Passed(1), Passed(0)]));
+    Ok(())
+}
+
+#[test]
+fn passed_without_an_opening(rt: HostRuntime) -> Result<(), Fail> {
+    assert!(rt; !is_lawful(1, &[Passed(0)]));
+    assert!(rt; !is_lawful(1, &[Passed(0), Opened(0)]));
+    assert!(rt; !is_lawful(1, &[Accepted(0, 7), Opened(0), Passed(1)]));
+    assert!(rt; is_lawful(1, &[Opened(0), Passed(0)]));
+    Ok(())
+}
+
+#[test]
+fn opened_twice(rt: HostRuntime) -> Result<(), Fail> {
+    assert!(rt; !is_lawful(1, &[Opened(0), Opened(0), Passed(0)]));
+    assert!(rt; !is_lawful(1, &[Opened(0), Passed(0), Opened(0)]));
+    assert!(rt; is_lawful(1, &[Opened(0), Passed(0), Opened(1)]));
     Ok(())
 }
 

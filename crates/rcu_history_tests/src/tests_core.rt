@@ -165,7 +165,7 @@ fn what_the_core_leaves(rt: HostRuntime) -> Result<(), Fail> {
     let shape = Shape::new(PROCESSORS, 0b110, 3, 10, 4, 100).ok_or("no shape")?;
     let mut world = World::new(rt.alloc(), shape)?;
     let events = all_events(rt.alloc(), 6)?;
-    let answers = world.run(rt.alloc(), events).ok().ok_or("no room")?;
+    let answers = world.run(events).ok().ok_or("no room")?;
     assert!(rt; answers.len() > 300);
     assert!(rt; is_lawful(PROCESSORS, world.history()));
     assert!(rt; !is_closed(PROCESSORS, world.history()));

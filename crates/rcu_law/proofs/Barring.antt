@@ -12,7 +12,7 @@ use Rattle.rcu_law.specs.Events.{is_enabled, after}
 use Rattle.rcu_law.specs.Steps.{counts_cpu, sees_cpu}
 use Rattle.rcu_law.specs.Events.CoreEvent.{Open, Count, Turn, Pass}
 use Rattle.rcu_law.specs.Invariant.{IsCpu, IsBarrier, IsCore}
-use Rattle.rcu_law.proofs.Ends.{get_cases}
+use Rattle.rcu_law.proofs.Ends.{get_cases, get_last}
 use Rattle.rcu_law.proofs.Law.{accepted_within, lawful_next, own_ran}
 use Rattle.rcu_law.proofs.Frames.{cpu_after, board_after, barrier_after, opened_after, passed_after, there_after}
 
@@ -58,7 +58,6 @@ core_with_barrier w b v k l i = record {
   opened = λ x o s. omega (arith, k.opened x o s, length-set w.barriers b v);
   passed = λ x o s. omega (arith, k.passed x o s, length-set w.barriers b v);
   there = k.there;
-  limits = k.limits;
   lawful = k.lawful;
 }
 
@@ -76,6 +75,7 @@ open_new : (w : State) (b : ℕ) → IsCore w → b ≡ length w.barriers → Is
 open_new w b k e = record {
   counts = length-replicate (length w.cpus) None;
   seens = length-replicate (length w.cpus) false;
+  opened = (length w.history, get_last w.history (Opened b));
   counted = λ o p j t c so a l s. absurd (let x : None ≡ Some c = sym (replicate_default (length w.cpus) p None) ∙ s in cc);
   seen = λ p s. absurd (let x : false ≡ true = sym (replicate_default (length w.cpus) p false) ∙ s in cc);
   unpassed = λ f o s. elim (get_cases w.history (Opened b) (Passed b) o s) [
@@ -108,8 +108,7 @@ open_kept w b k e =
       );
       passed = λ x o s. omega (arith, passed_after w.history (Opened b) (length w.barriers) (λ y g. absurd cc) k.passed x o s, length-append w.barriers (new_barrier (length w.cpus) ∷ []));
       there = there_after w.history (Opened b) (length w.cpus) (λ q key g. absurd cc) k.there;
-      limits = k.limits;
-      lawful = lawful_next (length w.cpus) w.history (Opened b) (λ e p j t s a. absurd (let l : b < length w.barriers = k.passed b e s in omega arith)) k.lawful;
+      lawful = lawful_next (length w.cpus) w.history (Opened b) (λ i s. absurd (let l : b < length w.barriers = k.opened b i s in omega arith)) k.lawful;
     }
 
 -- Count
@@ -127,6 +126,7 @@ count_barrier w b p v k l e i =
     record {
       counts = length-set v.counts p (Some (cpu_at w p).count) ∙ i.counts;
       seens = i.seens;
+      opened = i.opened;
       counted = λ o q j t c so a before s. elim (cases_eq q p) [
         | inl f ↦
             let n : Some (cpu_at w p).count ≡ Some c = sym (get_or-set_same v.counts p (Some (cpu_at w p).count) None within) ∙ ap (λ x. get_or (set v.counts p (Some (cpu_at w p).count)) x None) (sym f) ∙ s in
@@ -159,6 +159,7 @@ turn_barrier w b p v c k l e i =
     record {
       counts = i.counts;
       seens = length-set v.seen p (get_or v.seen p false || nat_le (2 * value_or (count_at v p)) (cpu_at w p).turn) ∙ i.seens;
+      opened = i.opened;
       counted = i.counted;
       seen = λ q s. elim (cases_eq q p) [
         | inl f ↦
@@ -195,7 +196,7 @@ all_at (b ∷ bs) (suc i) e l = all_at bs i (and_parts b (all_of bs) e).1 (omega
 
 passed_barrier : (n : ℕ) (h : List Mark) (b : ℕ) (v : Barrier) → IsBarrier n h b v → IsBarrier n (h ++ Passed b ∷ []) b (record v { passed = true })
 passed_barrier n h b v i = barrier_after n h (Passed b) b (record v { passed = true }) (λ e. absurd cc) (λ f e. let x : true ≡ false = f in absurd cc)
-    (record { counts = i.counts; seens = i.seens; counted = i.counted; seen = i.seen; unpassed = λ f. let x : true ≡ false = f in absurd cc })
+    (record { counts = i.counts; seens = i.seens; opened = i.opened; counted = i.counted; seen = i.seen; unpassed = λ f. let x : true ≡ false = f in absurd cc })
 
 pub pass_kept : (w : State) (b : ℕ) → IsCore w → is_enabled w (Pass b) ≡ true → IsCore (after w (Pass b))
 pass_kept w b k e =
@@ -203,7 +204,7 @@ pass_kept w b k e =
     let e2 = and_parts (nat_lt b (length w.barriers)) (not (barrier_at w b).passed) e1.0 in
     let lb : b < length w.barriers = ltb-true b (length w.barriers) e2.0 in
     let i : IsBarrier (length w.cpus) w.history b (barrier_at w b) = k.barrier b lb in
-    let next : (o p j t : ℕ) → slice_get w.history o ≡ Some (Opened b) → IsAccepted w.history p j t → t < o → (u : ℕ) × (u < length w.history) × IsRan w.history p j u = λ o p j t so a l.
+    let ran_before : (o p j t : ℕ) → slice_get w.history o ≡ Some (Opened b) → IsAccepted w.history p j t → t < o → (u : ℕ) × (u < length w.history) × IsRan w.history p j u = λ o p j t so a l.
     let there : p < length w.cpus = k.there p j t a in
     let s = i.seen p (all_at (barrier_at w b).seen p e1.1 (omega (arith, i.seens))) in
     let m : j < s.0 = i.counted o p j t s.0 so a l s.1 in
@@ -220,6 +221,5 @@ pass_kept w b k e =
       opened = λ x o s. omega (arith, opened_after w.history (Passed b) (length w.barriers) (λ y g. absurd cc) k.opened x o s, length-set w.barriers b (record (barrier_at w b) { passed = true }));
       passed = λ x o s. omega (arith, passed_after w.history (Passed b) (length w.barriers) (λ y g. let z : b ≡ y = cc in omega arith) k.passed x o s, length-set w.barriers b (record (barrier_at w b) { passed = true }));
       there = there_after w.history (Passed b) (length w.cpus) (λ q key g. absurd cc) k.there;
-      limits = k.limits;
-      lawful = lawful_next (length w.cpus) w.history (Passed b) next k.lawful;
+      lawful = lawful_next (length w.cpus) w.history (Passed b) (record { opened = i.opened; ran = ran_before }) k.lawful;
     }

@@ -8,7 +8,8 @@ use Rattle.rcu_law.specs.States.{State, cpu_at, has, with_mark, with_board, owes
 use Rattle.rcu_law.specs.Steps.{is_side, can_finish, finishes}
 use Rattle.rcu_law.specs.declared.who.Side.{Side}
 use Rattle.rcu_law.specs.Lists.{none_owes}
-use Rattle.rcu_law.specs.Numbers.{GREATEST_NUMBER, begun}
+use Rattle.rcu_numbers.specs.declared.sequence.TheConstants.{GREATEST_NUMBER}
+use Rattle.rcu_law.specs.Numbers.{begun}
 use Rattle.rcu_law.specs.Events.{is_enabled, after}
 use Rattle.rcu_law.specs.Events.CoreEvent.{Report, Start, End, Finish, Shut as Shutting}
 use Rattle.rcu_law.specs.Invariant.{reports, report_of, owed, IsBoard, running_part, IsCore}
@@ -59,7 +60,6 @@ core_with_board w s owing l k b = record {
   opened = k.opened;
   passed = k.passed;
   there = k.there;
-  limits = k.limits;
   lawful = k.lawful;
 }
 
@@ -72,7 +72,6 @@ report_step w p k l true o = record {
   opened = opened_after w.history (Reported p) (length w.barriers) (λ b e. absurd cc) k.opened;
   passed = passed_after w.history (Reported p) (length w.barriers) (λ b e. absurd cc) k.passed;
   there = there_after w.history (Reported p) (length w.cpus) (λ q key e. absurd cc) k.there;
-  limits = k.limits;
   lawful = lawful_next (length w.cpus) w.history (Reported p) tt k.lawful;
 }
 

@@ -10,7 +10,8 @@ use Rattle.rcu_law.specs.declared.labels.Label.{Label}
 use Rattle.rcu_law.specs.declared.labels.Label.TheVariants.{Done, At, Bare}
 use Rattle.rcu_law.specs.Calls.{Call}
 use Rattle.rcu_law.specs.LabelledLists.{Labelled, is_done, call_of}
-use Rattle.rcu_law.specs.Numbers.{snap, begun}
+use Rattle.rcu_numbers.specs.Numbers.{snap_of}
+use Rattle.rcu_law.specs.Numbers.{begun}
 use Rattle.rcu_law.specs.Law.{accepted, ran, IsAccepted, IsCovered}
 use Rattle.rcu_law.specs.States.{State, Cpu, Run, cpu_at, has, with_cpu, with_mark}
 use Rattle.rcu_law.specs.Steps.{front, can_claim, can_claim_own, can_claim_held, claims}
@@ -71,7 +72,7 @@ between q (m ∷ h) zero l = elim (cases_report q m) [
 between q (m ∷ h) (suc t) l = let g = between q h t (omega arith) in (suc g.0, omega (arith, g.1), omega (arith, g.2), g.3)
 
 -- the number is next to run, and the callback was there early enough
-covered_now : (n s : ℕ) (owing : List Bool) (h : List Mark) (p k stamp sight : ℕ) → IsBoard n s owing h → IsStampFor n h p k stamp → snap stamp ≤ sight → sight ≤ s
+covered_now : (n s : ℕ) (owing : List Bool) (h : List Mark) (p k stamp sight : ℕ) → IsBoard n s owing h → IsStampFor n h p k stamp → snap_of stamp ≤ sight → sight ≤ s
     → (t : ℕ) → IsAccepted h p k t → IsCovered n h t (length h)
 covered_now n s owing h p k stamp sight b e d l t a = record {
   each = λ q m.
@@ -119,7 +120,7 @@ pub record IsTaken (c d : Cpu) (f : Call) (ready : ℕ) : Type 0 where
   pub sight : d.sight ≡ c.sight
   pub hand_sight : d.hand_sight ≡ c.hand_sight
 
-ready_more : (runs : List Run) (r : Run) → AreReady runs → snap r.call.stamp ≤ r.ready → AreReady (runs ++ r ∷ [])
+ready_more : (runs : List Run) (r : Run) → AreReady runs → snap_of r.call.stamp ≤ r.ready → AreReady (runs ++ r ∷ [])
 ready_more [] r a l = (l, tt)
 ready_more (x ∷ runs) r a l = (a.0, ready_more runs r a.1 l)
 
@@ -136,7 +137,7 @@ module _ (n : ℕ) (h : List Mark) (s limit p : ℕ) (c d : Cpu) (f : Call) (rea
   pub taken_ordered : accepted p h ≡ ran p h ++ f.key ∷ map key_of (remaining_callbacks d)
   taken_ordered = i.placed.keys ∙ ap (λ x. ran p h ++ map key_of x) all_places
 
-  pub taken_cpu : snap f.stamp ≤ ready → AreLabelledAt s d → IsInOneList d → IsOfItsKinds d → MayHaveOffloaded d.mode d.left (offloaded_callbacks d) → IsCpu n (h ++ Ran p f.key ∷ []) s limit p d
+  pub taken_cpu : snap_of f.stamp ≤ ready → AreLabelledAt s d → IsInOneList d → IsOfItsKinds d → MayHaveOffloaded d.mode d.left (offloaded_callbacks d) → IsCpu n (h ++ Ran p f.key ∷ []) s limit p d
   taken_cpu ripe lists one_list kinds offloaded =
       let ea : accepted p (h ++ Ran p f.key ∷ []) ≡ accepted p h = accepted-push p h (Ran p f.key) ∙ append-nil (accepted p h) in
       let er : ran p (h ++ Ran p f.key ∷ []) ≡ ran p h ++ f.key ∷ [] = ran-push p h (Ran p f.key) ∙ ap (λ x. ran p h ++ x) (own_ran p f.key) in
@@ -169,7 +170,7 @@ module _ (n : ℕ) (h : List Mark) (s limit p : ℕ) (c d : Cpu) (f : Call) (rea
       }
 
 -- the step, for either side
-taken_kept : (w : State) (p : ℕ) (d : Cpu) (f : Call) (ready : ℕ) → IsCore w → p < length w.cpus → IsTaken (cpu_at w p) d f ready → snap f.stamp ≤ ready → ready ≤ w.number
+taken_kept : (w : State) (p : ℕ) (d : Cpu) (f : Call) (ready : ℕ) → IsCore w → p < length w.cpus → IsTaken (cpu_at w p) d f ready → snap_of f.stamp ≤ ready → ready ≤ w.number
     → AreLabelledAt w.number d → IsInOneList d → IsOfItsKinds d → MayHaveOffloaded d.mode d.left (offloaded_callbacks d) → IsCore (with_mark (with_cpu w p d) (Some (Ran p f.key)))
 taken_kept w p d f ready k l t ripe past lists one_list kinds offloaded =
     let i : IsCpu (length w.cpus) w.history w.number w.shape.limit p (cpu_at w p) = k.cpu p l in
@@ -189,14 +190,14 @@ record IsHeld (sight : ℕ) (cs : List Call) (turn : ℕ) : Type 0 where
   first : Call
   more : List Call
   is : cs ≡ first ∷ more
-  ripe : snap first.stamp ≤ sight
+  ripe : snap_of first.stamp ≤ sight
   next : turn ≡ 2 * first.number
 
 held_from : (sight : ℕ) (cs : List Call) (turn : ℕ) → can_claim_held sight cs turn ≡ true → IsHeld sight cs turn
 held_from sight [] turn e = absurd cc
 held_from sight (c ∷ cs) turn e =
-    let e1 = and_parts (nat_le (snap c.stamp) sight) (turn == 2 * c.number) e in
-    record { first = c; more = cs; is = refl; ripe = leb-true (snap c.stamp) sight e1.0; next = eqb-true turn (2 * c.number) e1.1 }
+    let e1 = and_parts (nat_le (snap_of c.stamp) sight) (turn == 2 * c.number) e in
+    record { first = c; more = cs; is = refl; ripe = leb-true (snap_of c.stamp) sight e1.0; next = eqb-true turn (2 * c.number) e1.1 }
 
 first_of_held : (cs : List Call) (f : Call) (more : List Call) → cs ≡ f ∷ more → cs ≡ front cs ∷ tail cs
 first_of_held cs f more e = e ∙ ap (λ x. x ∷ more) (sym (ap front e)) ∙ ap (λ x. front cs ∷ x) (sym (ap tail e))
@@ -222,7 +223,7 @@ claim_hand w p k l e =
       sight = refl;
       hand_sight = refl;
     })
-    (subst (λ x. snap x.stamp ≤ (cpu_at w p).hand_sight) (sym ef) r.ripe) i.timely.hand_sight i.lists (record { own = i.one_list.own; bypass = i.one_list.bypass }) i.kinds
+    (subst (λ x. snap_of x.stamp ≤ (cpu_at w p).hand_sight) (sym ef) r.ripe) i.timely.hand_sight i.lists (record { own = i.one_list.own; bypass = i.one_list.bypass }) i.kinds
     (one_less (cpu_at w p).mode (cpu_at w p).left (front (cpu_at w p).held) (tail (cpu_at w p).held ++ (flattened (cpu_at w p).done_lane ++ ((cpu_at w p).out ++ (map call_of (cpu_at w p).joined ++ ((cpu_at w p).drawn ++ (flattened (cpu_at w p).lane ++ (cpu_at w p).bypass))))))
     (subst (λ x. MayHaveOffloaded (cpu_at w p).mode (cpu_at w p).left (x ++ (flattened (cpu_at w p).done_lane ++ ((cpu_at w p).out ++ (map call_of (cpu_at w p).joined ++ ((cpu_at w p).drawn ++ (flattened (cpu_at w p).lane ++ (cpu_at w p).bypass))))))) (first_of_held (cpu_at w p).held r.first r.more r.is) i.offloaded))
 
@@ -274,7 +275,7 @@ claim_local w p k l e =
       sight = refl;
       hand_sight = refl;
     })
-    (subst (λ x. snap x.stamp ≤ (cpu_at w p).sight) (sym ef) (subst (IsLabelFor (cpu_at w p).sight r.first.call.stamp) r.done due.0)) i.timely.sight
+    (subst (λ x. snap_of x.stamp ≤ (cpu_at w p).sight) (sym ef) (subst (IsLabelFor (cpu_at w p).sight r.first.call.stamp) r.done due.0)) i.timely.sight
     (labelled_tail (cpu_at w p).sight w.number (cpu_at w p).own i.lists.0, i.lists.1)
     (record { own = λ x. ap tail (i.one_list.own x); bypass = i.one_list.bypass }) i.kinds i.offloaded
 

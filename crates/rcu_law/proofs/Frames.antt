@@ -135,6 +135,7 @@ pub barrier_after : (n : ℕ) (h : List Mark) (m : Mark) (b : ℕ) (v : Barrier)
 barrier_after n h m b v x y i = record {
   counts = i.counts;
   seens = i.seens;
+  opened = (i.opened.0, get_some_before h m (Opened b) i.opened.0 i.opened.1);
   counted = λ o p k t c so a l e. elim (get_cases h m (Opened b) o so) [
     | inl u ↦ i.counted o p k t c u.1 (accepted_before h m p k t (omega (arith, u.0)) a) l e
     | inr u ↦ absurd (x u.1)
@@ -175,16 +176,15 @@ pub record IsKept (n : ℕ) (number limit : ℕ) (owing : List Bool) (cpus : Lis
   pub opened : (b o : ℕ) → slice_get h o ≡ Some (Opened b) → b < length barriers
   pub passed : (b o : ℕ) → slice_get h o ≡ Some (Passed b) → b < length barriers
   pub there : (p k t : ℕ) → IsAccepted h p k t → p < n
-  pub limits : limit ≤ 1000000
   pub lawful : IsLawful n h
 
 pub kept_from : (w : State) → IsCore w → IsKept (length w.cpus) w.number w.shape.limit w.owing w.cpus w.barriers w.history
-kept_from w k = record { board = k.board; cpu = k.cpu; barrier = k.barrier; opened = k.opened; passed = k.passed; there = k.there; limits = k.limits; lawful = k.lawful }
+kept_from w k = record { board = k.board; cpu = k.cpu; barrier = k.barrier; opened = k.opened; passed = k.passed; there = k.there; lawful = k.lawful }
 
 pub core_from : (w : State) (n : ℕ) → n ≡ length w.cpus → IsKept n w.number w.shape.limit w.owing w.cpus w.barriers w.history → IsCore w
 core_from w n e k =
     let k' = subst (λ x. IsKept x w.number w.shape.limit w.owing w.cpus w.barriers w.history) e k in
-    record { board = k'.board; cpu = k'.cpu; barrier = k'.barrier; opened = k'.opened; passed = k'.passed; there = k'.there; limits = k'.limits; lawful = k'.lawful }
+    record { board = k'.board; cpu = k'.cpu; barrier = k'.barrier; opened = k'.opened; passed = k'.passed; there = k'.there; lawful = k'.lawful }
 
 -- a step of one processor with no mark
 pub core_with_cpu : (w : State) (p : ℕ) (c : Cpu) → IsCore w → p < length w.cpus → IsCpu (length w.cpus) w.history w.number w.shape.limit p c → IsCore (with_mark (with_cpu w p c) None)
@@ -195,7 +195,6 @@ core_with_cpu w p c k l i = core_from (with_mark (with_cpu w p c) None) (length 
   opened = k.opened;
   passed = k.passed;
   there = k.there;
-  limits = k.limits;
   lawful = k.lawful;
 })
 
@@ -212,7 +211,6 @@ core_with_all w f needed k s = core_from (with_mark (record w { needed = needed;
   opened = k.opened;
   passed = k.passed;
   there = k.there;
-  limits = k.limits;
   lawful = k.lawful;
 })
 
@@ -245,7 +243,6 @@ core_with_cpu_mark w p c m k l o next i = core_from (with_mark (with_cpu w p c) 
   opened = opened_after w.history m (length w.barriers) (λ b e. absurd (o.not_opened b e)) k.opened;
   passed = passed_after w.history m (length w.barriers) (λ b e. absurd (o.not_passed b e)) k.passed;
   there = there_after w.history m (length w.cpus) (λ q key e. subst (λ x. x < length w.cpus) (sym (o.own q key e)) l) k.there;
-  limits = k.limits;
   lawful = lawful_next (length w.cpus) w.history m next k.lawful;
 })
 

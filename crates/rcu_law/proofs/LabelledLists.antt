@@ -5,7 +5,7 @@ use Rattle.std.proofs.lemmas.Bool.{or_parts, eqb-true, leb-true, leb-false, ltb-
 use Rattle.rcu_law.specs.declared.labels.Label.{Label}
 use Rattle.rcu_law.specs.declared.labels.Label.TheVariants.{Done, At, Bare}
 use Rattle.rcu_law.specs.Calls.{Call}
-use Rattle.rcu_law.specs.Numbers.{snap}
+use Rattle.rcu_numbers.specs.Numbers.{snap_of}
 use Rattle.rcu_law.specs.Lists.{tail}
 use Rattle.rcu_law.specs.LabelledLists.{Labelled, IsBefore, AreInOrder, IsOneOf, IsUpTo, IsLabelledList, MayAccelerate, bare, advanced_label, accelerated_label, relabelled, advance, is_below, number_of, has_other, has_two, accelerate}
 use Rattle.rcu_law.specs.Invariant.{IsLabelFor, IsLabelledAt}
@@ -19,7 +19,7 @@ all_labels : (P Q : Label → Type 0) → ((l : Label) → P l → Q l) → (ws 
 all_labels P Q h [] a = tt
 all_labels P Q h (w ∷ ws) a = (h w.label a.0, all_labels P Q h ws a.1)
 
-pub snap_later : (s t : ℕ) → s ≤ t → snap s ≤ snap t
+pub snap_later : (s t : ℕ) → s ≤ t → snap_of s ≤ snap_of t
 snap_later s t l = omega arith
 
 pub up_to_later : (s t : ℕ) → s ≤ t → (l : Label) → IsUpTo s l → IsUpTo t l
@@ -185,7 +185,7 @@ pub labelled_nothing : (sight s : ℕ) → IsLabelledAt sight s []
 labelled_nothing sight s = record { list = record { order = tt; first = 0; second = 0; two = tt }; due = tt; most = tt }
 
 pub labelled_later : (sight s t : ℕ) (ws : List Labelled) → s ≤ t → IsLabelledAt sight s ws → IsLabelledAt sight t ws
-labelled_later sight s t ws l i = record { list = i.list; due = i.due; most = all_labels (IsUpTo (snap s)) (IsUpTo (snap t)) (up_to_later (snap s) (snap t) (snap_later s t l)) ws i.most }
+labelled_later sight s t ws l i = record { list = i.list; due = i.due; most = all_labels (IsUpTo (snap_of s)) (IsUpTo (snap_of t)) (up_to_later (snap_of s) (snap_of t) (snap_later s t l)) ws i.most }
 
 label_seen : (s t : ℕ) → s ≤ t → (stamp : ℕ) (l : Label) → IsLabelFor s stamp l → IsLabelFor t stamp l
 label_seen s t o stamp Done d = omega arith
@@ -203,14 +203,14 @@ pub labelled_added : (sight s : ℕ) (ws : List Labelled) (cs : List Call) → I
 labelled_added sight s ws cs i = record {
   list = record { order = order_added ws cs i.list.order; first = i.list.first; second = i.list.second; two = all_added (λ w. IsOneOf i.list.first i.list.second w.label) (λ c. tt) ws cs i.list.two };
   due = all_added (λ w. IsLabelFor sight w.call.stamp w.label) (λ c. tt) ws cs i.due;
-  most = all_added (λ w. IsUpTo (snap s) w.label) (λ c. tt) ws cs i.most;
+  most = all_added (λ w. IsUpTo (snap_of s) w.label) (λ c. tt) ws cs i.most;
 }
 
 pub labelled_dropped : (sight s n : ℕ) (ws : List Labelled) → IsLabelledAt sight s ws → IsLabelledAt sight s (drop n ws)
 labelled_dropped sight s n ws i = record {
   list = record { order = order_dropped n ws i.list.order; first = i.list.first; second = i.list.second; two = all_dropped (λ w. IsOneOf i.list.first i.list.second w.label) n ws i.list.two };
   due = all_dropped (λ w. IsLabelFor sight w.call.stamp w.label) n ws i.due;
-  most = all_dropped (λ w. IsUpTo (snap s) w.label) n ws i.most;
+  most = all_dropped (λ w. IsUpTo (snap_of s) w.label) n ws i.most;
 }
 
 pub labelled_tail : (sight s : ℕ) (ws : List Labelled) → IsLabelledAt sight s ws → IsLabelledAt sight s (tail ws)

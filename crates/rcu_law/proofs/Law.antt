@@ -15,12 +15,16 @@ pub record NextRan (n : ℕ) (h : List Mark) (p key : ℕ) : Type 0 where
   pub ordered : accepted p h ≡ ran p h ++ key ∷ rest
   pub covered : (t : ℕ) → IsAccepted h p (length (ran p h)) t → IsCovered n h t (length h)
 
+pub record NextPassed (h : List Mark) (b : ℕ) : Type 0 where
+  pub opened : (o : ℕ) × (slice_get h o ≡ Some (Opened b))
+  pub ran : (o p k t : ℕ) → slice_get h o ≡ Some (Opened b) → IsAccepted h p k t → t < o → (u : ℕ) × (u < length h) × IsRan h p k u
+
 abbrev pub IsNext : ℕ → List Mark → Mark → Type 0
 IsNext n h (Accepted p key) = (i : ℕ) → slice_get h i ≡ Some (Shut p) → ⊥
 IsNext n h (Reported q) = Unit {0}
 IsNext n h (Ran p key) = NextRan n h p key
-IsNext n h (Opened b) = (e p k t : ℕ) → slice_get h e ≡ Some (Passed b) → IsAccepted h p k t → (u : ℕ) × (u < e) × IsRan h p k u
-IsNext n h (Passed b) = (o p k t : ℕ) → slice_get h o ≡ Some (Opened b) → IsAccepted h p k t → t < o → (u : ℕ) × (u < length h) × IsRan h p k u
+IsNext n h (Opened b) = (i : ℕ) → slice_get h i ≡ Some (Opened b) → ⊥
+IsNext n h (Passed b) = NextPassed h b
 IsNext n h (Shut p) = Unit {0}
 IsNext n h (Back p key) = Unit {0}
 
@@ -150,15 +154,36 @@ module _ (n : ℕ) (h : List Mark) (m : Mark) (next : IsNext n h m) (old : IsSou
         elim (get_cases h m (Passed b) e se) [
           | inl w ↦ let g = old.barred b o e p k t v.1 w.1 a' l in (g.0, g.1, ran_after h m p k g.0 g.2)
           | inr w ↦
-              let x : (o p k t : ℕ) → slice_get h o ≡ Some (Opened b) → IsAccepted h p k t → t < o → (u : ℕ) × (u < length h) × IsRan h p k u = subst (IsNext n h) w.1 next in
-              let g = x o p k t v.1 a' l in (g.0, omega (arith, g.1, w.0), ran_after h m p k g.0 g.2)
+              let x : NextPassed h b = subst (IsNext n h) w.1 next in
+              let g = x.ran o p k t v.1 a' l in (g.0, omega (arith, g.1, w.0), ran_after h m p k g.0 g.2)
         ]
     | inr v ↦
-        let x : (e p k t : ℕ) → slice_get h e ≡ Some (Passed b) → IsAccepted h p k t → (u : ℕ) × (u < e) × IsRan h p k u = subst (IsNext n h) v.1 next in
+        let x : (i : ℕ) → slice_get h i ≡ Some (Opened b) → ⊥ = subst (IsNext n h) v.1 next in
         elim (get_cases h m (Passed b) e se) [
-          | inl w ↦ let g = x e p k t w.1 (accepted_before h m p k t (omega (arith, v.0)) a) in (g.0, g.1, ran_after h m p k g.0 g.2)
+          | inl w ↦ let g = old.opened.before b e w.1 in absurd (x g.0 g.2)
           | inr w ↦ let f : Opened b ≡ Passed b = sym v.1 ∙ w.1 in absurd cc
         ]
+  ]
+
+  private_before : (b e : ℕ) → slice_get (h ++ m ∷ []) e ≡ Some (Passed b) → (o : ℕ) × (o < e) × (slice_get (h ++ m ∷ []) o ≡ Some (Opened b))
+  private_before b e s = elim (get_cases h m (Passed b) e s) [
+    | inl w ↦ let g = old.opened.before b e w.1 in (g.0, g.1, get_some_before h m (Opened b) g.0 g.2)
+    | inr w ↦
+        let x : NextPassed h b = subst (IsNext n h) w.1 next in
+        let l : x.opened.0 < length h = slice_get_within h x.opened.0 (Opened b) x.opened.1 in
+        (x.opened.0, omega (arith, w.0), get_some_before h m (Opened b) x.opened.0 x.opened.1)
+  ]
+
+  private_once : (b i j : ℕ) → slice_get (h ++ m ∷ []) i ≡ Some (Opened b) → slice_get (h ++ m ∷ []) j ≡ Some (Opened b) → i ≡ j
+  private_once b i j si sj = elim (get_cases h m (Opened b) i si) [
+    | inl v ↦ elim (get_cases h m (Opened b) j sj) [
+      | inl w ↦ old.opened.once b i j v.1 w.1
+      | inr w ↦ let x : (i : ℕ) → slice_get h i ≡ Some (Opened b) → ⊥ = subst (IsNext n h) w.1 next in absurd (x i v.1)
+    ]
+    | inr v ↦ elim (get_cases h m (Opened b) j sj) [
+      | inl w ↦ let x : (i : ℕ) → slice_get h i ≡ Some (Opened b) → ⊥ = subst (IsNext n h) v.1 next in absurd (x j w.1)
+      | inr w ↦ v.0 ∙ sym w.0
+    ]
   ]
 
   private_shut : (p i j key : ℕ) → slice_get (h ++ m ∷ []) i ≡ Some (Shut p) → slice_get (h ++ m ∷ []) j ≡ Some (Accepted p key) → j < i
@@ -180,6 +205,7 @@ module _ (n : ℕ) (h : List Mark) (m : Mark) (next : IsNext n h m) (old : IsSou
     ordered = λ p. rw (ran-push p h m, accepted-push p h m) (ordered_next n h m next p (old.ordered p));
     graced = private_graced;
     barred = private_barred;
+    opened = record { before = private_before; once = private_once };
     shut = private_shut;
   }
 

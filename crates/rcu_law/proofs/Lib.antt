@@ -1,6 +1,5 @@
 pub mod Ends
 pub mod Law
-pub mod Numbers
 pub mod LabelledLists
 pub mod Shown
 pub mod Looks

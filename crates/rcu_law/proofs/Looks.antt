@@ -6,7 +6,7 @@ use Rattle.rcu_law.specs.declared.marks.Mark.{Mark}
 use Rattle.rcu_law.specs.declared.labels.Label.{Label}
 use Rattle.rcu_law.specs.declared.labels.Label.TheVariants.{Done, At, Bare}
 use Rattle.rcu_law.specs.Calls.{Call}
-use Rattle.rcu_law.specs.Numbers.{snap}
+use Rattle.rcu_numbers.specs.Numbers.{snap_of}
 use Rattle.rcu_law.specs.LabelledLists.{Labelled, IsUpTo, MayAccelerate, call_of, advanced_label, accelerated_label, relabelled, advance, has_two, accelerate, newest, looked}
 use Rattle.rcu_law.specs.Invariant.{IsLabelFor, IsLabelledAt, IsStamped}
 use Rattle.rcu_law.specs.States.{Cpu}
@@ -25,7 +25,7 @@ pub calls_accelerate : (s : ℕ) (ws : List Labelled) → map call_of (accelerat
 calls_accelerate s ws = calls_chosen (has_two s ws) (accelerated_label s) ws
 
 -- the labels after an advance
-due_number : (s stamp m : ℕ) → snap stamp ≤ m → (b : Bool) → nat_le m s ≡ b → IsLabelFor s stamp (cond b Done (At m))
+due_number : (s stamp m : ℕ) → snap_of stamp ≤ m → (b : Bool) → nat_le m s ≡ b → IsLabelFor s stamp (cond b Done (At m))
 due_number s stamp m d true e = omega (arith, leb-true m s e)
 due_number s stamp m d false e = d
 
@@ -39,18 +39,18 @@ all_due_advanced sight s o [] a = tt
 all_due_advanced sight s o (w ∷ ws) a = (due_advanced sight s w.call.stamp w.label o a.0, all_due_advanced sight s o ws a.1)
 
 -- the labels after an acceleration to the snap of a bound on the stamps
-due_accelerated : (s stamp b : ℕ) (l : Label) → stamp ≤ b → IsLabelFor s stamp l → IsLabelFor s stamp (accelerated_label (snap b) l)
+due_accelerated : (s stamp b : ℕ) (l : Label) → stamp ≤ b → IsLabelFor s stamp l → IsLabelFor s stamp (accelerated_label (snap_of b) l)
 due_accelerated s stamp b Done o d = d
 due_accelerated s stamp b (At m) o d = d
 due_accelerated s stamp b Bare o d = snap_later stamp b o
 
 all_due_accelerated : (s b : ℕ) (ws : List Labelled) → AllByRecursion (λ w. w.call.stamp ≤ b) ws → AllByRecursion (λ w. IsLabelFor s w.call.stamp w.label) ws
-    → AllByRecursion (λ w. IsLabelFor s w.call.stamp w.label) (map (relabelled (accelerated_label (snap b))) ws)
+    → AllByRecursion (λ w. IsLabelFor s w.call.stamp w.label) (map (relabelled (accelerated_label (snap_of b))) ws)
 all_due_accelerated s b [] o a = tt
 all_due_accelerated s b (w ∷ ws) o a = (due_accelerated s w.call.stamp b w.label o.0 a.0, all_due_accelerated s b ws o.1 a.1)
 
 all_due_chosen : (t : Bool) (s b : ℕ) (ws : List Labelled) → AllByRecursion (λ w. w.call.stamp ≤ b) ws → AllByRecursion (λ w. IsLabelFor s w.call.stamp w.label) ws
-    → AllByRecursion (λ w. IsLabelFor s w.call.stamp w.label) (cond t ws (map (relabelled (accelerated_label (snap b))) ws))
+    → AllByRecursion (λ w. IsLabelFor s w.call.stamp w.label) (cond t ws (map (relabelled (accelerated_label (snap_of b))) ws))
 all_due_chosen true s b ws o a = a
 all_due_chosen false s b ws o a = all_due_accelerated s b ws o a
 
@@ -65,11 +65,11 @@ all_newest s b (w ∷ ws) l = (omega (arith, newest_least (max s w.call.stamp) w
 
 pub due_looked : (sight s : ℕ) (ws : List Labelled) → sight ≤ s → AllByRecursion (λ w. IsLabelFor sight w.call.stamp w.label) ws
     → AllByRecursion (λ w. IsLabelFor s w.call.stamp w.label) (looked s ws)
-due_looked sight s ws o a = all_due_chosen (has_two (snap (newest s (advance s ws))) (advance s ws)) s (newest s (advance s ws)) (advance s ws)
+due_looked sight s ws o a = all_due_chosen (has_two (snap_of (newest s (advance s ws))) (advance s ws)) s (newest s (advance s ws)) (advance s ws)
     (all_newest s (newest s (advance s ws)) (advance s ws) (omega arith)) (all_due_advanced sight s o ws a)
 
 pub calls_looked : (s : ℕ) (ws : List Labelled) → map call_of (looked s ws) ≡ map call_of ws
-calls_looked s ws = calls_accelerate (snap (newest s (advance s ws))) (advance s ws) ∙ calls_relabelled (advanced_label s) ws
+calls_looked s ws = calls_accelerate (snap_of (newest s (advance s ws))) (advance s ws) ∙ calls_relabelled (advanced_label s) ws
 
 pub newest_most : (s b : ℕ) (ws : List Labelled) → s ≤ b → AllByRecursion (λ w. w.call.stamp ≤ b) ws → newest s ws ≤ b
 newest_most s b [] l a = l
@@ -93,7 +93,7 @@ all_up_to_chosen : (b : Bool) (s t : ℕ) (ws : List Labelled) → s ≤ t → A
 all_up_to_chosen true s t ws o u = u
 all_up_to_chosen false s t ws o u = all_relabelled (IsUpTo t) (IsUpTo t) (accelerated_label s) (up_to_accelerated s t o) ws u
 
-all_snaps : (b : ℕ) (ws : List Labelled) → AllByRecursion (λ w. w.call.stamp ≤ b) ws → AllByRecursion (λ w. snap w.call.stamp ≤ snap b) ws
+all_snaps : (b : ℕ) (ws : List Labelled) → AllByRecursion (λ w. w.call.stamp ≤ b) ws → AllByRecursion (λ w. snap_of w.call.stamp ≤ snap_of b) ws
 all_snaps b [] a = tt
 all_snaps b (w ∷ ws) a = (snap_later w.call.stamp b a.0, all_snaps b ws a.1)
 
@@ -102,12 +102,12 @@ stamps_advanced s b [] a = tt
 stamps_advanced s b (w ∷ ws) a = (a.0, stamps_advanced s b ws a.1)
 
 -- a look is one that `accelerate` allows
-pub may_accelerate : (sight number s : ℕ) (ws : List Labelled) → number ≤ s → IsLabelledAt sight number ws → MayAccelerate (snap (newest s (advance s ws))) (advance s ws)
+pub may_accelerate : (sight number s : ℕ) (ws : List Labelled) → number ≤ s → IsLabelledAt sight number ws → MayAccelerate (snap_of (newest s (advance s ws))) (advance s ws)
 may_accelerate sight number s ws l i =
     let n : s ≤ newest s (advance s ws) = newest_least s (advance s ws) in
     record {
-      numbers = all_relabelled (IsUpTo (snap number)) (IsUpTo (snap (newest s (advance s ws)))) (advanced_label s)
-          (λ k u. up_to_advanced s (snap (newest s (advance s ws))) k (up_to_later (snap number) (snap (newest s (advance s ws))) (snap_later number (newest s (advance s ws)) (omega arith)) k u)) ws i.most;
+      numbers = all_relabelled (IsUpTo (snap_of number)) (IsUpTo (snap_of (newest s (advance s ws)))) (advanced_label s)
+          (λ k u. up_to_advanced s (snap_of (newest s (advance s ws))) k (up_to_later (snap_of number) (snap_of (newest s (advance s ws))) (snap_later number (newest s (advance s ws)) (omega arith)) k u)) ws i.most;
       stamps = all_snaps (newest s (advance s ws)) (advance s ws) (all_newest s (newest s (advance s ws)) (advance s ws) (omega arith));
     }
 
@@ -116,10 +116,10 @@ pub labelled_looked : (sight s : ℕ) (ws : List Labelled) → sight ≤ s → A
 labelled_looked sight s ws l stamps i =
     let n : newest s (advance s ws) ≤ s = newest_most s s (advance s ws) (omega arith) (stamps_advanced s s ws stamps) in
     record {
-      list = list_accelerated (snap (newest s (advance s ws))) (advance s ws) (may_accelerate sight s s ws (omega arith) i) (list_advanced s (snap s) ws i.most i.list);
+      list = list_accelerated (snap_of (newest s (advance s ws))) (advance s ws) (may_accelerate sight s s ws (omega arith) i) (list_advanced s (snap_of s) ws i.most i.list);
       due = due_looked sight s ws l i.due;
-      most = all_up_to_chosen (has_two (snap (newest s (advance s ws))) (advance s ws)) (snap (newest s (advance s ws))) (snap s) (advance s ws) (snap_later (newest s (advance s ws)) s n)
-          (all_relabelled (IsUpTo (snap s)) (IsUpTo (snap s)) (advanced_label s) (up_to_advanced s (snap s)) ws i.most);
+      most = all_up_to_chosen (has_two (snap_of (newest s (advance s ws))) (advance s ws)) (snap_of (newest s (advance s ws))) (snap_of s) (advance s ws) (snap_later (newest s (advance s ws)) s n)
+          (all_relabelled (IsUpTo (snap_of s)) (IsUpTo (snap_of s)) (advanced_label s) (up_to_advanced s (snap_of s)) ws i.most);
     }
 
 -- The stamps in the two lists of a processor are at most the number.

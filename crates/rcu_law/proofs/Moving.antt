@@ -150,7 +150,7 @@ need_own_kept w p k e =
     let l : p < length w.cpus = ltb-true p (length w.cpus) (and_parts (has w p) _ e).0 in
     let i = k.cpu p l in
     let w' : State = record w { needed = needed_with w.needed (cpu_at w p).wanted } in
-    let k' : IsCore (record w { needed = needed_with w.needed (cpu_at w p).wanted }) = record { board = k.board; cpu = k.cpu; barrier = k.barrier; opened = k.opened; passed = k.passed; there = k.there; limits = k.limits; lawful = k.lawful } in
+    let k' : IsCore (record w { needed = needed_with w.needed (cpu_at w p).wanted }) = record { board = k.board; cpu = k.cpu; barrier = k.barrier; opened = k.opened; passed = k.passed; there = k.there; lawful = k.lawful } in
     core_with_cpu (record w { needed = needed_with w.needed (cpu_at w p).wanted }) p (record (cpu_at w p) { wanted = None }) k' l
     (cpu_moved (length w.cpus) w.history w.number w.shape.limit p (cpu_at w p) (record (cpu_at w p) { wanted = None }) refl
     refl refl refl refl refl refl i.lists (record { own = i.one_list.own; bypass = i.one_list.bypass }) i.kinds i.offloaded i.timely.sight i.timely.hand_sight i)

@@ -1,5 +1,5 @@
 -- The invariant holds at the beginning.
-use Rattle.std.proofs.Common.{cond, true, false, ◌≡◌, ℕ, zero, suc, ◌≤◌, List, [], ◌∷◌, length, refl, ap, sym, subst, arith, Bool, Some, None, inl, inr, get_or, replicate}
+use Rattle.std.proofs.Common.{cond, true, false, ◌≡◌, ℕ, zero, suc, List, [], ◌∷◌, length, refl, ap, sym, subst, arith, Bool, Some, None, inl, inr, get_or, replicate}
 use Rattle.std.proofs.lemmas.Bool.{cases_lt}
 use Rattle.std.proofs.lemmas.List.{take_all, get_or-replicate, length-replicate, get_or_past}
 use Rattle.rcu_law.specs.declared.marks.Mark.TheVariants.{Accepted, Ran}
@@ -16,6 +16,7 @@ sound_nothing n = record {
   ordered = λ p. ([], refl);
   graced = λ p k t u a r. let x : None ≡ Some (Ran p r.key) = r.stands in absurd cc;
   barred = λ b o e p k t x. absurd cc;
+  opened = record { before = λ b e x. absurd cc; once = λ b i j x. absurd cc };
   shut = λ p i j key x. absurd cc;
 }
 
@@ -65,8 +66,8 @@ cpus_opening m limit p zero q (b ∷ bs) = idle_opening m limit p
 cpus_opening m limit p (suc n) zero (b ∷ bs) = cpu_opening m limit p b
 cpus_opening m limit p (suc n) (suc q) (b ∷ bs) = cpus_opening m limit p n q bs
 
-pub opening_kept : (n : ℕ) (shape : Shape) → shape.limit ≤ 1000000 → IsCore (opening n shape)
-opening_kept n shape l = core_from (opening n shape) n (sym (length_opening n shape.offloadable)) (record {
+pub opening_kept : (n : ℕ) (shape : Shape) → IsCore (opening n shape)
+opening_kept n shape = core_from (opening n shape) n (sym (length_opening n shape.offloadable)) (record {
   board = record {
     size = length-replicate n false;
     phase = omega arith;
@@ -79,6 +80,5 @@ opening_kept n shape l = core_from (opening n shape) n (sym (length_opening n sh
   opened = λ b o x. absurd cc;
   passed = λ b o x. absurd cc;
   there = λ p k t a. let x : None ≡ Some (Accepted p a.key) = a.stands in absurd cc;
-  limits = l;
   lawful = record { each = λ m. subst (IsSound n) (sym (take_all m [] (omega arith))) (sound_nothing n) };
 })

@@ -1,7 +1,7 @@
 -- Room: the bounds that the numbers of the core have, and the condition of `accelerate`.
 use Rattle.std.proofs.Common.{◌≡◌, ℕ, ◌<◌, ◌≤◌, length, map, ap, sym, subst, ◌∙◌, arith, get_or, length-append}
 use Rattle.std.proofs.lemmas.List.{get_or_default}
-use Rattle.rcu_law.specs.Numbers.{GREATEST_NUMBER}
+use Rattle.rcu_numbers.specs.declared.sequence.TheConstants.{GREATEST_NUMBER}
 use Rattle.rcu_law.specs.LabelledLists.{advance, newest}
 use Rattle.rcu_law.specs.Law.{accepted, ran}
 use Rattle.rcu_law.specs.States.{State, Cpu, empty_cpu, cpu_at}
@@ -10,13 +10,13 @@ use Rattle.rcu_law.specs.Invariant.{IsCore, HasLabelledLists}
 use Rattle.rcu_law.proofs.Looks.{newest_stamp, own_stamps, joined_stamps, may_accelerate}
 
 -- the room that a turn word has
-pub turn_fits : (w : State) (p : ℕ) (c : Cpu) → IsCore w → p < length w.cpus → c ≡ get_or w.cpus p c → (c.turn ≤ 2000000) × (c.count ≤ 1000000)
-turn_fits w p c k l e =
+pub turn_fits : (w : State) (p : ℕ) (c : Cpu) → IsCore w → w.shape.limit ≤ 1000000 → p < length w.cpus → c ≡ get_or w.cpus p c → (c.turn ≤ 2000000) × (c.count ≤ 1000000)
+turn_fits w p c k most l e =
     let s : cpu_at w p ≡ c = sym (e ∙ get_or_default w.cpus p c empty_cpu l) in
     let i = k.cpu p l in
     let r : length (ran p w.history) ≤ length (accepted p w.history) = omega (arith, ap length i.placed.keys, length-append (ran p w.history) (map key_of (remaining_callbacks (cpu_at w p)))) in
-    let t : (cpu_at w p).turn ≤ 2000000 = omega (arith, i.placed.turn, i.placed.count, i.bounded, k.limits) in
-    let u : (cpu_at w p).count ≤ 1000000 = omega (arith, i.bounded, k.limits) in
+    let t : (cpu_at w p).turn ≤ 2000000 = omega (arith, i.placed.turn, i.placed.count, i.bounded, most) in
+    let u : (cpu_at w p).count ≤ 1000000 = omega (arith, i.bounded, most) in
     (subst (λ x. x.turn ≤ 2000000) s t, subst (λ x. x.count ≤ 1000000) s u)
 
 -- The room of a look.

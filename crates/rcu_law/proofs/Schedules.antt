@@ -1,5 +1,5 @@
 -- The headline: whatever events come, the history is lawful, and what `close` makes of it is closed.
-use Rattle.std.proofs.Common.{◌≡◌, ℕ, ◌<◌, ◌≤◌, List, [], length, refl, ap, sym, subst, ◌∙◌, arith, Bool, inl, inr, true, false, ◌&&◌}
+use Rattle.std.proofs.Common.{◌≡◌, ℕ, ◌<◌, List, [], length, refl, ap, sym, subst, ◌∙◌, arith, Bool, inl, inr, true, false, ◌&&◌}
 use Rattle.std.proofs.lemmas.Bool.{cases_lt}
 use Rattle.std.proofs.lemmas.List.{get_or_past}
 use Rattle.rcu_law.specs.LabelledLists.{Labelled}
@@ -19,20 +19,20 @@ use Rattle.rcu_law.proofs.Opening.{opening_kept, length_opening}
 use Rattle.rcu_law.proofs.NoBack.{no_back_run}
 use Rattle.rcu_law.proofs.Room.{labelled_lists}
 
-pub every_schedule : (n : ℕ) (shape : Shape) (ms : List CoreEvent) → shape.limit ≤ 1000000 → IsLawful n (run ms (opening n shape)).history
-every_schedule n shape ms l = subst (λ x. IsLawful x (run ms (opening n shape)).history) (length_run ms (opening n shape) ∙ length_opening n shape.offloadable)
-    (run_kept ms (opening n shape) (opening_kept n shape l)).lawful
+pub every_schedule : (n : ℕ) (shape : Shape) (ms : List CoreEvent) → IsLawful n (run ms (opening n shape)).history
+every_schedule n shape ms = subst (λ x. IsLawful x (run ms (opening n shape)).history) (length_run ms (opening n shape) ∙ length_opening n shape.offloadable)
+    (run_kept ms (opening n shape) (opening_kept n shape)).lawful
 
-pub every_close : (n : ℕ) (shape : Shape) (ms : List CoreEvent) → shape.limit ≤ 1000000 → IsClosed n (closing (run ms (opening n shape)))
-every_close n shape ms l = subst (λ x. IsClosed x (closing (run ms (opening n shape)))) (length_run ms (opening n shape) ∙ length_opening n shape.offloadable)
-    (closed (run ms (opening n shape)) (run_kept ms (opening n shape) (opening_kept n shape l)) (no_back_run ms (opening n shape) (record { none = λ p i key e. absurd cc })))
+pub every_close : (n : ℕ) (shape : Shape) (ms : List CoreEvent) → IsClosed n (closing (run ms (opening n shape)))
+every_close n shape ms = subst (λ x. IsClosed x (closing (run ms (opening n shape)))) (length_run ms (opening n shape) ∙ length_opening n shape.offloadable)
+    (closed (run ms (opening n shape)) (run_kept ms (opening n shape) (opening_kept n shape)) (no_back_run ms (opening n shape) (record { none = λ p i key e. absurd cc })))
 
 -- what is recorded of each processor
-records_of : (w : State) (p : ℕ) → IsCore w → p < length w.cpus → AreRecords p w
+records_of : (w : State) (p : ℕ) → IsCore w → p < length w.cpus → AreRecords w.history p (cpu_at w p).runs
 records_of w p k l = record { numbers = (k.cpu p l).placed.numbered; keys = (k.cpu p l).placed.runs; ready = (k.cpu p l).ready }
 
-pub every_record : (n : ℕ) (shape : Shape) (ms : List CoreEvent) → shape.limit ≤ 1000000 → (p : ℕ) → p < n → AreRecords p (run ms (opening n shape))
-every_record n shape ms l p m = records_of (run ms (opening n shape)) p (run_kept ms (opening n shape) (opening_kept n shape l))
+pub every_record : (n : ℕ) (shape : Shape) (ms : List CoreEvent) → (p : ℕ) → p < n → AreRecords (run ms (opening n shape)).history p (cpu_at (run ms (opening n shape)) p).runs
+every_record n shape ms p m = records_of (run ms (opening n shape)) p (run_kept ms (opening n shape) (opening_kept n shape))
     (omega (arith, length_run ms (opening n shape), length_opening n shape.offloadable))
 
 -- while a processor is Offloaded, its own list is empty
@@ -49,19 +49,19 @@ offloaded_claims_nothing w p k o = elim (cases_lt p (length w.cpus)) [
   | inr l ↦ absurd (let x : false ≡ true = ap (λ c. is_offloaded c.mode) (sym (get_or_past w.cpus p empty_cpu l)) ∙ o in cc)
 ]
 
-pub every_offloaded : (n : ℕ) (shape : Shape) (ms : List CoreEvent) → shape.limit ≤ 1000000 → (p : ℕ)
+pub every_offloaded : (n : ℕ) (shape : Shape) (ms : List CoreEvent) → (p : ℕ)
     → is_offloaded (cpu_at (run ms (opening n shape)) p).mode ≡ true → is_enabled (run ms (opening n shape)) (Claim p sides.Local) ≡ false
-every_offloaded n shape ms l p o = offloaded_claims_nothing (run ms (opening n shape)) p (run_kept ms (opening n shape) (opening_kept n shape l)) o
+every_offloaded n shape ms p o = offloaded_claims_nothing (run ms (opening n shape)) p (run_kept ms (opening n shape) (opening_kept n shape)) o
 
-pub every_list : (n : ℕ) (shape : Shape) (ms : List CoreEvent) → shape.limit ≤ 1000000 → (p : ℕ) → p < n → HasLabelledLists (run ms (opening n shape)) p
-every_list n shape ms l p m = labelled_lists (run ms (opening n shape)) p (run_kept ms (opening n shape) (opening_kept n shape l))
+pub every_list : (n : ℕ) (shape : Shape) (ms : List CoreEvent) → (p : ℕ) → p < n → HasLabelledLists (run ms (opening n shape)) p
+every_list n shape ms p m = labelled_lists (run ms (opening n shape)) p (run_kept ms (opening n shape) (opening_kept n shape))
     (omega (arith, length_run ms (opening n shape), length_opening n shape.offloadable))
 
 -- in Local neither group nor hand has a callback left
 pub nothing_offloaded : (w : State) (p : ℕ) → IsCore w → p < length w.cpus → (cpu_at w p).mode ≡ Local → offloaded_callbacks (cpu_at w p) ≡ []
 nothing_offloaded w p k l m = subst (λ x. MayHaveOffloaded x (cpu_at w p).left (offloaded_callbacks (cpu_at w p))) m (k.cpu p l).offloaded
 
-pub every_local : (n : ℕ) (shape : Shape) (ms : List CoreEvent) → shape.limit ≤ 1000000 → (p : ℕ) → p < n
+pub every_local : (n : ℕ) (shape : Shape) (ms : List CoreEvent) → (p : ℕ) → p < n
     → (cpu_at (run ms (opening n shape)) p).mode ≡ Local → offloaded_callbacks (cpu_at (run ms (opening n shape)) p) ≡ []
-every_local n shape ms l p m = nothing_offloaded (run ms (opening n shape)) p (run_kept ms (opening n shape) (opening_kept n shape l))
+every_local n shape ms p m = nothing_offloaded (run ms (opening n shape)) p (run_kept ms (opening n shape) (opening_kept n shape))
     (omega (arith, length_run ms (opening n shape), length_opening n shape.offloadable))

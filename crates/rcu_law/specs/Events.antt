@@ -1,7 +1,7 @@
 -- The events of the core: where each is enabled, what it does, and which mark it adds (`docs/specification/tables.md`,
 -- "Events of the core").
 use Rattle.std.specs.Prelude.{ℕ, ◌+◌, ◌%◌, Bool, true, false, ◌||◌, ◌&&◌, ◌==◌, not, nat_lt, if◌then◌else◌, List, [], ◌∷◌, ◌++◌, length, Option, Some, None, slice_set, replicate}
-use Rattle.rcu_law.specs.Numbers.{GREATEST_NUMBER}
+use Rattle.rcu_numbers.specs.declared.sequence.TheConstants.{GREATEST_NUMBER}
 use Rattle.rcu_law.specs.Lists.{is_none, is_nil, all_of, none_owes, needed_with}
 use Rattle.rcu_law.specs.States.{State, Cpu, cpu_at, has, is_offloadable, is_member, owes, is_offloaded, is_deoffloading, barrier_at, is_open, count_at, with_cpu, with_barrier, with_board, with_mark}
 use Rattle.rcu_law.specs.Releases.{pace_after_put, releases}

@@ -10,7 +10,9 @@ use Rattle.rcu_law.specs.declared.modes.Mode.{Mode}
 use Rattle.rcu_law.specs.declared.modes.Mode.TheVariants.{Local, Offloading, Offloaded, Deoffloading}
 use Rattle.rcu_law.specs.declared.who.Side.{Side}
 use Rattle.rcu_law.specs.Lists.{is_nil, is_none}
-use Rattle.rcu_law.specs.Numbers.{snap, begun, GREATEST_NUMBER}
+use Rattle.rcu_numbers.specs.Numbers.{snap_of}
+use Rattle.rcu_numbers.specs.declared.sequence.TheConstants.{GREATEST_NUMBER}
+use Rattle.rcu_law.specs.Numbers.{begun}
 use Rattle.rcu_law.specs.Calls.{Call}
 use Rattle.rcu_law.specs.LabelledLists.{Labelled, IsLabelledList, IsUpTo, MayAccelerate, advance, newest}
 use Rattle.rcu_law.specs.Law.{accepted, ran, IsAccepted, IsLawful}
@@ -99,28 +101,28 @@ IsRunningByTurn c = c.turn % 2 ≡ running_part c.running
 -- each ran by a part whose sight was at least `snap(stamp)`; that sight is the record's ready
 -- (`docs/specification/rules.md`, "Callbacks and stamps")
 abbrev pub AreReady : List Run → Type 0
-AreReady runs = AllByRecursion (λ r. snap r.call.stamp ≤ r.ready) runs
+AreReady runs = AllByRecursion (λ r. snap_of r.call.stamp ≤ r.ready) runs
 
--- "Given", but for the receipts: p has as many records as `Ran` marks, the k-th has the key of the k-th `Ran` of p, and
--- each was ready; its numbers are 0, 1, 2, .. (`docs/specification/surface.md`, "Shared answer types")
-pub record AreRecords (p : ℕ) (w : State) : Type 0 where
-  pub numbers : AreNumbered 0 (map (λ r. r.call) (cpu_at w p).runs)
-  pub keys : map (λ r. r.call.key) (cpu_at w p).runs ≡ ran p w.history
-  pub ready : AreReady (cpu_at w p).runs
+-- "Given", but for the receipts, of the records of p in a history: there are as many as `Ran` marks of p, the k-th has the
+-- key of the k-th, and each was ready; their numbers are 0, 1, 2, .. (`docs/specification/surface.md`, "Shared answer types")
+pub record AreRecords (h : List Mark) (p : ℕ) (runs : List Run) : Type 0 where
+  pub numbers : AreNumbered 0 (map (λ r. r.call) runs)
+  pub keys : map (λ r. r.call.key) runs ≡ ran p h
+  pub ready : AreReady runs
 
 -- Lists.
 
 -- a label is no earlier than the stamp allows: done only by a sight of `snap(stamp)` or more, and no number below it
 abbrev pub IsLabelFor : ℕ → ℕ → Label → Type 0
-IsLabelFor sight stamp Done = snap stamp ≤ sight
-IsLabelFor sight stamp (At m) = snap stamp ≤ m
+IsLabelFor sight stamp Done = snap_of stamp ≤ sight
+IsLabelFor sight stamp (At m) = snap_of stamp ≤ m
 IsLabelFor sight stamp Bare = Unit {0}
 
 -- a labelled list that was last looked at by a part with this sight; no number in it is above what a look of now would give
 pub record IsLabelledAt (sight number : ℕ) (ws : List Labelled) : Type 0 where
   pub list : IsLabelledList ws
   pub due : AllByRecursion (λ w. IsLabelFor sight w.call.stamp w.label) ws
-  pub most : AllByRecursion (λ w. IsUpTo (snap number) w.label) ws
+  pub most : AllByRecursion (λ w. IsUpTo (snap_of number) w.label) ws
 
 -- the own list and the group's list are labelled lists
 abbrev pub AreLabelledAt : ℕ → Cpu → Type 0
@@ -149,10 +151,11 @@ pub record IsShutAsMarked (h : List Mark) (p : ℕ) (c : Cpu) : Type 0 where
   pub never : c.shut ≡ false → (i : ℕ) → slice_get h i ≡ Some (Shut p) → ⊥
   pub marked : c.shut ≡ true → (j : ℕ) × (slice_get h j ≡ Some (Shut p))
 
--- a barrier: what was accepted before it opened is below each count, and who was seen had run them
+-- a barrier: it was opened, what was accepted before that is below each count, and who was seen had run them
 pub record IsBarrier (n : ℕ) (h : List Mark) (b : ℕ) (v : Barrier) : Type 0 where
   pub counts : length v.counts ≡ n
   pub seens : length v.seen ≡ n
+  pub opened : (o : ℕ) × (slice_get h o ≡ Some (Opened b))
   pub counted : (o p k t c : ℕ) → slice_get h o ≡ Some (Opened b) → IsAccepted h p k t → t < o → count_at v p ≡ Some c → k < c
   pub seen : (p : ℕ) → slice_index_or v.seen p false ≡ true → (c : ℕ) × (count_at v p ≡ Some c) × (c ≤ length (ran p h))
   pub unpassed : v.passed ≡ false → (e : ℕ) → slice_get h e ≡ Some (Passed b) → ⊥
@@ -179,12 +182,11 @@ pub record IsCore (w : State) : Type 0 where
   pub opened : (b o : ℕ) → slice_get w.history o ≡ Some (Opened b) → b < length w.barriers
   pub passed : (b o : ℕ) → slice_get w.history o ≡ Some (Passed b) → b < length w.barriers
   pub there : (p k t : ℕ) → IsAccepted w.history p k t → p < length w.cpus
-  pub limits : w.shape.limit ≤ 1000000
   pub lawful : IsLawful (length w.cpus) w.history
 
 -- What follows for the lists of a processor: they are labelled lists, and the next look may accelerate them.
 pub record HasLabelledLists (w : State) (p : ℕ) : Type 0 where
   pub own : IsLabelledList (cpu_at w p).own
   pub joined : IsLabelledList (cpu_at w p).joined
-  pub own_accelerates : MayAccelerate (snap (newest w.number (advance w.number (cpu_at w p).own))) (advance w.number (cpu_at w p).own)
-  pub joined_accelerates : MayAccelerate (snap (newest w.number (advance w.number (cpu_at w p).joined))) (advance w.number (cpu_at w p).joined)
+  pub own_accelerates : MayAccelerate (snap_of (newest w.number (advance w.number (cpu_at w p).own))) (advance w.number (cpu_at w p).own)
+  pub joined_accelerates : MayAccelerate (snap_of (newest w.number (advance w.number (cpu_at w p).joined))) (advance w.number (cpu_at w p).joined)

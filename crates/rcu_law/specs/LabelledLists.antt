@@ -4,7 +4,7 @@ use Rattle.std.specs.List.{AllByRecursion}
 use Rattle.rcu_law.specs.declared.labels.Label.{Label}
 use Rattle.rcu_law.specs.declared.labels.Label.TheVariants.{Done, At, Bare}
 use Rattle.rcu_law.specs.Calls.{Call}
-use Rattle.rcu_law.specs.Numbers.{snap}
+use Rattle.rcu_numbers.specs.Numbers.{snap_of}
 
 pub record Labelled : Type 0 where
   pub call : Call
@@ -57,7 +57,7 @@ pub record IsLabelledList (ws : List Labelled) : Type 0 where
 -- at least `snap` of each stamp in it
 pub record MayAccelerate (s : ℕ) (ws : List Labelled) : Type 0 where
   pub numbers : AllByRecursion (λ w. IsUpTo s w.label) ws
-  pub stamps : AllByRecursion (λ w. snap w.call.stamp ≤ s) ws
+  pub stamps : AllByRecursion (λ w. snap_of w.call.stamp ≤ s) ws
 
 -- What is done with one.
 
@@ -132,11 +132,11 @@ newest s (w ∷ ws) = newest (max s w.call.stamp) ws
 -- a look that shows s: the list is advanced by s, then accelerated by `snap` of the greater of s and the newest stamp in
 -- it (`docs/specification/rules.md`, "The calls, step by step")
 abbrev pub looked : ℕ → List Labelled → List Labelled
-looked s ws = accelerate (snap (newest s (advance s ws))) (advance s ws)
+looked s ws = accelerate (snap_of (newest s (advance s ws))) (advance s ws)
 
 -- the number that is to be asked for after that look, where `accelerate` answered true
 abbrev pub wanted_by_look : ℕ → List Labelled → Option ℕ
-wanted_by_look s ws = if carries (snap (newest s (advance s ws))) (looked s ws) then Some (snap (newest s (advance s ws))) else None
+wanted_by_look s ws = if carries (snap_of (newest s (advance s ws))) (looked s ws) then Some (snap_of (newest s (advance s ws))) else None
 
 -- how many done ones stand at the front
 abbrev pub done_count : List Labelled → ℕ

@@ -1,6 +1,6 @@
 -- The law: what holds of every history (`docs/specification/definitions.md`, "The law").
 -- It speaks of one list of marks. There is no segment, mask, bypass list, lane, group, mode or sequence number in it.
--- "Given" speaks of the records beside the marks: `AreRecords` in Invariant, and `Given` of rcu_jobs for the receipts.
+-- "Given" speaks of the records beside the marks: `AreRecords` in Invariant, and for the receipts the job's own relation.
 use Rattle.std.specs.Prelude.{ℕ, ◌<◌, ◌≡◌, ◌==◌, if◌then◌else◌, List, [], ◌∷◌, ◌++◌, length, take, Some}
 use Rattle.std.specs.List.{flat_map, slice_get}
 use Rattle.rcu_law.specs.declared.marks.Mark.{Mark}
@@ -81,6 +81,11 @@ IsGraced n h = (p k t u : ℕ) → IsAccepted h p k t → IsRan h p k u → IsCo
 abbrev pub IsBarred : List Mark → Type 0
 IsBarred h = (b o e p k t : ℕ) → slice_get h o ≡ Some (Opened b) → slice_get h e ≡ Some (Passed b) → IsAccepted h p k t → t < o → (u : ℕ) × (u < e) × IsRan h p k u
 
+-- "Opened": each `Passed(b)` has one `Opened(b)` before it. It has one there, and no name is opened twice
+pub record IsOpened (h : List Mark) : Type 0 where
+  pub before : (b e : ℕ) → slice_get h e ≡ Some (Passed b) → (o : ℕ) × (o < e) × (slice_get h o ≡ Some (Opened b))
+  pub once : (b i j : ℕ) → slice_get h i ≡ Some (Opened b) → slice_get h j ≡ Some (Opened b) → i ≡ j
+
 -- "Shut": no `Accepted` of p stands after `Shut(p)`
 abbrev pub IsShut : List Mark → Type 0
 IsShut h = (p i j key : ℕ) → slice_get h i ≡ Some (Shut p) → slice_get h j ≡ Some (Accepted p key) → j < i
@@ -91,18 +96,19 @@ pub record IsSettled (h : List Mark) : Type 0 where
   pub accounted : (p : ℕ) → accepted p h ≡ ran p h ++ back p h
   pub shut : (p i key : ℕ) → slice_get h i ≡ Some (Back p key) → (j : ℕ) × (j < i) × (slice_get h j ≡ Some (Shut p))
 
--- the four laws of one history
+-- the five laws of one history
 pub record IsSound (n : ℕ) (h : List Mark) : Type 0 where
   pub ordered : IsOrdered h
   pub graced : IsGraced n h
   pub barred : IsBarred h
+  pub opened : IsOpened h
   pub shut : IsShut h
 
--- "Lawful", of the history of n processors: "ordered", "graced", "barred" and "shut" hold in every prefix
+-- "Lawful", of the history of n processors: "ordered", "graced", "barred", "opened" and "shut" hold in every prefix
 pub record IsLawful (n : ℕ) (h : List Mark) : Type 0 where
   pub each : (m : ℕ) → IsSound n (take m h)
 
--- "Closed": lawful and "settled"
+-- "Closed": lawful, so "opened" too, and "settled"
 pub record IsClosed (n : ℕ) (h : List Mark) : Type 0 where
   pub lawful : IsLawful n h
   pub settled : IsSettled h

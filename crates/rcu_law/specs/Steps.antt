@@ -1,7 +1,7 @@
 -- What the events do to one processor or barrier (`docs/specification/tables.md`, "Events of the core", the columns
 -- "Enabled where" and "What it does").
 use Rattle.std.specs.Prelude.{ℕ, ◌+◌, ◌*◌, ◌/◌, Bool, true, false, ◌||◌, ◌&&◌, ◌==◌, not, nat_lt, nat_le, min, if◌then◌else◌, List, [], ◌∷◌, ◌++◌, map, take, drop, Option, Some, None, slice_set, slice_index_or}
-use Rattle.rcu_law.specs.Numbers.{snap}
+use Rattle.rcu_numbers.specs.Numbers.{snap_of}
 use Rattle.rcu_law.specs.Lists.{is_none, is_nil, first_batch, tail, value_or}
 use Rattle.rcu_law.specs.Calls.{Call}
 use Rattle.rcu_law.specs.LabelledLists.{Labelled, is_done, bare, call_of, looked, wanted_by_look, done_count}
@@ -100,7 +100,7 @@ can_claim_own (w ∷ ws) turn = is_done w.label && (turn == 2 * w.call.number)
 
 abbrev pub can_claim_held : ℕ → List Call → ℕ → Bool
 can_claim_held sight [] turn = false
-can_claim_held sight (c ∷ cs) turn = nat_le (snap c.stamp) sight && (turn == 2 * c.number)
+can_claim_held sight (c ∷ cs) turn = nat_le (snap_of c.stamp) sight && (turn == 2 * c.number)
 
 abbrev pub can_claim : Side → Cpu → Bool
 can_claim sides.Local c = can_claim_own c.own c.turn

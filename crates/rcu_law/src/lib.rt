@@ -1,7 +1,7 @@
 //! The law of the core, and the core as a pure machine of all its events.
 //!
 //! Read `specs/Law.antt` for what is proved of a history, `specs/Events.antt` for the machine, and the contracts below for
-//! what holds of it. The crate stands on no other one.
+//! what holds of it. Grace-period numbers are those of rcu_numbers.
 #![tactic(auto)]
 
 pub mod labels;
@@ -20,42 +20,35 @@ ghost use Rattle.rcu_law.specs.declared.modes.Mode.TheVariants.{Local};
 ghost use Rattle.rcu_law.specs.declared.who.Side.TheVariants as sides;
 ghost use Rattle.rcu_law.specs.Law.{IsLawful, IsClosed, HasNothingAcceptedAfterBack};
 ghost use Rattle.rcu_law.specs.Closing.{closing};
-ghost use Rattle.rcu_law.specs.Numbers.{IsSnapOf, snap};
 
 /// Whatever events come to a core of `n` processors, its history is lawful, what `close` makes of it is closed, and the
 /// records of each processor are those of its `Ran` marks, each made at a sight of `snap(stamp)` or more
 /// (`docs/specification/definitions.md`, "The law").
 pub fn every_schedule()
-    ensures lawful { (n : ℕ) (shape : Shape) (events : List CoreEvent) → shape.limit ≤ 1000000 → IsLawful n (run events (opening n shape)).history }
-    ensures closed { (n : ℕ) (shape : Shape) (events : List CoreEvent) → shape.limit ≤ 1000000 → IsClosed n (closing (run events (opening n shape))) }
-    ensures recorded { (n : ℕ) (shape : Shape) (events : List CoreEvent) → shape.limit ≤ 1000000 → (p : ℕ) → p < n → AreRecords p (run events (opening n shape)) }
+    ensures lawful { (n : ℕ) (shape : Shape) (events : List CoreEvent) → IsLawful n (run events (opening n shape)).history }
+    ensures closed { (n : ℕ) (shape : Shape) (events : List CoreEvent) → IsClosed n (closing (run events (opening n shape))) }
+    ensures recorded { (n : ℕ) (shape : Shape) (events : List CoreEvent) → (p : ℕ) → p < n → AreRecords (run events (opening n shape)).history p (cpu_at (run events (opening n shape)) p).runs }
 {}
 
 /// While a processor is Offloaded, it has nothing to claim itself: only its hand runs its callbacks
 /// (`docs/specification/promises.md`, "Headline on the core").
 pub fn offloaded_runs_nothing()
-    ensures { (n : ℕ) (shape : Shape) (events : List CoreEvent) → shape.limit ≤ 1000000 → (p : ℕ) → is_offloaded (cpu_at (run events (opening n shape)) p).mode ≡ true → is_enabled (run events (opening n shape)) (Claim p sides.Local) ≡ false }
+    ensures { (n : ℕ) (shape : Shape) (events : List CoreEvent) → (p : ℕ) → is_offloaded (cpu_at (run events (opening n shape)) p).mode ≡ true → is_enabled (run events (opening n shape)) (Claim p sides.Local) ≡ false }
 {}
 
 /// A Local processor has no callback left with its group or its hand: it became Local only once the turn had reached all
 /// that were offloaded (`docs/specification/rules.md`, "Modes").
 pub fn local_has_nothing_offloaded()
-    ensures { (n : ℕ) (shape : Shape) (events : List CoreEvent) → shape.limit ≤ 1000000 → (p : ℕ) → p < n → (cpu_at (run events (opening n shape)) p).mode ≡ Local → offloaded_callbacks (cpu_at (run events (opening n shape)) p) ≡ [] }
+    ensures { (n : ℕ) (shape : Shape) (events : List CoreEvent) → (p : ℕ) → p < n → (cpu_at (run events (opening n shape)) p).mode ≡ Local → offloaded_callbacks (cpu_at (run events (opening n shape)) p) ≡ [] }
 {}
 
 /// Under every event, the own list of each processor and its list in the group are labelled lists, and a look finds the
 /// condition of `accelerate` (`docs/specification/definitions.md`, "Lists"; `docs/specification/rules.md`, "Callback lists").
 pub fn lists_stay_labelled()
-    ensures { (n : ℕ) (shape : Shape) (events : List CoreEvent) → shape.limit ≤ 1000000 → (p : ℕ) → p < n → HasLabelledLists (run events (opening n shape)) p }
+    ensures { (n : ℕ) (shape : Shape) (events : List CoreEvent) → (p : ℕ) → p < n → HasLabelledLists (run events (opening n shape)) p }
 {}
 
 /// A law over the definitions alone: a closed history has no `Accepted(p)` after the first `Back` of `p`.
 pub fn nothing_accepted_after_back()
     ensures { (n : ℕ) (history : List Mark) → IsClosed n history → HasNothingAcceptedAfterBack history }
-{}
-
-/// The formula of `snap` gives the least `4m` for which a whole grace period lies after `s` and before it
-/// (`docs/specification/definitions.md`, "Numbers").
-pub fn snap_is_least()
-    ensures { (s : ℕ) → IsSnapOf s (snap s) }
 {}

@@ -191,7 +191,7 @@ fn run_events(alloc: Global, refusals: &mut Refusals, world: &mut World<Work>) -
         events.push(Event::Urge)?;
     }
     let before = shown(world)?;
-    let Err(back) = world.run(alloc, events) else {
+    let Err(back) = world.run(events) else {
         return Ok(());
     };
     refusals.note(Growth::WorldRun)?;
@@ -201,11 +201,7 @@ fn run_events(alloc: Global, refusals: &mut Refusals, world: &mut World<Work>) -
         "not all events came back",
     )?;
     stands(before == shown(world)?, Growth::WorldRun, "a list changed")?;
-    stands(
-        world.run(alloc, back).is_ok(),
-        Growth::WorldRun,
-        "refused again",
-    )
+    stands(world.run(back).is_ok(), Growth::WorldRun, "refused again")
 }
 
 /// Closes the world, or tries it again.

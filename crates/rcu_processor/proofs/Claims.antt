@@ -5,7 +5,7 @@ use Rattle.std.proofs.lemmas.Bool.{and_parts, cases_eq, eq-eqb, eqb-true, ne_eqb
 use Rattle.rcu_law.specs.Calls.{Call}
 use Rattle.rcu_law.specs.LabelledLists.{Labelled, call_of, done_count}
 use Rattle.rcu_law.specs.Lists.{is_nil, tail}
-use Rattle.rcu_law.specs.Numbers.{snap}
+use Rattle.rcu_numbers.specs.Numbers.{snap_of}
 use Rattle.rcu_law.specs.States.{Cpu, Run}
 use Rattle.rcu_law.specs.Steps.{can_claim, can_claim_held, claims, front}
 use Rattle.rcu_law.specs.declared.who.Side.TheVariants as sides
@@ -41,11 +41,11 @@ odd_turn turn n e = ne_eqb turn (2 * n) (λ q. let t : false ≡ true = sym e �
 
 -- the hand's first callback may be claimed where its wait is over, the turn is even, and half of it is the callback's number
 module _ (sight turn : ℕ) (first : Call) (rest : List Call) where
-  pub held_even : (past : Bool) → past ≡ nat_le (snap first.stamp) sight → (past && (turn % 2 == 0)) ≡ true → (turn / 2 == first.number) ≡ can_claim_held sight (first ∷ rest) turn
+  pub held_even : (past : Bool) → past ≡ nat_le (snap_of first.stamp) sight → (past && (turn % 2 == 0)) ≡ true → (turn / 2 == first.number) ≡ can_claim_held sight (first ∷ rest) turn
   held_even past e t =
       let p = and_parts past (turn % 2 == 0) t in
       half_turn turn first.number (eqb-true (turn % 2) 0 p.1) ∙ sym (ap (λ b. b && (turn == 2 * first.number)) (sym e ∙ p.0))
 
-  pub held_not : (past : Bool) → past ≡ nat_le (snap first.stamp) sight → (past && (turn % 2 == 0)) ≡ false → false ≡ can_claim_held sight (first ∷ rest) turn
+  pub held_not : (past : Bool) → past ≡ nat_le (snap_of first.stamp) sight → (past && (turn % 2 == 0)) ≡ false → false ≡ can_claim_held sight (first ∷ rest) turn
   held_not true e f = sym (odd_turn turn first.number f) ∙ ap (λ b. b && (turn == 2 * first.number)) e
   held_not false e f = ap (λ b. b && (turn == 2 * first.number)) e

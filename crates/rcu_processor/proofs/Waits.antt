@@ -8,7 +8,7 @@ use Rattle.std.proofs.lemmas.List.{map-append, length-map, append_assoc}
 use Rattle.std.proofs.Math.Seq.{take-append_seam, drop-append_seam}
 use Rattle.rcu_jobs.specs.declared.Callback.{Callback}
 use Rattle.rcu_law.specs.Calls.{Call}
-use Rattle.rcu_law.specs.Numbers.{snap}
+use Rattle.rcu_numbers.specs.Numbers.{snap_of}
 use Rattle.rcu_law.specs.Lists.{is_nil, tail}
 use Rattle.rcu_law.specs.Steps.{front, can_claim_own}
 use Rattle.rcu_law.specs.LabelledLists as law
@@ -40,8 +40,8 @@ module _ {J : Type 0} (key_of : J → ℕ) where
 
   -- what accelerate asks
   pub may_as : (s : ℕ) (xs : List (Labelled J)) → law.MayAccelerate s (waits key_of xs) → MayAccelerate s xs
-  may_as s [] h = All-nil (λ (x : Labelled J). IsUpTo s x.label × (snap x.callback.stamp ≤ s))
-  may_as s (x ∷ xs) h = All-cons (λ (x : Labelled J). IsUpTo s x.label × (snap x.callback.stamp ≤ s)) x xs (up_to s x.label h.numbers.0, h.stamps.0)
+  may_as s [] h = All-nil (λ (x : Labelled J). IsUpTo s x.label × (snap_of x.callback.stamp ≤ s))
+  may_as s (x ∷ xs) h = All-cons (λ (x : Labelled J). IsUpTo s x.label × (snap_of x.callback.stamp ≤ s)) x xs (up_to s x.label h.numbers.0, h.stamps.0)
       (may_as s xs (record { numbers = h.numbers.1; stamps = h.stamps.1 }))
 
   -- counts
@@ -146,14 +146,14 @@ module _ {J : Type 0} (key_of : J → ℕ) where
 
 -- a look, in its steps
 module _ {J : Type 0} (key_of : J → ℕ) where
-  pub look_steps : (s aim n : ℕ) (old mid new : List (Labelled J)) (b : Bool) → IsLabelledList mid → mid ≡ after_advance s old → n ≡ law.newest s (waits key_of mid) → aim ≡ snap n
+  pub look_steps : (s aim n : ℕ) (old mid new : List (Labelled J)) (b : Bool) → IsLabelledList mid → mid ≡ after_advance s old → n ≡ law.newest s (waits key_of mid) → aim ≡ snap_of n
       → new ≡ after_accelerate aim mid → b ≡ carries aim new → (waits key_of new ≡ law.looked s (waits key_of old)) × (cond b (Some aim) None ≡ law.wanted_by_look s (waits key_of old))
   look_steps s aim n old mid new b h m e a w c =
       let f : waits key_of mid ≡ law.advance s (waits key_of old) = ap (waits key_of) m ∙ advance_as key_of s old in
-      let k : aim ≡ snap (law.newest s (law.advance s (waits key_of old))) = a ∙ ap snap e ∙ ap (λ x. snap (law.newest s x)) f in
+      let k : aim ≡ snap_of (law.newest s (law.advance s (waits key_of old))) = a ∙ ap snap_of e ∙ ap (λ x. snap_of (law.newest s x)) f in
       let l : waits key_of new ≡ law.looked s (waits key_of old) = ap (waits key_of) w ∙ accelerate_as key_of aim mid h ∙ ap (law.accelerate aim) f ∙ ap (λ z. law.accelerate z (law.advance s (waits key_of old))) k in
-      let d : b ≡ law.carries (snap (law.newest s (law.advance s (waits key_of old)))) (law.looked s (waits key_of old)) = c ∙ carries_as key_of aim new ∙ ap (law.carries aim) l ∙ ap (λ z. law.carries z (law.looked s (waits key_of old))) k in
-      (l, ap (λ x. cond x (Some aim) None) d ∙ ap (λ z. cond (law.carries (snap (law.newest s (law.advance s (waits key_of old)))) (law.looked s (waits key_of old))) (Some z) None) k)
+      let d : b ≡ law.carries (snap_of (law.newest s (law.advance s (waits key_of old)))) (law.looked s (waits key_of old)) = c ∙ carries_as key_of aim new ∙ ap (law.carries aim) l ∙ ap (λ z. law.carries z (law.looked s (waits key_of old))) k in
+      (l, ap (λ x. cond x (Some aim) None) d ∙ ap (λ z. cond (law.carries (snap_of (law.newest s (law.advance s (waits key_of old)))) (law.looked s (waits key_of old))) (Some z) None) k)
 
 -- the first of some calls leaves
 pub tail_shorter : (xs : List Call) → is_nil xs ≡ false → length xs ≡ length (tail xs) + 1

@@ -3,7 +3,8 @@
 ghost use Rattle.std.specs.Prelude.{◌≡◌, ℕ, ◌≤◌, ◌&&◌, not, None, if◌then◌else◌};
 ghost use Rattle.rcu_law.specs.LabelledLists.{MayAccelerate, newest, advance};
 ghost use Rattle.rcu_law.specs.Lists.{is_none, needed_with};
-ghost use Rattle.rcu_law.specs.Numbers.{GREATEST_NUMBER, snap};
+ghost use Rattle.rcu_numbers.specs.Numbers.{snap_of};
+ghost use Rattle.rcu_numbers.specs.declared.sequence.TheConstants.{GREATEST_NUMBER};
 ghost use Rattle.rcu_law.specs.Steps.{looks, hand_looks, group_looks};
 ghost use Rattle.rcu_processor.specs.Members.{forgets, is_wanting};
 ghost use Rattle.rcu_processor.specs.Views.{seen, AreGiven};
@@ -23,7 +24,7 @@ impl<J: Job> Processor<J, J::Receipt> {
     /// The processor's look at the number: its own list is advanced and accelerated.
     pub fn look(&mut self, number: u64)
         requires small { newest number (advance number (seen J.key_of self.old).own) ≤ GREATEST_NUMBER }
-        requires may { MayAccelerate (snap (newest number (advance number (seen J.key_of self.old).own))) (advance number (seen J.key_of self.old).own) }
+        requires may { MayAccelerate (snap_of (newest number (advance number (seen J.key_of self.old).own))) (advance number (seen J.key_of self.old).own) }
         ensures looks { seen J.key_of self.new ≡ looks number (seen J.key_of self.old) }
         ensures given { (mark : ℕ) → AreGiven J.gives mark self.old → AreGiven J.gives mark self.new }
     {
@@ -42,7 +43,7 @@ impl<J: Job> Processor<J, J::Receipt> {
     /// The part of a group's look at this processor, where it is a member.
     pub fn look_as(&mut self, member: bool, number: u64)
         requires small { newest number (advance number (seen J.key_of self.old).joined) ≤ GREATEST_NUMBER }
-        requires may { MayAccelerate (snap (newest number (advance number (seen J.key_of self.old).joined))) (advance number (seen J.key_of self.old).joined) }
+        requires may { MayAccelerate (snap_of (newest number (advance number (seen J.key_of self.old).joined))) (advance number (seen J.key_of self.old).joined) }
         ensures looks { seen J.key_of self.new ≡ (if member then group_looks number (seen J.key_of self.old) else seen J.key_of self.old) }
         ensures given { (mark : ℕ) → AreGiven J.gives mark self.old → AreGiven J.gives mark self.new }
     {

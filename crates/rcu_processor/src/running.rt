@@ -2,7 +2,8 @@
 
 ghost use Rattle.std.specs.Prelude.{◌≡◌, ℕ, ◌^◌, ◌+◌, ◌<◌, ◌≤◌, ◌++◌, ◌∷◌, [], map, vec_len, vec_capacity, true, nat_le, OnOk, OnErr, IfOk, if◌then◌else◌};
 ghost use Rattle.rcu_jobs.specs.declared.Stop.TheVariants as stops;
-ghost use Rattle.rcu_law.specs.Numbers.{GREATEST_NUMBER, snap};
+ghost use Rattle.rcu_numbers.specs.Numbers.{snap_of};
+ghost use Rattle.rcu_numbers.specs.declared.sequence.TheConstants.{GREATEST_NUMBER};
 ghost use Rattle.rcu_law.specs.Steps.{can_claim, claims, claimed, can_claim_held, can_finish, finishes, front, is_side};
 ghost use Rattle.rcu_law.specs.declared.who.Side.TheVariants as sides;
 ghost use Rattle.rcu_processor.specs.Batches.{batch};
@@ -22,7 +23,7 @@ use std::alloc::AllocError;
 /// Whether the wait of a callback with this stamp is over.
 fn is_past(stamp: u64, sight: u64) -> bool
     requires { stamp ≤ GREATEST_NUMBER }
-    ensures { result ≡ nat_le (snap stamp) sight }
+    ensures { result ≡ nat_le (snap_of stamp) sight }
 {
     done(sight, snap(stamp))
 }

@@ -3,7 +3,8 @@
 ghost use Rattle.std.specs.Prelude.{◌≡◌, ℕ, ◌+◌, ◌≤◌, ◌++◌, ◌∷◌, [], true, false, map, take, drop, min, OnOk, OnErr, IfOk};
 ghost use Rattle.rcu_law.specs.LabelledLists.{MayAccelerate, advance, bare, call_of, done_count, looked, newest, wanted_by_look};
 ghost use Rattle.rcu_law.specs.Lists.{tail};
-ghost use Rattle.rcu_law.specs.Numbers.{GREATEST_NUMBER, snap};
+ghost use Rattle.rcu_numbers.specs.Numbers.{snap_of};
+ghost use Rattle.rcu_numbers.specs.declared.sequence.TheConstants.{GREATEST_NUMBER};
 ghost use Rattle.rcu_law.specs.Steps.{can_claim_own, front};
 ghost use Rattle.rcu_lists.specs.Segments.{SegmentsRoom};
 ghost use Rattle.rcu_processor.specs.Batches.{batch};
@@ -18,7 +19,7 @@ use std::alloc::AllocError;
 /// Looks at one list: what it asks for, if anything.
 pub(crate) fn look_at<J: Job>(list: &mut Segments<J>, number: u64) -> Option<u64>
     requires small { newest number (advance number (waiting J.key_of list.old)) ≤ GREATEST_NUMBER }
-    requires may { MayAccelerate (snap (newest number (advance number (waiting J.key_of list.old)))) (advance number (waiting J.key_of list.old)) }
+    requires may { MayAccelerate (snap_of (newest number (advance number (waiting J.key_of list.old)))) (advance number (waiting J.key_of list.old)) }
     ensures list { waiting J.key_of list.new ≡ looked number (waiting J.key_of list.old) }
     ensures asks { result ≡ wanted_by_look number (waiting J.key_of list.old) }
 {

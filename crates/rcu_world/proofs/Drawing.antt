@@ -5,7 +5,7 @@ use Rattle.std.specs.Option.{option_to_list}
 use Rattle.rcu_law.specs.declared.who.Who.TheVariants as who
 use Rattle.rcu_law.specs.Calls.{Call}
 use Rattle.rcu_law.specs.LabelledLists.{Labelled, call_of}
-use Rattle.rcu_law.specs.Invariant.{IsCore}
+use Rattle.rcu_world.specs.Worlds.{IsFit}
 use Rattle.rcu_law.specs.Places.{flattened}
 use Rattle.rcu_law.specs.States.{State, empty_cpu, cpu_at, is_member}
 use Rattle.rcu_law.specs.Steps.{given, given_count, draws}
@@ -260,7 +260,7 @@ module _ (held : List Call) (done_lane : List (List Call)) (out : List Call) (jo
     length-map joined call_of,
   )
 
-few : (w : State) (p : ℕ) → IsCore w → p < length w.cpus → length (cpu_at w p).out + (length (cpu_at w p).joined + length (cpu_at w p).drawn) ≤ 1000000
+few : (w : State) (p : ℕ) → IsFit w → p < length w.cpus → length (cpu_at w p).out + (length (cpu_at w p).joined + length (cpu_at w p).drawn) ≤ 1000000
 unfolding places
 few w p k l =
     let c = cpu_at w p in
@@ -268,10 +268,10 @@ few w p k l =
     let h = within c.held c.done_lane c.out c.joined c.drawn c.lane (c.bypass ++ map call_of c.own) (option_to_list c.fresh) in
     omega (arith, i.count, i.few, h)
 
-pub few_drawn : (w : State) (p : ℕ) → IsCore w → p < length w.cpus → length (cpu_at w p).drawn + length (cpu_at w p).out ≤ 1000000
+pub few_drawn : (w : State) (p : ℕ) → IsFit w → p < length w.cpus → length (cpu_at w p).drawn + length (cpu_at w p).out ≤ 1000000
 few_drawn w p k l = let h = few w p k l in omega (arith, h)
 
-pub few_given : (w : State) (p : ℕ) → IsCore w → p < length w.cpus → length (given w.shape.blimit (cpu_at w p)) ≤ 1000000
+pub few_given : (w : State) (p : ℕ) → IsFit w → p < length w.cpus → length (given w.shape.blimit (cpu_at w p)) ≤ 1000000
 few_given w p k l =
     let c = cpu_at w p in
     let h = few w p k l in

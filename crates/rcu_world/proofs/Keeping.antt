@@ -110,6 +110,7 @@ fit_after w e k h = record {
   core = after_kept w e k.core h;
   stride = subst (λ x. 1 ≤ x.stride) (sym (shape_after w e)) k.stride;
   blimit = subst (λ x. 1 ≤ x.blimit) (sym (shape_after w e)) k.blimit;
+  limit = subst (λ x. x.limit ≤ 1000000) (sym (shape_after w e)) k.limit;
   few = subst (λ n. n ≤ 32) (sym (length_after w e)) k.few;
   no_back = no_back_after w e k.no_back;
 }

@@ -15,6 +15,7 @@ pub mod Leaving
 pub mod Opening
 pub mod Settling
 pub mod Resting
+pub mod Idling
 pub mod Leading
 pub mod Running
 pub mod Masks

@@ -45,9 +45,10 @@ at_rest plan n offloadable board cs bs h s o c b e = rw (s, o, c, b, e) refl
 
 pub fit_opening : (s : Limits) → IsWithinLimits s.processors s.offloadable s.stride s.blimit s.qhimark s.limit → IsFit (opening s.processors (plan s))
 fit_opening s w = record {
-  core = opening_kept s.processors (plan s) w.accepted.1;
+  core = opening_kept s.processors (plan s);
   stride = w.group.0;
   blimit = w.batch.0;
+  limit = w.accepted.1;
   few = omega (arith, length_opening s.processors (bits s.processors s.offloadable), w.some_processors.1);
   no_back = record { none = λ p i key x. absurd cc };
 }

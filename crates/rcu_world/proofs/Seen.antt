@@ -7,7 +7,7 @@ use Rattle.std.specs.List.{AllByRecursion}
 use Rattle.rcu_law.specs.States.{State, Barrier, no_barrier, Cpu, empty_cpu, cpu_at, has}
 use Rattle.rcu_law.specs.Lists.{is_none}
 use Rattle.rcu_law.specs.declared.marks.Mark.{Mark}
-use Rattle.rcu_law.specs.Numbers.{GREATEST_NUMBER}
+use Rattle.rcu_numbers.specs.declared.sequence.TheConstants.{GREATEST_NUMBER}
 use Rattle.rcu_law.specs.States.{barrier_at, is_open, with_barrier, added, with_mark, with_cpu}
 use Rattle.rcu_law.specs.Lists.{needed_with}
 use Rattle.rcu_law.specs.Invariant.{IsCore}
@@ -24,6 +24,7 @@ use Rattle.rcu_world.specs.declared.cores.Core.{Core}
 use Rattle.rcu_world.specs.declared.barriers.Barring.{Barring}
 use Rattle.rcu_world.specs.Barrings.{barrier}
 use Rattle.rcu_processor.specs.Views.{seen, mark_of, AreGiven}
+use Rattle.rcu_world.specs.Worlds.{IsFit}
 use Rattle.rcu_world.specs.Views.{all_seen, state, AllGiven}
 
 front_fits : (n : ℕ) (h : List Mark) (p number : ℕ) (cs : List Call) → AllByRecursion (IsStamped n h p number) cs → number ≤ GREATEST_NUMBER → (front cs).stamp ≤ GREATEST_NUMBER
@@ -91,9 +92,9 @@ module _ {J R : Type 0} (key_of : J → ℕ) where
   )
 
   -- the room that its numbers have
-  pub fits_at : (w : Core J R) (i : ℕ) (p : Processor J R) → IsCore (state key_of w) → i < length w.processors.items → p ≡ get_or w.processors.items i p
+  pub fits_at : (w : Core J R) (i : ℕ) (p : Processor J R) → IsFit (state key_of w) → i < length w.processors.items → p ≡ get_or w.processors.items i p
       → (p.turn ≤ 2000000) × (p.count ≤ 1000000)
-  fits_at w i p k l e = turn_fits (state key_of w) i (seen key_of p) k (omega (arith, length-map w.processors.items (seen key_of)))
+  fits_at w i p k l e = turn_fits (state key_of w) i (seen key_of p) k.core k.limit (omega (arith, length-map w.processors.items (seen key_of)))
       (seen_at w.processors.items i p l e ∙ get_or_default (all_seen key_of w.processors.items) i empty_cpu (seen key_of p) (omega (arith, length-map w.processors.items (seen key_of))))
 
   -- what a look asks of its own list holds

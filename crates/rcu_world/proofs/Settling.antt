@@ -11,14 +11,15 @@ use Rattle.rcu_law.specs.Law.{accepted, ran, back, key_accepted, key_ran, HasNoB
 use Rattle.rcu_law.specs.Calls.{Call}
 use Rattle.rcu_law.specs.States.{State, Cpu, cpu_at, empty_cpu}
 use Rattle.rcu_law.specs.Places.{key_of, remaining_callbacks}
-use Rattle.rcu_law.specs.Invariant.{AreNumbered, IsCore}
+use Rattle.rcu_law.specs.Invariant.{AreRecords, IsCore}
 use Rattle.rcu_law.specs.Closing.{closing, shut_mark, shut_marks, back_marks}
 use Rattle.rcu_law.proofs.Closing.{closed}
 use Rattle.rcu_processor.specs.declared.processor.Processor.{Processor}
 use Rattle.rcu_world.specs.declared.cores.Core.{Core}
 use Rattle.rcu_processor.specs.Leaving.{IsCounted, left_keys}
-use Rattle.rcu_world.specs.Leaving.{AreCounted, AreHandedBack, AreNumberedFrom, AreRecorded}
+use Rattle.rcu_world.specs.Leaving.{AreCounted, AreHandedBack, AreRecorded, AreRunsOf, runs_in}
 use Rattle.rcu_processor.specs.Views.{records_of, run, seen, AreGiven}
+use Rattle.rcu_world.specs.Worlds.{IsFit}
 use Rattle.rcu_world.specs.Views.{all_seen, state}
 
 -- what reads nothing of the marks that close adds
@@ -64,35 +65,22 @@ all_unmapped P f [] a = tt
 all_unmapped P f (x ∷ xs) a = (a.0, all_unmapped P f xs a.1)
 
 -- what was accepted ran or is left
-pub is_counted : (w : State) (p : ℕ) → IsCore w → p < length w.cpus → IsCounted (cpu_at w p)
+pub is_counted : (w : State) (p : ℕ) → IsFit w → p < length w.cpus → IsCounted (cpu_at w p)
 is_counted w p k l =
-    let i = (k.cpu p l).placed in
+    let i = (k.core.cpu p l).placed in
     record {
       count = omega (arith, i.count, i.turn, ap length i.keys, length-append (ran p w.history) (map key_of (remaining_callbacks (cpu_at w p))), length-map (remaining_callbacks (cpu_at w p)) key_of);
-      few = omega (arith, (k.cpu p l).bounded, k.limits);
+      few = omega (arith, (k.core.cpu p l).bounded, k.limit);
     }
-
-same_keys : {R : Type 0} (rs : List (Record R)) → map (λ r. r.key) rs ≡ map (λ r. r.call.key) (map run rs)
-same_keys [] = refl
-same_keys (r ∷ rs) = ap (λ l. r.key ∷ l) (same_keys rs)
-
-same_numbers : {R : Type 0} (k : ℕ) (rs : List (Record R)) → AreNumbered k (map (λ r. r.call) (map run rs)) → AreNumberedFrom k rs
-same_numbers k [] a = tt
-same_numbers k (r ∷ rs) a = (a.0, same_numbers (k + 1) rs a.1)
-
-all_numbered : {J R : Type 0} (job_key : J → ℕ) (ps : List (Processor J R)) → AllByRecursion (λ p. AreNumbered 0 (map (λ r. r.call) (seen job_key p).runs)) ps
-    → AllByRecursion (λ (v : Vec (Record R)). AreNumberedFrom 0 v.items) (map records_of ps)
-all_numbered job_key [] a = tt
-all_numbered job_key (p ∷ ps) a = (same_numbers 0 p.records.items a.0, all_numbered job_key ps a.1)
 
 all_given : {J R : Type 0} (gives : ℕ → R → Type 0) (mark : ℕ) (ps : List (Processor J R)) → AllByRecursion (AreGiven gives mark) ps → AllByRecursion (λ (v : Vec (Record R)). All (λ r. gives r.key r.receipt) v.items) (map records_of ps)
 all_given gives mark [] a = tt
 all_given gives mark (p ∷ ps) a = (a.0.0, all_given gives mark ps a.1)
 
-module _ {J R : Type 0} (job_key : J → ℕ) (w : Core J R) (k : IsCore (state job_key w)) where
-  pub are_counted : AreCounted job_key w.processors.items
-  are_counted = all_unmapped IsCounted (seen job_key) w.processors.items (all_from IsCounted empty_cpu (all_seen job_key w.processors.items) (λ p l. is_counted (state job_key w) p k l))
+pub are_counted : {J R : Type 0} (job_key : J → ℕ) (w : Core J R) → IsFit (state job_key w) → AreCounted job_key w.processors.items
+are_counted job_key w k = all_unmapped IsCounted (seen job_key) w.processors.items (all_from IsCounted empty_cpu (all_seen job_key w.processors.items) (λ p l. is_counted (state job_key w) p k l))
 
+module _ {J R : Type 0} (job_key : J → ℕ) (w : Core J R) (k : IsCore (state job_key w)) where
   pub handed_back : HasNoBack w.history.items → (lists : List (Vec J)) → map (λ (v : Vec J). map job_key v.items) lists ≡ map left_keys (all_seen job_key w.processors.items)
       → AreHandedBack job_key (length (all_seen job_key w.processors.items)) (closing (state job_key w)) lists
   handed_back u lists e = record {
@@ -100,19 +88,23 @@ module _ {J R : Type 0} (job_key : J → ℕ) (w : Core J R) (k : IsCore (state 
     len = sym (length-map lists (λ (v : Vec J). map job_key v.items)) ∙ ap length e ∙ length-map (all_seen job_key w.processors.items) left_keys;
   }
 
-  ran_keys : (ps : List (Processor J R)) (p : ℕ) → p < length ps → get_or (map (λ (v : Vec (Record R)). map (λ r. r.key) v.items) (map records_of ps)) p [] ≡ map (λ r. r.call.key) (get_or (all_seen job_key ps) p empty_cpu).runs
-  ran_keys (q ∷ ps) zero l = same_keys q.records.items
-  ran_keys (q ∷ ps) (suc p) l = ran_keys ps p (omega arith)
-  ran_keys [] p l = absurd (omega arith)
+  run_lists : (ps : List (Processor J R)) (p : ℕ) → p < length ps → get_or (map (λ (v : Vec (Record R)). map run v.items) (map records_of ps)) p [] ≡ (get_or (all_seen job_key ps) p empty_cpu).runs
+  run_lists (q ∷ ps) zero l = refl
+  run_lists (q ∷ ps) (suc p) l = run_lists ps p (omega arith)
+  run_lists [] p l = absurd (omega arith)
+
+  runs_each : (lists : List (Vec (Record R))) → lists ≡ map records_of w.processors.items → (p : ℕ) → p < length (all_seen job_key w.processors.items)
+      → runs_in lists p ≡ (cpu_at (state job_key w) p).runs
+  runs_each lists e p l = ap (λ x. get_or (map (λ (v : Vec (Record R)). map run v.items) x) p []) e ∙ run_lists w.processors.items p (omega (arith, length-map w.processors.items (seen job_key)))
+
+  pub runs_of : (lists : List (Vec (Record R))) → lists ≡ map records_of w.processors.items → AreRunsOf (state job_key w) lists
+  runs_of lists e = record { each = runs_each lists e }
 
   pub recorded : (gives : ℕ → R → Type 0) → AllByRecursion (AreGiven gives w.qhimark) w.processors.items → (lists : List (Vec (Record R))) → lists ≡ map records_of w.processors.items
       → AreRecorded gives (length (all_seen job_key w.processors.items)) (closing (state job_key w)) lists
   recorded gives a lists e = record {
-    each = λ p l. ap (λ x. get_or (map (λ (v : Vec (Record R)). map (λ r. r.key) v.items) x) p []) e ∙ ran_keys w.processors.items p (omega (arith, length-map w.processors.items (seen job_key)))
-        ∙ (k.cpu p l).placed.runs ∙ sym (ran_closing p (state job_key w));
+    each = λ p l. subst (AreRecords (closing (state job_key w)) p) (sym (runs_each lists e p l))
+        (record { numbers = (k.cpu p l).placed.numbered; keys = (k.cpu p l).placed.runs ∙ sym (ran_closing p (state job_key w)); ready = (k.cpu p l).ready });
     given = subst (AllByRecursion (λ (v : Vec (Record R)). All (λ r. gives r.key r.receipt) v.items)) (sym e) (all_given gives w.qhimark w.processors.items a);
-    numbered = subst (AllByRecursion (λ (v : Vec (Record R)). AreNumberedFrom 0 v.items)) (sym e)
-        (all_numbered job_key w.processors.items (all_unmapped (λ c. AreNumbered 0 (map (λ r. r.call) c.runs)) (seen job_key) w.processors.items
-        (all_from (λ c. AreNumbered 0 (map (λ r. r.call) c.runs)) empty_cpu (all_seen job_key w.processors.items) (λ p l. (k.cpu p l).placed.numbered))));
     len = ap length e ∙ length-map w.processors.items records_of ∙ sym (length-map w.processors.items (seen job_key));
   }

@@ -5,15 +5,15 @@ use Rattle.std.specs.List.{AllByRecursion}
 use Rattle.rcu_jobs.specs.declared.Record.{Record}
 use Rattle.rcu_law.specs.declared.marks.Mark.{Mark}
 use Rattle.rcu_law.specs.declared.marks.Mark.TheVariants.{Back}
-use Rattle.rcu_law.specs.Law.{ran, back}
-use Rattle.rcu_law.specs.States.{Cpu}
+use Rattle.rcu_law.specs.Law.{back}
+use Rattle.rcu_law.specs.States.{State, Cpu, Run, cpu_at}
 use Rattle.rcu_law.specs.Places.{remaining_callbacks}
-use Rattle.rcu_law.specs.Invariant.{reports}
+use Rattle.rcu_law.specs.Invariant.{AreRecords, reports}
 use Rattle.rcu_processor.specs.declared.processor.Processor.{Processor}
 use Rattle.rcu_processor.specs.Leaving.{IsCounted}
 use Rattle.rcu_world.specs.declared.cores.Core.{Core}
 use Rattle.rcu_world.specs.declared.ending.Room.{Room}
-use Rattle.rcu_processor.specs.Views.{seen}
+use Rattle.rcu_processor.specs.Views.{run, seen}
 use Rattle.rcu_world.specs.Views.{all_seen}
 
 -- a Shut, and a Back for each callback that is left
@@ -52,17 +52,19 @@ pub record AreHandedBack {J : Type 0} (job_key : J → ℕ) (n : ℕ) (h : List 
   pub each : (p : ℕ) → p < n → slice_index_or (map (λ v. map job_key v.items) lists) p [] ≡ back p h
   pub len : length lists ≡ n
 
--- the records have the numbers from k on
-abbrev pub AreNumberedFrom : {R : Type 0} → ℕ → List (Record R) → Type 0
-AreNumberedFrom k [] = Unit {0}
-AreNumberedFrom k (r ∷ rs) = (r.number ≡ k) × AreNumberedFrom (k + 1) rs
+-- the records of processor p, without their receipts
+abbrev pub runs_in : {R : Type 0} → List (Vec (Record R)) → ℕ → List Run
+runs_in lists p = slice_index_or (map (λ v. map run v.items) lists) p []
 
--- "given": for each of the n processors a record for each of its Ran marks, with the mark's key and a receipt that the job's relation allows; their numbers are 0, 1, 2, ..
+-- "given": for each of the n processors its records by the history, each with a receipt that the job's relation allows
 pub record AreRecorded {R : Type 0} (gives : ℕ → R → Type 0) (n : ℕ) (h : List Mark) (lists : List (Vec (Record R))) : Type 0 where
-  pub each : (p : ℕ) → p < n → slice_index_or (map (λ v. map (λ r. r.key) v.items) lists) p [] ≡ ran p h
+  pub each : (p : ℕ) → p < n → AreRecords h p (runs_in lists p)
   pub given : AllByRecursion (λ v. All (λ r. gives r.key r.receipt) v.items) lists
-  pub numbered : AllByRecursion (λ v. AreNumberedFrom 0 v.items) lists
   pub len : length lists ≡ n
+
+-- the records are what the machine keeps of what ran: their stamps, and the sights by which they ran, are the machine's
+pub record AreRunsOf {R : Type 0} (w : State) (lists : List (Vec (Record R))) : Type 0 where
+  pub each : (p : ℕ) → p < length w.cpus → runs_in lists p ≡ (cpu_at w p).runs
 
 -- for each of the n processors how often it reported
 pub record AreReported (n : ℕ) (h : List Mark) (counts : List ℕ) : Type 0 where

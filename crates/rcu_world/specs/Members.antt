@@ -4,7 +4,8 @@ use Rattle.rcu_law.specs.States.{Cpu, empty_cpu}
 use Rattle.rcu_law.specs.Steps.{group_looks}
 use Rattle.rcu_law.specs.Lists.{needed_with}
 use Rattle.rcu_law.specs.LabelledLists.{Labelled, MayAccelerate, advance, newest}
-use Rattle.rcu_law.specs.Numbers.{GREATEST_NUMBER, snap}
+use Rattle.rcu_numbers.specs.Numbers.{snap_of}
+use Rattle.rcu_numbers.specs.declared.sequence.TheConstants.{GREATEST_NUMBER}
 use Rattle.rcu_processor.specs.Members.{forgets}
 
 -- whether processor p is a member of group g
@@ -39,7 +40,7 @@ urge_step p c = record c { urged = true }
 -- what a look at a list asks (docs/specification/rules.md, "Callback lists"): no number is too great, and `accelerate` may be called
 pub record IsLookable (number : ℕ) (ws : List Labelled) : Type 0 where
   pub small : newest number (advance number ws) ≤ GREATEST_NUMBER
-  pub may : MayAccelerate (snap (newest number (advance number ws))) (advance number ws)
+  pub may : MayAccelerate (snap_of (newest number (advance number ws))) (advance number ws)
 
 -- the group's list for each processor may be looked at
 abbrev pub AreLookable : ℕ → List Cpu → Type 0

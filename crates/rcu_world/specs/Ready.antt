@@ -6,6 +6,8 @@ use Rattle.rcu_law.specs.States.{State, cpu_at}
 use Rattle.rcu_law.specs.Steps.{can_accept}
 use Rattle.rcu_world.specs.declared.events.Answer.{Answer}
 use Rattle.rcu_world.specs.declared.events.Answer.TheVariants as answers
+use Rattle.rcu_world.specs.declared.events.Event.{Event}
+use Rattle.rcu_world.specs.declared.events.Event.TheVariants as events
 use Rattle.rcu_processor.specs.declared.processor.Processor.{Processor}
 use Rattle.rcu_world.specs.declared.cores.Core.{Core}
 use Rattle.rcu_processor.specs.Ready.{IsReady}
@@ -24,6 +26,16 @@ lacks_room answers.Done = false
 lacks_room answers.Due = false
 lacks_room (answers.Skipped job) = false
 lacks_room (answers.Memory job) = true
+
+-- a done Accept leaves room for the Stamp that follows directly
+abbrev pub LeavesRoom : {J R : Type 0} → Event J → Answer J → Core J R → Type 0
+LeavesRoom (events.Accept p job) answer new = is_done answer ≡ true → IsReadyAt new p
+LeavesRoom e answer new = Unit {0}
+
+-- where there is that room, a Stamp is never refused for want of memory
+abbrev pub UsesRoom : {J R : Type 0} → Core J R → Event J → Answer J → Type 0
+UsesRoom old (events.Stamp p moment lazy) answer = IsReadyAt old p → lacks_room answer ≡ false
+UsesRoom old e answer = Unit {0}
 
 -- A refused call, in the order of its tests: at the limit, exactly then; else shut; else no room. The job comes back.
 abbrev pub IsRefusal : {J : Type 0} → State → ℕ → J → Refused J → Type 0

@@ -13,7 +13,7 @@ use Rattle.std.specs.Prelude.{Result, Ok, Err}
 use Rattle.rcu_jobs.specs.declared.Ticket.{Ticket}
 use Rattle.rcu_jobs.specs.declared.BarrierFault.{BarrierFault}
 use Rattle.rcu_jobs.specs.declared.BarrierFault.TheVariants as barriers
-use Rattle.rcu_law.specs.Numbers.{GREATEST_NUMBER}
+use Rattle.rcu_numbers.specs.declared.sequence.TheConstants.{GREATEST_NUMBER}
 use Rattle.rcu_law.specs.Lists.{none_owes}
 use Rattle.rcu_law.specs.States.{State, Cpu, cpu_at, has, is_offloadable, is_offloaded}
 use Rattle.rcu_law.specs.Steps.{can_claim}

@@ -13,6 +13,7 @@ pub record IsFit (w : State) : Type 0 where
   pub core : IsCore w
   pub stride : 1 ≤ w.shape.stride
   pub blimit : 1 ≤ w.shape.blimit
+  pub limit : w.shape.limit ≤ 1000000
   pub few : length w.cpus ≤ 32
   pub no_back : HasNoBack w.history
 

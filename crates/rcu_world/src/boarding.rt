@@ -1,7 +1,7 @@
 //! The events of the board word: `Report`, `Start`, `End`.
 
 ghost use Rattle.std.specs.Prelude.{◌≡◌, ◌%◌, ◌&&◌, ◌==◌, nat_lt};
-ghost use Rattle.rcu_law.specs.Numbers.{GREATEST_NUMBER};
+ghost use Rattle.rcu_numbers.specs.declared.sequence.TheConstants.{GREATEST_NUMBER};
 ghost use Rattle.rcu_world.specs.Worlds.{IsFit};
 ghost use Rattle.rcu_world.specs.Events.{Answers};
 ghost use Rattle.rcu_world.specs.Views.{state, AllGiven};

@@ -2,7 +2,7 @@
 
 ghost use Rattle.std.specs.Prelude.{◌≡◌, ◌+◌, ◌<◌, ◌≤◌, ◌%◌, false, true, length, replicate, slice_index_or, slice_set};
 ghost use Rattle.rcu_law.specs.Lists.{none_owes};
-ghost use Rattle.rcu_law.specs.Numbers.{GREATEST_NUMBER};
+ghost use Rattle.rcu_numbers.specs.declared.sequence.TheConstants.{GREATEST_NUMBER};
 ghost use Rattle.rcu_world.specs.Boards.{mask_of};
 
 use rcu_numbers::{BoardWord, all_processors, ended};

@@ -1,6 +1,8 @@
 //! The calls of control: `shut` and `barrier` (docs/specification/rules.md, "On the core").
 
-ghost use Rattle.std.specs.Prelude.{◌≡◌, ◌<◌, ◌≤◌, ℕ, length, IfOk, OnOk, OnErr, Option, None, Some};
+ghost use Rattle.rcu_law.specs.Events.{is_enabled};
+ghost use Rattle.rcu_law.specs.Events.CoreEvent.{Shut};
+ghost use Rattle.std.specs.Prelude.{◌≡◌, ◌<◌, ◌≤◌, ℕ, true, length, IfOk, OnOk, OnErr, Option, None, Some};
 ghost use Rattle.rcu_world.specs.Turns.{AreCounts, IsAtRest, IsBarrierAnswer, Leads, barrier_events, barrier_fault, counts_for, shuts, ticket_fault, upto};
 ghost use Rattle.rcu_world.specs.Views.{state};
 ghost use Rattle.rcu_world.specs.Worlds.{IsWorld};
@@ -24,13 +26,18 @@ impl<J: Job> World<J> {
         counts
     }
 
-    /// Shuts all processors: their final counts. On an error those before the one that was refused are shut.
+    /// Shuts all processors: their final counts.
+    ///
+    /// # Errors
+    ///
+    /// Want of memory, at a processor that isn't shut yet. Those before it are shut.
     pub fn shut(&mut self) -> Result<Counts, AllocError>
         requires world { IsWorld J.key_of J.gives self.old.core }
         requires rest { IsAtRest (state J.key_of self.old.core) }
         ensures events { OnOk result (Leads (state J.key_of self.old.core) (upto shuts (length (state J.key_of self.old.core).cpus) (state J.key_of self.old.core)) (state J.key_of self.new.core)) }
         ensures counts { IfOk result (λ counts. AreCounts (state J.key_of self.new.core) counts.n counts.counts) }
         ensures err { OnErr result ((n : ℕ) × Leads (state J.key_of self.old.core) (upto shuts n (state J.key_of self.old.core)) (state J.key_of self.new.core)) }
+        ensures err_enabled { OnErr result ((cpu : ℕ) × (is_enabled (state J.key_of self.new.core) (Shut cpu) ≡ true)) }
         ensures rest { IsAtRest (state J.key_of self.new.core) }
         ensures len { length (state J.key_of self.new.core).cpus ≡ length (state J.key_of self.old.core).cpus }
         ensures kept { IsWorld J.key_of J.gives self.new.core }

@@ -4,6 +4,7 @@ ghost use Rattle.std.specs.Prelude.{◌≡◌, IfOk};
 ghost use Rattle.rcu_law.specs.States.{opening};
 ghost use Rattle.rcu_world.specs.Worlds.{IsFit, plan};
 ghost use Rattle.rcu_world.specs.Events.{Answers};
+ghost use Rattle.rcu_world.specs.Ready.{LeavesRoom, UsesRoom};
 ghost use Rattle.rcu_world.specs.Views.{state, AllGiven};
 
 use crate::barriers::Barring;
@@ -42,6 +43,8 @@ impl<J: Job> Core<J, J::Receipt> {
         requires fit { IsFit (state J.key_of self.old) }
         requires given { AllGiven J.gives self.old }
         ensures answers { Answers J.key_of (state J.key_of self.old) event result (state J.key_of self.new) }
+        ensures ready { LeavesRoom event result self.new }
+        ensures sure { UsesRoom self.old event result }
         ensures given { AllGiven J.gives self.old → AllGiven J.gives self.new }
     {
         match event {

@@ -1,6 +1,8 @@
 //! The poll of a barrier (docs/specification/rules.md, "On the core").
 
 ghost use Rattle.std.specs.Prelude.{◌≡◌, ◌<◌, ◌≤◌, ◌++◌, ◌∷◌, [], ℕ, true, false, length, IfOk, OnOk, OnErr};
+ghost use Rattle.rcu_law.specs.Events.{is_enabled};
+ghost use Rattle.rcu_law.specs.Events.CoreEvent.{Pass};
 ghost use Rattle.rcu_law.specs.States.{barrier_at, count_at, is_open};
 ghost use Rattle.rcu_law.specs.Lists.{value_or};
 ghost use Rattle.rcu_world.specs.Polls.{HasKept, IsPollAnswer, is_seen, poll_events, turns_for};
@@ -64,13 +66,14 @@ impl<J: Job> World<J> {
     ///
     /// # Errors
     ///
-    /// Want of memory, from `Pass` alone. The barrier stays open.
+    /// Want of memory, from `Pass` alone, where each turn was seen to have come as far as its count. The barrier stays open.
     pub fn poll(&mut self, barrier: u64) -> Result<Option<Passed>, AllocError>
         requires world { IsWorld J.key_of J.gives self.old.core }
         requires rest { IsAtRest (state J.key_of self.old.core) }
         ensures events { OnOk result (Leads (state J.key_of self.old.core) (poll_events barrier (length (state J.key_of self.old.core).cpus) (state J.key_of self.old.core)) (state J.key_of self.new.core)) }
         ensures answer { IfOk result (IsPollAnswer (state J.key_of self.old.core) barrier (state J.key_of self.new.core)) }
         ensures err { OnErr result (Leads (state J.key_of self.old.core) (upto (turns_for barrier) (length (state J.key_of self.old.core).cpus) (state J.key_of self.old.core)) (state J.key_of self.new.core)) }
+        ensures err_enabled { OnErr result (is_enabled (state J.key_of self.new.core) (Pass barrier) ≡ true) }
         ensures rest { IsAtRest (state J.key_of self.new.core) }
         ensures len { length (state J.key_of self.new.core).cpus ≡ length (state J.key_of self.old.core).cpus }
         ensures kept { IsWorld J.key_of J.gives self.new.core }

@@ -25,6 +25,7 @@ impl<J: Job> World<J> {
         ensures enabled { IfOk result (λ done. done ≡ is_enabled (state J.key_of self.old.core) (core_event J.key_of true event)) }
         ensures err { OnErr result (state J.key_of self.new.core ≡ state J.key_of self.old.core) }
         ensures err_enabled { OnErr result (is_enabled (state J.key_of self.old.core) (core_event J.key_of true event) ≡ true) }
+        ensures err_room { OnErr result (needs_room (state J.key_of self.old.core) event ≡ true) }
         ensures room { needs_room (state J.key_of self.old.core) event ≡ false → IsOk result }
         ensures rest { keeps_rest (core_event J.key_of true event) ≡ true → IsAtRest (state J.key_of self.old.core) → IsAtRest (state J.key_of self.new.core) }
         ensures len { length (state J.key_of self.new.core).cpus ≡ length (state J.key_of self.old.core).cpus }
@@ -57,6 +58,10 @@ impl<J: Job> World<J> {
     }
 
     /// A processor reports a quiescent state: the number of the grace period that counts it, or None.
+    ///
+    /// # Errors
+    ///
+    /// Want of memory, only where the processor owed its report.
     pub fn quiescent(&mut self, cpu: u64) -> Result<Option<u64>, AllocError>
         requires world { IsWorld J.key_of J.gives self.old.core }
         requires there { cpu < length (state J.key_of self.old.core).cpus }
@@ -64,6 +69,7 @@ impl<J: Job> World<J> {
         ensures events { OnOk result (Leads (state J.key_of self.old.core) (Report cpu ∷ []) (state J.key_of self.new.core)) }
         ensures number { IfOk result (λ counted. counted ≡ (if owes (state J.key_of self.old.core) cpu then Some (state J.key_of self.old.core).number else None)) }
         ensures err { OnErr result (state J.key_of self.new.core ≡ state J.key_of self.old.core) }
+        ensures err_owes { OnErr result (owes (state J.key_of self.old.core) cpu ≡ true) }
         ensures rest { IsAtRest (state J.key_of self.new.core) }
         ensures len { length (state J.key_of self.new.core).cpus ≡ length (state J.key_of self.old.core).cpus }
         ensures kept { IsWorld J.key_of J.gives self.new.core }

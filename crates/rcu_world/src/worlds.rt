@@ -3,8 +3,9 @@
 ghost use Rattle.std.specs.Prelude.{◌≡◌, ℕ, length, true, IfOk, IfErr, None};
 ghost use Rattle.rcu_law.specs.Law.{IsClosed, IsLawful};
 ghost use Rattle.rcu_law.specs.Closing.{closing};
-ghost use Rattle.rcu_world.specs.Leaving.{AreHandedBack, AreRecorded, AreReported};
+ghost use Rattle.rcu_world.specs.Leaving.{AreHandedBack, AreRecorded, AreReported, AreRunsOf};
 ghost use Rattle.rcu_world.specs.Events.{Answers, Runs};
+ghost use Rattle.rcu_world.specs.Ready.{LeavesRoom, UsesRoom};
 ghost use Rattle.rcu_world.specs.Turns.{IsAtRest};
 ghost use Rattle.rcu_world.specs.Views.{state};
 ghost use Rattle.rcu_world.specs.Worlds.{IsWorld, plan};
@@ -37,29 +38,28 @@ impl<J: Job> World<J> {
         Ok(World { core })
     }
 
-    /// One event. An event that isn't enabled changes nothing, nor does one that finds no room.
+    /// One event. An event that isn't enabled changes nothing, nor does one that finds no room. A Stamp that follows directly
+    /// on a done Accept has its room (docs/specification/surface.md, "rcu_world").
     pub fn step(&mut self, event: Event<J>) -> Answer<J>
         requires { IsWorld J.key_of J.gives self.old.core }
         ensures step { Answers J.key_of (state J.key_of self.old.core) event result (state J.key_of self.new.core) }
         // While a processor is Offloaded it runs nothing itself.
         ensures offloaded { (cpu : ℕ) → is_offloaded (cpu_at (state J.key_of self.old.core) cpu).mode ≡ true → event ≡ events.Claim cpu Local → result ≡ answers.Skipped None }
+        ensures ready { LeavesRoom event result self.new.core }
+        ensures sure { UsesRoom self.old.core event result }
         ensures kept { IsWorld J.key_of J.gives self.new.core }
     {
         self.core.apply(event)
     }
 
     /// All the events, in order. On an error nothing happened, and they come back.
-    pub fn run(
-        &mut self,
-        alloc: Global,
-        events: Vec<Event<J>>,
-    ) -> Result<Vec<Answer<J>>, Vec<Event<J>>>
+    pub fn run(&mut self, events: Vec<Event<J>>) -> Result<Vec<Answer<J>>, Vec<Event<J>>>
         requires { IsWorld J.key_of J.gives self.old.core }
         ensures ok { IfOk result (λ answers. Runs J.key_of (state J.key_of self.old.core) events.items answers.items (state J.key_of self.new.core)) }
         ensures err { IfErr result (λ back. (back ≡ events) × (self.new ≡ self.old)) }
         ensures kept { IsWorld J.key_of J.gives self.new.core }
     {
-        let mut answers = Vec::new(alloc);
+        let mut answers = Vec::new(self.core.alloc);
         match answers.reserve(events.len()) {
             Err(_) => return Err(events),
             Ok(()) => {}
@@ -87,6 +87,7 @@ impl<J: Job> World<J> {
         ensures marks { IfOk result (λ r. r.0.items ≡ closing (state J.key_of self.core)) }
         ensures closed { IfOk result (λ r. IsClosed (length (state J.key_of self.core).cpus) r.0.items) }
         ensures ran { IfOk result (λ r. AreRecorded J.gives (length (state J.key_of self.core).cpus) r.0.items r.1.ran.items) }
+        ensures runs { IfOk result (λ r. AreRunsOf (state J.key_of self.core) r.1.ran.items) }
         ensures back { IfOk result (λ r. AreHandedBack J.key_of (length (state J.key_of self.core).cpus) r.0.items r.1.back.items) }
         ensures reports { IfOk result (λ r. AreReported (length (state J.key_of self.core).cpus) r.0.items r.1.reports.items) }
         ensures err { IfErr result (λ back. back ≡ self) }

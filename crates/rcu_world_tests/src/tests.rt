@@ -1,7 +1,7 @@
 ghost use Rattle.std.specs.Prelude.{◌≡◌, ◌%◌};
 
 use rcu_jobs::{
-    BarrierFault, BoxedJob, DriverTurn, Lists, Mode, Stop, SwitchFault, Ticked, Ticket,
+    BarrierFault, BoxedJob, DriverTurn, Job, Lists, Mode, Stop, SwitchFault, Ticked, Ticket,
 };
 use rcu_law::marks::Mark;
 use rcu_law::who::{Side, Who};
@@ -45,7 +45,8 @@ fn boxed_jobs_run(rt: HostRuntime) -> Result<(), Fail> {
         cpu: 0,
         by: Side::Local,
     })?;
-    let answers = world.run(rt.alloc(), events).ok().ok_or("no room")?;
+    let answers = world.run(events).ok().ok_or("no room")?;
+    assert!(rt; !world.is_at_rest());
     assert_eq!(rt; answers.len(), 9);
     for answer in &answers {
         assert!(rt; matches!(answer, Answer::Done));
@@ -70,6 +71,7 @@ fn boxed_jobs_run(rt: HostRuntime) -> Result<(), Fail> {
 fn first_run(rt: HostRuntime) -> Result<(), Fail> {
     let shape = Shape::new(1, 0, 1, 10, 100, 10).ok_or("no shape")?;
     let mut world = World::new(rt.alloc(), shape)?;
+    assert!(rt; world.is_at_rest());
     let job = boxed(&rt, 65537)?;
     let ticket = world.call_rcu(0, 0, job).ok().ok_or("refused")?;
     assert_eq!(rt; ticket, Ticket { cpu: 0, number: 0 });
@@ -86,6 +88,7 @@ fn first_run(rt: HostRuntime) -> Result<(), Fail> {
         }
     );
     assert_eq!(rt; world.history().len(), 3);
+    assert!(rt; world.is_at_rest());
     Ok(())
 }
 
@@ -118,28 +121,30 @@ fn two_generations(rt: HostRuntime) -> Result<(), Fail> {
     Ok(())
 }
 
-// The row `barrier-tickets`, and the counts of `shut`.
+// The row `barrier-tickets`, with three accepted, and the counts of `shut`.
 #[test]
 fn barrier_tickets(rt: HostRuntime) -> Result<(), Fail> {
     let shape = Shape::new(1, 1, 1, 10, 100, 10).ok_or("no shape")?;
     let mut world = World::new(rt.alloc(), shape)?;
-    let job = boxed(&rt, 65536)?;
-    assert!(rt; world.call_rcu(0, 5, job).is_ok());
-    let early = [Ticket { cpu: 0, number: 1 }];
+    let (first, second, third) = (boxed(&rt, 0)?, boxed(&rt, 1)?, boxed(&rt, 2)?);
+    assert!(rt; world.call_rcu(0, 5, first).is_ok());
+    assert!(rt; world.call_rcu(0, 5, second).is_ok());
+    assert!(rt; world.call_rcu(0, 5, third).is_ok());
+    let early = [Ticket { cpu: 0, number: 3 }];
     assert_eq!(rt;
         world.barrier(None, &early),
-        Err(BarrierFault::Ahead { cpu: 0, count: 1 })
+        Err(BarrierFault::Ahead { cpu: 0, count: 3 })
     );
     let elsewhere = [Ticket { cpu: 1, number: 0 }];
     assert_eq!(rt;
         world.barrier(Some(0), &elsewhere),
         Err(BarrierFault::NoProcessor(1))
     );
-    assert_eq!(rt; world.barrier(None, &[Ticket { cpu: 0, number: 0 }]), Ok(0));
+    assert_eq!(rt; world.barrier(None, &[Ticket { cpu: 0, number: 2 }]), Ok(0));
     assert_eq!(rt; world.offload(1), Err(SwitchFault::NoProcessor(1)));
     assert_eq!(rt; world.deoffload(0), Ok(()));
     let counts = world.shut()?;
-    assert_eq!(rt; counts.of_processors().first().ok_or("no count")?, &1);
+    assert_eq!(rt; counts.of_processors().first().ok_or("no count")?, &3);
     Ok(())
 }
 
@@ -192,20 +197,38 @@ fn push_grace_period(events: &mut Vec<Event<BoxedJob<KEY>>>, who: Who) -> Result
     Ok(())
 }
 
-// The row `turn-word-claims` on the core: the hand claims number 0, and the processor number 1 once that has run.
-#[test]
-fn turn_word_claims(rt: HostRuntime) -> Result<(), Fail> {
-    let shape = Shape::new(1, 1, 1, 5, 100, 10).ok_or("no shape")?;
-    let mut world = World::new(rt.alloc(), shape)?;
-    let mut events = Vec::new(rt.alloc());
-    let (first, second) = (boxed(&rt, 0)?, boxed(&rt, 1)?);
-    push_call(&mut events, first)?;
+// A callback that its group has and that waits for no grace period any more, on its way to the hand.
+fn push_given(events: &mut Vec<Event<BoxedJob<KEY>>>, job: BoxedJob<KEY>) -> Result<(), Fail> {
+    push_call(events, job)?;
     events.push(Event::Draw { cpu: 0 })?;
     events.push(Event::Join { cpu: 0 })?;
     events.push(Event::LookGroup { group: 0 })?;
-    push_grace_period(&mut events, Who::Group(0))?;
+    push_grace_period(events, Who::Group(0))?;
     events.push(Event::LookGroup { group: 0 })?;
     events.push(Event::Give { cpu: 0 })?;
+    Ok(())
+}
+
+// Five callbacks that the hand runs.
+fn five_runs(rt: &HostRuntime) -> Result<Vec<Event<BoxedJob<KEY>>>, Fail> {
+    let mut events = Vec::new(rt.alloc());
+    let by = Side::Hand;
+    for key in 0..5u64 {
+        let job = boxed(rt, key)?;
+        push_given(&mut events, job)?;
+        events.push(Event::LookHand { cpu: 0 })?;
+        events.push(Event::Fetch { cpu: 0 })?;
+        events.push(Event::Claim { cpu: 0, by })?;
+        events.push(Event::Finish { cpu: 0, by })?;
+    }
+    Ok(events)
+}
+
+// Callback 5 is with the hand, and callback 6 is done in the processor's own list.
+fn two_ready(rt: &HostRuntime) -> Result<Vec<Event<BoxedJob<KEY>>>, Fail> {
+    let mut events = Vec::new(rt.alloc());
+    let (first, second) = (boxed(rt, 5)?, boxed(rt, 6)?);
+    push_given(&mut events, first)?;
     events.push(Event::Ask { cpu: 0, on: false })?;
     events.push(Event::Heed { cpu: 0 })?;
     push_call(&mut events, second)?;
@@ -214,31 +237,97 @@ fn turn_word_claims(rt: HostRuntime) -> Result<(), Fail> {
     events.push(Event::Look { cpu: 0 })?;
     events.push(Event::LookHand { cpu: 0 })?;
     events.push(Event::Fetch { cpu: 0 })?;
-    let made = events.len();
-    for (on_hand, by) in [
-        (true, Side::Hand),
-        (false, Side::Local),
-        (true, Side::Local),
-    ] {
-        events.push(Event::Claim { cpu: 0, by })?;
-        if on_hand {
-            continue;
-        }
-        events.push(Event::Finish {
-            cpu: 0,
-            by: Side::Hand,
-        })?;
-    }
-    let answers = world.run(rt.alloc(), events).ok().ok_or("no room")?;
-    let mut won = answers
-        .iter()
-        .skip(made)
-        .map(|answer| matches!(answer, Answer::Done));
-    assert!(rt; won.eq([true, false, true, true]));
+    Ok(events)
+}
+
+// The hand claims 5, the processor claims 6, the hand finishes, the processor claims 6 and finishes.
+fn two_sides(rt: &HostRuntime) -> Result<Vec<Event<BoxedJob<KEY>>>, Fail> {
+    let mut events = Vec::new(rt.alloc());
+    let (own, hand) = (Side::Local, Side::Hand);
+    events.push(Event::Claim { cpu: 0, by: hand })?;
+    events.push(Event::Claim { cpu: 0, by: own })?;
+    events.push(Event::Finish { cpu: 0, by: hand })?;
+    events.push(Event::Claim { cpu: 0, by: own })?;
+    events.push(Event::Finish { cpu: 0, by: own })?;
+    Ok(events)
+}
+
+// The row `turn-word-claims` on the core, after five callbacks ran: the claim that isn't won is skipped.
+#[test]
+fn turn_word_claims(rt: HostRuntime) -> Result<(), Fail> {
+    let shape = Shape::new(1, 1, 1, 5, 100, 10).ok_or("no shape")?;
+    let mut world = World::new(rt.alloc(), shape)?;
+    let before = five_runs(&rt)?;
+    assert!(rt; world.run(before).is_ok());
+    let ready = two_ready(&rt)?;
+    assert!(rt; world.run(ready).is_ok());
+    assert_eq!(rt; ran_in(world.history()), 5);
+    let sides = two_sides(&rt)?;
+    let answers = world.run(sides).ok().ok_or("no room")?;
+    let won = answers.iter().map(|answer| matches!(answer, Answer::Done));
+    assert!(rt; won.eq([true, false, true, true, true]));
     let Ok((_marks, closed)) = world.close() else {
         return Err(Fail::from("no room"));
     };
     let ran = closed.ran.first().ok_or("no processor")?;
-    assert!(rt; ran.iter().map(|record| record.number).eq(0..2u64));
+    assert!(rt; ran.iter().map(|record| record.number).eq(0..7u64));
+    Ok(())
+}
+
+// How many callbacks ran.
+fn ran_in(history: &[Mark]) -> usize {
+    history
+        .iter()
+        .filter(|mark| matches!(mark, Mark::Ran(..)))
+        .count()
+}
+
+// What `lists` shows of a processor whose bypass list is empty.
+fn shown(mode: Mode, accepted: u64, lengths: [u64; 4], numbers: [u64; 2]) -> Lists {
+    Lists::Cpu {
+        mode,
+        accepted,
+        bypass: 0,
+        lengths,
+        numbers,
+    }
+}
+
+// The row `switch-and-pour`: what waits in the own list is poured, and the four jobs come back in order.
+#[test]
+fn switch_and_pour(rt: HostRuntime) -> Result<(), Fail> {
+    let shape = Shape::new(1, 1, 1, 1, 100, 10).ok_or("no shape")?;
+    let mut world = World::new(rt.alloc(), shape)?;
+    let (job0, job1, job2) = (boxed(&rt, 0)?, boxed(&rt, 1)?, boxed(&rt, 2)?);
+    let (job3, job4, job5) = (boxed(&rt, 3)?, boxed(&rt, 4)?, boxed(&rt, 5)?);
+    assert_eq!(rt; world.deoffload(0), Ok(()));
+    assert_eq!(rt; world.tick(0, 0)?.ran, 0);
+    assert!(rt; world.call_rcu(0, 0, job0).is_ok());
+    assert!(rt; world.call_rcu(0, 0, job1).is_ok());
+    assert!(rt; world.call_rcu(0, 0, job2).is_ok());
+    assert_eq!(rt; world.tick(0, 0)?.ran, 0);
+    assert_eq!(rt; world.driver_turn()?, DriverTurn::Started(1));
+    assert!(rt; world.call_rcu(0, 0, job3).is_ok());
+    assert_eq!(rt; world.tick(0, 0)?.ran, 0);
+    assert_eq!(rt; world.quiescent(0)?, Some(1));
+    assert_eq!(rt; world.driver_turn()?, DriverTurn::Ended(4));
+    assert_eq!(rt; world.tick(0, 0)?.ran, 1);
+    assert_eq!(rt; world.driver_turn()?, DriverTurn::Started(5));
+    assert!(rt; world.call_rcu(0, 0, job4).is_ok());
+    assert_eq!(rt; world.tick(0, 0)?.ran, 1);
+    assert!(rt; world.call_rcu(0, 0, job5).is_ok());
+    assert_eq!(rt; world.lists(0), shown(Mode::Local, 6, [1; 4], [8, 12]));
+    assert_eq!(rt; world.offload(0), Ok(()));
+    assert_eq!(rt; world.tick(0, 0)?.ran, 0);
+    if !world.has_group(0) {
+        return Err(Fail::from("no group"));
+    }
+    assert_eq!(rt; world.group_turn(0)?.took, 4);
+    assert_eq!(rt; world.lists(0), shown(Mode::Offloaded, 6, [0; 4], [0; 2]));
+    let Ok((_marks, closed)) = world.close() else {
+        return Err(Fail::from("no room"));
+    };
+    let back = closed.back.first().ok_or("no processor")?;
+    assert!(rt; back.iter().map(|job| job.key()).eq(2..6u64));
     Ok(())
 }

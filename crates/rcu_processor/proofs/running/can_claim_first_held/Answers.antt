@@ -1,6 +1,6 @@
 use Rattle.std.proofs.Common.{◌≡◌, ◌≤◌, ◌∙◌, ◌&&◌, ◌%◌, ap, subst, sym}
 use Rattle.std.specs.Prelude.{◌==◌}
-use Rattle.rcu_law.specs.Numbers.{GREATEST_NUMBER}
+use Rattle.rcu_numbers.specs.declared.sequence.TheConstants.{GREATEST_NUMBER}
 use Rattle.rcu_law.specs.Steps.{can_claim_held, front}
 use Rattle.rcu_processor.specs.Waits.{call, calls}
 use Rattle.rcu_processor.proofs.Claims.{held_even, held_not}

@@ -1,6 +1,6 @@
 use Rattle.std.proofs.Common.{◌≡◌, ◌≤◌, ◌∙◌, ap, sym, subst, cond, Some, None}
 use Rattle.rcu_law.specs.LabelledLists.{MayAccelerate, advance, newest, wanted_by_look}
-use Rattle.rcu_law.specs.Numbers.{snap}
+use Rattle.rcu_numbers.specs.Numbers.{snap_of}
 use Rattle.rcu_lists.specs.Segments.{labelled}
 use Rattle.rcu_lists.proofs.Counts.{well-formed}
 use Rattle.rcu_processor.specs.Waits.{waits, waiting}
@@ -16,7 +16,7 @@ pub accelerate-requires : goal.accelerate-requires
 accelerate-requires g c =
     let ws = waiting g.J.Job.key_of c.args.list.now in
     let e : waiting g.J.Job.key_of c.advance.new.self ≡ advance c.args.number ws = ap (waits g.J.Job.key_of) c.advance.ensures.list ∙ advance_as g.J.Job.key_of c.args.number (labelled c.args.list.now) in
-    let a : c.snap-aim.result ≡ snap (newest c.args.number (advance c.args.number ws)) = c.snap-aim.ensures.value ∙ ap snap (c.newest_in.ensures ∙ ap (newest c.args.number) e) in
+    let a : c.snap-aim.result ≡ snap_of (newest c.args.number (advance c.args.number ws)) = c.snap-aim.ensures.value ∙ ap snap_of (c.newest_in.ensures ∙ ap (newest c.args.number) e) in
     may_as g.J.Job.key_of c.snap-aim.result (labelled c.advance.new.self)
     (subst (MayAccelerate c.snap-aim.result) (sym e) (subst (λ z. MayAccelerate z (advance c.args.number ws)) (sym a) c.requires.may))
 

@@ -72,7 +72,7 @@ pub accept-requires-send-J-Receipt : goal.accept-requires-send-J-Receipt
 accept-requires-send-J-Receipt g c κs within = c.type_bounds.send-J-Receipt
 
 pub accept-requires-after_bounds : goal.accept-requires-after_bounds
-accept-requires-after_bounds g c κs within = (processor_fits (param 0 g.row.J) (param 1 g.row.J-Receipt) assumption, accepted_fits g.J.Job.key_of c.args.self.now c.args.cpu c.index_mut-p.result.now c.reserve-2.new.self c.requires.core (omega arith) c.index_mut-p.ensures.value (sym c.can_accept.ensures ∙ c.if-not-can_accept.false) c.reserve-2.ensures.same)
+accept-requires-after_bounds g c κs within = (processor_fits (param 0 g.row.J) (param 1 g.row.J-Receipt) assumption, accepted_fits g.J.Job.key_of c.args.self.now c.args.cpu c.index_mut-p.result.now c.reserve-2.new.self c.requires (omega arith) c.index_mut-p.ensures.value (sym c.can_accept.ensures ∙ c.if-not-can_accept.false) c.reserve-2.ensures.same)
 
 pub returns-then-i-len-clause-ready : goal.returns-then-i-len-clause-ready
 returns-then-i-len-clause-ready g c = λ d. never d

@@ -1,6 +1,6 @@
 use Rattle.std.proofs.Common.{◌∙◌, ◌<◌, subst, sym}
 use Rattle.std.proofs.lemmas.Bool.{and_parts, ltb-true}
-use Rattle.rcu_law.specs.Numbers.{GREATEST_NUMBER}
+use Rattle.rcu_numbers.specs.declared.sequence.TheConstants.{GREATEST_NUMBER}
 use Rattle.rcu_world.proofs.boarding.Core+J+J+Receipt.start.Goals as goal
 
 pub start-requires : goal.start-requires

@@ -40,7 +40,7 @@ claim-requires-send-J-Receipt g c κs within = c.type_bounds.send-J-Receipt
 
 pub claim-requires-after_bounds : goal.claim-requires-after_bounds
 claim-requires-after_bounds g c κs within =
-    let t = fits_at g.J.Job.key_of c.args.self.now c.args.cpu c.index_mut-p.result.now c.requires.core (omega arith) c.index_mut-p.ensures.value in
+    let t = fits_at g.J.Job.key_of c.args.self.now c.args.cpu c.index_mut-p.result.now c.requires (omega arith) c.index_mut-p.ensures.value in
     (processor_fits (param 0 g.row.J) (param 1 g.row.J-Receipt) assumption, (sym c.can_claim.ensures ∙ c.if-not-can_claim.false, turn_small t.0))
 
 pub returns-then-i-len-clause-answers : goal.returns-then-i-len-clause-answers

@@ -1,4 +1,6 @@
 -- each event is one call, which asks what `apply` asks
+use Rattle.std.proofs.Common.{subst, sym}
+use Rattle.rcu_world.specs.Ready.{LeavesRoom}
 use Rattle.rcu_world.proofs.cores.Core+J+J+Receipt.apply.Goals as goal
 
 pub accept-requires-send-J : goal.accept-requires-send-J
@@ -243,3 +245,6 @@ need_group-requires-send-J-Receipt g c κs within = c.type_bounds.send-J-Receipt
 
 pub need_group-requires-after_bounds : goal.need_group-requires-after_bounds
 need_group-requires-after_bounds g c κs within = (assumption, c.requires.fit)
+
+pub returns-in-Accept-clause-ready : goal.returns-in-Accept-clause-ready
+returns-in-Accept-clause-ready g c = subst (λ e. LeavesRoom e c.accept.result c.accept.new.self) (sym c.in-Accept.is) c.accept.ensures.ready

@@ -69,6 +69,9 @@ returns-clause-err g c = c.in-Memory.ensures.step.1
 pub returns-clause-err_enabled : goal.returns-clause-err_enabled
 returns-clause-err_enabled g c = c.in-Memory.ensures.step.0
 
+pub returns-clause-err_room : goal.returns-clause-err_room
+returns-clause-err_room g c = c.in-Memory.ensures.step.3
+
 pub returns-clause-room : goal.returns-clause-room
 returns-clause-room g c = λ n. sym n ∙ c.in-Memory.ensures.step.3
 

@@ -5,7 +5,7 @@ use Rattle.rcu_law.proofs.Closing.{closed}
 use Rattle.rcu_world.specs.Leaving.{AreHandedBack, AreRecorded, AreReported}
 use Rattle.rcu_processor.specs.Views.{seen}
 use Rattle.rcu_world.specs.Views.{state, all_seen}
-use Rattle.rcu_world.proofs.Settling.{handed_back, recorded}
+use Rattle.rcu_world.proofs.Settling.{handed_back, recorded, runs_of}
 use denote.Param.{param}
 use Rattle.rcu_world.proofs.Fitting.{core_fits}
 use Rattle.rcu_world.proofs.worlds.World.close.Goals as goal
@@ -17,6 +17,9 @@ returns-in-Ok-clause-closed g c = subst (IsClosed (length (all_seen g.J.Job.key_
 pub returns-in-Ok-clause-ran : goal.returns-in-Ok-clause-ran
 returns-in-Ok-clause-ran g c = subst (λ h. AreRecorded g.J.Job.gives (length (all_seen g.J.Job.key_of c.args.self.core.processors.items)) h c.into_closed.result.1.ran.items) (sym c.into_closed.ensures.marks)
     (recorded g.J.Job.key_of c.args.self.core c.requires.fit.core g.J.Job.gives c.requires.given c.into_closed.result.1.ran.items c.into_closed.ensures.ran)
+
+pub returns-in-Ok-clause-runs : goal.returns-in-Ok-clause-runs
+returns-in-Ok-clause-runs g c = runs_of g.J.Job.key_of c.args.self.core c.requires.fit.core c.into_closed.result.1.ran.items c.into_closed.ensures.ran
 
 pub returns-in-Ok-clause-back : goal.returns-in-Ok-clause-back
 returns-in-Ok-clause-back g c = subst (λ h. AreHandedBack g.J.Job.key_of (length (all_seen g.J.Job.key_of c.args.self.core.processors.items)) h c.into_closed.result.1.back.items) (sym c.into_closed.ensures.marks)

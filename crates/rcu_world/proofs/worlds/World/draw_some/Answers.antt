@@ -44,14 +44,14 @@ pub overflow_add-took : goal.overflow_add-took
 overflow_add-took g c =
     let l : c.args.cpu < length c.perform.new.self.core.processors.items = subst (λ n. c.args.cpu < n) (sym c.perform.ensures.len ∙ length-map c.perform.new.self.core.processors.items (seen g.J.Job.key_of)) c.loop-batch.invariant.there in
     let s = seen_there g.J.Job.key_of c.perform.new.self.core c.args.cpu c.index.result.now l c.index.ensures in
-    let f = few_drawn (state g.J.Job.key_of c.perform.new.self.core) c.args.cpu c.perform.ensures.kept.fit.core (subst (λ n. c.args.cpu < n) (sym c.perform.ensures.len) c.loop-batch.invariant.there) in
+    let f = few_drawn (state g.J.Job.key_of c.perform.new.self.core) c.args.cpu c.perform.ensures.kept.fit (subst (λ n. c.args.cpu < n) (sym c.perform.ensures.len) c.loop-batch.invariant.there) in
     omega (arith, c.loop-batch.invariant.most, f, c.drawn_len-drawn.ensures ∙ ap {A = Cpu} (λ x. length x.drawn) s)
 
 pub returns-then-not-join-clause-most : goal.returns-then-not-join-clause-most
 returns-then-not-join-clause-most g c =
     let l : c.args.cpu < length c.perform.new.self.core.processors.items = subst (λ n. c.args.cpu < n) (sym c.perform.ensures.len ∙ length-map c.perform.new.self.core.processors.items (seen g.J.Job.key_of)) c.loop-batch.invariant.there in
     let s = seen_there g.J.Job.key_of c.perform.new.self.core c.args.cpu c.index.result.now l c.index.ensures in
-    let f = few_drawn (state g.J.Job.key_of c.perform.new.self.core) c.args.cpu c.perform.ensures.kept.fit.core (subst (λ n. c.args.cpu < n) (sym c.perform.ensures.len) c.loop-batch.invariant.there) in
+    let f = few_drawn (state g.J.Job.key_of c.perform.new.self.core) c.args.cpu c.perform.ensures.kept.fit (subst (λ n. c.args.cpu < n) (sym c.perform.ensures.len) c.loop-batch.invariant.there) in
     omega (arith, c.loop-batch.invariant.most, f, c.drawn_len-drawn.ensures ∙ ap {A = Cpu} (λ x. length x.drawn) s)
 
 pub loop-batch-preserved : goal.loop-batch-preserved
@@ -60,7 +60,7 @@ loop-batch-preserved g c =
     let l : c.args.cpu < length c.perform.new.self.core.processors.items = subst (λ n. c.args.cpu < n) (sym c.perform.ensures.len ∙ length-map c.perform.new.self.core.processors.items (seen g.J.Job.key_of)) i.there in
     let s = seen_there g.J.Job.key_of c.perform.new.self.core c.args.cpu c.index.result.now l c.index.ensures in
     let d = c.drawn_len-drawn.ensures ∙ ap {A = Cpu} (λ x. length x.drawn) s in
-    let f = few_drawn (state g.J.Job.key_of c.perform.new.self.core) c.args.cpu c.perform.ensures.kept.fit.core (subst (λ n. c.args.cpu < n) (sym c.perform.ensures.len) i.there) in
+    let f = few_drawn (state g.J.Job.key_of c.perform.new.self.core) c.args.cpu c.perform.ensures.kept.fit (subst (λ n. c.args.cpu < n) (sym c.perform.ensures.len) i.there) in
     record {
       drawn = drawn_one c.args.cpu c.loop-batch.batch _ _ _ _ c.loop-batch.took c.drawn_len-drawn.result (omega arith) i.there i.drawn (sym c.perform.ensures.enabled ∙ c.if-not-perform.false) c.perform.ensures.leads.1
           (joins_where c.args.cpu c.join.result _ _ c.if-not-join.false c.join.ensures.leads) d;

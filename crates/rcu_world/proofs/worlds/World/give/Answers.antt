@@ -28,7 +28,7 @@ returns-in-Ok-true-clause-events g c = gives_made c.args.group c.args.cpu _ _ _ 
 pub returns-in-Ok-true-clause-most : goal.returns-in-Ok-true-clause-most
 returns-in-Ok-true-clause-most g c =
     let s = seen_there g.J.Job.key_of c.args.self.now.core c.args.cpu c.index.result.now (subst (λ n. c.args.cpu < n) (length-map c.args.self.now.core.processors.items (seen g.J.Job.key_of)) c.requires.there) c.index.ensures in
-    let f = few_given (state g.J.Job.key_of c.args.self.now.core) c.args.cpu c.requires.world.fit.core c.requires.there in
+    let f = few_given (state g.J.Job.key_of c.args.self.now.core) c.args.cpu c.requires.world.fit c.requires.there in
     omega (arith, f, c.given_len-ready.ensures ∙ ap (λ x. length (given c.args.self.now.core.blimit x)) s)
 
 pub returns-in-Ok-false-clause-events : goal.returns-in-Ok-false-clause-events

@@ -1,5 +1,7 @@
-use Rattle.std.proofs.Common.{◌∙◌, ap, sym, refl, length, ◌++◌, ◌∷◌, []}
+use Rattle.std.proofs.Common.{◌∙◌, ◌≡◌, true, ap, sym, refl, length, ◌++◌, ◌∷◌, []}
+use Rattle.rcu_law.specs.Events.{is_enabled}
 use Rattle.rcu_law.specs.Events.CoreEvent.{Pass}
+use Rattle.rcu_world.proofs.Wholes.{on_err}
 use Rattle.rcu_law.specs.declared.marks.Mark.TheVariants.{Passed}
 use Rattle.rcu_world.specs.Polls.{turns_for}
 use Rattle.rcu_world.specs.Turns.{upto, where_enabled}
@@ -21,6 +23,10 @@ returns-clause-answer g c =
       passed_marks _ _ c.args.barrier h l ∙ ap (λ x. x ++ Passed c.args.barrier ∷ []) c.see_all.ensures.history,
       passed_counts _ _ c.args.barrier c.kept_counts-counts.result.n c.kept_counts-counts.result.counts c.in_ok-attempt.ensures.kept.fit.core h l c.kept_counts-counts.ensures.all c.kept_counts-counts.ensures.each,
     )
+
+pub returns-in_err-attempt-clause-err_enabled : goal.returns-in_err-attempt-clause-err_enabled
+returns-in_err-attempt-clause-err_enabled g c = on_err (is_enabled (state g.J.Job.key_of c.attempt.new.self.core) (Pass c.args.barrier) ≡ true) _
+    (ap (λ w. is_enabled w (Pass c.args.barrier)) c.in_err-attempt.ensures.err ∙ c.in_err-attempt.ensures.err_enabled)
 
 pub returns-in_err-attempt-clause-rest : goal.returns-in_err-attempt-clause-rest
 returns-in_err-attempt-clause-rest g c = c.attempt.ensures.rest refl (c.see_all.ensures.rest c.requires.rest)

@@ -1,7 +1,9 @@
-use Rattle.std.proofs.Common.{length, refl, ◌∙◌, ℕ, Bool, Option, Some, None, cond, ap, sym}
+use Rattle.std.proofs.Common.{length, refl, true, ◌≡◌, ◌∙◌, ℕ, Bool, Option, Some, None, cond, ap, sym}
 use Rattle.std.proofs.lemmas.Bool.{lt-ltb}
 use Rattle.rcu_law.specs.Events.CoreEvent.{Report}
+use Rattle.rcu_law.specs.States.{owes}
 use Rattle.rcu_world.specs.Views.{state}
+use Rattle.rcu_world.proofs.Wholes.{on_err}
 use Rattle.rcu_world.proofs.Leading.{leads_one}
 use Rattle.rcu_world.proofs.worlds.World.quiescent.Goals.{then-owes, else-owes}
 use Rattle.rcu_world.proofs.worlds.World.quiescent.Goals as goal
@@ -16,6 +18,9 @@ returns-clause-number g c = elim c.if-owes.branch [
   | then-owes w ↦ w.counted-is ∙ ap Some w.number.ensures ∙ sym (ap {A = Bool} {B = Option ℕ} (λ b. cond b (Some c.args.self.now.core.board.number) None) (sym c.owes.ensures ∙ w.if-owes.true))
   | else-owes w ↦ w.counted-is ∙ sym (ap {A = Bool} {B = Option ℕ} (λ b. cond b (Some c.args.self.now.core.board.number) None) (sym c.owes.ensures ∙ w.if-owes.false))
 ]
+
+pub returns-in_err-attempt-clause-err_owes : goal.returns-in_err-attempt-clause-err_owes
+returns-in_err-attempt-clause-err_owes g c = on_err (owes (state g.J.Job.key_of c.args.self.now.core) c.args.cpu ≡ true) _ c.in_err-attempt.ensures.err_room
 
 pub returns-clause-rest : goal.returns-clause-rest
 returns-clause-rest g c = c.attempt.ensures.rest refl c.requires.rest

@@ -1,4 +1,6 @@
-use Rattle.std.proofs.Common.{◌∙◌, refl, arith, subst, sym, ℕ}
+use Rattle.std.proofs.Common.{◌∙◌, ◌≡◌, true, ap, refl, arith, subst, sym, ℕ}
+use Rattle.rcu_law.specs.Events.{is_enabled}
+use Rattle.rcu_law.specs.Events.CoreEvent.{Shut}
 use Rattle.rcu_world.specs.Turns.{IsAtRest, shuts, Leads, upto}
 use Rattle.rcu_world.proofs.Leading.{leads_none, leads_upto}
 use Rattle.std.proofs.lemmas.List.{length-map}
@@ -21,6 +23,10 @@ pub returns-in_err-attempt-clause-err : goal.returns-in_err-attempt-clause-err
 returns-in_err-attempt-clause-err g c =
     let w = state g.J.Job.key_of c.args.self.now.core in
     on_err ((n : ℕ) × Leads w (upto shuts n w) (state g.J.Job.key_of c.attempt.new.self.core)) _ (c.loop-cpu.cpu, subst (λ s. Leads w (upto shuts c.loop-cpu.cpu w) s) (sym c.in_err-attempt.ensures.err) c.loop-cpu.invariant.leads)
+
+pub returns-in_err-attempt-clause-err_enabled : goal.returns-in_err-attempt-clause-err_enabled
+returns-in_err-attempt-clause-err_enabled g c = on_err ((cpu : ℕ) × (is_enabled (state g.J.Job.key_of c.attempt.new.self.core) (Shut cpu) ≡ true)) _
+    (c.loop-cpu.cpu, ap (λ w. is_enabled w (Shut c.loop-cpu.cpu)) c.in_err-attempt.ensures.err ∙ c.in_err-attempt.ensures.err_enabled)
 
 pub returns-clause-events : goal.returns-clause-events
 returns-clause-events g c = leads_all shuts c.loop-cpu.cpu _ _ _ (omega (arith, length-map c.args.self.now.core.processors.items (seen g.J.Job.key_of), c.args.self.now.core.processors.ok.0)) c.loop-cpu.invariant.leads

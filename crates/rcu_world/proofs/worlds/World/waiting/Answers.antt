@@ -42,7 +42,7 @@ overflow_add-waiting g c =
     let w = state g.J.Job.key_of c.args.self.now.core in
     let l : c.loop-cpu.cpu < length c.args.self.now.core.processors.items = subst (λ n. c.loop-cpu.cpu < n) (c.len-cpu-end.ensures ∙ c.args.self.now.core.processors.ok.0) c.loop-cpu-test.true in
     let s : seen g.J.Job.key_of c.index-p.result.now ≡ cpu_at w c.loop-cpu.cpu = seen_there g.J.Job.key_of c.args.self.now.core c.loop-cpu.cpu c.index-p.result.now l c.index-p.ensures in
-    let f = few_drawn w c.loop-cpu.cpu c.requires.fit.core (subst (λ n. c.loop-cpu.cpu < n) (sym (length-map c.args.self.now.core.processors.items (seen g.J.Job.key_of))) l) in
+    let f = few_drawn w c.loop-cpu.cpu c.requires.fit (subst (λ n. c.loop-cpu.cpu < n) (sym (length-map c.args.self.now.core.processors.items (seen g.J.Job.key_of))) l) in
     omega (arith, c.loop-cpu.invariant.most, f, c.drawn_len-drawn.ensures ∙ ap {A = Cpu} (λ x. length x.drawn) s, c.out_len-out.ensures ∙ ap {A = Cpu} (λ x. length x.out) s, c.requires.fit.few, length-map c.args.self.now.core.processors.items (seen g.J.Job.key_of))
 
 pub overflow_add-waiting-in-loop-cpu : goal.overflow_add-waiting-in-loop-cpu
@@ -50,7 +50,7 @@ overflow_add-waiting-in-loop-cpu g c =
     let w = state g.J.Job.key_of c.args.self.now.core in
     let l : c.loop-cpu.cpu < length c.args.self.now.core.processors.items = subst (λ n. c.loop-cpu.cpu < n) (c.len-cpu-end.ensures ∙ c.args.self.now.core.processors.ok.0) c.loop-cpu-test.true in
     let s : seen g.J.Job.key_of c.index-p.result.now ≡ cpu_at w c.loop-cpu.cpu = seen_there g.J.Job.key_of c.args.self.now.core c.loop-cpu.cpu c.index-p.result.now l c.index-p.ensures in
-    let f = few_drawn w c.loop-cpu.cpu c.requires.fit.core (subst (λ n. c.loop-cpu.cpu < n) (sym (length-map c.args.self.now.core.processors.items (seen g.J.Job.key_of))) l) in
+    let f = few_drawn w c.loop-cpu.cpu c.requires.fit (subst (λ n. c.loop-cpu.cpu < n) (sym (length-map c.args.self.now.core.processors.items (seen g.J.Job.key_of))) l) in
     omega (arith, c.loop-cpu.invariant.most, f, c.drawn_len-drawn.ensures ∙ ap {A = Cpu} (λ x. length x.drawn) s, c.out_len-out.ensures ∙ ap {A = Cpu} (λ x. length x.out) s, c.requires.fit.few, length-map c.args.self.now.core.processors.items (seen g.J.Job.key_of))
 
 pub loop-cpu-preserved : goal.loop-cpu-preserved
@@ -59,7 +59,7 @@ loop-cpu-preserved g c =
     let w = state g.J.Job.key_of c.args.self.now.core in
     let l : c.loop-cpu.cpu < length c.args.self.now.core.processors.items = subst (λ n. c.loop-cpu.cpu < n) (c.len-cpu-end.ensures ∙ c.args.self.now.core.processors.ok.0) c.loop-cpu-test.true in
     let s : seen g.J.Job.key_of c.index-p.result.now ≡ cpu_at w c.loop-cpu.cpu = seen_there g.J.Job.key_of c.args.self.now.core c.loop-cpu.cpu c.index-p.result.now l c.index-p.ensures in
-    let f = few_drawn w c.loop-cpu.cpu c.requires.fit.core (subst (λ n. c.loop-cpu.cpu < n) (sym (length-map c.args.self.now.core.processors.items (seen g.J.Job.key_of))) l) in
+    let f = few_drawn w c.loop-cpu.cpu c.requires.fit (subst (λ n. c.loop-cpu.cpu < n) (sym (length-map c.args.self.now.core.processors.items (seen g.J.Job.key_of))) l) in
     let d = c.drawn_len-drawn.ensures ∙ ap {A = Cpu} (λ x. length x.drawn) s in
     let o = c.out_len-out.ensures ∙ ap {A = Cpu} (λ x. length x.out) s in
     record {
