@@ -1,6 +1,7 @@
 //! The run of a script over the core, command by command.
 
-ghost use Rattle.std.specs.Prelude.{◌≡◌, ◌<◌, length};
+ghost use Rattle.std.specs.Prelude.{◌≡◌};
+ghost use Rattle.rcu_picture.specs.Keys.{IsKey, key_in};
 ghost use Rattle.rcu_world.specs.Turns.{IsAtRest};
 ghost use Rattle.rcu_world.specs.Views.{state};
 ghost use Rattle.rcu_world.specs.Worlds.{IsWorld};
@@ -116,7 +117,7 @@ fn shown(lists: Lists, ran: u64) -> Shown {
 
 /// What all processors show.
 fn all_shown(alloc: Global, world: &World<KeyJob>) -> Result<Vec<Shown>, Fault>
-    requires { IsWorld KeyJob.key_of KeyJob.gives world.now.core }
+    requires { IsWorld key_in IsKey world.now.core }
 {
     let mut all = Vec::new(alloc);
     let history = world.history();
@@ -126,18 +127,18 @@ fn all_shown(alloc: Global, world: &World<KeyJob>) -> Result<Vec<Shown>, Fault>
     Ok(all)
 }
 
-/// One command, the `at`-th, and what it answers. `opened` is the name of the barrier that is open.
+/// One command, with a job of this key if it is a call, and what it answers. `opened` is the name of the barrier that is open.
 fn perform(
     alloc: Global,
     world: &mut World<KeyJob>,
     opened: &mut Option<u64>,
     command: &Command,
-    at: usize,
+    key: u64,
 ) -> Result<Step, Fault>
-    requires world { IsWorld KeyJob.key_of KeyJob.gives world.old.core }
-    requires rest { IsAtRest (state KeyJob.key_of world.old.core) }
-    ensures kept { IsWorld KeyJob.key_of KeyJob.gives world.new.core }
-    ensures rest { IsAtRest (state KeyJob.key_of world.new.core) }
+    requires world { IsWorld key_in IsKey world.old.core }
+    requires rest { IsAtRest (state key_in world.old.core) }
+    ensures kept { IsWorld key_in IsKey world.new.core }
+    ensures rest { IsAtRest (state key_in world.new.core) }
 {
     if is_show(command) {
         let text = format!(in alloc; "show")?;
@@ -148,7 +149,7 @@ fn perform(
             shown,
         });
     }
-    let job = route_of(command).map(|_| KeyJob { key: at as u64 });
+    let job = route_of(command).map(|_| KeyJob { key });
     let line = answer(alloc, world, opened, command, job)?;
     let text = format!(in alloc; "{line}")?;
     let shown = all_shown(alloc, world)?;
@@ -169,7 +170,9 @@ fn hands(alloc: Global, world: &World<KeyJob>) -> Result<Vec<bool>, Fault> {
 }
 
 /// The groups that have a part.
-fn groups(alloc: Global, world: &World<KeyJob>) -> Result<Vec<u64>, Fault> {
+fn groups(alloc: Global, world: &World<KeyJob>) -> Result<Vec<u64>, Fault>
+    requires { IsWorld key_in IsKey world.now.core }
+{
     let mut groups = Vec::new(alloc);
     for group in 0..world.processors() {
         if world.has_group(group) {
@@ -188,8 +191,9 @@ pub fn play(alloc: Global, setup: &Setup) -> Result<Run, Fault> {
     let mut world = World::new(alloc, setup.shape)?;
     let mut steps = Vec::new(alloc);
     let mut opened = None;
-    for (at, command) in setup.script.iter().take(MOST_STEPS).enumerate() {
-        steps.push(perform(alloc, &mut world, &mut opened, command, at)?)?;
+    for command in setup.script.iter().take(MOST_STEPS) {
+        let key = steps.len() as u64;
+        steps.push(perform(alloc, &mut world, &mut opened, command, key)?)?;
     }
     Ok(Run {
         hands: hands(alloc, &world)?,

@@ -64,7 +64,7 @@ fn command<'a>(alloc: Global) -> Result<clap::Command<'a>, AllocError> {
     clap::Command::new(alloc, "rcu_picture")
         .no_binary_name(true)
         .about("Draws the run of a setup's script, which it reads from standard input, as an SVG")
-        .after_help("rcu_picture < examples/first-run.toml > first-run.svg")
+        .after_help("Example: rcu_picture < examples/first-run.toml > first-run.svg")
         .arg(
             Arg::new(alloc, "html")
                 .long("html")
