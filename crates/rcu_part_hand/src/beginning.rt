@@ -1,12 +1,11 @@
 //! A hand's run of one callback in two steps: the claim is won and the job handed out, and later the claim is ended.
 
-ghost use Rattle.std.specs.Prelude.{◌≡◌, ◌≢◌, ◌+◌, ◌<◌, ◌≤◌, IfErr, IfOk, IfSome, ℕ};
+ghost use Rattle.std.specs.Prelude.{◌≡◌, ◌≢◌, ◌<◌, IfErr, IfOk};
 ghost use Rattle.std.specs.Vec.{vec_len, vec_capacity};
-ghost use Rattle.rcu_board.specs.Views.{sight, tally};
-ghost use Rattle.rcu_board.specs.Words.{board_word};
+ghost use Rattle.rcu_board.specs.Views.{sight};
 ghost use Rattle.rcu_jobs.specs.declared.Stop.TheVariants.{Limit};
 ghost use Rattle.rcu_part_hand.specs.Begins.{SameBegun, SameFinished, IsSoundRunning, IsKeyed, IsGivenFor};
-ghost use Rattle.rcu_part_hand.specs.Begins.{IsNext, KeepsHand, ClaimsFirst, BeginsHand, StopsHand, FinishesHand, running_view};
+ghost use Rattle.rcu_part_hand.specs.Begins.{IsNext, KeepsHand, ClaimsFirst, BeginsHand, StopsHand, FinishesHand};
 ghost use Rattle.rcu_part_hand.specs.Hands.{SameHand, IsSoundHand, Ran, StopsAt, hand_view};
 ghost use Rattle.rcu_part_steps.specs.Begins.{IfRuns, IfStops};
 

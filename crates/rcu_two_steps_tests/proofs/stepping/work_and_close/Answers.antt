@@ -1,0 +1,30 @@
+use Rattle.std.proofs.Common.{refl, arith}
+use Rattle.rcu_part_group.proofs.GroupLists.{zip_same}
+use Rattle.rcu_part_group.proofs.GroupTurns.{same_group}
+use Rattle.rcu_part_hand.proofs.HandRuns.{same_hand}
+use Rattle.rcu_part_hand.specs.Hands.{SameHand}
+use Rattle.rcu_part_group.specs.Groups.{SameGroup}
+use Rattle.rcu_parts.proofs.StaySame.{stay_same}
+use Rattle.rcu_parts.specs.OneOpen.{groups_in, hands_in}
+use Rattle.rcu_two_steps_tests.proofs.stepping.work_and_close.Goals as goal
+
+pub close-requires-after_bounds : goal.close-requires-after_bounds
+close-requires-after_bounds c κs = (
+  omega arith,
+  (
+    omega arith,
+    (
+      omega arith,
+      (
+        stay_same c.args.parts _ (record {
+          control = record { board = refl; seat = record { role = refl; table = refl; weight = refl } };
+          driver = c.work_last.ensures.driver;
+          processors = c.work_last.ensures.same;
+          groups = zip_same (λ g h. SameGroup g.state h.state) (λ g. same_group g.state) (groups_in c.args.parts);
+          hands = zip_same (λ h i. SameHand h.state i.state) (λ h. same_hand h.state) (hands_in c.args.parts);
+        }) c.requires.one,
+        record { processors = c.work_last.ensures.sound c.requires.sound.processors; hands = c.requires.sound.hands },
+      ),
+    ),
+  ),
+)

@@ -1,0 +1,44 @@
+//! What a begin comes to, taken apart. It is no test itself, as `opening`.
+
+use rcu_jobs::{BoxedJob, Stop};
+use rcu_parts::{Begins, Hand, Processor, RunningHand, RunningProcessor};
+
+type Work = BoxedJob<0>;
+
+/// What a begin of a processor comes to.
+pub type ProcessorBegins = Begins<RunningProcessor<Work>, Work, Processor<Work>>;
+
+/// What a begin of a hand comes to.
+pub type HandBegins = Begins<RunningHand<Work>, Work, Hand<Work>>;
+
+/// The claim that a processor's begin won, and the job. None where it won none.
+pub fn running(begun: ProcessorBegins) -> Option<(RunningProcessor<Work>, Work)> {
+    match begun {
+        Begins::Runs(running, job) => Some((running, job)),
+        Begins::Stops(_, _) => None,
+    }
+}
+
+/// The processor whose begin won no claim, and why. None where it won one.
+pub fn stopped(begun: ProcessorBegins) -> Option<(Processor<Work>, Stop)> {
+    match begun {
+        Begins::Runs(_, _) => None,
+        Begins::Stops(processor, stop) => Some((processor, stop)),
+    }
+}
+
+/// The claim that a hand's begin won, and the job. None where it won none.
+pub fn hand_running(begun: HandBegins) -> Option<(RunningHand<Work>, Work)> {
+    match begun {
+        Begins::Runs(running, job) => Some((running, job)),
+        Begins::Stops(_, _) => None,
+    }
+}
+
+/// The hand whose begin won no claim, and why. None where it won one.
+pub fn hand_stopped(begun: HandBegins) -> Option<(Hand<Work>, Stop)> {
+    match begun {
+        Begins::Runs(_, _) => None,
+        Begins::Stops(hand, stop) => Some((hand, stop)),
+    }
+}
