@@ -31,9 +31,11 @@ abbrev pub Names : List (List ℕ) → Subcommand → Type 0
 Names words s = words ≡ word_of s ∷ []
 
 -- the command line of the program: a subcommand is required, and there are no options but those of help and version
+abbrev pub rcuo_top : App
+rcuo_top = record (new_app (codes "rcuo")) { top = record (new_app (codes "rcuo")).top { no_binary_name = true; subcommand_required = true; has_version = true } }
+
 abbrev pub rcuo : App
-rcuo = with_subcommand (with_subcommand (record (new_app (codes "rcuo")) { top = record (new_app (codes "rcuo")).top { no_binary_name = true; subcommand_required = true; has_version = true } })
-    (new_app (codes "replay")).top) (new_app (codes "threads")).top
+rcuo = with_subcommand (with_subcommand rcuo_top (new_app (codes "replay")).top) (new_app (codes "threads")).top
 
 -- how many jobs a run takes: in `replay` one for each call line, in `threads` so many for each processor
 abbrev pub jobs_for : Subcommand → Setup → ℕ

@@ -1,10 +1,11 @@
 //! What a run is to do: the subcommand that the words name, and the setup that is read.
 
-ghost use Rattle.std.specs.Prelude.{◌≡◌, ◌≢◌, ℕ, List, IfErr, IfOk, IfSome, Ok, map, string_bytes};
-ghost use Rattle.clap.specs.Words.{app_of, kind_of};
+ghost use Rattle.std.specs.Prelude.{◌≡◌, ◌≢◌, ℕ, List, false, IfErr, IfOk, IfSome, Ok, map, string_bytes};
+ghost use Rattle.clap.specs.Words.{app_of, kind_of, new_app, shape_of};
+ghost use Rattle.clap.specs.declared.builder.command.Command.TheViews.{out-Command};
 ghost use Rattle.rcu_setup.specs.Setup.{setup_of, setup_view};
 ghost use Rattle.rcu_reading.specs.Reading.{TakesAtMost};
-ghost use Rattle.rcuo.specs.Plan.{NamesFaultOf, Names, RefusesWords, rcuo};
+ghost use Rattle.rcuo.specs.Plan.{NamesFaultOf, Names, RefusesWords, rcuo, rcuo_top};
 
 use clap::error::ErrorKind;
 use rcu_reading::{MOST_READ, setup_of};
@@ -102,23 +103,34 @@ Exit status: 0 done; 1 a fault; 2 the words were refused.
 
 Example: rcuo threads < examples/threads-4.toml";
 
-fn command<'a>(alloc: Global) -> Result<clap::Command<'a>, AllocError>
-    ensures { IfOk result (λ c. app_of c ≡ rcuo) }
+/// The command line without its subcommands.
+fn top<'a>(alloc: Global) -> clap::Command<'a>
+    ensures { app_of result ≡ rcuo_top }
 {
-    let replay = clap::Command::new(alloc, "replay")
-        .about(ABOUT_REPLAY)
-        .after_help(AFTER_REPLAY);
-    let threads = clap::Command::new(alloc, "threads")
-        .about(ABOUT_THREADS)
-        .after_help(AFTER_THREADS);
     clap::Command::new(alloc, "rcuo")
         .version(VERSION)
         .about(ABOUT)
         .after_help(STATUSES)
         .no_binary_name(true)
         .subcommand_required(true)
-        .subcommand(replay)?
-        .subcommand(threads)
+}
+
+/// A subcommand without words of its own.
+fn leaf<'a>(alloc: Global, name: &'a str, about: &'a str, after: &'a str) -> clap::Command<'a>
+    ensures shape { shape_of result ≡ (new_app name.entry.now).top }
+    ensures globals { (out-Command result).has_globals ≡ false }
+{
+    clap::Command::new(alloc, name)
+        .about(about)
+        .after_help(after)
+}
+
+fn command<'a>(alloc: Global) -> Result<clap::Command<'a>, AllocError>
+    ensures { IfOk result (λ c. app_of c ≡ rcuo) }
+{
+    top(alloc)
+        .subcommand(leaf(alloc, "replay", ABOUT_REPLAY, AFTER_REPLAY))?
+        .subcommand(leaf(alloc, "threads", ABOUT_THREADS, AFTER_THREADS))
 }
 
 fn subcommand_of(alloc: Global, words: &[String]) -> Result<Subcommand, clap::Error>
