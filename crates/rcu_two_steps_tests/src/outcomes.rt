@@ -1,7 +1,7 @@
-//! What a begin comes to, taken apart. It is no test itself, as `opening`.
+//! What a begin comes to, taken apart, and whether a barrier passes. It is no test itself, as `opening`.
 
 use rcu_jobs::{BoxedJob, Stop};
-use rcu_parts::{Begins, Hand, Processor, RunningHand, RunningProcessor};
+use rcu_parts::{Barrier, Begins, Control, Hand, Processor, RunningHand, RunningProcessor};
 
 type Work = BoxedJob<0>;
 
@@ -41,4 +41,12 @@ pub fn hand_stopped(begun: HandBegins) -> Option<(Hand<Work>, Stop)> {
         Begins::Runs(_, _) => None,
         Begins::Stops(hand, stop) => Some((hand, stop)),
     }
+}
+
+/// Whether a barrier passes, by control. False where it counts other processors than there are.
+pub fn passes(barrier: &mut Barrier, control: &mut Control) -> bool {
+    if barrier.counts.n != control.processors() {
+        return false;
+    }
+    barrier.poll(control).is_some()
 }

@@ -1,13 +1,14 @@
-//! Callbacks in two steps, through a local processor.
+//! Callbacks in two steps, through a local processor and through a hand.
 
 use crate::echo::Echo;
 use crate::opening::{AllOfOne, open_one};
-use crate::outcomes::{running, stopped};
+use crate::outcomes::{hand_running, hand_stopped, passes, running, stopped};
 use crate::stepping::work_and_close;
 use rcu_jobs::{BoxedJob, Job, Lists, Mode, Stop, Ticked, Ticket};
 use rcu_numbers::Shape;
-use rcu_parts::{Driver, Processor, open};
+use rcu_parts::{Control, Driver, Hand, Processor, open};
 use std::alloc::{AllocError, Global};
+use std::process::Abort;
 use std::test::Fail;
 
 type Work = BoxedJob<0>;
@@ -142,6 +143,80 @@ fn report_while_a_callback_runs(rt: HostRuntime) -> Result<(), Fail> {
     driver.turn();
     assert_eq!(rt; processor.quiescent(), Some(5));
     Ok(())
+}
+
+/// Gives the hand the callbacks of two keys, whose grace period is over, and takes it out.
+fn given_two(alloc: Global, all: &mut AllOfOne) -> Option<Hand<Work>> {
+    call_two(alloc, &mut all.processor, (7, 8))?;
+    let group = all.group.as_mut()?;
+    group.turn();
+    grace_period(&mut all.processor, &mut all.driver);
+    group.turn();
+    all.hand.take()
+}
+
+/// Begins and finishes the two callbacks of the hand. A barrier that was opened before passes once both are finished.
+fn finish_two(rt: &impl Abort, hand: Hand<Work>, control: &mut Control) -> Result<(), Fail> {
+    let mut barrier = control.barrier(&[]).ok().expect(rt, "a barrier");
+    let (first, work) = hand_running(hand.begin()).expect(rt, "the first");
+    assert_eq!(rt; (first.cpu(), first.number()), (0, 0));
+    let hand = first.finish(work.run());
+    let (second, work) = hand_running(hand.begin()).expect(rt, "the second");
+    assert_eq!(rt; second.number(), 1);
+    let receipt = work.run();
+    assert_eq!(rt; (receipt, passes(&mut barrier, control)), (8, false));
+    let hand = second.finish(receipt);
+    assert_eq!(rt; (hand.ran(), passes(&mut barrier, control)), (2, true));
+    let (_, stop) = hand_stopped(hand.begin()).expect(rt, "nothing left");
+    assert_eq!(rt; stop, Stop::Empty);
+    Ok(())
+}
+
+#[test]
+fn hand_begins_in_order(rt: HostRuntime) -> Result<(), Fail> {
+    let alloc = rt.alloc();
+    let mut all = open_one(alloc, true).expect(&rt, "a runtime");
+    let hand = given_two(alloc, &mut all).expect(&rt, "two callbacks for the hand");
+    finish_two(&rt, hand, &mut all.control)
+}
+
+/// Gives the hand a callback, makes the processor local, and gives it a callback too. The grace periods of both are over.
+/// Takes the hand out.
+fn given_one_each(alloc: Global, all: &mut AllOfOne) -> Option<Hand<Work>> {
+    all.processor.call_rcu(1, job(alloc, 7).ok()?).ok()?;
+    let group = all.group.as_mut()?;
+    group.turn();
+    grace_period(&mut all.processor, &mut all.driver);
+    group.turn();
+    all.control.deoffload(0).ok()?;
+    all.processor.tick(2);
+    all.processor.call_rcu(2, job(alloc, 8).ok()?).ok()?;
+    all.processor.tick(3);
+    grace_period(&mut all.processor, &mut all.driver);
+    all.hand.take()
+}
+
+/// Ticks while the hand's claim runs, and once it is finished.
+fn tick_beside(
+    rt: &impl Abort,
+    hand: Hand<Work>,
+    processor: &mut Processor<Work>,
+) -> Result<(), Fail> {
+    let (first, work) = hand_running(hand.begin()).expect(rt, "the hand's callback");
+    let beside = processor.tick(4);
+    let hand = first.finish(work.run());
+    assert_eq!(rt; (beside.ran, beside.stop, hand.ran()), (0, Stop::Turn, 1));
+    let after = processor.tick(5);
+    assert_eq!(rt; (after.ran, after.stop), (1, Stop::Empty));
+    Ok(())
+}
+
+#[test]
+fn tick_waits_for_a_hands_claim(rt: HostRuntime) -> Result<(), Fail> {
+    let alloc = rt.alloc();
+    let mut all = open_one(alloc, true).expect(&rt, "a runtime");
+    let hand = given_one_each(alloc, &mut all).expect(&rt, "a callback for each");
+    tick_beside(&rt, hand, &mut all.processor)
 }
 
 #[test]
