@@ -1,0 +1,3 @@
+pub mod Helds
+pub mod Polled
+pub mod Values

@@ -1,0 +1,21 @@
+//! Parts of a runtime that a program in another language keeps: each in a slot of its own, as a box whose pointer the
+//! program stores (docs/c.md). The exports over this crate stand in `rcu_c`.
+#![tactic(auto)]
+
+mod barriers;
+mod checking;
+mod fault;
+mod job;
+mod opening;
+mod others;
+mod part;
+mod processors;
+mod reaching;
+mod slot;
+mod taking;
+
+pub use fault::{Fault, fault_of_refusal, fault_of_stop, fault_of_switch};
+pub use job::ForeignJob;
+pub use opening::open_into;
+pub use part::{Lent, Opening, Part, PartKind};
+pub use slot::{Held, Slot};

@@ -1,0 +1,90 @@
+//! What a slot's box has: a part, and where it belongs.
+
+ghost use Rattle.std.specs.Prelude.{◌≡◌};
+ghost use Rattle.rcu_lending.specs.Parts.{kind_of, wrong_kind};
+
+use crate::fault::Fault;
+use crate::job::ForeignJob;
+use rcu_jobs::Closed;
+use rcu_parts::{Closing, Control, Driver, Group, Hand, Processor};
+
+/// An open, by its number, and how many parts of each kind it made.
+#[derive(Clone, Copy, Debug, PartialEq, Eq)]
+pub struct Opening {
+    pub number: u64,
+    pub processors: u64,
+    pub groups: u64,
+    pub hands: u64,
+}
+
+/// A part of any kind, for jobs of another language; or what is left of all of them.
+#[derive(Drop)]
+pub enum Part {
+    Processor(Processor<ForeignJob>),
+    Hand(Hand<ForeignJob>),
+    Group(Group<ForeignJob>),
+    Driver(Driver),
+    Control(Control),
+    /// All parts, which could not be closed for want of memory.
+    Closing(Closing<ForeignJob>),
+    /// What is left of all parts.
+    Closed(Closed<ForeignJob>),
+    /// No part, in the midst of a call.
+    Nothing,
+}
+
+/// The kinds of parts.
+#[derive(Clone, Copy, Debug, PartialEq, Eq)]
+pub enum PartKind {
+    Processor,
+    Hand,
+    Group,
+    Driver,
+    Control,
+    Closing,
+    /// What is left of a runtime, or nothing.
+    Other,
+}
+
+impl Part {
+    /// Its kind.
+    pub fn kind(&self) -> PartKind
+        ensures { result ≡ kind_of self.now }
+    {
+        match self {
+            Part::Processor(_) => PartKind::Processor,
+            Part::Hand(_) => PartKind::Hand,
+            Part::Group(_) => PartKind::Group,
+            Part::Driver(_) => PartKind::Driver,
+            Part::Control(_) => PartKind::Control,
+            Part::Closing(_) => PartKind::Closing,
+            _ => PartKind::Other,
+        }
+    }
+
+    /// What close answers where it wants a part of another kind.
+    pub fn not_of_kind(&self, kind: PartKind) -> Fault {
+        match (self, kind) {
+            (Part::Nothing, _) => Fault::Empty,
+            _ => Fault::Other,
+        }
+    }
+
+    /// What a call answers that isn't one of this kind of part.
+    pub fn wrong_kind(&self) -> Fault
+        ensures { result ≡ wrong_kind self.now }
+    {
+        match self {
+            Part::Nothing => Fault::Empty,
+            _ => Fault::Other,
+        }
+    }
+}
+
+/// A part with its open, and its place among the open's parts of its kind.
+#[derive(Drop)]
+pub struct Lent {
+    pub opening: Opening,
+    pub at: u64,
+    pub part: Part,
+}
