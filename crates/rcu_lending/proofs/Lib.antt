@@ -1,3 +1,4 @@
+pub mod Closings
 pub mod Helds
 pub mod Polled
 pub mod Values

@@ -1,7 +1,7 @@
 //! What close tests of slots before it takes anything.
 
 ghost use Rattle.std.specs.Prelude.{◌≡◌, IfOk, IfSome, IfNone, None, is_some};
-ghost use Rattle.rcu_lending.specs.Gathers.{AreChecked, IsInPlace, held_in};
+ghost use Rattle.rcu_lending.specs.Gathers.{AreChecked, IsInPlace, IsOfOpen, held_in};
 ghost use Rattle.rcu_lending.specs.Parts.{kind_of};
 
 use crate::fault::Fault;
@@ -96,7 +96,7 @@ impl Slot {
     pub(crate) fn peek(&mut self, alloc: Global) -> Option<(Opening, PartKind)>
         ensures stays { self.new.held.value ≡ self.old.held.value }
         ensures none { IfNone result (self.old.held.value ≡ None) }
-        ensures some { IfSome result (λ t. IfSome self.old.held.value (λ l. (l.opening ≡ t.0) × (kind_of l.part ≡ t.1))) }
+        ensures some { IfSome result (λ t. IsOfOpen t.0 t.1 self.old.held.value) }
     {
         let Some(boxed) = self.take(alloc) else {
             return None;

@@ -4,6 +4,7 @@
 
 mod barriers;
 mod checking;
+mod closing;
 mod fault;
 mod job;
 mod opening;
@@ -14,8 +15,9 @@ mod reaching;
 mod slot;
 mod taking;
 
+pub use closing::close_from;
 pub use fault::{Fault, fault_of_refusal, fault_of_stop, fault_of_switch};
 pub use job::ForeignJob;
 pub use opening::open_into;
 pub use part::{Lent, Opening, Part, PartKind};
-pub use slot::{Held, Slot};
+pub use slot::{Held, PartSlots, Slot};

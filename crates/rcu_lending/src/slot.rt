@@ -122,3 +122,14 @@ impl Slot {
         self.full
     }
 }
+
+/// The slots of a runtime: `struct rcuo_parts`.
+#[repr(C)]
+#[derive(Drop)]
+pub struct PartSlots {
+    pub control: Slot,
+    pub driver: Slot,
+    pub processors: [Slot; 32],
+    pub groups: [Slot; 32],
+    pub hands: [Slot; 32],
+}

@@ -22,8 +22,10 @@ pub loop-place-preserved : goal.loop-place-preserved
 loop-place-preserved c = let l = c.loop-place in let d = c.index-slots-place.result in let after = c.take_processor.new.slot in elim c.match-take_processor.branch [
   | in-Some w ↦ (
     taken_more (λ x. part.Processor x) l.place (held_in c.args.slots.now) l.slots d after l.out.items c.match-take_processor.out.items w.in-Some.processor (omega (arith, l.auto.slots, c.loop-place-test.true)) c.take_processor.ensures.empty w.in-Some.ensures.takes (ap (λ v. v.items) w.out-is ∙ w.push_reserved.ensures.items) l.invariant.0,
-    ap vec_capacity w.out-is ∙ (w.push_reserved.ensures.capacity ∙ l.invariant.1))
+    ap vec_capacity w.out-is ∙ (w.push_reserved.ensures.capacity ∙ l.invariant.1),
+  )
   | in_default w ↦ (
     rw w.out-is (taken_nothing (λ x. part.Processor x) l.place (held_in c.args.slots.now) l.slots d after l.out.items (omega (arith, l.auto.slots, c.loop-place-test.true)) c.take_processor.ensures.empty w.in_default.ensures.takes l.invariant.0),
-    ap vec_capacity w.out-is ∙ l.invariant.1)
+    ap vec_capacity w.out-is ∙ l.invariant.1,
+  )
 ]
