@@ -23,7 +23,7 @@ use Rattle.rcu_part_hand.specs.Hands.{Looks, Loads, Ran, SameHand, hand_board, h
 use Rattle.rcu_part_steps.specs.Places.{AreKeyed, numbered_callback, claim_of}
 use Rattle.rcu_part_hand.specs.declared.hand.HandState.{HandState}
 
-all_one : {X : Type 0} (P : X → Type 0) (x : X) → P x → All P (x ∷ [])
+pub all_one : {X : Type 0} (P : X → Type 0) (x : X) → P x → All P (x ∷ [])
 all_one P x p zero d low = p
 all_one P x p (suc k) d low = absurd (omega (arith, low))
 
@@ -37,7 +37,7 @@ same_first x y xs ys e = ap (λ l. get_or l 0 x) e
 pub not_none : {X : Type 0} (x : X) (xs ys : List X) → ys ≡ x ∷ xs → ys ≡ [] → ⊥
 not_none x xs ys e none = omega (arith, ap length (sym e ∙ none))
 
-keyed_at : {J : Type 0} (key_of : J → ℕ) (xs : List (Callback J)) (x : Callback J) (ys : List (Callback J)) → AreKeyed key_of (xs ++ x ∷ ys) → key_of x.job ≡ x.key
+pub keyed_at : {J : Type 0} (key_of : J → ℕ) (xs : List (Callback J)) (x : Callback J) (ys : List (Callback J)) → AreKeyed key_of (xs ++ x ∷ ys) → key_of x.job ≡ x.key
 keyed_at key_of [] x ys k = k zero x (omega arith)
 keyed_at key_of (y ∷ xs) x ys k = keyed_at key_of xs x ys (λ i d low. k (suc i) d (omega (arith, low)))
 

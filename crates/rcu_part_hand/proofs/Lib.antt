@@ -1,2 +1,3 @@
 pub mod HandRuns
 pub mod Standing
+pub mod HandBegins

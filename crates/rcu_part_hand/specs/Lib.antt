@@ -1,2 +1,3 @@
 pub mod HandLaw
 pub mod Hands
+pub mod Begins

@@ -66,7 +66,7 @@ impl<J: Job> Hand<J> {
     }
 
     // The turn's look.
-    fn look(&mut self) -> u64
+    pub(crate) fn look(&mut self) -> u64
         ensures same { SameHand self.old.state self.new.state }
         ensures looks { Looks result self.old.state self.new.state }
         ensures small { result ≤ GREATEST_NUMBER }
@@ -77,7 +77,7 @@ impl<J: Job> Hand<J> {
     }
 
     // Draws a batch where none is held. Answers why nothing can run, if so.
-    fn load(&mut self) -> Option<Stop>
+    pub(crate) fn load(&mut self) -> Option<Stop>
         ensures same { SameHand self.old.state self.new.state }
         ensures loads { Loads self.old.state self.new.state }
         ensures none { IfSome result (λ stop. (n seen : ℕ) → StopsAt stop n n seen self.new.state) }

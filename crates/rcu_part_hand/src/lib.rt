@@ -1,10 +1,13 @@
 //! A hand's part: it runs the callbacks that the group gives it, for an offloadable processor, each under a claim of its
 //! number (docs/specification/surface.md, "rcu_parts", and docs/specification/rules.md, "The calls, step by step").
-//! `rcu_parts` hands on `Hand`; what takes a hand apart is for its `close`.
+//! `rcu_parts` hands on `Hand` and `RunningHand`; what takes a hand apart is for its `close`.
 #![tactic(auto)]
 
+mod beginning;
 mod hand;
 mod handling;
 mod run;
+mod running;
 
 pub use hand::{Hand, HandState, into_state};
+pub use running::{RunningHand, RunningHandState};

@@ -16,9 +16,11 @@ use Rattle.rcu_jobs.specs.declared.callback.Record.{Record}
 use Rattle.rcu_places.specs.Places.{Placed, Numbered, with_number}
 use Rattle.rcu_places.proofs.Moves.{placed_accepts, placed_all, placed_puts}
 use Rattle.rcu_records.specs.Records.{numbered_records}
+use Rattle.rcu_part_steps.specs.Begins.{number_that_runs}
 use Rattle.rcu_part_steps.specs.Changes.{Keeps, Tells, Enters, entry}
-use Rattle.rcu_part_processor.specs.Lawful.{IsLawful}
+use Rattle.rcu_part_processor.specs.Lawful.{HasPlaces, IsLawful, IsRunningProcessor}
 use Rattle.rcu_part_steps.specs.Places.{numbered_callback, numbered_callbacks, accepted_entry, accepted_list}
+use Rattle.rcu_part_steps.specs.declared.begins.ClaimedCallback.{ClaimedCallback}
 
 module _ {J : Type 0} where
   -- the callbacks that are put and held, once one more was accepted and some were put
@@ -40,42 +42,72 @@ module _ {J : Type 0} where
       subst (λ (ps : List Numbered). Placed (map accepted_entry (entries ++ entry c.key c.stamp ∷ [])) ran ps (map k held')) (sym (map-append k put batch) ∙ ap (map k) (sym more))
       (subst (λ (as' : List _). Placed as' ran (map k put ++ map k batch) (map k held')) (sym (map-append accepted_entry entries (entry c.key c.stamp ∷ []))) third)
 
-module _ {J R : Type 0} where
-  -- steps that change no accepted number and no claim
-  pub kept_by_tells : (cpu n m : ℕ) (v w : View) (ran : List (Record R)) (h : Holding J) → Tells v w → NeverFalls m v w → IsLawful cpu n v ran h → IsLawful cpu n w ran h
-  kept_by_tells cpu n m v w ran h k later l = record {
+-- steps that keep all lists change no accepted number
+pub tells_by_keeps : (v w : View) → Keeps v w → Tells v w
+tells_by_keeps v w k = record { accepted = k.accepted; fresh = k.fresh; claims = k.claims; running = k.running }
+
+module _ {J : Type 0} where
+  -- steps that change no accepted number
+  pub places_by_tells : (n m : ℕ) (v w : View) (claimed : List Numbered) (h : Holding J) → Tells v w → NeverFalls m v w → HasPlaces n v claimed h → HasPlaces n w claimed h
+  places_by_tells n m v w claimed h k later l = record {
     counted = ap length k.accepted ∙ l.counted;
     stamped = k.fresh ∙ l.stamped;
-    rests = k.running ∙ l.rests;
-    places = subst (λ (as' : List Entry). ∥ Placed (map accepted_entry as') (numbered_records ran) (numbered_callbacks (put_by h)) (numbered_callbacks (held_in h)) ∥₁) (sym k.accepted) l.places;
-    claims = k.claims ∙ l.claims;
-    ripe = l.ripe;
+    places = subst (λ (as' : List Entry). ∥ Placed (map accepted_entry as') claimed (numbered_callbacks (put_by h)) (numbered_callbacks (held_in h)) ∥₁) (sym k.accepted) l.places;
     looked = let z = l.looked in let y = later.board in omega arith;
     needed = up-raised (seen_at v needed_word) (seen_at w needed_word) h.own later.needed l.needed;
   }
 
-  pub kept_by_keeps : (cpu n m : ℕ) (v w : View) (ran : List (Record R)) (h : Holding J) → Keeps v w → NeverFalls m v w → IsLawful cpu n v ran h → IsLawful cpu n w ran h
-  kept_by_keeps cpu n m v w ran h k later l = kept_by_tells cpu n m v w ran h (record { accepted = k.accepted; fresh = k.fresh; claims = k.claims; running = k.running }) later l
+  pub places_by_keeps : (n m : ℕ) (v w : View) (claimed : List Numbered) (h : Holding J) → Keeps v w → NeverFalls m v w → HasPlaces n v claimed h → HasPlaces n w claimed h
+  places_by_keeps n m v w claimed h k later l = places_by_tells n m v w claimed h (tells_by_keeps v w k) later l
 
   -- one more was accepted, and placed
-  pub kept_by_enters : (cpu n m : ℕ) (v w : View) (ran : List (Record R)) (h h' : Holding J) (batch : List (Callback J)) (c : Callback J)
+  pub places_by_enters : (n m : ℕ) (v w : View) (claimed : List Numbered) (h h' : Holding J) (batch : List (Callback J)) (c : Callback J)
       → c.number ≡ n → Enters c.key c.stamp v w → NeverFalls m v w → put_by h' ≡ put_by h ++ batch → passed_on h' ≡ passed_on h ++ c ∷ [] → h'.advanced ≡ h.advanced → ((s : ℕ) → AreUpTo s h.own → AreUpTo s h'.own)
-      → IsLawful cpu n v ran h → IsLawful cpu (n + 1) w ran h'
-  kept_by_enters cpu n m v w ran h h' batch c number e later more all advanced up l = record {
+      → HasPlaces n v claimed h → HasPlaces (n + 1) w claimed h'
+  places_by_enters n m v w claimed h h' batch c number e later more all advanced up l = record {
     counted = ap length e.accepted ∙ (length-append (accepted_of v) (entry c.key c.stamp ∷ []) ∙ ap (λ (j : ℕ). j + 1) l.counted);
     stamped = e.fresh;
-    rests = e.running ∙ l.rests;
     places = ∥∥₁_map l.places (λ p.
-        subst (λ (as' : List Entry). Placed (map accepted_entry as') (numbered_records ran) (numbered_callbacks (put_by h')) (numbered_callbacks (held_in h'))) (sym e.accepted)
-        (placed_after (accepted_of v) (numbered_records ran) (put_by h) (held_in h) (put_by h') (held_in h') batch c (number ∙ sym l.counted) more all p));
-    claims = e.claims ∙ l.claims;
-    ripe = l.ripe;
+        subst (λ (as' : List Entry). Placed (map accepted_entry as') claimed (numbered_callbacks (put_by h')) (numbered_callbacks (held_in h'))) (sym e.accepted)
+        (placed_after (accepted_of v) claimed (put_by h) (held_in h) (put_by h') (held_in h') batch c (number ∙ sym l.counted) more all p));
     looked = let z = l.looked in let y = later.board in omega (arith, advanced);
     needed = up (seen_at w needed_word) (up-raised (seen_at v needed_word) (seen_at w needed_word) h.own later.needed l.needed);
   }
 
   -- no more was put and is held than was accepted
-  pub few_passed : (cpu n : ℕ) (v : View) (ran : List (Record R)) (h : Holding J) → IsLawful cpu n v ran h → length (passed_on h) ≤ n
-  few_passed cpu n v ran h l = ∥∥₁_elim l.places (hlevel props) (λ p.
-      let all = placed_all (accepted_list v) (numbered_records ran) (numbered_callbacks (put_by h)) (numbered_callbacks (held_in h)) p in
+  pub few_placed : (n : ℕ) (v : View) (claimed : List Numbered) (h : Holding J) → HasPlaces n v claimed h → length (passed_on h) ≤ n
+  few_placed n v claimed h l = ∥∥₁_elim l.places (hlevel props) (λ p.
+      let all = placed_all (accepted_list v) claimed (numbered_callbacks (put_by h)) (numbered_callbacks (held_in h)) p in
       omega (arith, all, length-append (put_by h) (held_in h), length-map (accepted_of v) accepted_entry, length-map (put_by h) (numbered_callback {J = J}), length-map (held_in h) (numbered_callback {J = J}), l.counted))
+
+module _ {J R : Type 0} where
+  pub places_of : (cpu n : ℕ) (v : View) (ran : List (Record R)) (h : Holding J) → IsLawful cpu n v ran h → HasPlaces n v (numbered_records ran) h
+  places_of cpu n v ran h l = record { counted = l.counted; stamped = l.stamped; places = l.places; looked = l.looked; needed = l.needed }
+
+  -- the law where no claim changed
+  pub kept_by_places : (cpu n m : ℕ) (v w : View) (ran : List (Record R)) (h h' : Holding J) → w.claims ≡ v.claims → w.running ≡ v.running → HasPlaces m w (numbered_records ran) h' → IsLawful cpu n v ran h → IsLawful cpu m w ran h'
+  kept_by_places cpu n m v w ran h h' claims running has l = record {
+    counted = has.counted;
+    stamped = has.stamped;
+    rests = running ∙ l.rests;
+    places = has.places;
+    claims = claims ∙ l.claims;
+    ripe = l.ripe;
+    looked = has.looked;
+    needed = has.needed;
+  }
+
+  -- and while a claim runs
+  pub runs_by_places : (cpu n m : ℕ) (c : ClaimedCallback) (v w : View) (ran : List (Record R)) (h h' : Holding J) → w.claims ≡ v.claims → w.running ≡ v.running → HasPlaces m w (numbered_records ran ++ number_that_runs c ∷ []) h'
+      → IsRunningProcessor cpu n c v ran h → IsRunningProcessor cpu m c w ran h'
+  runs_by_places cpu n m c v w ran h h' claims running has l = record { has = has; runs = running ∙ l.runs; claims = claims ∙ l.claims; ripe = l.ripe; over = l.over }
+
+  -- steps that change no accepted number and no claim
+  pub kept_by_tells : (cpu n m : ℕ) (v w : View) (ran : List (Record R)) (h : Holding J) → Tells v w → NeverFalls m v w → IsLawful cpu n v ran h → IsLawful cpu n w ran h
+  kept_by_tells cpu n m v w ran h k later l = kept_by_places cpu n n v w ran h h k.claims k.running (places_by_tells n m v w (numbered_records ran) h k later (places_of cpu n v ran h l)) l
+
+  pub kept_by_keeps : (cpu n m : ℕ) (v w : View) (ran : List (Record R)) (h : Holding J) → Keeps v w → NeverFalls m v w → IsLawful cpu n v ran h → IsLawful cpu n w ran h
+  kept_by_keeps cpu n m v w ran h k later l = kept_by_tells cpu n m v w ran h (tells_by_keeps v w k) later l
+
+  pub runs_by_tells : (cpu n m : ℕ) (c : ClaimedCallback) (v w : View) (ran : List (Record R)) (h : Holding J) → Tells v w → NeverFalls m v w → IsRunningProcessor cpu n c v ran h → IsRunningProcessor cpu n c w ran h
+  runs_by_tells cpu n m c v w ran h k later l = runs_by_places cpu n n c v w ran h h k.claims k.running (places_by_tells n m v w (numbered_records ran ++ number_that_runs c ∷ []) h k later l.has) l

@@ -9,3 +9,6 @@ pub mod TickLaws
 pub mod CatchingUp
 pub mod Barring
 pub mod Standing
+pub mod CallPieces
+pub mod Claiming
+pub mod BeginTicks

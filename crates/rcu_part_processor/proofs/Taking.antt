@@ -53,6 +53,14 @@ module _ {J : Type 0} where
   takes_local moment kind c old new b t local is = let l = local is in let e = t.own (ap is_offloaded l.0) in
       (ap (λ (h : Holding J). h.mode) e ∙ l.0, ap (λ (h : Holding J). put_by h) e ∙ l.1)
 
+  -- one callback more, with its job's key
+  pub keyed_taken : (key_of : J → ℕ) (passed passed' : List (Callback J)) (c : Callback J) → key_of c.job ≡ c.key → passed' ≡ passed ++ c ∷ [] → AreKeyed key_of passed → AreKeyed key_of passed'
+  keyed_taken key_of passed passed' c key more keyed = subst (AreKeyed key_of) (sym more) (All-append (λ (x : Callback J). key_of x.job ≡ x.key) passed (c ∷ []) keyed (one c key))
+    where
+      one : (x : Callback J) → key_of x.job ≡ x.key → AreKeyed key_of (x ∷ [])
+      one x e zero d low = e
+      one x e (suc k) d low = absurd (omega (arith, low))
+
 module _ {J R : Type 0} where
   -- the same lists and records
   pub sound_same : (key_of : J → ℕ) (gives : ℕ → R → Type 0) (p q : ProcessorState J R) → lists_of q ≡ lists_of p → records_of q ≡ records_of p → IsSound key_of gives p → IsSound key_of gives q
@@ -67,14 +75,3 @@ module _ {J R : Type 0} where
     keyed = subst (AreKeyed key_of) (sym passed) s.keyed;
     given = subst (λ (rs : List (Record R)). Given gives rs) (sym ran) s.given;
   }
-
-  -- one callback more, with its job's key
-  pub sound_taken : (key_of : J → ℕ) (gives : ℕ → R → Type 0) (p q : ProcessorState J R) (c : Callback J) → key_of c.job ≡ c.key → passed_on (lists_of q) ≡ passed_on (lists_of p) ++ c ∷ [] → records_of q ≡ records_of p
-      → IsSound key_of gives p → IsSound key_of gives q
-  sound_taken key_of gives p q c key lists ran s = record {
-    keyed = subst (AreKeyed key_of) (sym lists) (All-append (λ (x : Callback J). key_of x.job ≡ x.key) (passed_on (lists_of p)) (c ∷ []) s.keyed (one c key));
-    given = subst (λ (rs : List (Record R)). Given gives rs) (sym ran) s.given;
-  } where
-    one : (x : Callback J) → key_of x.job ≡ x.key → AreKeyed key_of (x ∷ [])
-    one x e zero d low = e
-    one x e (suc k) d low = absurd (omega (arith, low))

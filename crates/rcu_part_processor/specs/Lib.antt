@@ -1,6 +1,9 @@
 pub mod Lawful
 pub mod Processors
+pub mod Accepting
 pub mod Calls
 pub mod Opened
 pub mod Ticks
 pub mod Looking
+pub mod Running
+pub mod Begins

@@ -2,13 +2,14 @@
 
 ghost use Rattle.std.specs.Prelude.{◌≡◌, IfOk, IfErr, IsErr};
 ghost use Rattle.rcu_lists.specs.declared.pace.Kind.TheVariants.{Plain, Lazy};
-ghost use Rattle.rcu_part_processor.specs.Calls.{IsAccepted, KeepsAll, IsRefusedAs, IsLimit};
+ghost use Rattle.rcu_part_processor.specs.Accepting.{IsLimit};
+ghost use Rattle.rcu_part_processor.specs.Calls.{IsAccepted, KeepsAll, IsRefusedAs};
 ghost use Rattle.rcu_part_processor.specs.Processors.{SameProcessor, IsSound};
 
+use crate::accepting::{Request, accept_job};
 use crate::processor::Processor;
-use rcu_jobs::{Callback, Job, Refused, Ticket};
+use rcu_jobs::{Job, Refused, Ticket};
 use rcu_lists::Kind;
-use rcu_part_steps::enter;
 
 impl<J: Job> Processor<J> {
     /// Accepts a job, which runs once a grace period that began after its acceptance has ended. An offloaded processor's
@@ -46,7 +47,7 @@ impl<J: Job> Processor<J> {
         self.call(moment, Kind::Lazy, job)
     }
 
-    // Accepts a job of either kind. Nothing fails after the accepting exchange.
+    // Accepts a job of either kind.
     fn call(&mut self, moment: u64, kind: Kind, job: J) -> Result<Ticket, Refused<J>>
         ensures same { SameProcessor self.old.state self.new.state }
         ensures ok { IfOk result (λ t. IsAccepted moment kind (J.key_of job) job t self.old.state self.new.state) }
@@ -56,27 +57,19 @@ impl<J: Job> Processor<J> {
         ensures sound { IsSound J.key_of J.gives self.old.state → IsSound J.key_of J.gives self.new.state }
     {
         let state = &mut self.state;
-        let number = state.accepted;
-        if number >= state.limit {
-            return Err(Refused::Limit(job));
-        }
-        let Ok(()) = state.lists.reserve() else {
-            return Err(Refused::Memory(job));
-        };
-        let key = job.key();
-        let cpu = state.cpu;
-        let Some(word) = enter(&state.board, &mut state.seat, cpu, number, key) else {
-            return Err(Refused::Closed(job));
-        };
-        state.accepted = number + 1;
-        let callback = Callback {
-            cpu,
-            number,
-            key,
-            stamp: word.seq(),
+        let request = Request {
+            cpu: state.cpu,
+            limit: state.limit,
+            moment,
+            kind,
             job,
         };
-        state.lists.place(moment, kind, callback);
-        Ok(Ticket { cpu, number })
+        accept_job(
+            &state.board,
+            &mut state.seat,
+            &mut state.lists,
+            &mut state.accepted,
+            request,
+        )
     }
 }

@@ -23,7 +23,7 @@ fn is_leaving(mode: Mode) -> bool
 
 impl<J: Job> Processor<J> {
     // The tick's look: the own list is advanced by the number seen and accelerated, and what it waits for is asked for.
-    fn catch_up(&mut self) -> u64
+    pub(crate) fn catch_up(&mut self) -> u64
         ensures same { SameProcessor self.old.state self.new.state }
         ensures catches_up { CatchesUp result self.old.state self.new.state }
         ensures sight { (sight (view_of self.new.state) ≡ result) × ((lists_of self.new.state).advanced ≡ result) }
@@ -40,7 +40,7 @@ impl<J: Job> Processor<J> {
 
     // Reads what is asked of the processor and whether it was urged, releases the bypass list where that is due, and
     // changes the mode as asked.
-    fn heed(&mut self, moment: u64)
+    pub(crate) fn heed(&mut self, moment: u64)
         requires offloadable { self.old.state.offloadable ≡ true }
         ensures same { SameProcessor self.old.state self.new.state }
         ensures heeds { Heeds moment self.old.state self.new.state }
@@ -56,7 +56,7 @@ impl<J: Job> Processor<J> {
     }
 
     // In Deoffloading, reads the turn word, by which the mode becomes Local.
-    fn settle(&mut self)
+    pub(crate) fn settle(&mut self)
         requires offloadable { self.old.state.offloadable ≡ true }
         ensures same { SameProcessor self.old.state self.new.state }
         ensures settles { Settles self.old.state self.new.state }

@@ -1,3 +1,4 @@
 pub mod Changes
 pub mod Places
 pub mod Reports
+pub mod Begins

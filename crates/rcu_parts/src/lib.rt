@@ -17,5 +17,6 @@ pub use opening::open;
 pub use parts::{AllParts, Parts};
 pub use rcu_control::{Barrier, Control, Driver, ReadsTurns};
 pub use rcu_part_group::{Folk, Group, Members};
-pub use rcu_part_hand::Hand;
-pub use rcu_part_processor::{Processor, Reading};
+pub use rcu_part_hand::{Hand, RunningHand};
+pub use rcu_part_processor::{Processor, Reading, RunningProcessor};
+pub use rcu_part_steps::{Begins, ClaimedCallback};

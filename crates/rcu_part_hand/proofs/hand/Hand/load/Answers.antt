@@ -1,5 +1,5 @@
 use Rattle.std.proofs.Common.{◌≡◌, ◌∙◌, sym, refl, List, subst}
-use Rattle.rcu_holdings.specs.Helds.{drawn_by, held_by, taken_by}
+use Rattle.rcu_holdings.specs.Helds.{drawn_by, held_by}
 use Rattle.rcu_holdings.specs.declared.hand.Fetched.TheVariants.{Got, Empty, Again}
 use Rattle.rcu_part_hand.proofs.HandRuns.{fetched, hand_sound_drawn}
 use Rattle.rcu_board.specs.Seats.{view}

@@ -1,0 +1,106 @@
+use Rattle.std.proofs.Common.{◌≡◌, ℕ, ◌∙◌, ap, refl, subst}
+use Rattle.rcu_board.specs.Views.{sight}
+use Rattle.rcu_board.specs.declared.view.View.{View}
+use Rattle.rcu_part_steps.specs.declared.begins.ClaimedCallback.{ClaimedCallback}
+use Rattle.rcu_part_steps.proofs.Beginning.{runs_map, stops_both, stops_map}
+use Rattle.rcu_part_steps.proofs.Turning.{steps_none}
+use Rattle.rcu_part_hand.specs.Begins.{BeginsHand, ClaimsFirst, SameBegun, StopsHand}
+use Rattle.rcu_part_hand.specs.Hands.{Ran, SameHand, StopsAt}
+use Rattle.rcu_part_hand.proofs.HandBegins.{loads_kept, never_limit, same_begun_after}
+use Rattle.rcu_part_hand.proofs.HandRuns.{ran_none, same_hand_again}
+use Rattle.rcu_part_hand.proofs.hand.Hand.begin.Goals as goal
+
+pub look-seen-requires : goal.look-seen-requires
+look-seen-requires g c = assumption
+
+pub load-requires : goal.load-requires
+load-requires g c = assumption
+
+pub returns-in-Some-clause-stays : goal.returns-in-Some-clause-stays
+returns-in-Some-clause-stays g c = same_hand_again c.args.self.state c.look-seen.new.self.state c.load.new.self.state c.look-seen.ensures.same c.load.ensures.same
+
+pub returns-in-Some-clause-stops : goal.returns-in-Some-clause-stops
+returns-in-Some-clause-stops g c = let q = c.load.new.self.state in record {
+  seen = c.look-seen.result;
+  tried = 0;
+  first = c.look-seen.new.self.state;
+  second = q;
+  looks = c.look-seen.ensures.looks;
+  loads = c.load.ensures.loads;
+  ran = ran_none 0 c.look-seen.result q q refl refl refl (ap (λ (v : View). sight v) c.load.ensures.loads.view ∙ c.look-seen.ensures.looks.sight) (steps_none _ _ _ refl);
+  stop = c.in-Some.ensures.none 0 c.look-seen.result;
+}
+
+pub returns-in-Some-clause-counts : goal.returns-in-Some-clause-counts
+returns-in-Some-clause-counts g c = never_limit c.in-Some.stop c.load.new.self.state c.in-Some.ensures.none
+
+pub returns-in-Some-clause-sound : goal.returns-in-Some-clause-sound
+returns-in-Some-clause-sound g c = λ sound. (tt, c.load.ensures.sound (c.look-seen.ensures.sound sound))
+
+pub returns-in-Err-clause-stays : goal.returns-in-Err-clause-stays
+returns-in-Err-clause-stays g c = let p = c.args.self.state in let q = c.load.new.self.state in
+    same_hand_again p q c.next.new.self.state (same_hand_again p c.look-seen.new.self.state q c.look-seen.ensures.same c.load.ensures.same) c.next.ensures.same
+
+pub returns-in-Err-clause-stops : goal.returns-in-Err-clause-stops
+returns-in-Err-clause-stops g c = let q = c.next.new.self.state in let k = c.next.ensures.keeps in record {
+  seen = c.look-seen.result;
+  tried = 0;
+  first = c.look-seen.new.self.state;
+  second = q;
+  looks = c.look-seen.ensures.looks;
+  loads = loads_kept c.look-seen.new.self.state c.load.new.self.state q c.load.ensures.loads k;
+  ran = ran_none 0 c.look-seen.result q q refl refl refl (ap (λ (v : View). sight v) k.view ∙ (ap (λ (v : View). sight v) c.load.ensures.loads.view ∙ c.look-seen.ensures.looks.sight)) (steps_none _ _ _ refl);
+  stop = c.in-Err.ensures.stops;
+}
+
+pub returns-in-Err-clause-counts : goal.returns-in-Err-clause-counts
+returns-in-Err-clause-counts g c = c.in-Err.ensures.counts
+
+pub returns-in-Err-clause-sound : goal.returns-in-Err-clause-sound
+returns-in-Err-clause-sound g c = λ sound. (tt, c.next.ensures.sound (c.load.ensures.sound (c.look-seen.ensures.sound sound)))
+
+pub next-requires : goal.next-requires
+next-requires g c = (assumption, (assumption, (assumption, ap (λ (v : View). sight v) c.load.ensures.loads.view ∙ c.look-seen.ensures.looks.sight)))
+
+pub returns-in-Ok-clause-same : goal.returns-in-Ok-clause-same
+returns-in-Ok-clause-same g c = let p = c.args.self.state in let q = c.load.new.self.state in let r = c.next.new.self.state in
+    let before = same_hand_again p q r (same_hand_again p c.look-seen.new.self.state q c.look-seen.ensures.same c.load.ensures.same) c.next.ensures.same in
+    runs_map (λ running _. SameBegun r running.state) (λ running _. SameBegun p running.state) c.claim.result (λ running _ same. same_begun_after p r running.state before same) c.claim.ensures.same
+
+pub returns-in-Ok-clause-stays : goal.returns-in-Ok-clause-stays
+returns-in-Ok-clause-stays g c = let p = c.args.self.state in let q = c.load.new.self.state in let r = c.next.new.self.state in
+    let before = same_hand_again p q r (same_hand_again p c.look-seen.new.self.state q c.look-seen.ensures.same c.load.ensures.same) c.next.ensures.same in
+    stops_map (λ hand _. SameHand r hand.state) (λ hand _. SameHand p hand.state) c.claim.result (λ hand _ same. same_hand_again p r hand.state before same) c.claim.ensures.stays
+
+pub returns-in-Ok-clause-runs : goal.returns-in-Ok-clause-runs
+returns-in-Ok-clause-runs g c = let r = c.next.new.self.state in let a = c.look-seen in
+    let is : c.in-Ok.claimed.ready ≡ a.result = ap (λ (x : ClaimedCallback). x.ready) c.in-Ok.ensures.next.claimed in
+    let loads = loads_kept a.new.self.state c.load.new.self.state r c.load.ensures.loads c.next.ensures.keeps in
+    runs_map (λ running job. ClaimsFirst c.in-Ok.claimed.ready r running.state job) (λ running job. BeginsHand c.args.self.state running.state job) c.claim.result
+    (λ running job claims. record {
+      seen = a.result;
+      first = a.new.self.state;
+      second = r;
+      looks = a.ensures.looks;
+      loads = loads;
+      claims = subst (λ (s : ℕ). ClaimsFirst s r running.state job) is claims;
+    }) c.claim.ensures.runs
+
+pub returns-in-Ok-clause-stops : goal.returns-in-Ok-clause-stops
+returns-in-Ok-clause-stops g c = let r = c.next.new.self.state in let a = c.look-seen in
+    let is : c.in-Ok.claimed.ready ≡ a.result = ap (λ (x : ClaimedCallback). x.ready) c.in-Ok.ensures.next.claimed in
+    let loads = loads_kept a.new.self.state c.load.new.self.state r c.load.ensures.loads c.next.ensures.keeps in
+    stops_both (λ hand stop. Ran 0 1 c.in-Ok.claimed.ready r hand.state) (λ hand stop. StopsAt stop 0 1 c.in-Ok.claimed.ready hand.state) (λ hand stop. StopsHand stop c.args.self.state hand.state) c.claim.result
+    (λ hand stop ran stops. record {
+      seen = a.result;
+      tried = 1;
+      first = a.new.self.state;
+      second = r;
+      looks = a.ensures.looks;
+      loads = loads;
+      ran = subst (λ (s : ℕ). Ran 0 1 s r hand.state) is ran;
+      stop = subst (λ (s : ℕ). StopsAt stop 0 1 s hand.state) is stops;
+    }) c.claim.ensures.lost c.claim.ensures.stops
+
+pub returns-in-Ok-clause-sound : goal.returns-in-Ok-clause-sound
+returns-in-Ok-clause-sound g c = λ sound. c.claim.ensures.sound (c.next.ensures.sound (c.load.ensures.sound (c.look-seen.ensures.sound sound)))

@@ -1,0 +1,111 @@
+-- What a hand's begin and finish do: docs/specification/surface.md, "rcu_parts".
+use Rattle.std.specs.Prelude.{◌≡◌, ℕ, ◌≤◌, List, [], ◌∷◌, ◌++◌}
+use Rattle.std.specs.Arc.{arc_value}
+use Rattle.rcu_board.specs.Seats.{view}
+use Rattle.rcu_board.specs.Words.{turns_word}
+use Rattle.rcu_board.specs.declared.board.Board.{Board}
+use Rattle.rcu_board.specs.declared.view.View.{View}
+use Rattle.rcu_control.specs.Views.{SamePart}
+use Rattle.rcu_holdings.specs.Helds.{front_of, drawn_by, held_by}
+use Rattle.rcu_jobs.specs.Records.{Given}
+use Rattle.rcu_jobs.specs.declared.Stop.{Stop}
+use Rattle.rcu_jobs.specs.declared.callback.Callback.{Callback}
+use Rattle.rcu_jobs.specs.declared.callback.Record.{Record}
+use Rattle.rcu_lanes.specs.Ends.{SameFront}
+use Rattle.rcu_numbers.specs.Numbers.{snap_of}
+use Rattle.rcu_part_steps.specs.Begins.{claimed_as, record_with}
+use Rattle.rcu_part_steps.specs.Changes.{Claims, Finishes, StepsOnly}
+use Rattle.rcu_part_steps.specs.Places.{AreKeyed}
+use Rattle.rcu_part_steps.specs.declared.begins.ClaimedCallback.{ClaimedCallback}
+use Rattle.rcu_part_hand.specs.Hands.{Looks, Loads, TurnsBy, hand_board, hand_view, hand_records, hand_drawn, hand_held}
+use Rattle.rcu_part_hand.specs.declared.hand.HandState.{HandState}
+use Rattle.rcu_part_hand.specs.declared.running.RunningHandState.{RunningHandState}
+
+module _ {J R : Type 0} where
+  abbrev pub running_board : RunningHandState J R → Board
+  running_board h = arc_value h.board
+
+  abbrev pub running_view : RunningHandState J R → View
+  running_view h = view h.seat
+
+  abbrev pub running_records : RunningHandState J R → List (Record R)
+  running_records h = h.ran.items
+
+  -- all that it drew, and of that what it holds
+  abbrev pub running_drawn : RunningHandState J R → List (Callback J)
+  running_drawn h = drawn_by h.held
+
+  abbrev pub running_held : RunningHandState J R → List (Callback J)
+  running_held h = held_by h.held
+
+  -- the same part of the same open, once a claim of it runs, and once that has ended
+  pub record SameBegun (p : HandState J R) (q : RunningHandState J R) : Type 0 where
+    pub part : SamePart (hand_board p) (running_board q) p.seat q.seat
+    pub lane : SameFront (front_of p.held) (front_of q.held)
+    pub cpu : q.cpu ≡ p.cpu
+    pub blimit : q.blimit ≡ p.blimit
+
+  pub record SameFinished (p : RunningHandState J R) (q : HandState J R) : Type 0 where
+    pub part : SamePart (running_board p) (hand_board q) p.seat q.seat
+    pub lane : SameFront (front_of p.held) (front_of q.held)
+    pub cpu : q.cpu ≡ p.cpu
+    pub blimit : q.blimit ≡ p.blimit
+
+  -- What a hand knows of jobs while a claim of it runs: what it knows between its calls.
+  abbrev pub IsSoundRunning : (J → ℕ) → (ℕ → R → Type 0) → RunningHandState J R → Type 0
+  IsSoundRunning key_of gives h = AreKeyed key_of (running_drawn h) → Given gives (running_records h)
+
+  -- The job that was handed out has the key that its record will have, where each callback that was drawn has its job's.
+  abbrev pub IsKeyed : (J → ℕ) → RunningHandState J R → J → Type 0
+  IsKeyed key_of h job = AreKeyed key_of (running_drawn h) → key_of job ≡ h.claimed.key
+
+  -- The receipt is as the relation wants it for that key, where each callback that was drawn has its job's.
+  abbrev pub IsGivenFor : (J → ℕ) → (ℕ → R → Type 0) → RunningHandState J R → R → Type 0
+  IsGivenFor key_of gives h receipt = AreKeyed key_of (running_drawn h) → gives h.claimed.key receipt
+
+  -- what may be claimed: the first callback that is held, whose grace period is over at the number seen
+  pub record IsNext (seen : ℕ) (c : ClaimedCallback) (h : HandState J R) : Type 0 where
+    pub first : Callback J
+    pub rest : List (Callback J)
+    pub held : hand_held h ≡ first ∷ rest
+    pub claimed : c ≡ claimed_as seen first
+    pub over : snap_of first.stamp ≤ seen
+
+  -- nothing changed but the room for records
+  pub record KeepsHand (p q : HandState J R) : Type 0 where
+    pub view : hand_view q ≡ hand_view p
+    pub held : q.held ≡ p.held
+    pub records : hand_records q ≡ hand_records p
+
+  -- The claim of the first callback that was held, of which this is the job, was won at the board sight `seen`, by one step,
+  -- and runs; its grace period was over.
+  pub record ClaimsFirst (seen : ℕ) (p : HandState J R) (q : RunningHandState J R) (job : J) : Type 0 where
+    pub first : Callback J
+    pub job_is : first.job ≡ job
+    pub held : hand_held p ≡ first ∷ running_held q
+    pub drawn : running_drawn q ≡ hand_drawn p
+    pub records : running_records q ≡ hand_records p
+    pub claimed : q.claimed ≡ claimed_as seen first
+    pub over : snap_of first.stamp ≤ seen
+    pub won : Claims p.cpu first.number (hand_view p) (running_view q)
+    pub steps : StepsOnly (turns_word p.cpu) 1 (hand_view p) (running_view q)
+
+  -- A begin of which a claim runs: a look, a draw at most, and then the claim.
+  pub record BeginsHand (p : HandState J R) (q : RunningHandState J R) (job : J) : Type 0 where
+    pub seen : ℕ
+    pub first : HandState J R
+    pub second : HandState J R
+    pub looks : Looks seen p first
+    pub loads : Loads first second
+    pub claims : ClaimsFirst seen second q job
+
+  -- A begin of which none runs: a turn that ran nothing.
+  abbrev pub StopsHand : Stop → HandState J R → HandState J R → Type 0
+  StopsHand stop p q = TurnsBy (record { ran = 0; stop = stop }) p q
+
+  -- A finish: the claim has ended by one step, its record is added, and nothing else changed.
+  pub record FinishesHand (receipt : R) (p : RunningHandState J R) (q : HandState J R) : Type 0 where
+    pub records : hand_records q ≡ running_records p ++ record_with receipt p.claimed ∷ []
+    pub held : q.held ≡ p.held
+    pub ends : Finishes (running_view p) (hand_view q)
+    pub steps : StepsOnly (turns_word p.cpu) 1 (running_view p) (hand_view q)

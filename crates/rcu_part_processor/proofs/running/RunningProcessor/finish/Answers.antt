@@ -1,0 +1,35 @@
+use Rattle.std.proofs.Common.{ℕ, ◌∙◌, ap, refl, subst}
+use Rattle.rcu_board.specs.Roles.{cpu_of_role}
+use Rattle.rcu_board.specs.Seats.{view}
+use Rattle.rcu_board.specs.Words.{turns_word}
+use Rattle.rcu_holdings.specs.Callers.{holding}
+use Rattle.rcu_part_steps.specs.Changes.{StepsOnly}
+use Rattle.rcu_part_processor.proofs.Claiming.{finished_law, given_finished}
+use Rattle.rcu_part_processor.proofs.running.RunningProcessor.finish.Goals as goal
+
+pub invariant_of-state : goal.invariant_of-state
+invariant_of-state g c = let s = c.args.self.state in let e = c.end_claim.ensures in record {
+  here = e.same.table ∙ s.here;
+  role = e.same.role ∙ s.role;
+  there = s.there;
+  bit = s.bit;
+  local = s.local;
+  small = s.small;
+  lawful = finished_law s.cpu s.accepted _ s.claimed c.args.receipt (view s.seat) (view c.end_claim.new.seat) s.ran.items c.push_reserved.new.self.items (holding s.lists) e.ends e.later c.push_reserved.ensures.items s.lawful;
+}
+
+pub returns-clause-same : goal.returns-clause-same
+returns-clause-same g c = record { part = record { board = refl; seat = c.end_claim.ensures.same }; lane = refl; cpu = refl; offloadable = refl; limit = refl; blimit = refl }
+
+pub returns-clause-finishes : goal.returns-clause-finishes
+returns-clause-finishes g c = let s = c.args.self.state in record {
+  records = c.push_reserved.ensures.items;
+  lists = refl;
+  count = refl;
+  ends = c.end_claim.ensures.ends;
+  steps = subst (λ (p : ℕ). StepsOnly (turns_word p) 1 (view s.seat) (view c.end_claim.new.seat)) (ap cpu_of_role s.role) c.end_claim.ensures.only;
+}
+
+pub returns-clause-sound : goal.returns-clause-sound
+returns-clause-sound g c = λ sound given. let s = c.args.self.state in
+    record { keyed = sound.keyed; given = given_finished g.J.Job.gives s.claimed c.args.receipt s.ran.items c.push_reserved.new.self.items c.push_reserved.ensures.items given sound.given }

@@ -1,0 +1,75 @@
+-- What a processor's begin and finish do: docs/specification/surface.md, "rcu_parts".
+use Rattle.std.specs.Prelude.{◌≡◌, ℕ, ◌≤◌, true, false, List, [], ◌∷◌, ◌++◌}
+use Rattle.rcu_board.specs.Words.{turns_word}
+use Rattle.rcu_jobs.specs.declared.Stop.{Stop}
+use Rattle.rcu_jobs.specs.declared.callback.Callback.{Callback}
+use Rattle.rcu_lists.specs.Labels.{Done, Labelled, marked}
+use Rattle.rcu_numbers.specs.Numbers.{snap_of}
+use Rattle.rcu_part_steps.specs.Begins.{claimed_as, record_with}
+use Rattle.rcu_part_steps.specs.Changes.{Claims, Finishes, StepsOnly}
+use Rattle.rcu_part_steps.specs.declared.begins.ClaimedCallback.{ClaimedCallback}
+use Rattle.rcu_part_processor.specs.Processors.{view_of, lists_of, records_of}
+use Rattle.rcu_part_processor.specs.Running.{running_view, running_lists, running_records}
+use Rattle.rcu_part_processor.specs.Ticks.{CatchesUp, Heeds, Settles, RanDone, StopsTick, TicksBy}
+use Rattle.rcu_part_processor.specs.declared.processor.ProcessorState.{ProcessorState}
+use Rattle.rcu_part_processor.specs.declared.running.RunningProcessorState.{RunningProcessorState}
+
+module _ {J R : Type 0} where
+  -- what may be claimed: the first callback of done, whose grace period is over at the number seen
+  pub record IsNext (seen : ℕ) (c : ClaimedCallback) (p : ProcessorState J R) : Type 0 where
+    pub first : Callback J
+    pub rest : List (Labelled J)
+    pub done : (lists_of p).own ≡ marked Done (first ∷ []) ++ rest
+    pub claimed : c ≡ claimed_as seen first
+
+  -- nothing changed but the room for records
+  pub record KeepsProcessor (p q : ProcessorState J R) : Type 0 where
+    pub view : view_of q ≡ view_of p
+    pub lists : lists_of q ≡ lists_of p
+    pub records : records_of q ≡ records_of p
+    pub count : q.accepted ≡ p.accepted
+
+  -- The claim of the first callback of done, of which this is the job, was won at the board sight `seen`, by one step, and
+  -- runs; its grace period was over.
+  pub record ClaimsFirst (seen : ℕ) (p : ProcessorState J R) (q : RunningProcessorState J R) (job : J) : Type 0 where
+    pub first : Callback J
+    pub job_is : first.job ≡ job
+    pub done : (lists_of p).own ≡ marked Done (first ∷ []) ++ (running_lists q).own
+    pub others : running_lists q ≡ record (lists_of p) { own = (running_lists q).own }
+    pub records : running_records q ≡ records_of p
+    pub count : q.accepted ≡ p.accepted
+    pub claimed : q.claimed ≡ claimed_as seen first
+    pub over : snap_of first.stamp ≤ seen
+    pub won : Claims p.cpu first.number (view_of p) (running_view q)
+    pub steps : StepsOnly (turns_word p.cpu) 1 (view_of p) (running_view q)
+
+  -- no claim was won, and why; so many were tried
+  pub record ClaimsNone (seen : ℕ) (stop : Stop) (p q : ProcessorState J R) : Type 0 where
+    pub tried : ℕ
+    pub ran : RanDone 0 tried seen p q
+    pub why : StopsTick stop 0 tried q
+
+  -- A begin of which a claim runs: it catches up; an offloadable processor heeds what is asked and settles; then the first
+  -- done callback is claimed.
+  pub record BeginsTick (moment : ℕ) (p : ProcessorState J R) (q : RunningProcessorState J R) (job : J) : Type 0 where
+    pub seen : ℕ
+    pub first : ProcessorState J R
+    pub second : ProcessorState J R
+    pub third : ProcessorState J R
+    pub catches_up : CatchesUp seen p first
+    pub local : p.offloadable ≡ false → (second ≡ first) × (third ≡ second)
+    pub heeds : p.offloadable ≡ true → Heeds moment first second
+    pub settles : p.offloadable ≡ true → Settles second third
+    pub claims : ClaimsFirst seen third q job
+
+  -- A begin of which none runs: a tick that ran nothing.
+  abbrev pub StopsBegin : ℕ → Stop → ProcessorState J R → ProcessorState J R → Type 0
+  StopsBegin moment stop p q = TicksBy moment (record { ran = 0; stop = stop }) p q
+
+  -- A finish: the claim has ended by one step, its record is added, and nothing else changed.
+  pub record FinishesProcessor (receipt : R) (p : RunningProcessorState J R) (q : ProcessorState J R) : Type 0 where
+    pub records : records_of q ≡ running_records p ++ record_with receipt p.claimed ∷ []
+    pub lists : q.lists ≡ p.lists
+    pub count : q.accepted ≡ p.accepted
+    pub ends : Finishes (running_view p) (view_of q)
+    pub steps : StepsOnly (turns_word p.cpu) 1 (running_view p) (view_of q)
