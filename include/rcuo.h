@@ -194,11 +194,8 @@ struct rcuo_record {
 /*
  * The exports of the library. Programs call the functions below, which test for null pointers first.
  */
-uint32_t rcuo_slot_open(const struct rcuo_settings *settings, uint64_t number, struct rcuo_slot *control, struct rcuo_slot *driver,
-                        struct rcuo_slot *processors, size_t processors_len, struct rcuo_slot *groups, size_t groups_len,
-                        struct rcuo_slot *hands, size_t hands_len);
-uint32_t rcuo_slot_close(struct rcuo_slot *control, struct rcuo_slot *driver, struct rcuo_slot *processors, size_t processors_len,
-                         struct rcuo_slot *groups, size_t groups_len, struct rcuo_slot *hands, size_t hands_len);
+uint32_t rcuo_slot_open(const struct rcuo_settings *settings, uint64_t number, struct rcuo_parts *parts);
+uint32_t rcuo_slot_close(struct rcuo_parts *parts);
 uint32_t rcuo_slot_call(struct rcuo_slot *slot, bool lazy, uint64_t moment, const struct rcuo_job *job, struct rcuo_ticket *ticket);
 uint32_t rcuo_slot_quiescent(struct rcuo_slot *slot, uint64_t *counted);
 uint32_t rcuo_slot_begin(struct rcuo_slot *slot, uint64_t moment, struct rcuo_job *job);
@@ -226,8 +223,7 @@ uint32_t rcuo_slot_end(struct rcuo_slot *slot);
 static inline enum rcuo_answer rcuo_open(const struct rcuo_settings *settings, struct rcuo_parts *parts) {
     if (!settings || !parts) return RCUO_NULL;
     /* (while the runtime is open no other has its control slot, so the slot's address is the open's number) */
-    return (enum rcuo_answer)rcuo_slot_open(settings, (uint64_t)(uintptr_t)parts, &parts->control, &parts->driver, parts->processors,
-                                            RCUO_PROCESSORS, parts->groups, RCUO_PROCESSORS, parts->hands, RCUO_PROCESSORS);
+    return (enum rcuo_answer)rcuo_slot_open(settings, (uint64_t)(uintptr_t)parts, parts);
 }
 
 /* Closes a runtime, whose threads have ended: what is left of it, the records of the callbacks that ran and the jobs of those
@@ -238,8 +234,7 @@ static inline enum rcuo_answer rcuo_open(const struct rcuo_settings *settings, s
  * RCUO_READING where a read section is open (debug builds), RCUO_MEMORY; then nothing was lost, and the call may be made again. */
 static inline enum rcuo_answer rcuo_close(struct rcuo_parts *parts) {
     if (!parts) return RCUO_NULL;
-    return (enum rcuo_answer)rcuo_slot_close(&parts->control, &parts->driver, parts->processors, RCUO_PROCESSORS, parts->groups,
-                                             RCUO_PROCESSORS, parts->hands, RCUO_PROCESSORS);
+    return (enum rcuo_answer)rcuo_slot_close(parts);
 }
 
 /* After a close: the next record of a callback of this processor that ran, in the order of the callbacks' numbers. `at` is 0

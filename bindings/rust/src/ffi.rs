@@ -5,6 +5,7 @@ use std::ffi::c_void;
 pub const PROCESSORS: usize = 32;
 
 #[repr(C)]
+#[derive(Clone, Copy)]
 pub struct Slot {
     pub full: bool,
     pub part: *mut c_void,
@@ -14,6 +15,26 @@ pub struct Slot {
 
 impl Slot {
     pub const EMPTY: Slot = Slot { full: false, part: std::ptr::null_mut(), reading: 0, filling: [0; 5] };
+}
+
+/// The slots of a runtime.
+#[repr(C)]
+pub struct Parts {
+    pub control: Slot,
+    pub driver: Slot,
+    pub processors: [Slot; PROCESSORS],
+    pub groups: [Slot; PROCESSORS],
+    pub hands: [Slot; PROCESSORS],
+}
+
+impl Parts {
+    pub const EMPTY: Parts = Parts {
+        control: Slot::EMPTY,
+        driver: Slot::EMPTY,
+        processors: [Slot::EMPTY; PROCESSORS],
+        groups: [Slot::EMPTY; PROCESSORS],
+        hands: [Slot::EMPTY; PROCESSORS],
+    };
 }
 
 #[repr(C)]
@@ -73,29 +94,8 @@ pub struct Record {
 }
 
 extern "C" {
-    #[allow(clippy::too_many_arguments)]
-    pub fn rcuo_slot_open(
-        settings: *const Settings,
-        number: u64,
-        control: *mut Slot,
-        driver: *mut Slot,
-        processors: *mut Slot,
-        processors_len: usize,
-        groups: *mut Slot,
-        groups_len: usize,
-        hands: *mut Slot,
-        hands_len: usize,
-    ) -> u32;
-    pub fn rcuo_slot_close(
-        control: *mut Slot,
-        driver: *mut Slot,
-        processors: *mut Slot,
-        processors_len: usize,
-        groups: *mut Slot,
-        groups_len: usize,
-        hands: *mut Slot,
-        hands_len: usize,
-    ) -> u32;
+    pub fn rcuo_slot_open(settings: *const Settings, number: u64, parts: *mut Parts) -> u32;
+    pub fn rcuo_slot_close(parts: *mut Parts) -> u32;
     pub fn rcuo_slot_call(slot: *mut Slot, lazy: bool, moment: u64, job: *const Job, ticket: *mut Ticket) -> u32;
     pub fn rcuo_slot_quiescent(slot: *mut Slot, counted: *mut u64) -> u32;
     pub fn rcuo_slot_begin(slot: *mut Slot, moment: u64, job: *mut Job) -> u32;

@@ -175,61 +175,37 @@ pub struct Record {
 }
 
 /// The slots of one runtime, which stay where they are while a part of it lives.
-struct Slots {
-    control: UnsafeCell<ffi::Slot>,
-    driver: UnsafeCell<ffi::Slot>,
-    processors: UnsafeCell<[ffi::Slot; ffi::PROCESSORS]>,
-    groups: UnsafeCell<[ffi::Slot; ffi::PROCESSORS]>,
-    hands: UnsafeCell<[ffi::Slot; ffi::PROCESSORS]>,
-}
+struct Slots(UnsafeCell<ffi::Parts>);
 
 // Each slot is reached by the one part that is for it, and all of them only where no part is left.
 unsafe impl Send for Slots {}
 unsafe impl Sync for Slots {}
 
 impl Slots {
-    fn empty() -> Slots {
-        Slots {
-            control: UnsafeCell::new(ffi::Slot::EMPTY),
-            driver: UnsafeCell::new(ffi::Slot::EMPTY),
-            processors: UnsafeCell::new([const { ffi::Slot::EMPTY }; ffi::PROCESSORS]),
-            groups: UnsafeCell::new([const { ffi::Slot::EMPTY }; ffi::PROCESSORS]),
-            hands: UnsafeCell::new([const { ffi::Slot::EMPTY }; ffi::PROCESSORS]),
-        }
+    fn control(&self) -> *mut ffi::Slot {
+        unsafe { &raw mut (*self.0.get()).control }
     }
 
     /// Closes all parts, where no other use of a slot is left.
     fn close(&self, processors: u64) -> Result<Closed, Error> {
-        let many = ffi::PROCESSORS;
-        answer(unsafe {
-            ffi::rcuo_slot_close(
-                self.control.get(),
-                self.driver.get(),
-                self.processors.get().cast(),
-                many,
-                self.groups.get().cast(),
-                many,
-                self.hands.get().cast(),
-                many,
-            )
-        })?;
+        answer(unsafe { ffi::rcuo_slot_close(self.0.get()) })?;
         let mut closed = Closed { ran: Vec::new(), back: Vec::new() };
         for processor in 0..processors {
             let mut record = ffi::Record::default();
             let mut records = Vec::new();
-            while unsafe { ffi::rcuo_slot_record(self.control.get(), processor, records.len() as u64, &mut record) } == 0 {
+            while unsafe { ffi::rcuo_slot_record(self.control(), processor, records.len() as u64, &mut record) } == 0 {
                 records.push(Record { number: record.number, stamp: record.stamp, ready: record.ready });
             }
             closed.ran.push(records);
             let mut job = ffi::Job::default();
             let mut jobs = Vec::new();
-            while unsafe { ffi::rcuo_slot_back(self.control.get(), processor, jobs.len() as u64, &mut job) } == 0 {
+            while unsafe { ffi::rcuo_slot_back(self.control(), processor, jobs.len() as u64, &mut job) } == 0 {
                 // (each job that comes back was made by `Processor::call`, and comes back once)
                 jobs.push(unsafe { job_of(&job) });
             }
             closed.back.push(jobs);
         }
-        answer(unsafe { ffi::rcuo_slot_end(self.control.get()) })?;
+        answer(unsafe { ffi::rcuo_slot_end(self.control()) })?;
         Ok(closed)
     }
 }
@@ -237,7 +213,7 @@ impl Slots {
 impl Drop for Slots {
     fn drop(&mut self) {
         // A runtime whose parts were dropped: the jobs that didn't run are dropped too.
-        if self.control.get_mut().full {
+        if self.0.get_mut().control.full {
             let _ = self.close(ffi::PROCESSORS as u64);
         }
     }
@@ -268,7 +244,7 @@ macro_rules! part {
 
         impl $name {
             fn slot(&self) -> *mut ffi::Slot {
-                let first = self.slots.$slot.get().cast::<ffi::Slot>();
+                let first = unsafe { &raw mut (*self.slots.0.get()).$slot }.cast::<ffi::Slot>();
                 $(let first = unsafe { first.add(self.$at) };)?
                 first
             }
@@ -327,26 +303,11 @@ pub fn open(settings: &Settings) -> Result<Parts, Error> {
         limit: settings.limit,
         offloadable: settings.offloadable,
     };
-    let slots = Arc::new(Slots::empty());
-    let many = ffi::PROCESSORS;
-    answer(unsafe {
-        ffi::rcuo_slot_open(
-            &asked,
-            Arc::as_ptr(&slots) as u64,
-            slots.control.get(),
-            slots.driver.get(),
-            slots.processors.get().cast(),
-            many,
-            slots.groups.get().cast(),
-            many,
-            slots.hands.get().cast(),
-            many,
-        )
-    })?;
-    let full = |first: *mut ffi::Slot| -> Vec<usize> { (0..many).filter(|&at| unsafe { (*first.add(at)).full }).collect() };
-    let processors = full(slots.processors.get().cast());
-    let groups = full(slots.groups.get().cast());
-    let hands = full(slots.hands.get().cast());
+    let slots = Arc::new(Slots(UnsafeCell::new(ffi::Parts::EMPTY)));
+    answer(unsafe { ffi::rcuo_slot_open(&asked, Arc::as_ptr(&slots) as u64, slots.0.get()) })?;
+    let full = |slots: &[ffi::Slot]| -> Vec<usize> { (0..slots.len()).filter(|&at| slots[at].full).collect() };
+    let opened = unsafe { &*slots.0.get() };
+    let (processors, groups, hands) = (full(&opened.processors), full(&opened.groups), full(&opened.hands));
     let alone = PhantomData;
     Ok(Parts {
         processors: processors.into_iter().map(|at| Processor { slots: Arc::clone(&slots), at, alone }).collect(),
@@ -364,21 +325,30 @@ impl Parts {
     ///
     /// The parts come back, and nothing was lost.
     pub fn close(self) -> Result<Closed, Refused<Parts>> {
-        let slots = &self.control.slots;
-        let others = [&self.driver.slots].into_iter();
-        let others = others.chain(self.processors.iter().map(|part| &part.slots)).chain(self.groups.iter().map(|part| &part.slots));
-        let mut others = others.chain(self.hands.iter().map(|part| &part.slots));
-        if !others.all(|other| Arc::ptr_eq(slots, other)) {
-            return Err(Refused { error: Error::Foreign, back: self });
+        if let Err(error) = self.are_all() {
+            return Err(Refused { error, back: self });
         }
-        // (each part has one of the slots' owners, and there is no other)
-        if Arc::strong_count(slots) != 2 + self.processors.len() + self.groups.len() + self.hands.len() {
-            return Err(Refused { error: Error::Missing, back: self });
-        }
-        match slots.close(self.processors.len() as u64) {
+        match self.control.slots.close(self.processors.len() as u64) {
             Ok(closed) => Ok(closed),
             Err(error) => Err(Refused { error, back: self }),
         }
+    }
+
+    /// Whether these are all parts of one open.
+    fn are_all(&self) -> Result<(), Error> {
+        let mut others = vec![&self.driver.slots];
+        others.extend(self.processors.iter().map(|part| &part.slots));
+        others.extend(self.groups.iter().map(|part| &part.slots));
+        others.extend(self.hands.iter().map(|part| &part.slots));
+        let slots = &self.control.slots;
+        if !others.iter().all(|other| Arc::ptr_eq(slots, other)) {
+            return Err(Error::Foreign);
+        }
+        // (each part owns the slots together with the others, and there is no other owner)
+        if Arc::strong_count(slots) != 1 + others.len() {
+            return Err(Error::Missing);
+        }
+        Ok(())
     }
 }
 

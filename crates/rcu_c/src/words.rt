@@ -68,3 +68,71 @@ pub struct RecordWords {
     pub ready: u64,
     pub job: ForeignJob,
 }
+
+/// The words of counts.
+pub(crate) fn words_of_counts(counts: &Counts) -> CountWords {
+    CountWords {
+        processors: counts.n,
+        counts: counts.counts,
+    }
+}
+
+/// The counts of words; None where there are too many processors.
+pub(crate) fn counts_of_words(words: &CountWords) -> Option<Counts> {
+    if words.processors > 32 {
+        return None;
+    }
+    let mut counts = Counts::new(words.processors);
+    for p in 0..words.processors {
+        counts.set(p, words.counts[p as usize]);
+    }
+    Some(counts)
+}
+
+/// The words of a driver's turn: 0 idle, 1 started, 2 ended, 3 waits, with the number or the mask.
+pub(crate) fn words_of_driver(turn: DriverTurn) -> DriverWords {
+    match turn {
+        DriverTurn::Started(number) => DriverWords { step: 1, number },
+        DriverTurn::Ended(number) => DriverWords { step: 2, number },
+        DriverTurn::Waits(mask) => DriverWords {
+            step: 3,
+            number: u64::from(mask),
+        },
+        DriverTurn::Idle | DriverTurn::Spent => DriverWords { step: 0, number: 0 },
+    }
+}
+
+fn word_of_mode(mode: Mode) -> u64 {
+    match mode {
+        Mode::Local => 0,
+        Mode::Offloading => 1,
+        Mode::Offloaded => 2,
+        Mode::Deoffloading => 3,
+    }
+}
+
+/// The words of lists.
+pub(crate) fn words_of_lists(lists: Lists) -> ListWords {
+    match lists {
+        Lists::Cpu {
+            mode,
+            accepted,
+            bypass,
+            lengths,
+            numbers,
+        } => ListWords {
+            mode: word_of_mode(mode),
+            accepted,
+            bypass,
+            lengths,
+            numbers,
+        },
+        Lists::Folk { lengths, numbers } => ListWords {
+            mode: 0,
+            accepted: 0,
+            bypass: 0,
+            lengths,
+            numbers,
+        },
+    }
+}

@@ -31,13 +31,16 @@ module _ {old new : PartSlots} (s : StayHeld old new) where
 
   pub closes_from_old : {result : Result (Unit {0}) Fault} {last : PartSlots} → Closes result new last ⊎ RefusesClose result new last → Closes result old last ⊎ RefusesClose result old last
   closes_from_old (inl c) = inl (record { opening = c.opening; parts = c.parts; held = held_back c.held; emptied = c.emptied; comes_to = c.comes_to })
-  closes_from_old (inr r) = inr (r.0, record {
-    control_stays = r.1.control_stays ∙ s.control_stays;
-    driver_stays = r.1.driver_stays ∙ s.driver_stays;
-    processors_stay = r.1.processors_stay ∙ s.processors_stay;
-    groups_stay = r.1.groups_stay ∙ s.groups_stay;
-    hands_stay = r.1.hands_stay ∙ s.hands_stay;
-  })
+  closes_from_old (inr r) = inr (
+    r.0,
+    record {
+      control_stays = r.1.control_stays ∙ s.control_stays;
+      driver_stays = r.1.driver_stays ∙ s.driver_stays;
+      processors_stay = r.1.processors_stay ∙ s.processors_stay;
+      groups_stay = r.1.groups_stay ∙ s.groups_stay;
+      hands_stay = r.1.hands_stay ∙ s.hands_stay;
+    },
+  )
 
 pub closes_again_from : {old new last : Slot} {result : Result (Unit {0}) Fault} → new.held.value ≡ old.held.value → ClosesAgain result new last → ClosesAgain result old last
 closes_again_from stays c = record { closing = c.closing; had = (c.had.0, sym stays ∙ c.had.1, c.had.2); comes_to = c.comes_to }

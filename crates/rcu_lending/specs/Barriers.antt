@@ -9,7 +9,7 @@ use Rattle.rcu_control.specs.declared.control.Control.{Control as TheControl}
 use Rattle.rcu_jobs.specs.declared.Counts.{Counts}
 use Rattle.rcu_jobs.specs.declared.Passed.{Passed}
 use Rattle.rcu_lending.specs.Others.{KeepsControl}
-use Rattle.rcu_lending.specs.Parts.{Makes, IsOfAnotherKind}
+use Rattle.rcu_lending.specs.Parts.{Makes, IsOfAnotherKind, not_resting}
 use Rattle.rcu_lending.specs.Processors.{OpensOne}
 use Rattle.rcu_lending.specs.declared.fault.Fault.{Fault}
 use Rattle.rcu_lending.specs.declared.fault.Fault.TheVariants.{Foreign}
@@ -25,7 +25,7 @@ pub record ControlOpens (b : Barrier) (c d : TheControl) : Type 0 where
 abbrev pub OpensPart : Result Barrier Fault → Part → Part → Type 0
 OpensPart result old new = MatchResult result
     (λ b. Makes Control (ControlOpens b) old new ⊎ Makes Processor (OpensOne b) old new)
-    (λ fault. IsOfAnotherKind fault old new)
+    (λ fault. (fault ≡ not_resting old) × (new ≡ old))
 
 -- control read turn words: the barrier has passed, or not yet
 pub record PollsOne (counts : Counts) (passed : Option Passed) (c d : TheControl) : Type 0 where

@@ -5,4 +5,6 @@ pub mod Holding
 pub mod Others
 pub mod Parts
 pub mod Processors
+pub mod Runs
+pub mod Shows
 pub mod Slots

@@ -23,7 +23,7 @@ impl Part {
     ///
     /// # Errors
     ///
-    /// The part is of another kind.
+    /// A callback of the processor runs; or the part is of another kind.
     pub fn barrier(&mut self) -> Result<Barrier, Fault>
         ensures { OpensPart result self.old self.new }
     {
@@ -33,7 +33,7 @@ impl Part {
                 Err(_) => unreachable!(),
             },
             Part::Processor(processor) => Ok(processor.barrier()),
-            other => Err(other.wrong_kind()),
+            other => Err(other.not_resting()),
         }
     }
 

@@ -20,7 +20,7 @@ impl Lent {
         ensures place { IfOk result (λ _. (self.now.opening ≡ opening) × (self.now.at ≡ at)) }
     {
         if self.part.kind() != kind {
-            return Err(self.part.not_of_kind(kind));
+            return Err(self.part.not_resting());
         }
         if self.opening != opening || self.at != at {
             return Err(Fault::Foreign);

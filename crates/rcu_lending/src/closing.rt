@@ -1,6 +1,6 @@
 //! Closing the runtime of some slots.
 
-ghost use Rattle.std.specs.Prelude.{◌≡◌, ◌≢◌, ◌⊎◌, [], None, IfErr, IfOk};
+ghost use Rattle.std.specs.Prelude.{◌≡◌, ◌⊎◌, [], IfOk};
 ghost use Rattle.std.specs.Vec.{vec_capacity};
 ghost use Rattle.rcu_lending.specs.Gathers.{AreEmptied, AreHeld, AreOfTheOpen, AreReady, CanClose, Closes, ClosesAgain, OwesAgain, ComesTo, HasKind, HasPart, IsThere, Keeps, RefusesClose, StayHeld};
 ghost use Rattle.rcu_lending.specs.declared.part.Part.TheVariants as part;
@@ -149,7 +149,7 @@ fn take_all(alloc: Global, slots: &mut PartSlots, opening: Opening, room: Room) 
 /// Closes parts, and puts what is left of them, or for want of memory all of them, into the box of control's slot.
 fn close_parts(alloc: Global, slot: &mut Slot, parts: Parts<ForeignJob>) -> Result<(), Fault>
     requires owed { CanClose parts }
-    requires there { slot.old.held.value ≢ None }
+    requires there { HasPart part.Nothing slot.old.held.value }
     ensures { ComesTo parts result slot.new }
 {
     match close(alloc, parts) {
@@ -167,7 +167,7 @@ fn close_parts(alloc: Global, slot: &mut Slot, parts: Parts<ForeignJob>) -> Resu
 /// Tries again to close the parts that control's slot has after a close for which there was no memory.
 fn close_again(alloc: Global, slot: &mut Slot, closing: Closing<ForeignJob>) -> Result<(), Fault>
     requires owed { CanClose closing.parts }
-    requires there { slot.old.held.value ≢ None }
+    requires there { HasPart part.Nothing slot.old.held.value }
     ensures { ComesTo closing.parts result slot.new }
 {
     match closing.again(alloc) {

@@ -12,6 +12,8 @@ mod others;
 mod part;
 mod processors;
 mod reaching;
+mod runs;
+mod showing;
 mod slot;
 mod taking;
 
@@ -19,5 +21,5 @@ pub use closing::close_from;
 pub use fault::{Fault, fault_of_refusal, fault_of_stop, fault_of_switch};
 pub use job::ForeignJob;
 pub use opening::open_into;
-pub use part::{Lent, Opening, Part, PartKind};
+pub use part::{BegunHand, BegunProcessor, Lent, Opening, Part, PartKind};
 pub use slot::{Held, PartSlots, Slot};

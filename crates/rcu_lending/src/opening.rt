@@ -3,7 +3,7 @@
 use crate::fault::Fault;
 use crate::job::ForeignJob;
 use crate::part::{Lent, Opening, Part};
-use crate::slot::Slot;
+use crate::slot::{PartSlots, Slot};
 use rcu_numbers::Shape;
 use rcu_parts::{AllParts, Group, Hand, Parts, Processor, open};
 use std::alloc::{AllocError, Global};
@@ -125,8 +125,7 @@ fn are_empty(slots: &[Slot]) -> bool {
     true
 }
 
-/// Opens a runtime under a number into empty slots: the processors' at the places 0, 1, .., each group's and each hand's at
-/// its own number.
+/// Opens a runtime under a number into empty slots: each processor's part at its number, and each group's and each hand's.
 ///
 /// # Errors
 ///
@@ -135,31 +134,28 @@ pub fn open_into(
     alloc: Global,
     shape: Shape,
     number: u64,
-    control: &mut Slot,
-    driver: &mut Slot,
-    processors: &mut [Slot],
-    groups: &mut [Slot],
-    hands: &mut [Slot],
+    slots: &mut PartSlots,
 ) -> Result<(), Fault> {
-    if control.is_full() || driver.is_full() {
+    if slots.control.is_full() || slots.driver.is_full() {
         return Err(Fault::Full);
     }
-    if !are_empty(processors) || !are_empty(groups) || !are_empty(hands) {
+    if !are_empty(&slots.processors) || !are_empty(&slots.groups) || !are_empty(&slots.hands) {
         return Err(Fault::Full);
     }
     let Ok(boxes) = open_boxes(alloc, shape, number) else {
         return Err(Fault::Memory);
     };
-    let mut boxes = boxes;
-    put_each(processors, &mut boxes.processors);
-    put_each(groups, &mut boxes.groups);
-    put_each(hands, &mut boxes.hands);
     let Boxes {
-        control: of_control,
-        driver: of_driver,
-        ..
+        control,
+        driver,
+        mut processors,
+        mut groups,
+        mut hands,
     } = boxes;
-    control.put(of_control);
-    driver.put(of_driver);
+    put_each(&mut slots.processors, &mut processors);
+    put_each(&mut slots.groups, &mut groups);
+    put_each(&mut slots.hands, &mut hands);
+    slots.driver.put(driver);
+    slots.control.put(control);
     Ok(())
 }

@@ -1,11 +1,11 @@
-//! Calls on a processor in a slot.
+//! Calls on a processor in a slot, whether or not a callback of it runs.
 
 ghost use Rattle.std.specs.Prelude.{◌≡◌};
-ghost use Rattle.rcu_lending.specs.Processors.{AnswersCall, CallsBy, ReportsBy};
+ghost use Rattle.rcu_lending.specs.Processors.{AnswersBegun, AnswersCall, CallsBy, ReportsBegun, ReportsBy};
 
 use crate::fault::{Fault, fault_of_refusal};
 use crate::job::ForeignJob;
-use crate::part::Part;
+use crate::part::{BegunProcessor, Part};
 use rcu_jobs::{Refused, Ticket};
 use rcu_lists::Kind;
 use rcu_parts::Processor;
@@ -25,6 +25,28 @@ fn call_one(
     }
 }
 
+/// The same while a callback runs.
+fn call_begun(
+    begun: &mut BegunProcessor,
+    kind: Kind,
+    moment: u64,
+    job: ForeignJob,
+) -> Result<Ticket, Refused<ForeignJob>>
+    ensures { AnswersBegun kind moment job result begun.old begun.new }
+{
+    match kind {
+        Kind::Plain => begun.processor.call_rcu(moment, job),
+        Kind::Lazy => begun.processor.call_rcu_lazy(moment, job),
+    }
+}
+
+/// A report while a callback runs.
+fn report_begun(begun: &mut BegunProcessor) -> Option<u64>
+    ensures { ReportsBegun result begun.old begun.new }
+{
+    begun.processor.quiescent()
+}
+
 impl Part {
     /// Accepts a job by a processor, at a moment of the program's clock.
     ///
@@ -36,6 +58,10 @@ impl Part {
     {
         match self {
             Part::Processor(processor) => match call_one(processor, kind, moment, job) {
+                Ok(ticket) => Ok(ticket),
+                Err(refused) => Err(fault_of_refusal(refused)),
+            },
+            Part::RunningProcessor(begun) => match call_begun(begun, kind, moment, job) {
                 Ok(ticket) => Ok(ticket),
                 Err(refused) => Err(fault_of_refusal(refused)),
             },
@@ -53,6 +79,7 @@ impl Part {
     {
         match self {
             Part::Processor(processor) => Ok(processor.quiescent()),
+            Part::RunningProcessor(begun) => Ok(report_begun(begun)),
             other => Err(other.wrong_kind()),
         }
     }

@@ -1,15 +1,17 @@
 //! Calls on the part of a slot.
 
 ghost use Rattle.std.specs.Int.{from_bool};
+ghost use Rattle.std.specs.Prelude.{◌≡◌, IfErr, IfOk, None};
 ghost use Rattle.rcu_lending.specs.Barriers.{OpensPart, PollsPart};
 ghost use Rattle.rcu_lending.specs.Others.{DriverTurnsBy, GroupTurnsBy, HaltsBy, ReadsHaltBy, ShutsBy, SwitchesPart};
 ghost use Rattle.rcu_lending.specs.Processors.{CallsBy, ReportsBy};
+ghost use Rattle.rcu_lending.specs.Runs.{BeginsBy, FinishesBy};
 ghost use Rattle.rcu_lending.specs.Slots.{OnSlot};
 
 use crate::fault::Fault;
 use crate::job::ForeignJob;
 use crate::slot::Slot;
-use rcu_jobs::{Counts, DriverTurn, GroupTurn, Passed, Ticket};
+use rcu_jobs::{Counts, DriverTurn, GroupTurn, Lists, Passed, Record, Ticket};
 use rcu_lists::Kind;
 use rcu_parts::Barrier;
 use std::alloc::Global;
@@ -179,5 +181,141 @@ impl Slot {
         let answer = boxed.part.poll(counts);
         self.put(boxed);
         answer
+    }
+
+    /// `Part::begin` of the slot's part.
+    ///
+    /// # Errors
+    ///
+    /// As that, or the slot is empty.
+    pub fn begin(&mut self, alloc: Global, moment: u64) -> Result<ForeignJob, Fault>
+        ensures { OnSlot (BeginsBy moment) result self.old self.new }
+    {
+        let Some(mut boxed) = self.take(alloc) else {
+            return Err(Fault::Empty);
+        };
+        let answer = boxed.part.begin(moment);
+        self.put(boxed);
+        answer
+    }
+
+    /// `Part::finish` of the slot's part.
+    ///
+    /// # Errors
+    ///
+    /// As that, or the slot is empty.
+    pub fn finish(&mut self, alloc: Global) -> Result<(), Fault>
+        ensures { OnSlot FinishesBy result self.old self.new }
+    {
+        let Some(mut boxed) = self.take(alloc) else {
+            return Err(Fault::Empty);
+        };
+        let answer = boxed.part.finish();
+        self.put(boxed);
+        answer
+    }
+
+    /// `Part::accepted` of the slot's part.
+    ///
+    /// # Errors
+    ///
+    /// As that, or the slot is empty.
+    pub fn accepted(&mut self, alloc: Global) -> Result<u64, Fault>
+        ensures stays { self.new.held.value ≡ self.old.held.value }
+    {
+        let Some(boxed) = self.take(alloc) else {
+            return Err(Fault::Empty);
+        };
+        let answer = boxed.part.accepted();
+        self.put(boxed);
+        answer
+    }
+
+    /// `Part::lists` of the slot's part.
+    ///
+    /// # Errors
+    ///
+    /// As that, or the slot is empty.
+    pub fn lists(&mut self, alloc: Global) -> Result<Lists, Fault>
+        ensures stays { self.new.held.value ≡ self.old.held.value }
+    {
+        let Some(boxed) = self.take(alloc) else {
+            return Err(Fault::Empty);
+        };
+        let answer = boxed.part.lists();
+        self.put(boxed);
+        answer
+    }
+
+    /// `Part::ran_at` of the slot's part.
+    ///
+    /// # Errors
+    ///
+    /// As that, or the slot is empty.
+    pub fn ran_at(
+        &mut self,
+        alloc: Global,
+        processor: u64,
+        at: u64,
+    ) -> Result<Record<ForeignJob>, Fault>
+        ensures stays { self.new.held.value ≡ self.old.held.value }
+    {
+        let Some(boxed) = self.take(alloc) else {
+            return Err(Fault::Empty);
+        };
+        let answer = boxed.part.ran_at(processor, at);
+        self.put(boxed);
+        answer
+    }
+
+    /// `Part::back_at` of the slot's part.
+    ///
+    /// # Errors
+    ///
+    /// As that, or the slot is empty.
+    pub fn back_at(&mut self, alloc: Global, processor: u64, at: u64) -> Result<ForeignJob, Fault>
+        ensures stays { self.new.held.value ≡ self.old.held.value }
+    {
+        let Some(boxed) = self.take(alloc) else {
+            return Err(Fault::Empty);
+        };
+        let answer = boxed.part.back_at(processor, at);
+        self.put(boxed);
+        answer
+    }
+
+    /// `Part::reports_of` of the slot's part.
+    ///
+    /// # Errors
+    ///
+    /// As that, or the slot is empty.
+    pub fn reports_of(&mut self, alloc: Global, processor: u64) -> Result<u64, Fault>
+        ensures stays { self.new.held.value ≡ self.old.held.value }
+    {
+        let Some(boxed) = self.take(alloc) else {
+            return Err(Fault::Empty);
+        };
+        let answer = boxed.part.reports_of(processor);
+        self.put(boxed);
+        answer
+    }
+
+    /// Lets go what is left of a runtime that was closed.
+    ///
+    /// # Errors
+    ///
+    /// The slot is empty, or its part is of another kind. Nothing has changed.
+    pub fn end(&mut self, alloc: Global) -> Result<(), Fault>
+        ensures err { IfErr result (λ _. self.new.held.value ≡ self.old.held.value) }
+        ensures ok { IfOk result (λ _. self.new.held.value ≡ None) }
+    {
+        let Some(boxed) = self.take(alloc) else {
+            return Err(Fault::Empty);
+        };
+        if !boxed.part.is_closed() {
+            self.put(boxed);
+            return Err(Fault::Other);
+        }
+        Ok(())
     }
 }

@@ -138,13 +138,13 @@ pub(crate) fn take_part(alloc: Global, slot: &mut Slot) -> Part
 }
 
 /// Puts a part into the box of control's slot.
-pub(crate) fn put_part(alloc: Global, slot: &mut Slot, part: Part)
-    requires there { slot.old.held.value ≢ None }
-    ensures { Keeps part slot.old.held.value slot.new.held.value }
+pub(crate) fn put_part(alloc: Global, slot: &mut Slot, whole: Part)
+    requires there { HasPart part.Nothing slot.old.held.value }
+    ensures { Keeps whole slot.old.held.value slot.new.held.value }
 {
     let Some(mut boxed) = slot.take(alloc) else {
         unreachable!()
     };
-    boxed.part = part;
+    boxed.part.fill(whole);
     slot.put(boxed);
 }

@@ -1,0 +1,43 @@
+//! Open and close.
+
+ghost use Rattle.rcu_lending.specs.Gathers.{AreOfTheOpen};
+
+use crate::words::Settings;
+use rcu_lending::{Fault, PartSlots, close_from, open_into};
+use rcu_numbers::Shape;
+use std::alloc::Global;
+
+/// `rcuo_open`: opens a runtime under a number into empty slots.
+#[unsafe(no_mangle)]
+pub extern "C" fn rcuo_slot_open(
+    alloc: Global,
+    settings: &Settings,
+    number: u64,
+    slots: &mut PartSlots,
+) -> u32 {
+    let Some(shape) = Shape::new(
+        settings.processors,
+        settings.offloadable,
+        settings.stride,
+        settings.blimit,
+        settings.qhimark,
+        settings.limit,
+    ) else {
+        return Fault::Shape.number();
+    };
+    match open_into(alloc, shape, number, slots) {
+        Ok(()) => 0,
+        Err(fault) => fault.number(),
+    }
+}
+
+/// `rcuo_close`: closes the runtime of these slots.
+#[unsafe(no_mangle)]
+pub extern "C" fn rcuo_slot_close(alloc: Global, slots: &mut PartSlots) -> u32
+    requires owed { AreOfTheOpen slots.old }
+{
+    match close_from(alloc, slots) {
+        Ok(()) => 0,
+        Err(fault) => fault.number(),
+    }
+}
