@@ -1,7 +1,8 @@
 /*
  * A thread that must not pause. It updates shared data in a loop and retires the old versions, and each callback takes a
  * while. Where its processor is local, the callbacks run in this thread; where it is offloaded, they run in a hand's thread,
- * and this one only hands them over. The program does both, one after the other, and prints the longest pause of each.
+ * and this one only hands them over. The program does both, one after the other, and prints the longest that this thread was
+ * kept from its loop by its own work.
  *
  * The times are this machine's, and nothing is promised of them. What is checked is where the callbacks ran.
  *
@@ -24,9 +25,10 @@ static pthread_t worker;
 static unsigned long rounds = 20000;
 static double longest;
 
+/* The processor time of this thread, in microseconds: what other threads take of the machine isn't in it. */
 static double now(void) {
     struct timespec time;
-    clock_gettime(CLOCK_MONOTONIC, &time);
+    clock_gettime(CLOCK_THREAD_CPUTIME_ID, &time);
     return (double)time.tv_sec * 1e6 + (double)time.tv_nsec / 1e3;
 }
 

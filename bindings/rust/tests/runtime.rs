@@ -80,7 +80,7 @@ fn jobs_that_did_not_run_come_back() {
     let ran = Arc::new(AtomicU64::new(0));
     for _ in 0..2 {
         let ran = Arc::clone(&ran);
-        parts.processors[0].call(0, move || drop(ran.fetch_add(1, SeqCst))).unwrap();
+        parts.processors[0].call(0, move || { ran.fetch_add(1, SeqCst); }).unwrap();
     }
     let refused = parts.processors[0].call_lazy(0, || ()).unwrap_err();
     assert_eq!(refused.error, Error::Limit);

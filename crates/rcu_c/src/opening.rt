@@ -1,5 +1,6 @@
 //! Open and close.
 
+ghost use Rattle.rcu_c.specs.Exports.{TellsClose};
 ghost use Rattle.rcu_lending.specs.Gathers.{AreOfTheOpen};
 
 use crate::words::Settings;
@@ -35,6 +36,7 @@ pub extern "C" fn rcuo_slot_open(
 #[unsafe(no_mangle)]
 pub extern "C" fn rcuo_slot_close(alloc: Global, slots: &mut PartSlots) -> u32
     requires owed { AreOfTheOpen slots.old }
+    ensures { TellsClose result slots.old slots.new }
 {
     match close_from(alloc, slots) {
         Ok(()) => 0,

@@ -1,5 +1,7 @@
 //! What crosses between C and the library: plain words.
 
+ghost use Rattle.std.specs.Prelude.{◌≡◌};
+
 use rcu_jobs::{Counts, DriverTurn, Lists, Mode};
 use rcu_lending::ForeignJob;
 
@@ -70,7 +72,9 @@ pub struct RecordWords {
 }
 
 /// The words of counts.
-pub(crate) fn words_of_counts(counts: &Counts) -> CountWords {
+pub(crate) fn words_of_counts(counts: &Counts) -> CountWords
+    ensures { (result.processors ≡ counts.now.n) × (result.counts ≡ counts.now.counts) }
+{
     CountWords {
         processors: counts.n,
         counts: counts.counts,

@@ -6,6 +6,7 @@ ghost use Rattle.rcu_lending.specs.Barriers.{OpensPart, PollsPart};
 ghost use Rattle.rcu_lending.specs.Others.{DriverTurnsBy, GroupTurnsBy, HaltsBy, ReadsHaltBy, ShutsBy, SwitchesPart};
 ghost use Rattle.rcu_lending.specs.Processors.{CallsBy, ReportsBy};
 ghost use Rattle.rcu_lending.specs.Runs.{BeginsBy, FinishesBy};
+ghost use Rattle.rcu_lending.specs.Shows.{OnlyShows, ShowsAccepted, ShowsLists};
 ghost use Rattle.rcu_lending.specs.Slots.{OnSlot};
 
 use crate::fault::Fault;
@@ -221,7 +222,7 @@ impl Slot {
     ///
     /// As that, or the slot is empty.
     pub fn accepted(&mut self, alloc: Global) -> Result<u64, Fault>
-        ensures stays { self.new.held.value ≡ self.old.held.value }
+        ensures { OnSlot (OnlyShows ShowsAccepted) result self.old self.new }
     {
         let Some(boxed) = self.take(alloc) else {
             return Err(Fault::Empty);
@@ -237,7 +238,7 @@ impl Slot {
     ///
     /// As that, or the slot is empty.
     pub fn lists(&mut self, alloc: Global) -> Result<Lists, Fault>
-        ensures stays { self.new.held.value ≡ self.old.held.value }
+        ensures { OnSlot (OnlyShows ShowsLists) result self.old self.new }
     {
         let Some(boxed) = self.take(alloc) else {
             return Err(Fault::Empty);

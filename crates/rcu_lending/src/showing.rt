@@ -1,8 +1,7 @@
 //! What parts in slots show, and what is left of a runtime that was closed.
 
-ghost use Rattle.std.specs.Prelude.{◌≡◌, IfErr, IfOk};
-ghost use Rattle.rcu_lending.specs.Parts.{wrong_kind};
-ghost use Rattle.rcu_lending.specs.Shows.{HasAccepted, HasLists};
+ghost use Rattle.std.specs.Prelude.{◌≡◌, IfOk, Some, slice_get};
+ghost use Rattle.rcu_lending.specs.Shows.{ShowsAccepted, ShowsLists};
 
 use crate::fault::Fault;
 use crate::job::ForeignJob;
@@ -10,7 +9,9 @@ use crate::part::Part;
 use rcu_jobs::{Lists, Record};
 
 /// The record in this place, if there is one.
-fn record_at(records: &[Record<ForeignJob>], at: usize) -> Result<Record<ForeignJob>, Fault> {
+fn record_at(records: &[Record<ForeignJob>], at: usize) -> Result<Record<ForeignJob>, Fault>
+    ensures { IfOk result (λ r. slice_get records.now at ≡ Some r) }
+{
     let Some(record) = records.get(at) else {
         return Err(Fault::NoneLeft);
     };
@@ -38,8 +39,7 @@ impl Part {
     ///
     /// The part is of another kind.
     pub fn accepted(&self) -> Result<u64, Fault>
-        ensures ok { IfOk result (λ n. HasAccepted n self.now) }
-        ensures err { IfErr result (λ fault. fault ≡ wrong_kind self.now) }
+        ensures { ShowsAccepted result self.now }
     {
         match self {
             Part::Processor(processor) => Ok(processor.accepted()),
@@ -54,8 +54,7 @@ impl Part {
     ///
     /// The part is of another kind.
     pub fn lists(&self) -> Result<Lists, Fault>
-        ensures ok { IfOk result (λ shown. HasLists shown self.now) }
-        ensures err { IfErr result (λ fault. fault ≡ wrong_kind self.now) }
+        ensures { ShowsLists result self.now }
     {
         match self {
             Part::Processor(processor) => Ok(processor.lists()),
