@@ -27,7 +27,7 @@ pub record Tells {A : Type 0} (By : Result A Fault → Part → Part → Type 0)
 
 -- A read section is open, and nothing was called.
 pub record IsReading (answer : ℕ) (old new : Slot) : Type 0 where
-  pub open : old.reading ≢ 0
+  pub in_section : old.reading ≢ 0
   pub named : answer ≡ fault_number Reading
   pub stays : new ≡ old
 
