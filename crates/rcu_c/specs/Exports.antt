@@ -2,8 +2,13 @@
 use Rattle.std.specs.Prelude.{◌≡◌, ◌≢◌, ℕ, Bool, cond, Result, IfOk}
 use Rattle.std.specs.declared.result.Result.TheVariants.{Ok, Err}
 use Rattle.std.proofs.Common.{◌⊎◌}
+use Rattle.rcu_c.specs.Words.{AreTurnWords}
+use Rattle.rcu_c.specs.declared.words.DriverWords.{DriverWords}
+use Rattle.rcu_jobs.specs.declared.DriverTurn.{DriverTurn}
+use Rattle.rcu_jobs.specs.declared.DriverTurn.TheVariants.{Spent}
 use Rattle.rcu_lending.specs.Faults.{fault_number}
 use Rattle.rcu_lending.specs.Gathers.{Closes, ClosesAgain, RefusesClose}
+use Rattle.rcu_lending.specs.Others.{DriverTurnsBy}
 use Rattle.rcu_lending.specs.Slots.{OnSlot}
 use Rattle.rcu_lending.specs.declared.fault.Fault.{Fault}
 use Rattle.rcu_lending.specs.declared.fault.Fault.TheVariants.{Reading}
@@ -40,3 +45,16 @@ pub record TellsClose (answer : ℕ) (old new : PartSlots) : Type 0 where
   pub result : Result (Unit {0}) Fault
   pub does : Closes result old new ⊎ ClosesAgain result old.control new.control ⊎ RefusesClose result old new
   pub answer_is : answer ≡ answer_of result
+
+-- 0, or 1 where no further grace period can be numbered, or the number of a fault
+abbrev pub answer_of_turn : Result DriverTurn Fault → ℕ
+answer_of_turn (Ok Spent) = 1
+answer_of_turn (Ok turn) = 0
+answer_of_turn (Err fault) = fault_number fault
+
+-- A turn of the driver was made, and told by these words.
+pub record TellsTurn (words : DriverWords) (answer : ℕ) (old new : Slot) : Type 0 where
+  pub result : Result DriverTurn Fault
+  pub does : OnSlot DriverTurnsBy result old new
+  pub answer_is : answer ≡ answer_of_turn result
+  pub gives : IfOk result (λ turn. AreTurnWords turn words)

@@ -1,5 +1,7 @@
 //! What is left of a runtime that was closed.
 
+ghost use Rattle.std.specs.Prelude.{◌≡◌, ◌≢◌, None};
+
 use crate::words::RecordWords;
 use rcu_jobs::Record;
 use rcu_lending::{ForeignJob, Slot};
@@ -13,7 +15,9 @@ pub extern "C" fn rcuo_slot_record(
     processor: u64,
     at: u64,
     record: &mut RecordWords,
-) -> u32 {
+) -> u32
+    ensures stays { slot.new.held.value ≡ slot.old.held.value }
+{
     match slot.ran_at(alloc, processor, at) {
         Ok(
             Record {
@@ -44,7 +48,9 @@ pub extern "C" fn rcuo_slot_back(
     processor: u64,
     at: u64,
     job: &mut ForeignJob,
-) -> u32 {
+) -> u32
+    ensures stays { slot.new.held.value ≡ slot.old.held.value }
+{
     match slot.back_at(alloc, processor, at) {
         Ok(back) => {
             *job = back;
@@ -61,7 +67,9 @@ pub extern "C" fn rcuo_slot_reports(
     slot: &mut Slot,
     processor: u64,
     reports: &mut u64,
-) -> u32 {
+) -> u32
+    ensures stays { slot.new.held.value ≡ slot.old.held.value }
+{
     match slot.reports_of(alloc, processor) {
         Ok(many) => {
             *reports = many;
@@ -73,7 +81,10 @@ pub extern "C" fn rcuo_slot_reports(
 
 /// `rcuo_end`: lets go what is left.
 #[unsafe(no_mangle)]
-pub extern "C" fn rcuo_slot_end(alloc: Global, slot: &mut Slot) -> u32 {
+pub extern "C" fn rcuo_slot_end(alloc: Global, slot: &mut Slot) -> u32
+    ensures ended { result ≡ 0 → slot.new.held.value ≡ None }
+    ensures refused { result ≢ 0 → slot.new.held.value ≡ slot.old.held.value }
+{
     match slot.end(alloc) {
         Ok(()) => 0,
         Err(fault) => fault.number(),

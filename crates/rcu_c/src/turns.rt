@@ -1,7 +1,7 @@
 //! Turns of the driver and of groups.
 
 ghost use Rattle.std.specs.Prelude.{◌≡◌};
-ghost use Rattle.rcu_c.specs.Exports.{Tells};
+ghost use Rattle.rcu_c.specs.Exports.{Tells, TellsTurn};
 ghost use Rattle.rcu_lending.specs.Others.{GroupTurnsBy, ReadsHaltBy};
 
 use crate::words::{DriverWords, GroupWords, words_of_driver};
@@ -15,7 +15,9 @@ pub extern "C" fn rcuo_slot_driver_turn(
     alloc: Global,
     slot: &mut Slot,
     turn: &mut DriverWords,
-) -> u32 {
+) -> u32
+    ensures { TellsTurn turn.new result slot.old slot.new }
+{
     match slot.turn_driver(alloc) {
         Ok(DriverTurn::Spent) => Fault::Spent.number(),
         Ok(done) => {

@@ -1,6 +1,7 @@
 //! What crosses between C and the library: plain words.
 
 ghost use Rattle.std.specs.Prelude.{◌≡◌};
+ghost use Rattle.rcu_c.specs.Words.{AreTurnWords};
 
 use rcu_jobs::{Counts, DriverTurn, Lists, Mode};
 use rcu_lending::ForeignJob;
@@ -94,7 +95,9 @@ pub(crate) fn counts_of_words(words: &CountWords) -> Option<Counts> {
 }
 
 /// The words of a driver's turn: 0 idle, 1 started, 2 ended, 3 waits, with the number or the mask.
-pub(crate) fn words_of_driver(turn: DriverTurn) -> DriverWords {
+pub(crate) fn words_of_driver(turn: DriverTurn) -> DriverWords
+    ensures { AreTurnWords turn result }
+{
     match turn {
         DriverTurn::Started(number) => DriverWords { step: 1, number },
         DriverTurn::Ended(number) => DriverWords { step: 2, number },
