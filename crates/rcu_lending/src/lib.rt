@@ -22,4 +22,4 @@ pub use fault::{Fault, fault_of_refusal, fault_of_stop, fault_of_switch};
 pub use job::ForeignJob;
 pub use opening::open_into;
 pub use part::{BegunHand, BegunProcessor, Lent, Opening, Part, PartKind};
-pub use slot::{Held, PartSlots, Slot};
+pub use slot::{Held, PartSlots, Slot, may_change_threads};

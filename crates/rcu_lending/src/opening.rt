@@ -1,5 +1,9 @@
 //! Opening a runtime into slots.
 
+ghost use Rattle.std.specs.Prelude.{◌≡◌, IfErr, IfOk};
+ghost use Rattle.rcu_lending.specs.Gathers.{HasOpened, IsNewlyOpened, StayHeld, lent_of};
+ghost use Rattle.rcu_lending.specs.declared.part.PartKind.TheVariants as kind;
+
 use crate::fault::Fault;
 use crate::job::ForeignJob;
 use crate::part::{Lent, Opening, Part};
@@ -20,7 +24,9 @@ struct Boxes {
 }
 
 /// Boxes a part of this open, for its place.
-fn box_part(alloc: Global, opening: Opening, at: u64, part: Part) -> Result<Box<Lent>, AllocError> {
+fn box_part(alloc: Global, opening: Opening, at: u64, part: Part) -> Result<Box<Lent>, AllocError>
+    ensures { IfOk result (λ boxed. boxed.value ≡ lent_of opening at part) }
+{
     match Box::new(alloc, Lent { opening, at, part }) {
         Ok(boxed) => Ok(boxed),
         Err(_) => Err(AllocError),
@@ -67,7 +73,10 @@ fn box_hands(
 }
 
 /// Boxes all parts of an open.
-fn box_all(alloc: Global, number: u64, parts: Parts<ForeignJob>) -> Result<Boxes, AllocError> {
+fn box_all(alloc: Global, number: u64, parts: Parts<ForeignJob>) -> Result<Boxes, AllocError>
+    ensures control { IfOk result (λ boxes. IsNewlyOpened number kind.Control boxes.control.value) }
+    ensures driver { IfOk result (λ boxes. IsNewlyOpened number kind.Driver boxes.driver.value) }
+{
     let AllParts {
         processors,
         driver,
@@ -91,7 +100,10 @@ fn box_all(alloc: Global, number: u64, parts: Parts<ForeignJob>) -> Result<Boxes
 }
 
 /// Opens a runtime, and boxes its parts.
-fn open_boxes(alloc: Global, shape: Shape, number: u64) -> Result<Boxes, AllocError> {
+fn open_boxes(alloc: Global, shape: Shape, number: u64) -> Result<Boxes, AllocError>
+    ensures control { IfOk result (λ boxes. IsNewlyOpened number kind.Control boxes.control.value) }
+    ensures driver { IfOk result (λ boxes. IsNewlyOpened number kind.Driver boxes.driver.value) }
+{
     match open::<ForeignJob>(alloc, shape) {
         Ok(parts) => box_all(alloc, number, parts),
         Err(_) => Err(AllocError),
@@ -135,7 +147,11 @@ pub fn open_into(
     shape: Shape,
     number: u64,
     slots: &mut PartSlots,
-) -> Result<(), Fault> {
+) -> Result<(), Fault>
+    ensures control { IfOk result (λ _. HasOpened number kind.Control slots.new.control.held.value) }
+    ensures driver { IfOk result (λ _. HasOpened number kind.Driver slots.new.driver.held.value) }
+    ensures refused { IfErr result (λ _. StayHeld slots.old slots.new) }
+{
     if slots.control.is_full() || slots.driver.is_full() {
         return Err(Fault::Full);
     }

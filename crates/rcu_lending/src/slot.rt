@@ -10,7 +10,7 @@ ghost use Rattle.rcu_lending.specs.declared.part.Lent.{Lent as TheLent};
 use crate::part::Lent;
 use loose_box::Loose;
 use std::alloc::Global;
-use std::marker::Model;
+use std::marker::{Model, Send};
 use std::mem::replace;
 use std::ptr::null_mut;
 
@@ -60,6 +60,13 @@ impl Held {
             alloc,
         }
     }
+}
+
+fn is_send<T: Send>(_value: &T) {}
+
+/// A boxed part may go to another thread, and so may the slot that keeps it.
+pub fn may_change_threads(lent: &Box<Lent, Global>) {
+    is_send(lent);
 }
 
 /// A place for a part, which the program keeps. All zero it is empty.
