@@ -39,6 +39,11 @@ class Crate:
     def is_program(self):
         return (self.folder / "src/main.rt").is_file()
 
+    @property
+    def is_static(self):
+        """Whether it is a static library."""
+        return "staticlib" in self.line.partition(":")[0].split()
+
     @functools.cached_property
     def files(self):
         return sorted(it for part in PARTS for it in (self.folder / part).rglob("*") if it.is_file())
@@ -64,7 +69,9 @@ class Crate:
 
     @property
     def made(self):
-        """What its proof leaves for a run or for the crates above: the program, or the library."""
+        """What its proof leaves for a run, for the crates above or for C: the program, or the library."""
+        if self.is_static:
+            return self.folder / "out" / f"lib{self.name}.a"
         return self.folder / "out" / (self.name if self.is_program else "rlib")
 
     def is_built(self):

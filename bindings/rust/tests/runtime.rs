@@ -1,0 +1,135 @@
+//! The parts in threads of their own, and what close gives back.
+
+use rcuo::{open, Error, Settings};
+use std::sync::atomic::{AtomicBool, AtomicU64, Ordering::SeqCst};
+use std::sync::{Arc, Mutex};
+use std::thread;
+
+#[test]
+fn callbacks_run_in_order_in_a_hand() {
+    const CALLS: u64 = 2000;
+    let mut parts = open(&Settings { processors: 2, offloadable: 2, qhimark: 16, ..Settings::default() }).unwrap();
+    let stop = AtomicBool::new(false);
+    let seen = Arc::new(Mutex::new(Vec::new()));
+    thread::scope(|scope| {
+        let stop = &stop;
+        for processor in &mut parts.processors {
+            let seen = Arc::clone(&seen);
+            scope.spawn(move || {
+                let mut called = 0;
+                let mut moment = 0;
+                while !stop.load(SeqCst) {
+                    if processor.number() == 1 && called < CALLS {
+                        let seen = Arc::clone(&seen);
+                        let number = called;
+                        let ticket = processor.call(moment, move || seen.lock().unwrap().push(number)).unwrap();
+                        assert_eq!(ticket.number, called);
+                        called += 1;
+                    }
+                    drop(processor.read());
+                    processor.quiescent().unwrap();
+                    processor.run(moment, 16).unwrap();
+                    moment += 1;
+                    thread::yield_now();
+                }
+            });
+        }
+        for group in &mut parts.groups {
+            scope.spawn(move || {
+                while !stop.load(SeqCst) {
+                    group.turn().unwrap();
+                    thread::yield_now();
+                }
+            });
+        }
+        for hand in &mut parts.hands {
+            scope.spawn(move || {
+                while !stop.load(SeqCst) {
+                    hand.run(16).unwrap();
+                    thread::yield_now();
+                }
+            });
+        }
+        let driver = &mut parts.driver;
+        scope.spawn(move || {
+            while !stop.load(SeqCst) {
+                driver.turn().unwrap();
+                thread::yield_now();
+            }
+        });
+        while (seen.lock().unwrap().len() as u64) < CALLS {
+            parts.control.barrier().unwrap();
+            thread::yield_now();
+        }
+        let barrier = parts.control.barrier().unwrap();
+        assert_eq!(barrier.counts(), [0, CALLS]);
+        while !parts.control.poll(&barrier).unwrap() {
+            thread::yield_now();
+        }
+        stop.store(true, SeqCst);
+    });
+    assert_eq!(*seen.lock().unwrap(), (0..CALLS).collect::<Vec<_>>());
+    let closed = parts.close().unwrap();
+    assert_eq!(closed.ran[1].len() as u64, CALLS);
+    assert!(closed.ran[0].is_empty() && closed.back.iter().all(Vec::is_empty));
+}
+
+#[test]
+fn jobs_that_did_not_run_come_back() {
+    let mut parts = open(&Settings { limit: 2, ..Settings::default() }).unwrap();
+    let ran = Arc::new(AtomicU64::new(0));
+    for _ in 0..2 {
+        let ran = Arc::clone(&ran);
+        parts.processors[0].call(0, move || { ran.fetch_add(1, SeqCst); }).unwrap();
+    }
+    let refused = parts.processors[0].call_lazy(0, || ()).unwrap_err();
+    assert_eq!(refused.error, Error::Limit);
+    (refused.back)();
+    assert_eq!(parts.processors[0].accepted(), Ok(2));
+    assert_eq!(parts.control.shut(), Ok(vec![2]));
+    let closed = parts.close().unwrap();
+    for job in closed.back.into_iter().flatten() {
+        job();
+    }
+    assert_eq!(ran.load(SeqCst), 2);
+}
+
+#[test]
+fn close_wants_all_parts_of_one_open() {
+    let settings = Settings { processors: 2, offloadable: 1, ..Settings::default() };
+    let mut parts = open(&settings).unwrap();
+    let mut others = open(&settings).unwrap();
+    std::mem::swap(&mut parts.hands, &mut others.hands);
+    let refused = parts.close().map(drop).unwrap_err();
+    assert_eq!(refused.error, Error::Foreign);
+    let mut parts = refused.back;
+    std::mem::swap(&mut parts.hands, &mut others.hands);
+    let processor = parts.processors.pop().unwrap();
+    let refused = parts.close().map(drop).unwrap_err();
+    assert_eq!(refused.error, Error::Missing);
+    let mut parts = refused.back;
+    parts.processors.push(processor);
+    assert!(parts.close().is_ok());
+}
+
+#[test]
+fn a_dropped_runtime_drops_its_jobs() {
+    let told = Arc::new(());
+    let mut parts = open(&Settings::default()).unwrap();
+    let held = Arc::clone(&told);
+    parts.processors[0].call(0, move || drop(held)).unwrap();
+    assert_eq!(Arc::strong_count(&told), 2);
+    drop(parts);
+    assert_eq!(Arc::strong_count(&told), 1);
+}
+
+#[test]
+fn errors_are_named() {
+    assert_eq!(open(&Settings { processors: 33, ..Settings::default() }).map(drop), Err(Error::Shape));
+    let mut parts = open(&Settings::default()).unwrap();
+    assert_eq!(parts.control.offload(0), Err(Error::NotOffloadable));
+    assert_eq!(parts.control.offload(1), Err(Error::NoProcessor));
+    assert_eq!(parts.driver.is_halted(), Ok(false));
+    parts.control.halt().unwrap();
+    assert_eq!(parts.driver.is_halted(), Ok(true));
+}

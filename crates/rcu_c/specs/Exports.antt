@@ -1,0 +1,60 @@
+-- What an export answers and does: docs/c.md, "Answers".
+use Rattle.std.specs.Prelude.{◌≡◌, ◌≢◌, ℕ, Bool, cond, Result, IfOk}
+use Rattle.std.specs.declared.result.Result.TheVariants.{Ok, Err}
+use Rattle.std.proofs.Common.{◌⊎◌}
+use Rattle.rcu_c.specs.Words.{AreTurnWords}
+use Rattle.rcu_c.specs.declared.words.DriverWords.{DriverWords}
+use Rattle.rcu_jobs.specs.declared.DriverTurn.{DriverTurn}
+use Rattle.rcu_jobs.specs.declared.DriverTurn.TheVariants.{Spent}
+use Rattle.rcu_lending.specs.Faults.{fault_number}
+use Rattle.rcu_lending.specs.Gathers.{Closes, ClosesAgain, RefusesClose}
+use Rattle.rcu_lending.specs.Others.{DriverTurnsBy}
+use Rattle.rcu_lending.specs.Slots.{OnSlot}
+use Rattle.rcu_lending.specs.declared.fault.Fault.{Fault}
+use Rattle.rcu_lending.specs.declared.fault.Fault.TheVariants.{Reading}
+use Rattle.rcu_lending.specs.declared.part.Part.{Part}
+use Rattle.rcu_lending.specs.declared.slot.PartSlots.{PartSlots}
+use Rattle.rcu_lending.specs.declared.slot.Slot.{Slot}
+use Rattle.rcu_lists.specs.declared.pace.Kind.{Kind}
+use Rattle.rcu_lists.specs.declared.pace.Kind.TheVariants.{Lazy, Plain}
+
+-- 0, or the number of a fault
+abbrev pub answer_of : {A : Type 0} → Result A Fault → ℕ
+answer_of (Ok x) = 0
+answer_of (Err fault) = fault_number fault
+
+-- A call on the slot's part was made, and its answer is told: what it gave by the words that the caller handed in.
+pub record Tells {A : Type 0} (By : Result A Fault → Part → Part → Type 0) (Gives : A → Type 0) (answer : ℕ) (old new : Slot) : Type 0 where
+  pub result : Result A Fault
+  pub does : OnSlot By result old new
+  pub answer_is : answer ≡ answer_of result
+  pub gives : IfOk result Gives
+
+-- A read section is open, and nothing was called.
+pub record IsReading (answer : ℕ) (old new : Slot) : Type 0 where
+  pub in_section : old.reading ≢ 0
+  pub named : answer ≡ fault_number Reading
+  pub stays : new ≡ old
+
+-- a plain call, or a lazy one
+abbrev pub kind_of_call : Bool → Kind
+kind_of_call lazy = cond lazy Lazy Plain
+
+-- A close was made, and its answer is told.
+pub record TellsClose (answer : ℕ) (old new : PartSlots) : Type 0 where
+  pub result : Result (Unit {0}) Fault
+  pub does : Closes result old new ⊎ ClosesAgain result old.control new.control ⊎ RefusesClose result old new
+  pub answer_is : answer ≡ answer_of result
+
+-- 0, or 1 where no further grace period can be numbered, or the number of a fault
+abbrev pub answer_of_turn : Result DriverTurn Fault → ℕ
+answer_of_turn (Ok Spent) = 1
+answer_of_turn (Ok turn) = 0
+answer_of_turn (Err fault) = fault_number fault
+
+-- A turn of the driver was made, and told by these words.
+pub record TellsTurn (words : DriverWords) (answer : ℕ) (old new : Slot) : Type 0 where
+  pub result : Result DriverTurn Fault
+  pub does : OnSlot DriverTurnsBy result old new
+  pub answer_is : answer ≡ answer_of_turn result
+  pub gives : IfOk result (λ turn. AreTurnWords turn words)

@@ -1,0 +1,92 @@
+//! What is left of a runtime that was closed.
+
+ghost use Rattle.std.specs.Prelude.{◌≡◌, ◌≢◌, None};
+
+use crate::words::RecordWords;
+use rcu_jobs::Record;
+use rcu_lending::{ForeignJob, Slot};
+use std::alloc::Global;
+
+/// `rcuo_next_ran`: the record in place `at` of those of a processor.
+#[unsafe(no_mangle)]
+pub extern "C" fn rcuo_slot_record(
+    alloc: Global,
+    slot: &mut Slot,
+    processor: u64,
+    at: u64,
+    record: &mut RecordWords,
+) -> u32
+    ensures stays { slot.new.held.value ≡ slot.old.held.value }
+{
+    match slot.ran_at(alloc, processor, at) {
+        Ok(
+            Record {
+                number,
+                key: _,
+                stamp,
+                ready,
+                receipt,
+            },
+        ) => {
+            *record = RecordWords {
+                number,
+                stamp,
+                ready,
+                job: receipt,
+            };
+            0
+        }
+        Err(fault) => fault.number(),
+    }
+}
+
+/// `rcuo_next_back`: the job in place `at` of those of a processor that are handed back.
+#[unsafe(no_mangle)]
+pub extern "C" fn rcuo_slot_back(
+    alloc: Global,
+    slot: &mut Slot,
+    processor: u64,
+    at: u64,
+    job: &mut ForeignJob,
+) -> u32
+    ensures stays { slot.new.held.value ≡ slot.old.held.value }
+{
+    match slot.back_at(alloc, processor, at) {
+        Ok(back) => {
+            *job = back;
+            0
+        }
+        Err(fault) => fault.number(),
+    }
+}
+
+/// `rcuo_reports`: how many counted reports a processor made.
+#[unsafe(no_mangle)]
+pub extern "C" fn rcuo_slot_reports(
+    alloc: Global,
+    slot: &mut Slot,
+    processor: u64,
+    reports: &mut u64,
+) -> u32
+    ensures stays { slot.new.held.value ≡ slot.old.held.value }
+{
+    match slot.reports_of(alloc, processor) {
+        Ok(many) => {
+            *reports = many;
+            0
+        }
+        Err(fault) => fault.number(),
+    }
+}
+
+/// `rcuo_end`: lets go what is left.
+#[unsafe(no_mangle)]
+pub extern "C" fn rcuo_slot_end(alloc: Global, slot: &mut Slot) -> u32
+    ensures ended { result ≡ 0 → slot.new.held.value ≡ None }
+    ensures refused { result ≢ 0 → slot.new.held.value ≡ slot.old.held.value }
+{
+    match slot.end(alloc) {
+        Ok(()) => 0,
+        Err(fault) => fault.number(),
+    }
+}

@@ -1,0 +1,51 @@
+//! Open and close.
+
+ghost use Rattle.std.specs.Prelude.{◌≡◌, ◌≢◌};
+ghost use Rattle.rcu_c.specs.Exports.{TellsClose};
+ghost use Rattle.rcu_lending.specs.Gathers.{AreOfTheOpen, HasOpened, StayHeld};
+ghost use Rattle.rcu_lending.specs.declared.part.PartKind.TheVariants as kind;
+
+use crate::words::Settings;
+use rcu_lending::{Fault, PartSlots, close_from, open_into};
+use rcu_numbers::Shape;
+use std::alloc::Global;
+
+/// `rcuo_open`: opens a runtime under a number into empty slots.
+#[unsafe(no_mangle)]
+pub extern "C" fn rcuo_slot_open(
+    alloc: Global,
+    settings: &Settings,
+    number: u64,
+    slots: &mut PartSlots,
+) -> u32
+    ensures control { result ≡ 0 → HasOpened number kind.Control slots.new.control.held.value }
+    ensures driver { result ≡ 0 → HasOpened number kind.Driver slots.new.driver.held.value }
+    ensures refused { result ≢ 0 → StayHeld slots.old slots.new }
+{
+    let Some(shape) = Shape::new(
+        settings.processors,
+        settings.offloadable,
+        settings.stride,
+        settings.blimit,
+        settings.qhimark,
+        settings.limit,
+    ) else {
+        return Fault::Shape.number();
+    };
+    match open_into(alloc, shape, number, slots) {
+        Ok(()) => 0,
+        Err(fault) => fault.number(),
+    }
+}
+
+/// `rcuo_close`: closes the runtime of these slots.
+#[unsafe(no_mangle)]
+pub extern "C" fn rcuo_slot_close(alloc: Global, slots: &mut PartSlots) -> u32
+    requires owed { AreOfTheOpen slots.old }
+    ensures { TellsClose result slots.old slots.new }
+{
+    match close_from(alloc, slots) {
+        Ok(()) => 0,
+        Err(fault) => fault.number(),
+    }
+}

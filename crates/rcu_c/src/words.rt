@@ -1,0 +1,145 @@
+//! What crosses between C and the library: plain words.
+
+ghost use Rattle.std.specs.Prelude.{◌≡◌};
+ghost use Rattle.rcu_c.specs.Words.{AreTurnWords};
+
+use rcu_jobs::{Counts, DriverTurn, Lists, Mode};
+use rcu_lending::ForeignJob;
+
+/// `struct rcuo_settings`.
+#[repr(C)]
+#[derive(Clone, Copy)]
+pub struct Settings {
+    pub processors: u64,
+    pub stride: u64,
+    pub blimit: u64,
+    pub qhimark: u64,
+    pub limit: u64,
+    pub offloadable: u32,
+}
+
+/// `struct rcuo_ticket`.
+#[repr(C)]
+#[derive(Clone, Copy)]
+pub struct TicketWords {
+    pub processor: u64,
+    pub number: u64,
+}
+
+/// `struct rcuo_counts`.
+#[repr(C)]
+#[derive(Clone, Copy)]
+pub struct CountWords {
+    pub processors: u64,
+    pub counts: [u64; 32],
+}
+
+/// `struct rcuo_driver_turn`.
+#[repr(C)]
+#[derive(Clone, Copy)]
+pub struct DriverWords {
+    pub step: u64,
+    pub number: u64,
+}
+
+/// `struct rcuo_group_turn`.
+#[repr(C)]
+#[derive(Clone, Copy)]
+pub struct GroupWords {
+    pub took: u64,
+    pub gave: u64,
+    pub held: u64,
+}
+
+/// `struct rcuo_lists`.
+#[repr(C)]
+#[derive(Clone, Copy)]
+pub struct ListWords {
+    pub mode: u64,
+    pub accepted: u64,
+    pub bypass: u64,
+    pub lengths: [u64; 4],
+    pub numbers: [u64; 2],
+}
+
+/// `struct rcuo_record`.
+#[repr(C)]
+#[derive(Clone, Copy)]
+pub struct RecordWords {
+    pub number: u64,
+    pub stamp: u64,
+    pub ready: u64,
+    pub job: ForeignJob,
+}
+
+/// The words of counts.
+pub(crate) fn words_of_counts(counts: &Counts) -> CountWords
+    ensures { (result.processors ≡ counts.now.n) × (result.counts ≡ counts.now.counts) }
+{
+    CountWords {
+        processors: counts.n,
+        counts: counts.counts,
+    }
+}
+
+/// The counts of words; None where there are too many processors.
+pub(crate) fn counts_of_words(words: &CountWords) -> Option<Counts> {
+    if words.processors > 32 {
+        return None;
+    }
+    let mut counts = Counts::new(words.processors);
+    for p in 0..words.processors {
+        counts.set(p, words.counts[p as usize]);
+    }
+    Some(counts)
+}
+
+/// The words of a driver's turn: 0 idle, 1 started, 2 ended, 3 waits, with the number or the mask.
+pub(crate) fn words_of_driver(turn: DriverTurn) -> DriverWords
+    ensures { AreTurnWords turn result }
+{
+    match turn {
+        DriverTurn::Started(number) => DriverWords { step: 1, number },
+        DriverTurn::Ended(number) => DriverWords { step: 2, number },
+        DriverTurn::Waits(mask) => DriverWords {
+            step: 3,
+            number: u64::from(mask),
+        },
+        DriverTurn::Idle | DriverTurn::Spent => DriverWords { step: 0, number: 0 },
+    }
+}
+
+fn word_of_mode(mode: Mode) -> u64 {
+    match mode {
+        Mode::Local => 0,
+        Mode::Offloading => 1,
+        Mode::Offloaded => 2,
+        Mode::Deoffloading => 3,
+    }
+}
+
+/// The words of lists.
+pub(crate) fn words_of_lists(lists: Lists) -> ListWords {
+    match lists {
+        Lists::Cpu {
+            mode,
+            accepted,
+            bypass,
+            lengths,
+            numbers,
+        } => ListWords {
+            mode: word_of_mode(mode),
+            accepted,
+            bypass,
+            lengths,
+            numbers,
+        },
+        Lists::Folk { lengths, numbers } => ListWords {
+            mode: 0,
+            accepted: 0,
+            bypass: 0,
+            lengths,
+            numbers,
+        },
+    }
+}

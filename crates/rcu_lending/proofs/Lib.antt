@@ -1,0 +1,4 @@
+pub mod Closings
+pub mod Helds
+pub mod Polled
+pub mod Values

@@ -1,0 +1,30 @@
+use Rattle.std.proofs.Common.{◌≡◌, ◌∙◌, sym, refl}
+use mathlib.Core.Logic.{inl, inr}
+use Rattle.rcu_lending.specs.Gathers.{StayHeld}
+use Rattle.rcu_lending.specs.declared.slot.PartSlots.{PartSlots}
+use Rattle.rcu_lending.specs.declared.slot.Slot.{Slot}
+use Rattle.rcu_lending.proofs.Closings.{closes_again_from, closes_from_old, owed_still}
+use Rattle.rcu_lending.proofs.closing.close_from.Goals as goal
+
+-- control's slot was looked at
+looked_at : (slots : PartSlots) (control : Slot) → control.held.value ≡ slots.control.held.value
+    → StayHeld slots (record { control = control; driver = slots.driver; processors = slots.processors; groups = slots.groups; hands = slots.hands })
+looked_at slots control stays = record { control_stays = stays; driver_stays = refl; processors_stay = refl; groups_stay = refl; hands_stay = refl }
+
+pub close_kept-requires-clause-kind : goal.close_kept-requires-clause-kind
+close_kept-requires-clause-kind c = let s = c.in-Some.ensures.some in (s.0, c.peek.ensures.stays ∙ s.1, s.3 ∙ c.in-Closing.is)
+
+pub close_kept-requires-clause-owed : goal.close_kept-requires-clause-owed
+close_kept-requires-clause-owed c = λ l closing is part. c.requires.owed.again l closing (sym c.peek.ensures.stays ∙ is) part
+
+pub close_first-requires : goal.close_first-requires
+close_first-requires c = record { owed = owed_still (looked_at c.args.slots.now c.peek.new.self c.peek.ensures.stays) c.requires.owed }
+
+pub returns-in-Closing : goal.returns-in-Closing
+returns-in-Closing c = inr (inl (closes_again_from c.peek.ensures.stays c.close_kept.ensures))
+
+pub returns-in-Control : goal.returns-in-Control
+returns-in-Control c = elim (closes_from_old (looked_at c.args.slots.now c.peek.new.self c.peek.ensures.stays) c.close_first.ensures) [
+  | inl x ↦ inl x
+  | inr y ↦ inr (inr y)
+]

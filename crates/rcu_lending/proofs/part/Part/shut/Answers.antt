@@ -1,0 +1,11 @@
+use Rattle.std.proofs.Common.{refl}
+use Rattle.rcu_lending.proofs.part.Part.shut.Goals as goal
+
+pub returns-in-Control : goal.returns-in-Control
+returns-in-Control c = let e = c.shut.ensures in record {
+  before = c.in-Control.control;
+  after = c.shut.new.self;
+  old_is = c.in-Control.is;
+  new_is = refl;
+  does = record { same = e.same; many = e.many; shuts = e.shuts };
+}

@@ -1,0 +1,31 @@
+use Rattle.std.proofs.Common.{◌≡◌, ap, ◌∙◌, arith, vec_capacity}
+use Rattle.rcu_lending.specs.Gathers.{held_in}
+use Rattle.rcu_lending.specs.Parts.{kind_of}
+use Rattle.rcu_lending.specs.declared.part.Lent.{Lent}
+use Rattle.rcu_lending.specs.declared.part.Part.TheVariants as part
+use Rattle.rcu_lending.specs.declared.part.PartKind.TheVariants as kind
+use Rattle.rcu_lending.proofs.Helds.{here_is, room_here, taken_more, taken_nothing}
+use Rattle.rcu_lending.proofs.taking.take_processors.Goals.{in-Some, in_default}
+use Rattle.rcu_lending.proofs.taking.take_processors.Goals as goal
+
+pub take_processor-requires : goal.take_processor-requires
+take_processor-requires c = let l = c.loop-place in record {
+  kind = here_is (λ x. part.Processor x) (λ (t : Lent). kind_of t.part ≡ kind.Processor) l.place (held_in c.args.slots.now) l.slots c.index-slots-place.result l.out.items (omega (arith, l.auto.slots, c.loop-place-test.true)) l.invariant.0 c.requires.kinds;
+}
+
+pub push_reserved-requires : goal.push_reserved-requires
+push_reserved-requires c = let l = c.loop-place in
+    let room = room_here (λ x. part.Processor x) l.place _ (held_in c.args.slots.now) l.slots c.index-slots-place.result l.out.items c.in-Some.processor (omega (arith, l.auto.slots, c.loop-place-test.true)) l.invariant.0 c.in-Some.ensures.takes c.requires.room in
+    omega (arith, room, l.invariant.1, l.out.ok.0)
+
+pub loop-place-preserved : goal.loop-place-preserved
+loop-place-preserved c = let l = c.loop-place in let d = c.index-slots-place.result in let after = c.take_processor.new.slot in elim c.match-take_processor.branch [
+  | in-Some w ↦ (
+    taken_more (λ x. part.Processor x) l.place (held_in c.args.slots.now) l.slots d after l.out.items c.match-take_processor.out.items w.in-Some.processor (omega (arith, l.auto.slots, c.loop-place-test.true)) c.take_processor.ensures.empty w.in-Some.ensures.takes (ap (λ v. v.items) w.out-is ∙ w.push_reserved.ensures.items) l.invariant.0,
+    ap vec_capacity w.out-is ∙ (w.push_reserved.ensures.capacity ∙ l.invariant.1),
+  )
+  | in_default w ↦ (
+    rw w.out-is (taken_nothing (λ x. part.Processor x) l.place (held_in c.args.slots.now) l.slots d after l.out.items (omega (arith, l.auto.slots, c.loop-place-test.true)) c.take_processor.ensures.empty w.in_default.ensures.takes l.invariant.0),
+    ap vec_capacity w.out-is ∙ l.invariant.1,
+  )
+]

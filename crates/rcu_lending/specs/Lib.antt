@@ -1,0 +1,10 @@
+pub mod Barriers
+pub mod Faults
+pub mod Gathers
+pub mod Holding
+pub mod Others
+pub mod Parts
+pub mod Processors
+pub mod Runs
+pub mod Shows
+pub mod Slots

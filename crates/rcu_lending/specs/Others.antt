@@ -1,0 +1,98 @@
+-- What calls on a group, the driver and control in slots do, in the words of their own calls.
+use Rattle.std.specs.Prelude.{◌≡◌, ℕ, Bool, Result, MatchResult}
+use Rattle.std.specs.declared.result.Result.TheVariants.{Ok, Err}
+use Rattle.std.specs.Int.{from_bool}
+use Rattle.std.proofs.Common.{◌⊎◌}
+use Rattle.rcu_board.specs.Plays.{touched}
+use Rattle.rcu_board.specs.Words.{halt_word}
+use Rattle.rcu_control.specs.Control.{Shuts, SwitchesBy}
+use Rattle.rcu_control.specs.Driving.{DrivesBy}
+use Rattle.rcu_control.specs.Parts.{control_board, control_seat, control_view, driver_board, driver_seat, driver_view}
+use Rattle.rcu_control.specs.Views.{SamePart}
+use Rattle.rcu_control.specs.declared.control.Control.{Control as TheControl}
+use Rattle.rcu_control.specs.declared.driver.Driver.{Driver as TheDriver}
+use Rattle.rcu_jobs.specs.declared.Counts.{Counts}
+use Rattle.rcu_jobs.specs.declared.DriverTurn.{DriverTurn}
+use Rattle.rcu_jobs.specs.declared.GroupTurn.{GroupTurn}
+use Rattle.rcu_jobs.specs.declared.SwitchFault.{SwitchFault}
+use Rattle.rcu_lending.specs.Faults.{switch_refusal}
+use Rattle.rcu_lending.specs.Parts.{Makes, IsOfAnotherKind}
+use Rattle.rcu_lending.specs.declared.fault.Fault.{Fault}
+use Rattle.rcu_lending.specs.declared.job.ForeignJob.{ForeignJob}
+use Rattle.rcu_lending.specs.declared.part.Part.{Part}
+use Rattle.rcu_lending.specs.declared.part.Part.TheVariants.{Control, Driver, Group}
+use Rattle.rcu_part_group.specs.Groups.{SameGroup, TurnsGroup}
+use Rattle.rcu_part_group.specs.declared.group.Group.{Group as TheGroup}
+
+-- the same control, and the same driver, of the same open
+abbrev pub KeepsControl : TheControl → TheControl → Type 0
+KeepsControl c d = SamePart (control_board c) (control_board d) (control_seat c) (control_seat d)
+
+abbrev pub KeepsDriver : TheDriver → TheDriver → Type 0
+KeepsDriver c d = SamePart (driver_board c) (driver_board d) (driver_seat c) (driver_seat d)
+
+-- a turn of a group
+pub record TurnsOne (turn : GroupTurn) (g h : TheGroup ForeignJob ForeignJob) : Type 0 where
+  pub same : SameGroup g.state h.state
+  pub turns : TurnsGroup turn g.state h.state
+
+-- a turn of the driver
+pub record DrivesOne (turn : DriverTurn) (c d : TheDriver) : Type 0 where
+  pub same : KeepsDriver c d
+  pub drives : DrivesBy (driver_board c).processors turn (driver_view c) (driver_view d)
+
+-- the halt word was read
+pub record ReadsHalt (halted : Bool) (c d : TheDriver) : Type 0 where
+  pub same : KeepsDriver c d
+  pub reads : driver_view d ≡ touched halt_word (from_bool halted) (driver_view c)
+
+-- a switch was asked for (x: 1 for offloaded, 0 for local), or refused
+pub record SwitchesOne (p x : ℕ) (result : Result (Unit {0}) SwitchFault) (c d : TheControl) : Type 0 where
+  pub same : KeepsControl c d
+  pub asks : SwitchesBy (control_board c) p x result (control_view c) (control_view d)
+
+pub record RefusesSwitch (p x : ℕ) (fault : Fault) (old new : Part) : Type 0 where
+  pub refused : SwitchFault
+  pub named : fault ≡ switch_refusal refused
+  pub refuses : Makes Control (SwitchesOne p x (Err refused)) old new
+
+-- every processor was shut
+pub record ShutsAll (counts : Counts) (c d : TheControl) : Type 0 where
+  pub same : KeepsControl c d
+  pub many : counts.n ≡ (control_board c).processors
+  pub shuts : Shuts (control_board c).processors counts (control_view c) (control_view d)
+
+-- the halt word was set
+pub record Halts (c d : TheControl) : Type 0 where
+  pub same : KeepsControl c d
+  pub halts : control_view d ≡ touched halt_word 1 (control_view c)
+
+abbrev pub GroupTurnsBy : Result GroupTurn Fault → Part → Part → Type 0
+GroupTurnsBy result old new = MatchResult result
+    (λ turn. Makes Group (TurnsOne turn) old new)
+    (λ fault. IsOfAnotherKind fault old new)
+
+abbrev pub DriverTurnsBy : Result DriverTurn Fault → Part → Part → Type 0
+DriverTurnsBy result old new = MatchResult result
+    (λ turn. Makes Driver (DrivesOne turn) old new)
+    (λ fault. IsOfAnotherKind fault old new)
+
+abbrev pub ReadsHaltBy : Result Bool Fault → Part → Part → Type 0
+ReadsHaltBy result old new = MatchResult result
+    (λ halted. Makes Driver (ReadsHalt halted) old new)
+    (λ fault. IsOfAnotherKind fault old new)
+
+abbrev pub SwitchesPart : ℕ → ℕ → Result (Unit {0}) Fault → Part → Part → Type 0
+SwitchesPart p x result old new = MatchResult result
+    (λ _. Makes Control (SwitchesOne p x (Ok tt)) old new)
+    (λ fault. RefusesSwitch p x fault old new ⊎ IsOfAnotherKind fault old new)
+
+abbrev pub ShutsBy : Result Counts Fault → Part → Part → Type 0
+ShutsBy result old new = MatchResult result
+    (λ counts. Makes Control (ShutsAll counts) old new)
+    (λ fault. IsOfAnotherKind fault old new)
+
+abbrev pub HaltsBy : Result (Unit {0}) Fault → Part → Part → Type 0
+HaltsBy result old new = MatchResult result
+    (λ _. Makes Control Halts old new)
+    (λ fault. IsOfAnotherKind fault old new)

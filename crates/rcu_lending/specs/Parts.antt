@@ -1,0 +1,71 @@
+-- Parts of any kind, and what a call on one does.
+use Rattle.std.specs.Prelude.{◌≡◌, ℕ}
+use Rattle.rcu_lending.specs.declared.fault.Fault.{Fault}
+use Rattle.rcu_lending.specs.declared.fault.Fault.TheVariants.{Empty, NotRunning, Other, Running}
+use Rattle.rcu_lending.specs.declared.part.Part.{Part}
+use Rattle.rcu_lending.specs.declared.part.PartKind.{PartKind}
+use Rattle.rcu_lending.specs.declared.part.PartKind.TheVariants as kind
+use Rattle.rcu_lending.specs.declared.part.Part.TheVariants.{Processor, RunningProcessor, Hand, RunningHand, Group, Driver, Control, Closing, Closed, Nothing}
+
+-- what a call answers that isn't one of this kind of part
+abbrev pub wrong_kind : Part → Fault
+wrong_kind (Processor p) = Other
+wrong_kind (RunningProcessor b) = Other
+wrong_kind (Hand h) = Other
+wrong_kind (RunningHand b) = Other
+wrong_kind (Group g) = Other
+wrong_kind (Driver d) = Other
+wrong_kind (Control c) = Other
+wrong_kind (Closing c) = Other
+wrong_kind (Closed c) = Other
+wrong_kind Nothing = Empty
+
+-- what a call answers that wants a part of which no callback runs, or one of which one runs
+abbrev pub not_resting : Part → Fault
+not_resting (Processor p) = Other
+not_resting (RunningProcessor b) = Running
+not_resting (Hand h) = Other
+not_resting (RunningHand b) = Running
+not_resting (Group g) = Other
+not_resting (Driver d) = Other
+not_resting (Control c) = Other
+not_resting (Closing c) = Other
+not_resting (Closed c) = Other
+not_resting Nothing = Empty
+
+abbrev pub not_running : Part → Fault
+not_running (Processor p) = NotRunning
+not_running (RunningProcessor b) = Other
+not_running (Hand h) = NotRunning
+not_running (RunningHand b) = Other
+not_running (Group g) = Other
+not_running (Driver d) = Other
+not_running (Control c) = Other
+not_running (Closing c) = Other
+not_running (Closed c) = Other
+not_running Nothing = Empty
+
+abbrev pub kind_of : Part → PartKind
+kind_of (Processor p) = kind.Processor
+kind_of (RunningProcessor b) = kind.Running
+kind_of (Hand h) = kind.Hand
+kind_of (RunningHand b) = kind.Running
+kind_of (Group g) = kind.Group
+kind_of (Driver d) = kind.Driver
+kind_of (Control c) = kind.Control
+kind_of (Closing c) = kind.Closing
+kind_of (Closed c) = kind.Other
+kind_of Nothing = kind.Other
+
+-- Both are of one kind, and a call made of the one part the other.
+pub record Makes {X : Type 0} (kind : X → Part) (Does : X → X → Type 0) (old new : Part) : Type 0 where
+  pub before : X
+  pub after : X
+  pub old_is : old ≡ kind before
+  pub new_is : new ≡ kind after
+  pub does : Does before after
+
+-- The part is of another kind, and stays as it was.
+pub record IsOfAnotherKind (fault : Fault) (old new : Part) : Type 0 where
+  pub why : fault ≡ wrong_kind old
+  pub stays : new ≡ old

@@ -1,0 +1,116 @@
+-- What calls on a processor in a slot do, in the words of the processor's own calls.
+use Rattle.std.specs.Prelude.{◌≡◌, ℕ, Option, Result, MatchResult}
+use Rattle.std.proofs.Common.{◌⊎◌}
+use Rattle.rcu_control.specs.Barriers.{Opens, count_at}
+use Rattle.rcu_control.specs.declared.barrier.Barrier.{Barrier}
+use Rattle.rcu_jobs.specs.declared.answers.Refused.{Refused}
+use Rattle.rcu_jobs.specs.declared.answers.Ticket.{Ticket}
+use Rattle.rcu_lending.specs.Faults.{refusal}
+use Rattle.rcu_lending.specs.Parts.{Makes, IsOfAnotherKind}
+use Rattle.rcu_lending.specs.declared.fault.Fault.{Fault}
+use Rattle.rcu_lending.specs.declared.job.ForeignJob.{ForeignJob}
+use Rattle.rcu_lending.specs.declared.part.BegunProcessor.{BegunProcessor}
+use Rattle.rcu_lending.specs.declared.part.Part.{Part}
+use Rattle.rcu_lending.specs.declared.part.Part.TheVariants.{Processor, RunningProcessor}
+use Rattle.rcu_lists.specs.declared.pace.Kind.{Kind}
+use Rattle.rcu_part_processor.specs.Calls.{IsAccepted, IsRefusedAs, KeepsAll}
+use Rattle.rcu_part_processor.specs.Processors.{IsSound, SameProcessor, board_of, view_of}
+use Rattle.rcu_part_processor.specs.Running as run
+use Rattle.rcu_part_processor.specs.Running.{IsSoundRunning, SameRunning, running_view}
+use Rattle.rcu_part_processor.specs.declared.processor.Processor.{Processor as Cpu}
+use Rattle.rcu_part_steps.specs.Reports.{Reports}
+
+abbrev pub ForeignCpu : Type 0
+ForeignCpu = Cpu ForeignJob ForeignJob
+
+-- the key of a job, and that a receipt has the key
+abbrev pub foreign_key : ForeignJob → ℕ
+foreign_key job = job.key
+
+abbrev pub HasKey : ℕ → ForeignJob → Type 0
+HasKey key receipt = receipt.key ≡ key
+
+-- The same processor of the same open, which knows of jobs what it did.
+pub record KeepsProcessor (p q : ForeignCpu) : Type 0 where
+  pub same : SameProcessor p.state q.state
+  pub sound : IsSound foreign_key HasKey p.state → IsSound foreign_key HasKey q.state
+
+-- a report, and nothing else
+pub record ReportsOne (counted : Option ℕ) (p q : ForeignCpu) : Type 0 where
+  pub kept : KeepsProcessor p q
+  pub lists : KeepsAll p.state q.state
+  pub reports : Reports p.state.cpu counted (view_of p.state) (view_of q.state)
+
+-- the job was accepted under this ticket
+pub record AcceptsOne (kind : Kind) (moment : ℕ) (job : ForeignJob) (t : Ticket) (p q : ForeignCpu) : Type 0 where
+  pub kept : KeepsProcessor p q
+  pub accepts : IsAccepted moment kind job.key job t p.state q.state
+
+-- the job was refused, and nothing was accepted
+pub record RefusesOne (job : ForeignJob) (refused : Refused ForeignJob) (p q : ForeignCpu) : Type 0 where
+  pub kept : KeepsProcessor p q
+  pub lists : KeepsAll p.state q.state
+  pub why : IsRefusedAs job refused p.state q.state
+
+-- a barrier was opened, and nothing else changed
+pub record OpensOne (b : Barrier) (p q : ForeignCpu) : Type 0 where
+  pub kept : KeepsProcessor p q
+  pub lists : KeepsAll p.state q.state
+  pub opens : Opens (board_of p.state).processors b (view_of p.state) (view_of q.state)
+  pub own : count_at b.counts q.state.cpu ≡ q.state.accepted
+
+-- ---- while a callback of it runs
+
+-- The same processor of the same open, with the same callback and its job.
+pub record KeepsBegun (p q : BegunProcessor) : Type 0 where
+  pub same : SameRunning p.processor.state q.processor.state
+  pub claimed : q.processor.state.claimed ≡ p.processor.state.claimed
+  pub job : q.job ≡ p.job
+  pub sound : IsSoundRunning foreign_key HasKey p.processor.state → IsSoundRunning foreign_key HasKey q.processor.state
+
+pub record ReportsBegun (counted : Option ℕ) (p q : BegunProcessor) : Type 0 where
+  pub kept : KeepsBegun p q
+  pub lists : run.KeepsAll p.processor.state q.processor.state
+  pub reports : Reports p.processor.state.cpu counted (running_view p.processor.state) (running_view q.processor.state)
+
+pub record AcceptsBegun (kind : Kind) (moment : ℕ) (job : ForeignJob) (t : Ticket) (p q : BegunProcessor) : Type 0 where
+  pub kept : KeepsBegun p q
+  pub accepts : run.IsAccepted moment kind job.key job t p.processor.state q.processor.state
+
+pub record RefusesBegun (job : ForeignJob) (refused : Refused ForeignJob) (p q : BegunProcessor) : Type 0 where
+  pub kept : KeepsBegun p q
+  pub lists : run.KeepsAll p.processor.state q.processor.state
+  pub why : run.IsRefusedAs job refused p.processor.state q.processor.state
+
+-- ---- by what the slot's part is
+
+abbrev pub ReportsBy : Result (Option ℕ) Fault → Part → Part → Type 0
+ReportsBy result old new = MatchResult result
+    (λ counted. Makes Processor (ReportsOne counted) old new ⊎ Makes RunningProcessor (ReportsBegun counted) old new)
+    (λ fault. IsOfAnotherKind fault old new)
+
+-- what a call on a processor answers and does
+abbrev pub AnswersCall : Kind → ℕ → ForeignJob → Result Ticket (Refused ForeignJob) → ForeignCpu → ForeignCpu → Type 0
+AnswersCall kind moment job result p q = MatchResult result
+    (λ t. AcceptsOne kind moment job t p q)
+    (λ refused. RefusesOne job refused p q)
+
+abbrev pub AnswersBegun : Kind → ℕ → ForeignJob → Result Ticket (Refused ForeignJob) → BegunProcessor → BegunProcessor → Type 0
+AnswersBegun kind moment job result p q = MatchResult result
+    (λ t. AcceptsBegun kind moment job t p q)
+    (λ refused. RefusesBegun job refused p q)
+
+-- The job was accepted by the processor, whether or not a callback of it runs.
+abbrev pub AcceptsBy : Kind → ℕ → ForeignJob → Ticket → Part → Part → Type 0
+AcceptsBy kind moment job t old new = Makes Processor (AcceptsOne kind moment job t) old new ⊎ Makes RunningProcessor (AcceptsBegun kind moment job t) old new
+
+-- The processor's refusal is named.
+pub record RefusesBy (job : ForeignJob) (fault : Fault) (old new : Part) : Type 0 where
+  pub refused : Refused ForeignJob
+  pub named : fault ≡ refusal refused
+  pub refuses : Makes Processor (RefusesOne job refused) old new ⊎ Makes RunningProcessor (RefusesBegun job refused) old new
+
+abbrev pub CallsBy : Kind → ℕ → ForeignJob → Result Ticket Fault → Part → Part → Type 0
+CallsBy kind moment job result old new = MatchResult result
+    (λ t. AcceptsBy kind moment job t old new)
+    (λ fault. RefusesBy job fault old new ⊎ IsOfAnotherKind fault old new)

@@ -1,0 +1,177 @@
+//! Opening a runtime into slots.
+
+ghost use Rattle.std.specs.Prelude.{◌≡◌, IfErr, IfOk};
+ghost use Rattle.rcu_lending.specs.Gathers.{HasOpened, IsNewlyOpened, StayHeld, lent_of};
+ghost use Rattle.rcu_lending.specs.declared.part.PartKind.TheVariants as kind;
+
+use crate::fault::Fault;
+use crate::job::ForeignJob;
+use crate::part::{Lent, Opening, Part};
+use crate::slot::{PartSlots, Slot};
+use rcu_numbers::Shape;
+use rcu_parts::{AllParts, Group, Hand, Parts, Processor, open};
+use std::alloc::{AllocError, Global};
+use std::collections::VecDeque;
+
+/// Parts in boxes of their own, of each kind in rising order.
+#[derive(Drop)]
+struct Boxes {
+    control: Box<Lent>,
+    driver: Box<Lent>,
+    processors: VecDeque<Box<Lent>>,
+    groups: VecDeque<Box<Lent>>,
+    hands: VecDeque<Box<Lent>>,
+}
+
+/// Boxes a part of this open, for its place.
+fn box_part(alloc: Global, opening: Opening, at: u64, part: Part) -> Result<Box<Lent>, AllocError>
+    ensures { IfOk result (λ boxed. boxed.value ≡ lent_of opening at part) }
+{
+    match Box::new(alloc, Lent { opening, at, part }) {
+        Ok(boxed) => Ok(boxed),
+        Err(_) => Err(AllocError),
+    }
+}
+
+fn box_processors(
+    alloc: Global,
+    opening: Opening,
+    parts: Vec<Processor<ForeignJob>>,
+) -> Result<VecDeque<Box<Lent>>, AllocError> {
+    let mut boxes = VecDeque::new(alloc);
+    for part in parts {
+        let at = boxes.len() as u64;
+        boxes.push_back(box_part(alloc, opening, at, Part::Processor(part))?)?;
+    }
+    Ok(boxes)
+}
+
+fn box_groups(
+    alloc: Global,
+    opening: Opening,
+    parts: Vec<Group<ForeignJob>>,
+) -> Result<VecDeque<Box<Lent>>, AllocError> {
+    let mut boxes = VecDeque::new(alloc);
+    for part in parts {
+        let at = part.number();
+        boxes.push_back(box_part(alloc, opening, at, Part::Group(part))?)?;
+    }
+    Ok(boxes)
+}
+
+fn box_hands(
+    alloc: Global,
+    opening: Opening,
+    parts: Vec<Hand<ForeignJob>>,
+) -> Result<VecDeque<Box<Lent>>, AllocError> {
+    let mut boxes = VecDeque::new(alloc);
+    for part in parts {
+        let at = part.cpu();
+        boxes.push_back(box_part(alloc, opening, at, Part::Hand(part))?)?;
+    }
+    Ok(boxes)
+}
+
+/// Boxes all parts of an open.
+fn box_all(alloc: Global, number: u64, parts: Parts<ForeignJob>) -> Result<Boxes, AllocError>
+    ensures control { IfOk result (λ boxes. IsNewlyOpened number kind.Control boxes.control.value) }
+    ensures driver { IfOk result (λ boxes. IsNewlyOpened number kind.Driver boxes.driver.value) }
+{
+    let AllParts {
+        processors,
+        driver,
+        groups,
+        hands,
+        control,
+    } = parts;
+    let opening = Opening {
+        number,
+        processors: processors.len() as u64,
+        groups: groups.len() as u64,
+        hands: hands.len() as u64,
+    };
+    Ok(Boxes {
+        processors: box_processors(alloc, opening, processors)?,
+        groups: box_groups(alloc, opening, groups)?,
+        hands: box_hands(alloc, opening, hands)?,
+        driver: box_part(alloc, opening, 0, Part::Driver(driver))?,
+        control: box_part(alloc, opening, 0, Part::Control(control))?,
+    })
+}
+
+/// Opens a runtime, and boxes its parts.
+fn open_boxes(alloc: Global, shape: Shape, number: u64) -> Result<Boxes, AllocError>
+    ensures control { IfOk result (λ boxes. IsNewlyOpened number kind.Control boxes.control.value) }
+    ensures driver { IfOk result (λ boxes. IsNewlyOpened number kind.Driver boxes.driver.value) }
+{
+    match open::<ForeignJob>(alloc, shape) {
+        Ok(parts) => box_all(alloc, number, parts),
+        Err(_) => Err(AllocError),
+    }
+}
+
+/// Takes the first if it belongs at this place.
+fn next_at(boxes: &mut VecDeque<Box<Lent>>, place: u64) -> Option<Box<Lent>> {
+    if boxes.front()?.at != place {
+        return None;
+    }
+    boxes.pop_front()
+}
+
+/// Puts each part into the slot of its place.
+fn put_each(slots: &mut [Slot], boxes: &mut VecDeque<Box<Lent>>) {
+    for place in 0..slots.len() {
+        if let Some(boxed) = next_at(boxes, place as u64) {
+            slots[place].put(boxed);
+        }
+    }
+}
+
+/// Whether all slots are empty.
+fn are_empty(slots: &[Slot]) -> bool {
+    for slot in slots {
+        if slot.is_full() {
+            return false;
+        }
+    }
+    true
+}
+
+/// Opens a runtime under a number into empty slots: each processor's part at its number, and each group's and each hand's.
+///
+/// # Errors
+///
+/// A slot is full; or want of memory. No slot has changed.
+pub fn open_into(
+    alloc: Global,
+    shape: Shape,
+    number: u64,
+    slots: &mut PartSlots,
+) -> Result<(), Fault>
+    ensures control { IfOk result (λ _. HasOpened number kind.Control slots.new.control.held.value) }
+    ensures driver { IfOk result (λ _. HasOpened number kind.Driver slots.new.driver.held.value) }
+    ensures refused { IfErr result (λ _. StayHeld slots.old slots.new) }
+{
+    if slots.control.is_full() || slots.driver.is_full() {
+        return Err(Fault::Full);
+    }
+    if !are_empty(&slots.processors) || !are_empty(&slots.groups) || !are_empty(&slots.hands) {
+        return Err(Fault::Full);
+    }
+    let Ok(boxes) = open_boxes(alloc, shape, number) else {
+        return Err(Fault::Memory);
+    };
+    let Boxes {
+        control,
+        driver,
+        mut processors,
+        mut groups,
+        mut hands,
+    } = boxes;
+    put_each(&mut slots.processors, &mut processors);
+    put_each(&mut slots.groups, &mut groups);
+    put_each(&mut slots.hands, &mut hands);
+    slots.driver.put(driver);
+    slots.control.put(control);
+    Ok(())
+}

@@ -1,0 +1,307 @@
+/*
+ * Random calls of the library in one thread, beside a plain model: what each callback must wait for, in which order they run,
+ * which calls are refused, what a barrier waits for, and what is left at the end.
+ *
+ *     model [--seconds N] [--seed S]
+ *
+ * A run is of one runtime; runs follow each other with rising seeds until the time is over (or one run for --seed). What
+ * differs is printed with the seed, and ends it with status 1.
+ */
+#undef NDEBUG
+#include <rcuo.h>
+
+#include <stdio.h>
+#include <stdlib.h>
+#include <string.h>
+#include <time.h>
+
+enum { MOST = 5, MOST_CALLS = 64 };
+
+/* A callback as the model knows it: how many reports each processor had made when it was accepted. */
+struct callback {
+    uint64_t key;
+    uint64_t reports[MOST];
+};
+
+/* A processor as the model knows it. */
+struct cpu {
+    struct callback callbacks[MOST_CALLS];
+    uint64_t accepted, begun, finished;
+    uint64_t reports;
+    unsigned reading;
+    bool offloadable;
+    struct rcuo_slot *runs; /* whose claim runs, if one does */
+};
+
+static struct rcuo_parts parts;
+static struct rcuo_settings settings;
+static struct cpu cpus[MOST];
+static bool is_shut, halted;
+static struct rcuo_counts barrier;
+static bool is_barrier_open;
+static uint64_t moment, next_key, seed, state, steps, ran_in_all, came_back_in_all;
+static unsigned long differences;
+
+static uint64_t any(uint64_t below) {
+    state ^= state << 13;
+    state ^= state >> 7;
+    state ^= state << 17;
+    return state % below;
+}
+
+static void differs(const char *what, uint64_t got, uint64_t wanted) {
+    fprintf(stderr, "seed %llu, step %llu: %s is %llu, and not %llu\n", (unsigned long long)seed, (unsigned long long)steps, what,
+            (unsigned long long)got, (unsigned long long)wanted);
+    differences++;
+}
+
+static void same(const char *what, uint64_t got, uint64_t wanted) {
+    if (got != wanted) differs(what, got, wanted);
+}
+
+static void never_called(void *argument) { (void)argument; }
+
+/* ---- calls ---- */
+
+static void call(uint64_t p) {
+    struct cpu *cpu = &cpus[p];
+    struct rcuo_job job = {next_key, never_called, cpu};
+    struct rcuo_ticket ticket = {99, 99};
+    enum rcuo_answer answer = rcuo_call_job(&parts.processors[p], moment, &job, any(2), &ticket);
+    if (cpu->accepted == settings.limit) {
+        same("a call at the limit", answer, RCUO_LIMIT);
+        return;
+    }
+    if (is_shut) {
+        same("a call after shut", answer, RCUO_CLOSED);
+        return;
+    }
+    same("a call", answer, RCUO_OK);
+    if (answer != RCUO_OK) return;
+    same("the ticket's processor", ticket.processor, p);
+    same("the ticket's number", ticket.number, cpu->accepted);
+    struct callback *made = &cpu->callbacks[cpu->accepted++];
+    made->key = next_key++;
+    for (uint64_t q = 0; q < settings.processors; q++) made->reports[q] = cpus[q].reports;
+}
+
+static void report(uint64_t p) {
+    enum rcuo_answer answer = rcuo_quiescent(&parts.processors[p], NULL);
+    same("a report", answer, cpus[p].reading ? RCUO_READING : RCUO_OK);
+    if (answer == RCUO_OK) cpus[p].reports++;
+}
+
+static void read_or_leave(uint64_t p) {
+    if (any(2)) {
+        rcuo_read_lock(&parts.processors[p]);
+        cpus[p].reading++;
+    } else if (cpus[p].reading) {
+        rcuo_read_unlock(&parts.processors[p]);
+        cpus[p].reading--;
+    }
+}
+
+/* A begin, by the processor or its hand: what it hands out is the next callback, and each processor has reported since it was
+ * accepted. */
+static void begin(uint64_t p, struct rcuo_slot *slot) {
+    struct cpu *cpu = &cpus[p];
+    struct rcuo_job job;
+    enum rcuo_answer answer = rcuo_begin(slot, moment, &job);
+    if (cpu->runs == slot) {
+        same("a begin while one runs", answer, RCUO_RUNNING);
+        return;
+    }
+    if (answer == RCUO_TURN || answer == RCUO_NONE_LEFT || answer == RCUO_AGAIN) return;
+    same("a begin", answer, RCUO_OK);
+    if (answer != RCUO_OK) return;
+    if (cpu->runs) differs("a callback beside one that runs", 1, 0);
+    if (cpu->begun == cpu->accepted) {
+        differs("a callback that wasn't accepted", 1, 0);
+        return;
+    }
+    struct callback *begun = &cpu->callbacks[cpu->begun++];
+    same("the job's key", job.key, begun->key);
+    same("the job's function", job.function == never_called, true);
+    same("the job's argument", job.argument == cpu, true);
+    for (uint64_t q = 0; q < settings.processors; q++) {
+        if (cpus[q].reports <= begun->reports[q]) differs("a callback before its grace period", q, 0);
+    }
+    cpu->runs = slot;
+}
+
+static void finish(uint64_t p, struct rcuo_slot *slot) {
+    struct cpu *cpu = &cpus[p];
+    enum rcuo_answer answer = rcuo_finish(slot);
+    same("a finish", answer, cpu->runs == slot ? RCUO_OK : RCUO_NOT_RUNNING);
+    if (cpu->runs != slot) return;
+    cpu->runs = NULL;
+    cpu->finished++;
+}
+
+static void turn_others(void) {
+    struct rcuo_driver_turn turn;
+    same("a turn of the driver", rcuo_driver_turn(&parts.driver, &turn), RCUO_OK);
+    for (uint64_t g = 0; g < RCUO_PROCESSORS; g++) {
+        if (parts.groups[g].full) same("a turn of a group", rcuo_group_turn(&parts.groups[g], NULL), RCUO_OK);
+    }
+}
+
+static void control(uint64_t p) {
+    struct rcuo_counts counts;
+    bool is_so = false;
+    switch (any(8)) {
+    case 0:
+    case 1:
+        same("a switch", any(2) ? rcuo_offload(&parts.control, p) : rcuo_deoffload(&parts.control, p),
+             p >= settings.processors ? RCUO_NO_PROCESSOR : cpus[p].offloadable ? RCUO_OK : RCUO_NOT_OFFLOADABLE);
+        break;
+    case 2:
+        if (cpus[0].runs == &parts.processors[0]) {
+            same("a barrier by a processor whose callback runs", rcuo_barrier(&parts.processors[0], &counts), RCUO_RUNNING);
+            break;
+        }
+        same("a barrier", rcuo_barrier(any(2) ? &parts.control : &parts.processors[0], &barrier), RCUO_OK);
+        is_barrier_open = true;
+        same("the barrier's processors", barrier.processors, settings.processors);
+        for (uint64_t q = 0; q < settings.processors; q++) same("what a barrier counts", barrier.counts[q], cpus[q].accepted);
+        break;
+    case 3:
+    case 4:
+        if (!is_barrier_open) break;
+        same("a poll", rcuo_poll(&parts.control, &barrier, &is_so), RCUO_OK);
+        {
+            bool over = true;
+            for (uint64_t q = 0; q < settings.processors; q++) over = over && cpus[q].finished >= barrier.counts[q];
+            same("whether it passes", is_so, over);
+        }
+        break;
+    case 5:
+        same("halted", rcuo_halted(&parts.driver, &is_so), RCUO_OK);
+        same("whether it is halted", is_so, halted);
+        if (any(20) == 0) {
+            same("a halt", rcuo_halt(&parts.control), RCUO_OK);
+            halted = true;
+        }
+        break;
+    case 6:
+        if (any(40)) break;
+        same("a shut", rcuo_shut(&parts.control, &counts), RCUO_OK);
+        is_shut = true;
+        for (uint64_t q = 0; q < settings.processors; q++) same("what a shut counts", counts.counts[q], cpus[q].accepted);
+        break;
+    default:
+        break;
+    }
+}
+
+static void look(uint64_t p) {
+    uint64_t accepted = 0;
+    struct rcuo_lists lists;
+    same("accepted", rcuo_accepted(&parts.processors[p], &accepted), RCUO_OK);
+    same("how many were accepted", accepted, cpus[p].accepted);
+    same("lists", rcuo_lists(&parts.processors[p], &lists), RCUO_OK);
+    same("how many its lists say", lists.accepted, cpus[p].accepted);
+}
+
+/* A call on a slot that isn't of its kind. */
+static void misuse(void) {
+    struct rcuo_job job;
+    switch (any(4)) {
+    case 0: same("a call by control", rcuo_call(&parts.control, 0, never_called, NULL, NULL), RCUO_OTHER); break;
+    case 1: same("a begin by the driver", rcuo_begin(&parts.driver, 0, &job), RCUO_OTHER); break;
+    case 2: same("a turn of control", rcuo_driver_turn(&parts.control, NULL), RCUO_OTHER); break;
+    case 3: same("open again", rcuo_open(&settings, &parts), RCUO_FULL); break;
+    }
+}
+
+/* ---- a run ---- */
+
+static void step(void) {
+    uint64_t p = any(settings.processors);
+    struct rcuo_slot *slot = cpus[p].offloadable && any(2) ? &parts.hands[p] : &parts.processors[p];
+    steps++;
+    moment += any(3);
+    switch (any(12)) {
+    case 0:
+    case 1: call(p); break;
+    case 2:
+    case 3: report(p); break;
+    case 4: read_or_leave(p); break;
+    case 5:
+    case 6: begin(p, slot); break;
+    case 7:
+    case 8: finish(p, slot); break;
+    case 9: turn_others(); break;
+    case 10: control(any(settings.processors + 2)); break;
+    case 11: any(2) ? look(p) : misuse(); break;
+    }
+}
+
+/* What close answers: a section, or a callback that runs, is in the way; then those that ran, and those that didn't. */
+static void end(void) {
+    bool reads = false, runs = false;
+    for (uint64_t p = 0; p < settings.processors; p++) {
+        reads = reads || cpus[p].reading;
+        runs = runs || cpus[p].runs;
+    }
+    if (reads || runs) {
+        enum rcuo_answer answer = rcuo_close(&parts);
+        if (!((reads && answer == RCUO_READING) || (runs && answer == RCUO_RUNNING))) differs("close in the midst", answer, RCUO_RUNNING);
+    }
+    for (uint64_t p = 0; p < settings.processors; p++) {
+        for (; cpus[p].reading; cpus[p].reading--) rcuo_read_unlock(&parts.processors[p]);
+        if (cpus[p].runs) finish(p, cpus[p].runs);
+    }
+    same("close", rcuo_close(&parts), RCUO_OK);
+    for (uint64_t p = 0; p < settings.processors; p++) {
+        struct rcuo_record record;
+        struct rcuo_job job;
+        uint64_t ran = 0, back = 0;
+        while (rcuo_next_ran(&parts, p, &ran, &record) == RCUO_OK) {
+            same("a record's number", record.number, ran - 1);
+            same("a record's key", record.job.key, cpus[p].callbacks[ran - 1].key);
+            if (record.ready < record.stamp) differs("a record's wait", record.ready, record.stamp);
+        }
+        same("how many ran", ran, cpus[p].finished);
+        while (rcuo_next_back(&parts, p, &back, &job) == RCUO_OK) same("the key of a job that came back", job.key, cpus[p].callbacks[ran + back - 1].key);
+        same("how many came back", ran + back, cpus[p].accepted);
+        ran_in_all += ran;
+        came_back_in_all += back;
+    }
+    same("the end", rcuo_end(&parts), RCUO_OK);
+}
+
+static void run(uint64_t number) {
+    seed = number;
+    state = number * 0x9e3779b97f4a7c15u + 1;
+    for (int i = 0; i < 8; i++) any(2);
+    memset(cpus, 0, sizeof cpus);
+    is_shut = halted = is_barrier_open = false;
+    moment = 0;
+    settings.processors = 1 + any(MOST);
+    settings.stride = 1 + any(3);
+    settings.blimit = 1 + any(5);
+    settings.qhimark = 1 + any(8);
+    settings.limit = 1 + any(MOST_CALLS);
+    settings.offloadable = (uint32_t)any(1u << settings.processors);
+    for (uint64_t p = 0; p < settings.processors; p++) cpus[p].offloadable = settings.offloadable >> p & 1;
+    same("open", rcuo_open(&settings, &parts), RCUO_OK);
+    for (uint64_t left = 50 + any(2000); left && !differences; left--) step();
+    if (!differences) end();
+}
+
+int main(int argc, char **argv) {
+    long seconds = 5;
+    uint64_t first = 1, runs = 0;
+    bool is_one = false;
+    for (int i = 1; i + 1 < argc; i += 2) {
+        if (!strcmp(argv[i], "--seconds")) seconds = atol(argv[i + 1]);
+        if (!strcmp(argv[i], "--seed")) first = strtoull(argv[i + 1], NULL, 10), is_one = true;
+    }
+    time_t began = time(NULL);
+    do run(first + runs++);
+    while (!is_one && !differences && time(NULL) - began < seconds);
+    printf("runs %llu, steps %llu, ran %llu, handed back %llu, differences %lu\n", (unsigned long long)runs, (unsigned long long)steps,
+           (unsigned long long)ran_in_all, (unsigned long long)came_back_in_all, differences);
+    return differences != 0;
+}
