@@ -1,7 +1,7 @@
 -- What is true of slots stays true where each has what it had.
-use Rattle.std.proofs.Common.{◌≡◌, ◌⊎◌, Option, Some, Result, sym, ap, ◌∙◌, subst}
+use Rattle.std.proofs.Common.{◌≡◌, ◌⊎◌, Result, sym, ap, ◌∙◌, subst}
 use mathlib.Core.Logic.{inl, inr}
-use Rattle.rcu_lending.specs.Gathers.{AreHeld, AreInPlace, AreOfTheOpen, Closes, ClosesAgain, ForeignParts, RefusesClose, StayHeld, held_in, parts_of}
+use Rattle.rcu_lending.specs.Gathers.{AreHeld, AreInPlace, AreOfTheOpen, Closes, ClosesAgain, ForeignParts, RefusesClose, StayHeld, parts_of}
 use Rattle.rcu_lending.specs.declared.fault.Fault.{Fault}
 use Rattle.rcu_lending.specs.declared.part.Opening.{Opening}
 use Rattle.rcu_lending.specs.declared.slot.PartSlots.{PartSlots}

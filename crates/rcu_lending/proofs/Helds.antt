@@ -1,7 +1,7 @@
 -- Lists of what slots have, one more slot at a time.
-use Rattle.std.proofs.Common.{◌≡◌, Bool, is_some, ℕ, zero, suc, ◌+◌, ◌<◌, ◌≤◌, Option, Some, None, IfSome, List, [], ◌∷◌, ◌++◌, length, map, get_or, set, take, drop, refl, sym, ap, ◌∙◌, subst, arith}
+use Rattle.std.proofs.Common.{◌≡◌, Bool, is_some, ℕ, zero, suc, ◌+◌, ◌<◌, ◌≤◌, Option, Some, None, IfSome, List, [], ◌∷◌, ◌++◌, length, map, get_or, set, take, refl, sym, ap, ◌∙◌, subst, arith}
 use Rattle.std.proofs.Math.Seq.{map-set_same, take-suc, take-suc-set}
-use Rattle.std.proofs.lemmas.List.{get_or-map, get_or_default, get_or-set_other, length-map, length-set, length-take-le, map-append, map-set, take_all}
+use Rattle.std.proofs.lemmas.List.{get_or-map, get_or-set_other, length-map, length-set, length-take-le, map-append, map-set, take_all}
 use Rattle.std.proofs.lemmas.List.Elements.{All-append, All-head, All-tail}
 use Rattle.std.proofs.lemmas.Option.{none-some}
 use Rattle.std.specs.Int.{from_bool}

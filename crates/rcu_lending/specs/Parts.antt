@@ -1,5 +1,5 @@
 -- Parts of any kind, and what a call on one does.
-use Rattle.std.specs.Prelude.{◌≡◌, ℕ}
+use Rattle.std.specs.Prelude.{◌≡◌}
 use Rattle.rcu_lending.specs.declared.fault.Fault.{Fault}
 use Rattle.rcu_lending.specs.declared.fault.Fault.TheVariants.{Empty, NotRunning, Other, Running}
 use Rattle.rcu_lending.specs.declared.part.Part.{Part}

@@ -1,4 +1,4 @@
-use Rattle.std.proofs.Common.{◌≡◌, ◌+◌, arith, get_or, set, sym, ◌∙◌, subst}
+use Rattle.std.proofs.Common.{◌+◌, arith, get_or, set, sym, ◌∙◌, subst}
 use Rattle.std.proofs.Math.Seq.{map-set_same}
 use Rattle.rcu_lending.specs.Gathers.{held_in}
 use Rattle.rcu_lending.specs.declared.slot.Slot.{Slot}

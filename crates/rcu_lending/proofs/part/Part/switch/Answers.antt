@@ -1,5 +1,5 @@
 use Rattle.std.proofs.Common.{refl}
-use mathlib.Core.Logic.{inl, inr}
+use mathlib.Core.Logic.{inl}
 use Rattle.rcu_lending.proofs.part.Part.switch.Goals as goal
 
 pub returns-in-Ok : goal.returns-in-Ok
