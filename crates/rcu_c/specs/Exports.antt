@@ -1,5 +1,5 @@
 -- What an export answers and does: docs/c.md, "Answers".
-use Rattle.std.specs.Prelude.{◌≡◌, ◌≢◌, ℕ, Bool, cond, Result, IfOk}
+use Rattle.std.specs.Prelude.{◌≡◌, ℕ, Bool, cond, Result, IfOk}
 use Rattle.std.specs.declared.result.Result.TheVariants.{Ok, Err}
 use Rattle.std.proofs.Common.{◌⊎◌}
 use Rattle.rcu_c.specs.Words.{AreTurnWords}
@@ -32,7 +32,6 @@ pub record Tells {A : Type 0} (By : Result A Fault → Part → Part → Type 0)
 
 -- A read section is open, and nothing was called.
 pub record IsReading (answer : ℕ) (old new : Slot) : Type 0 where
-  pub in_section : old.reading ≢ 0
   pub named : answer ≡ fault_number Reading
   pub stays : new ≡ old
 

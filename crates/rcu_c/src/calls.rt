@@ -1,6 +1,6 @@
 //! Calls of a processor or a hand.
 
-ghost use Rattle.std.specs.Prelude.{◌≡◌, ◌⊎◌};
+ghost use Rattle.std.specs.Prelude.{◌≡◌, ◌≢◌};
 ghost use Rattle.std.specs.Option.{unwrap_or};
 ghost use Rattle.rcu_c.specs.Exports.{IsReading, Tells, kind_of_call};
 ghost use Rattle.rcu_lending.specs.Processors.{CallsBy, ReportsBy};
@@ -47,7 +47,8 @@ pub extern "C" fn rcuo_slot_call(
 /// `rcuo_quiescent`: reports a quiescent state, unless a read section is open.
 #[unsafe(no_mangle)]
 pub extern "C" fn rcuo_slot_quiescent(alloc: Global, slot: &mut Slot, counted: &mut u64) -> u32
-    ensures { Tells ReportsBy (λ n. counted.new ≡ unwrap_or n 0) result slot.old slot.new ⊎ IsReading result slot.old slot.new }
+    ensures tells { slot.old.reading ≡ 0 → Tells ReportsBy (λ n. counted.new ≡ unwrap_or n 0) result slot.old slot.new }
+    ensures reading { slot.old.reading ≢ 0 → IsReading result slot.old slot.new }
 {
     if slot.reading != 0 {
         return Fault::Reading.number();
