@@ -1,12 +1,13 @@
 -- What is left of one processor.
-use Rattle.std.proofs.Common.{◌≡◌, Bool, true, false, cond, ℕ, zero, suc, ◌+◌, ◌≤◌, ◌<◌, List, [], ◌∷◌, ◌++◌, length, map, take, drop, append-nil, append_assoc, length-append, vec_len, vec_capacity, sym, ap, ◌∙◌, refl, subst, arith}
+use Rattle.std.proofs.Common.{◌≡◌, Contains, get_or, inl, Bool, true, false, cond, ℕ, zero, suc, ◌+◌, ◌≤◌, ◌<◌, List, [], ◌∷◌, ◌++◌, length, map, take, drop, append-nil, append_assoc, length-append, vec_len, vec_capacity, sym, ap, ◌∙◌, refl, subst, arith}
 use Rattle.std.proofs.Math.Logic.{∥∥₁_elim}
 use Rattle.std.proofs.Math.Seq.{take-append_seam, drop-append_seam}
 use Rattle.std.proofs.Props.{props}
 use Rattle.std.proofs.lemmas.List.{map-append, length-map, drop-map}
 use Rattle.std.proofs.lemmas.Grind.{flat_map-append}
+use Rattle.std.proofs.lemmas.List.Elements.{Contains-get_or}
 use Rattle.std.proofs.lemmas.List.Concat.{flat_map-cons}
-use Rattle.std.specs.List.{All, flat_map}
+use Rattle.std.specs.List.{flat_map}
 use Rattle.std.specs.declared.alloc.Global.{Global}
 use Rattle.std.specs.declared.vec.Vec.{Vec}
 use Rattle.rcu_holdings.specs.Callers.{Holding, held_in, put_by, passed_on}
@@ -20,8 +21,8 @@ use Rattle.rcu_places.specs.Places.{Accepted, Move, Numbered, Placed, claimed_of
 use Rattle.rcu_places.proofs.Moves.{placed_all}
 use Rattle.rcu_places.proofs.Ordering.{begins}
 use Rattle.rcu_records.specs.Callbacks.{AreKeyed, numbered_callback, numbered_callbacks}
-use Rattle.rcu_records.specs.Records.{AreRipe, AreSeenBy, numbered_record, numbered_records}
-use Rattle.rcu_endings.specs.Ends.{AreInPlace, AreOnceBelow, AreSound, EndsWith, IsEnd, keys_of, left_of}
+use Rattle.rcu_records.specs.Records.{AreOfBoth, AreRipe, AreSeenBy, numbered_record, numbered_records}
+use Rattle.rcu_endings.specs.Ends.{AreInPlace, AreOnceBelow, EndsWith, IsEnd, keys_of, left_of}
 use Rattle.rcu_endings.specs.Moving.{Takes, jobs_of}
 use Rattle.rcu_endings.proofs.Counting.{two_as_many}
 
@@ -198,11 +199,16 @@ module _ {J R : Type 0} (key_of : J → ℕ) (gives : ℕ → R → Type 0) wher
     ripe = ripe;
   }
 
-  -- of an offloadable processor, whose records were merged
-  offloadable_end : (m : ℕ) (accepted : List Accepted) (own hands ran : List (Record R)) (h : Holding J) (taken : List (Callback J)) → put_by h ≡ taken ++ drop (length taken) (put_by h)
+  -- an offloadable processor's accepted list, once its records are merged: those that ran, and those that are left
+  record IsParted (m : ℕ) (accepted : List Accepted) (ran : List (Record R)) (left : List (Callback J)) : Type 0 where
+    pub within : m ≤ length accepted
+    pub ran_is : numbered_records ran ≡ take m (numbered 0 accepted)
+    pub left_is : numbered_callbacks left ≡ drop m (numbered 0 accepted)
+
+  offloadable_parted : (m : ℕ) (accepted : List Accepted) (own hands ran : List (Record R)) (h : Holding J) (taken : List (Callback J)) → put_by h ≡ taken ++ drop (length taken) (put_by h)
       → ((back held : List Numbered) → Remaining (length own + length hands) 0 accepted (numbered_records own) (numbered_records hands) back held → numbered 0 accepted ≡ numbered_records ran ++ (back ++ held))
-      → Given gives ran → AreRipe ran → AreInPlace accepted own hands h taken → AreKeyed key_of (passed_on h) → AreOnceBelow m own hands → IsEnd key_of gives accepted m ran (jobs_of (left_of h taken))
-  offloadable_end m accepted own hands ran h taken passed order given ripe places keyed once =
+      → AreInPlace accepted own hands h taken → AreOnceBelow m own hands → IsParted m accepted ran (left_of h taken)
+  offloadable_parted m accepted own hands ran h taken passed order places once =
       let left = drop (length taken) (put_by h) in
       let back = numbered_callbacks left in
       let held = numbered_callbacks (held_in h) in
@@ -210,45 +216,62 @@ module _ {J R : Type 0} (key_of : J → ℕ) (gives : ℕ → R → Type 0) wher
       let marks : length (numbered_records own) + length (numbered_records hands) ≡ m = two_as_many m (numbered_records own) (numbered_records hands) once in
       let many : length own + length hands ≡ m = (let b = length-map own (numbered_record {R = R}) in let c = length-map hands (numbered_record {R = R}) in omega arith) in
       let counts : (j : ℕ) → times j (numbered_records own) + times j (numbered_records hands) ≡ between 0 (length own + length hands) j = λ j. once j ∙ ap (λ (k : ℕ). between 0 k j) (sym many) in
-      let keyed_left : AreKeyed key_of (left ++ held_in h) = keyed_rest key_of taken (left ++ held_in h) (subst (AreKeyed key_of) (ap (λ l. l ++ held_in h) passed ∙ append_assoc taken left (held_in h)) keyed) in
       let whole : numbered_callbacks (left ++ held_in h) ≡ back ++ held = map-append numbered_callback left (held_in h) in
       let p : (m ≤ length accepted) × (numbered_records ran ≡ take m (numbered 0 accepted)) × (back ++ held ≡ drop m (numbered 0 accepted)) =
       ∥∥₁_elim places.processor (hlevel props) (λ p.
       let q = parted m accepted (numbered_records own) (numbered_callbacks (put_by h)) held (numbered_records hands) back (numbered_records ran) p split marks
       (order back held (begins _ accepted (numbered_records own) (numbered_callbacks (put_by h)) held (numbered_records hands) back p split counts)) in (q.within, q.ran_is, q.others_are)) in
-      is_end m accepted ran (left ++ held_in h) p.0 p.1 (whole ∙ p.2) keyed_left given ripe
+      record { within = p.0; ran_is = p.1; left_is = whole ∙ p.2 }
+
+  keyed_left : (h : Holding J) (taken : List (Callback J)) → put_by h ≡ taken ++ drop (length taken) (put_by h) → AreKeyed key_of (passed_on h) → AreKeyed key_of (left_of h taken)
+  keyed_left h taken passed keyed =
+      let left = drop (length taken) (put_by h) in
+      keyed_rest key_of taken (left ++ held_in h) (subst (AreKeyed key_of) (ap (λ l. l ++ held_in h) passed ∙ append_assoc taken left (held_in h)) keyed)
 
   -- the merge's clauses make the end
   pub offloadable_ends : (own hands ran : List (Record R)) (h : Holding J) (taken drawn : List (Callback J)) (back : List J)
       → put_by h ≡ taken ++ drop (length taken) (put_by h) → put_by h ≡ drawn ++ drop (length drawn) (put_by h) → back ≡ jobs_of (left_of h taken)
       → ((accepted : List Accepted) (back held : List Numbered) → Remaining (length own + length hands) 0 accepted (numbered_records own) (numbered_records hands) back held → numbered 0 accepted ≡ numbered_records ran ++ (back ++ held))
-      → (Given gives own → Given gives hands → Given gives ran) → (AreRipe own → AreRipe hands → AreRipe ran) → ((x : ℕ) → AreSeenBy x own → AreSeenBy x hands → AreSeenBy x ran)
+      → (Given gives own → Given gives hands → Given gives ran) → (AreRipe own → AreRipe hands → AreRipe ran) → ((x : ℕ) → AreSeenBy x own → AreSeenBy x hands → AreSeenBy x ran) → AreOfBoth own hands ran
       → EndsWith key_of gives own hands h taken drawn ran back
-  offloadable_ends own hands ran h taken drawn back passed passed_drawn is order given ripe seen = record {
+  offloadable_ends own hands ran h taken drawn back passed passed_drawn is order given ripe seen records = record {
     ends = λ accepted m places sound ripe_own ripe_hands once.
         let keyed_drawn = keyed_first key_of drawn (drop (length drawn) (put_by h) ++ held_in h)
         (subst (AreKeyed key_of) (ap (λ l. l ++ held_in h) passed_drawn ∙ append_assoc drawn (drop (length drawn) (put_by h)) (held_in h)) sound.keyed) in
+        let p = offloadable_parted m accepted own hands ran h taken passed (order accepted) places once in
         subst (IsEnd key_of gives accepted m ran) (sym is)
-        (offloadable_end m accepted own hands ran h taken passed (order accepted) (given sound.own_given (sound.hands_given keyed_drawn)) (ripe ripe_own ripe_hands) places sound.keyed once);
+        (is_end m accepted ran (left_of h taken) p.within p.ran_is p.left_is (keyed_left h taken passed sound.keyed) (given sound.own_given (sound.hands_given keyed_drawn)) (ripe ripe_own ripe_hands));
     seen = seen;
+    records = records;
+    jobs = is;
+    left = λ accepted m places once. (offloadable_parted m accepted own hands ran h taken passed (order accepted) places once).left_is;
   }
 
   -- of a processor that put nothing on its lane
-  local_end : (m : ℕ) (accepted : List Accepted) (own : List (Record R)) (h : Holding J) → put_by h ≡ [] → AreInPlace accepted own [] h [] → AreKeyed key_of (passed_on h) → Given gives own → AreRipe own → length own ≡ m
-      → IsEnd key_of gives accepted m own (jobs_of (held_in h))
-  local_end m accepted own h none places keyed given ripe many =
+  local_parted : (m : ℕ) (accepted : List Accepted) (own : List (Record R)) (h : Holding J) → put_by h ≡ [] → AreInPlace accepted own [] h [] → length own ≡ m → IsParted m accepted own (held_in h)
+  local_parted m accepted own h none places many =
       let held = numbered_callbacks (held_in h) in
       let p : (m ≤ length accepted) × (numbered_records own ≡ take m (numbered 0 accepted)) × (held ≡ drop m (numbered 0 accepted)) =
       ∥∥₁_elim places.processor (hlevel props) (λ p.
       let q = parted m accepted (numbered_records own) (numbered_callbacks (put_by h)) held [] [] (numbered_records own) p (ap numbered_callbacks none) (omega (arith, many, length-map own (numbered_record {R = R})))
       (p.all ∙ ap (λ l. l ++ held) (all_claimed p.moves (p.put_is ∙ ap numbered_callbacks none) ∙ p.ran_is)) in (q.within, q.ran_is, q.others_are)) in
-      is_end m accepted own (held_in h) p.0 p.1 p.2 (subst (λ (l : List (Callback J)). AreKeyed key_of (l ++ held_in h)) none keyed) given ripe
+      record { within = p.0; ran_is = p.1; left_is = p.2 }
+
+  once_own : (m : ℕ) (own : List (Record R)) → AreOnceBelow m own [] → length own ≡ m
+  once_own m own once = let a = two_as_many m (numbered_records own) [] once in let b = length-map own (numbered_record {R = R}) in omega arith
+
+  none_left : (h : Holding J) → put_by h ≡ [] → left_of h [] ≡ held_in h
+  none_left h none = ap (λ put. put ++ held_in h) none
 
   pub local_ends : (own ran : List (Record R)) (h : Holding J) (back : List J) → put_by h ≡ [] → ran ≡ own → back ≡ jobs_of (held_in h) → EndsWith key_of gives own [] h [] [] ran back
   local_ends own ran h back none same is = record {
     ends = λ accepted m places sound ripe ripe_none once.
-        let many : length own ≡ m = (let a = two_as_many m (numbered_records own) [] once in let b = length-map own (numbered_record {R = R}) in omega arith) in
+        let p = local_parted m accepted own h none places (once_own m own once) in
         subst (λ (rs : List (Record R)). IsEnd key_of gives accepted m rs back) (sym same)
-        (subst (IsEnd key_of gives accepted m own) (sym is) (local_end m accepted own h none places sound.keyed sound.own_given ripe many));
+        (subst (IsEnd key_of gives accepted m own) (sym is)
+        (is_end m accepted own (held_in h) p.within p.ran_is p.left_is (subst (λ (l : List (Callback J)). AreKeyed key_of (l ++ held_in h)) none sound.keyed) sound.own_given ripe));
     seen = λ x seen none_seen. subst (λ (rs : List (Record R)). AreSeenBy x rs) (sym same) seen;
+    records = λ k d lt. inl (subst (λ (rs : List (Record R)). Contains rs (get_or ran k d)) same (Contains-get_or ran k d lt));
+    jobs = is ∙ ap jobs_of (sym (none_left h none));
+    left = λ accepted m places once. ap numbered_callbacks (none_left h none) ∙ (local_parted m accepted own h none places (once_own m own once)).left_is;
   }

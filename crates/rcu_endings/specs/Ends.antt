@@ -7,7 +7,8 @@ use Rattle.rcu_jobs.specs.declared.callback.Record.{Record}
 use Rattle.rcu_places.specs.Order.{between, times}
 use Rattle.rcu_places.specs.Places.{Accepted, Placed, numbered}
 use Rattle.rcu_records.specs.Callbacks.{AreKeyed, numbered_callbacks}
-use Rattle.rcu_records.specs.Records.{AreRipe, AreSeenBy, numbered_records}
+use Rattle.rcu_records.specs.Records.{AreOfBoth, AreRipe, AreSeenBy, numbered_records}
+use Rattle.rcu_endings.specs.Moving.{jobs_of}
 use Rattle.rcu_endings.specs.declared.ended.Ended.{Ended}
 
 abbrev pub keys_of : List Accepted → List ℕ
@@ -53,6 +54,13 @@ module _ {J R : Type 0} where
         → IsEnd key_of gives accepted m ran back
     -- no record is later than those of which it was made
     pub seen : (x : ℕ) → AreSeenBy x own → AreSeenBy x hands → AreSeenBy x ran
+    -- each record is one of those, whole: it has the sight by which it ran, and the receipt
+    pub records : AreOfBoth own hands ran
+    -- handed back are the jobs of what is left, and no others
+    pub jobs : back ≡ jobs_of (left_of h taken)
+    -- and that is what has the numbers from m on
+    pub left : (accepted : List Accepted) (m : ℕ) → AreInPlace accepted own hands h taken → AreOnceBelow m own hands
+        → numbered_callbacks (left_of h taken) ≡ drop m (numbered 0 accepted)
 
   -- nothing is there yet, and there is room for so many records and jobs
   pub record HasRoom (records jobs : ℕ) (room : Ended J R) : Type 0 where

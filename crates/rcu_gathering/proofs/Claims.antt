@@ -1,15 +1,14 @@
 -- The claims of all views on one processor are the records of that processor and of its hand.
-use Rattle.std.proofs.Common.{◌≡◌, ◌≢◌, ℕ, zero, suc, ◌+◌, ◌<◌, ◌==◌, cond, eq-eqb, ne_eqb, Option, Some, None, List, [], ◌∷◌, ◌++◌, map, length, get_or, sym, ap, ◌∙◌, refl, subst, arith}
+use Rattle.std.proofs.Common.{◌≡◌, ◌≢◌, ℕ, zero, suc, ◌+◌, ◌<◌, ◌==◌, cond, eq-eqb, ne_eqb, Option, Some, None, List, [], ◌∷◌, map, length, get_or, ap, ◌∙◌, refl, arith}
 use Rattle.std.specs.List.{All}
 use Rattle.rcu_board.specs.Views.{claimed, one_if_claim, total}
-use Rattle.rcu_board.specs.declared.view.Claim.{Claim}
 use Rattle.rcu_board.specs.declared.view.View.{View}
 use Rattle.rcu_board.proofs.Views.{total-append}
 use Rattle.rcu_jobs.specs.declared.callback.Record.{Record}
 use Rattle.rcu_places.specs.Order.{is_number, times}
 use Rattle.rcu_records.specs.Records.{numbered_record, numbered_records}
 use Rattle.rcu_gathering.specs.Closing.{CpuEnd, InRow, seats_of}
-use Rattle.rcu_gathering.specs.Parts.{CpuPart, HandClaims, HandPart, IsAtRest, claim_of, hand_ran, hand_views, views_of}
+use Rattle.rcu_gathering.specs.Parts.{HandClaims, HandPart, IsAtRest, claim_of, hand_ran, hand_views, views_of}
 use Rattle.rcu_gathering.proofs.Lists.{all_head, all_tail}
 
 module _ {R : Type 0} where

@@ -1,16 +1,14 @@
 -- What the last loads say of all records.
-use Rattle.std.proofs.Common.{◌≡◌, ℕ, zero, suc, ◌+◌, ◌*◌, ◌/◌, ◌%◌, ◌<◌, ◌≤◌, cond, ltb, Option, Some, None, List, [], ◌∷◌, ◌++◌, map, length, take, get_or, sym, ap, ◌∙◌, refl, subst, arith}
+use Rattle.std.proofs.Common.{◌≡◌, ℕ, zero, suc, ◌+◌, ◌*◌, ◌/◌, ◌%◌, ◌<◌, ◌≤◌, cond, ltb, Option, Some, None, List, [], ◌∷◌, ◌++◌, map, length, take, drop, get_or, sym, ap, ◌∙◌, refl, subst, arith}
 use mathlib.Core.Logic.{dite}
 use native.Mathlib.Decide.{ℕ_discrete}
 use Rattle.std.specs.List.{All}
 use Rattle.std.proofs.lemmas.Bool.Decides.{nat_tests}
 use Rattle.std.proofs.lemmas.List.{length-map}
 use Rattle.rcu_board.specs.Laws.{OddEquals, Reported}
-use Rattle.rcu_board.specs.Plays.{GatheredAcceptLaw, GatheredBoardLaw, GatheredTurnLaw}
-use Rattle.rcu_board.specs.Seats.{accepted_of, first_accepted, first_fresh, first_reports, fresh_of, reports_of}
+use Rattle.rcu_board.specs.Seats.{accepted_of, first_accepted, first_fresh, first_reports, reports_of}
 use Rattle.rcu_board.specs.Views.{Every, accepted_count, claimed, cpus, fresh_count, one_if_claim, seen_at, total}
 use Rattle.rcu_board.specs.Words.{accepts_word, turns_word, words_of}
-use Rattle.rcu_board.specs.declared.view.Accepted.{Accepted as Entry}
 use Rattle.rcu_board.specs.declared.view.Claim.{Claim}
 use Rattle.rcu_board.specs.declared.view.Own.{Own}
 use Rattle.rcu_board.specs.declared.view.View.{View}
@@ -19,14 +17,14 @@ use Rattle.rcu_board.proofs.Views.{total-append}
 use Rattle.rcu_endings.specs.Ends.{AreOnceBelow, IsEnd}
 use Rattle.rcu_jobs.specs.declared.callback.Record.{Record}
 use Rattle.rcu_numbers.specs.Numbers.{snap_of}
-use Rattle.rcu_numbers.specs.Words.{number_of, owes_of}
+use Rattle.rcu_numbers.specs.Words.{number_of}
 use Rattle.rcu_numbers.proofs.WordLaws.{owes-lt}
 use Rattle.rcu_places.specs.Order.{between, times}
 use Rattle.rcu_places.specs.Places.{Accepted, numbered}
-use Rattle.rcu_records.specs.Records.{AreRipe, AreSeenBy, numbered_record, numbered_records}
-use Rattle.rcu_gathering.specs.Closing.{Closes, ClosesAs, CpuEnd, HaveEnded, IsGraced, WasEnded, processors_of, seats_of}
+use Rattle.rcu_records.specs.Records.{AreSeenBy, numbered_record, numbered_records}
+use Rattle.rcu_gathering.specs.Closing.{Closes, ClosesAs, CpuEnd, HaveEnded, IsGraced, processors_of, seats_of}
 use Rattle.rcu_gathering.specs.Gathered.{gather}
-use Rattle.rcu_gathering.specs.Parts.{CpuPart, HandClaims, HandPart, IsAtRest, accepted_entry, accepted_list, claim_of, hand_ran, hand_views, views_of}
+use Rattle.rcu_gathering.specs.Parts.{HandClaims, HandPart, IsAtRest, accepted_entry, accepted_list, claim_of, hand_ran, hand_views, views_of}
 use Rattle.rcu_gathering.proofs.Claims.{cpu_at, no_claims, row_at}
 use Rattle.rcu_gathering.proofs.Gathers.{gather_claims, gather_each, gather_seen, gather_sights}
 use Rattle.rcu_gathering.proofs.Lists.{all_none, all_cons, all_head, all_imp, all_both, all_left, all_map, all_mapped, all_right, all_tail, every_all}
@@ -152,6 +150,9 @@ module _ {J R : Type 0} (key_of : J → ℕ) (gives : ℕ → R → Type 0) (n x
       (all_head Counted e.part.view (hand_views e.part.hand) (all_seats Counted es counted k d lt)).0 in
       record {
         end = subst (λ (i : ℕ). IsEnd key_of gives (accepted_list e.part.view) i e.ran e.back) long end;
+        records = done.records;
+        jobs = done.jobs;
+        left = done.left (accepted_list e.part.view) m rest.places once ∙ ap (λ (i : ℕ). drop i (numbered 0 (accepted_list e.part.view))) long;
         claims = λ j. ap (λ (p : ℕ). total (claimed p j) Views) cpu ∙ (same j ∙ ap (λ (i : ℕ). between 0 i j) long);
         graced = all_both (λ (r : Record R). snap_of r.stamp ≤ r.ready) (λ (r : Record R). r.ready ≤ number) (IsGraced (processors_of es)) e.ran
             (λ r ripe low. all_imp (λ (w : View). number / 4 ≤ reports_of w) (λ (w : View). (j : ℕ) × (j < reports_of w) × (r.stamp < 4 * j + 1) × (4 * j + 1 < r.ready)) (processors_of es)

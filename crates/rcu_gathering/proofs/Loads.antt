@@ -1,18 +1,18 @@
 -- The last loads, one after another, change sights and tallies alone.
-use Rattle.std.proofs.Common.{◌≡◌, ◌≢◌, ℕ, ◌+◌, ◌*◌, ◌/◌, ◌%◌, ◌<◌, ◌≤◌, cond, ltb, List, sym, ap, ◌∙◌, subst, arith, below_more}
+use Rattle.std.proofs.Common.{◌≡◌, ◌≢◌, ℕ, ◌+◌, ◌/◌, ◌%◌, ◌<◌, ◌≤◌, List, sym, ap, ◌∙◌, subst, arith}
 use mathlib.Core.Logic.{dite}
 use native.Mathlib.Decide.{ℕ_discrete}
 use Rattle.rcu_board.specs.Laws.{IsBoard, OddEquals, Reported}
 use Rattle.rcu_board.specs.Plays.{GatheredAcceptLaw, GatheredBoardLaw, GatheredTurnLaw, touched}
-use Rattle.rcu_board.specs.Views.{Every, accepted_count, claimed, cpus, one_if_claim, one_if_equal, one_if_on, own_count, runs, seen_at, total}
-use Rattle.rcu_board.specs.Words.{accepts_word, turns_word}
+use Rattle.rcu_board.specs.Views.{Every, accepted_count, cpus, one_if_claim, one_if_equal, one_if_on, seen_at, total}
+use Rattle.rcu_board.specs.Words.{accepts_word}
 use Rattle.rcu_board.specs.declared.view.Accepted.{Accepted}
 use Rattle.rcu_board.specs.declared.view.Claim.{Claim}
 use Rattle.rcu_board.specs.declared.view.Own.{Own}
 use Rattle.rcu_board.specs.declared.view.View.{View}
 use Rattle.rcu_board.proofs.Facts.{seen-other}
 use Rattle.rcu_numbers.specs.Words.{mask_of, number_of, owes_of, packed}
-use Rattle.rcu_numbers.proofs.WordLaws.{owes-lt, owes-none, owes-packed}
+use Rattle.rcu_numbers.proofs.WordLaws.{owes-none, owes-packed}
 
 -- the sight of another word
 pub seen_after : (u w : View) (i j x : ℕ) → w ≡ touched i x u → j ≢ i → seen_at w j ≡ seen_at u j

@@ -1,12 +1,17 @@
 -- What `close` promises, over plain data: docs/specification/promises.md, "Headline on the running parts", close.
-use Rattle.std.specs.Prelude.{◌≡◌, ℕ, suc, ◌+◌, ◌*◌, ◌/◌, ◌%◌, ◌<◌, ◌≤◌, List, [], ◌∷◌, ◌++◌, map, length, All}
+use Rattle.std.specs.Prelude.{◌≡◌, ℕ, suc, ◌+◌, ◌*◌, ◌/◌, ◌%◌, ◌<◌, ◌≤◌, List, [], ◌∷◌, ◌++◌, map, length, drop, All}
 use Rattle.rcu_board.specs.Seats.{reports_of}
 use Rattle.rcu_board.specs.Views.{claimed, seen_at, total}
 use Rattle.rcu_board.specs.Words.{accepts_word, turns_word, words_of}
 use Rattle.rcu_board.specs.declared.view.View.{View}
-use Rattle.rcu_endings.specs.Ends.{EndsWith, IsEnd}
+use Rattle.rcu_endings.specs.Ends.{EndsWith, IsEnd, left_of}
+use Rattle.rcu_endings.specs.Moving.{jobs_of}
+use Rattle.rcu_jobs.specs.declared.callback.Callback.{Callback}
 use Rattle.rcu_jobs.specs.declared.callback.Record.{Record}
 use Rattle.rcu_places.specs.Order.{between}
+use Rattle.rcu_places.specs.Places.{numbered}
+use Rattle.rcu_records.specs.Callbacks.{numbered_callbacks}
+use Rattle.rcu_records.specs.Records.{AreOfBoth}
 use Rattle.rcu_gathering.specs.Gathered.{IsSettled, gather}
 use Rattle.rcu_gathering.specs.Parts.{CpuPart, IsAtRest, accepted_list, hand_drawn, hand_ran, hand_taken, views_of}
 
@@ -35,6 +40,10 @@ module _ {J R : Type 0} where
   InRow k [] = Unit {0}
   InRow k (e ∷ es) = (e.part.cpu ≡ k) × InRow (suc k) es
 
+  -- the callbacks that no one ran: what the hand didn't take of what the processor put, and then what the processor holds
+  abbrev pub calls_left : CpuEnd J R → List (Callback J)
+  calls_left e = left_of e.part.lists (hand_taken e.part.hand)
+
   -- how each was ended, by `end_offloadable` or `end_local`
   abbrev pub WasEnded : (J → ℕ) → (ℕ → R → Type 0) → CpuEnd J R → Type 0
   WasEnded key_of gives e = EndsWith key_of gives e.part.own (hand_ran e.part.hand) e.part.lists (hand_taken e.part.hand) (hand_drawn e.part.hand) e.ran e.back
@@ -43,6 +52,11 @@ module _ {J R : Type 0} where
   pub record ClosesAs (key_of : J → ℕ) (gives : ℕ → R → Type 0) (views processors : List View) (e : CpuEnd J R) : Type 0 where
     -- as many as ran, 0 to m - 1, have records; the jobs of the others come back
     pub end : IsEnd key_of gives (accepted_list e.part.view) (length e.ran) e.ran e.back
+    -- each record is one that the processor or its hand had, whole
+    pub records : AreOfBoth e.part.own (hand_ran e.part.hand) e.ran
+    -- the jobs that come back are those of the callbacks that are left, which have the numbers from m on
+    pub jobs : e.back ≡ jobs_of (calls_left e)
+    pub left : numbered_callbacks (calls_left e) ≡ drop (length e.ran) (numbered 0 (accepted_list e.part.view))
     -- the claims of all views are these numbers, each once
     pub claims : (j : ℕ) → total (claimed e.part.cpu j) views ≡ between 0 (length e.ran) j
     pub graced : All (IsGraced processors) e.ran

@@ -1,5 +1,5 @@
 -- Seats that become one at `close`, and what the last loads tell: docs/specification/definitions.md, "The running parts: views", merge.
-use Rattle.std.specs.Prelude.{◌≡◌, ℕ, ◌<◌, ◌≤◌, List, [], ◌∷◌}
+use Rattle.std.specs.Prelude.{ℕ, ◌<◌, ◌≤◌, List, [], ◌∷◌}
 use Rattle.rcu_board.specs.Plays.{GatheredAcceptLaw, GatheredBoardLaw, GatheredTurnLaw}
 use Rattle.rcu_board.specs.Views.{joined, seen_at}
 use Rattle.rcu_board.specs.Words.{turns_word}

@@ -1,5 +1,5 @@
 -- What is known of the parts of one open as they come to rest, over plain data: docs/specification/definitions.md, "The running parts: laws".
-use Rattle.std.specs.Prelude.{◌≡◌, ℕ, suc, Option, Some, None, List, [], ◌∷◌, ◌++◌, map, All}
+use Rattle.std.specs.Prelude.{◌≡◌, ℕ, Option, Some, None, List, [], ◌∷◌, map}
 use Rattle.rcu_board.specs.Seats.{accepted_of, fresh_of}
 use Rattle.rcu_board.specs.Views.{cpus}
 use Rattle.rcu_board.specs.declared.view.Accepted.{Accepted as Entry}

@@ -1,15 +1,15 @@
 -- One turn of the merge.
-use Rattle.std.proofs.Common.{◌≡◌, ℕ, zero, suc, ◌+◌, ◌<◌, Bool, true, false, eq-eqb, ne_eqb, List, [], ◌∷◌, ◌++◌, length, length-append, map, append_assoc, sym, ap, ◌∙◌, refl, subst, arith, get_or}
+use Rattle.std.proofs.Common.{◌≡◌, ◌⊎◌, Contains, inl, inr, ℕ, zero, suc, ◌+◌, ◌<◌, Bool, true, false, eq-eqb, ne_eqb, List, [], ◌∷◌, ◌++◌, length, length-append, map, append_assoc, sym, ap, ◌∙◌, refl, subst, arith, get_or}
 use Rattle.std.specs.Option.{option_to_list}
 use Rattle.std.specs.Prelude.{Option, Some, None, drop}
 use Rattle.std.specs.List.{All}
 use Rattle.std.proofs.lemmas.List.{map-append}
-use Rattle.std.proofs.lemmas.List.Elements.{All-append}
+use Rattle.std.proofs.lemmas.List.Elements.{All-append, Contains-get_or}
 use Rattle.rcu_jobs.specs.declared.callback.Record.{Record}
 use Rattle.rcu_places.specs.Places.{Accepted, Numbered, with_number, numbered}
 use Rattle.rcu_places.specs.Order.{Remaining, first_own, first_hands, times}
 use Rattle.rcu_places.proofs.Ordering.{counted_same, next}
-use Rattle.rcu_records.specs.Records.{numbered_record, is_next}
+use Rattle.rcu_records.specs.Records.{AreOfBoth, numbered_record, is_next}
 
 tail : List Numbered → List Numbered
 tail [] = []
@@ -102,3 +102,17 @@ module _ {R : Type 0} where
         | true ↦ λ e. let t = ta e in let x = ap length t.0 ∙ length-append (option_to_list o) a' in let y = ap length t.2 in omega arith
         | false ↦ λ e. let t = tb e in let x = ap length t.0 ∙ length-append (option_to_list o) b' in let y = ap length t.2 in omega arith
       ]) refl
+
+-- at first: none was taken
+pub all_of_none : {X : Type 0} (P : X → Type 0) (xs : List X) → xs ≡ [] → All P xs
+all_of_none P xs none = subst (All P) (sym none) (λ k d lt. absurd (omega (arith, lt)))
+
+module _ {R : Type 0} (own hands : List (Record R)) where
+  pub none_of_both : (all : List (Record R)) → all ≡ [] → AreOfBoth own hands all
+  none_of_both all none = all_of_none (λ r. Contains own r ⊎ Contains hands r) all none
+
+  pub own_of_both : AreOfBoth own hands own
+  own_of_both k d lt = inl (Contains-get_or own k d lt)
+
+  pub hands_of_both : AreOfBoth own hands hands
+  hands_of_both k d lt = inr (Contains-get_or hands k d lt)

@@ -1,5 +1,5 @@
 -- Records by their numbers: docs/specification/definitions.md, "Places".
-use Rattle.std.specs.Prelude.{ℕ, ◌≤◌, ◌==◌, Bool, false, List, [], ◌∷◌, map, All}
+use Rattle.std.specs.Prelude.{ℕ, ◌≤◌, ◌==◌, ◌⊎◌, Bool, Contains, false, List, [], ◌∷◌, map, All}
 use Rattle.rcu_jobs.specs.declared.callback.Record.{Record}
 use Rattle.rcu_numbers.specs.Numbers.{snap_of}
 use Rattle.rcu_places.specs.Places.{Numbered}
@@ -18,6 +18,10 @@ AreRipe rs = All (λ r. snap_of r.stamp ≤ r.ready) rs
 -- none was claimed at a board sight above x
 abbrev pub AreSeenBy : {R : Type 0} → ℕ → List (Record R) → Type 0
 AreSeenBy x rs = All (λ r. r.ready ≤ x) rs
+
+-- each of these is a record of one of the two lists, whole
+abbrev pub AreOfBoth : {R : Type 0} → List (Record R) → List (Record R) → List (Record R) → Type 0
+AreOfBoth own hands rs = All (λ r. Contains own r ⊎ Contains hands r) rs
 
 -- the first record has this number
 abbrev pub is_next : {R : Type 0} → ℕ → List (Record R) → Bool

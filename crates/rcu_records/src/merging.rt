@@ -5,7 +5,7 @@ ghost use Rattle.std.specs.Option.{option_to_list};
 ghost use Rattle.rcu_jobs.specs.Records.{Given};
 ghost use Rattle.rcu_places.specs.Order.{Remaining};
 ghost use Rattle.rcu_places.specs.Places.{Accepted, Numbered, numbered};
-ghost use Rattle.rcu_records.specs.Records.{numbered_records, AreRipe, AreSeenBy, is_next};
+ghost use Rattle.rcu_records.specs.Records.{numbered_records, AreOfBoth, AreRipe, AreSeenBy, is_next};
 
 use rcu_jobs::{Job, Record};
 use std::collections::VecDeque;
@@ -55,6 +55,7 @@ pub fn merge_records<J: Job>(
     requires none { all.items ≡ [] }
     requires room { length own.items + length hands.items ≤ vec_capacity all }
     ensures order { (accepted : List Accepted) (back held : List Numbered) → Remaining m 0 accepted (numbered_records own.items) (numbered_records hands.items) back held → numbered 0 accepted ≡ numbered_records result.items ++ (back ++ held) }
+    ensures records { AreOfBoth own.items hands.items result.items }
     ensures given { Given J.gives own.items → Given J.gives hands.items → Given J.gives result.items }
     ensures ripe { AreRipe own.items → AreRipe hands.items → AreRipe result.items }
     ensures seen { (x : ℕ) → AreSeenBy x own.items → AreSeenBy x hands.items → AreSeenBy x result.items }

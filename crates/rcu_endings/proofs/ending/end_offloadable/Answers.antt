@@ -1,17 +1,15 @@
-use Rattle.std.proofs.Common.{◌≡◌, ℕ, ◌+◌, ◌≤◌, List, ◌++◌, length, map, sym, subst, ap, ◌∙◌, arith, drop}
+use Rattle.std.proofs.Common.{◌≡◌, ℕ, ◌+◌, List, ◌++◌, length, sym, subst, ap, ◌∙◌, arith}
 use Rattle.std.specs.List.{flat_map}
 use denote.Param.{param}
 use Rattle.rcu_holdings.proofs.Sizes.{held-batch, in_places}
 use Rattle.rcu_holdings.specs.Callers.{holding, held_in, put_by}
 use Rattle.rcu_holdings.specs.Helds.{drawn_by, held_by, taken_by}
 use Rattle.rcu_jobs.specs.Records.{Given}
-use Rattle.rcu_jobs.specs.declared.callback.Callback.{Callback}
 use Rattle.rcu_jobs.specs.declared.callback.Record.{Record}
 use Rattle.rcu_lanes.specs.Ends.{items_drawn, items_left, items_put}
 use Rattle.rcu_lists.specs.Batches.{batch_items}
 use Rattle.rcu_places.specs.Order.{Remaining}
-use Rattle.rcu_places.specs.Places.{Accepted, Numbered, numbered}
-use Rattle.rcu_records.specs.Records.{AreRipe, AreSeenBy, numbered_records}
+use Rattle.rcu_records.specs.Records.{AreOfBoth, AreRipe, AreSeenBy, numbered_records}
 use Rattle.rcu_endings.proofs.Endings.{all_fit, came_back, first_fits, rest_fits, takes_then, passage, offloadable_ends, taken_first}
 use Rattle.rcu_endings.proofs.ending.end_offloadable.Goals as goal
 
@@ -129,6 +127,8 @@ returns-clause-ends g c =
     (λ x y. m.given (subst (λ (l : List (Record g.row.J-Receipt.Denot)). Given g.J.Job.gives l) (sym a) x) (subst (λ (l : List (Record g.row.J-Receipt.Denot)). Given g.J.Job.gives l) (sym b) y))
     (λ x y. m.ripe (subst (λ (l : List (Record g.row.J-Receipt.Denot)). AreRipe l) (sym a) x) (subst (λ (l : List (Record g.row.J-Receipt.Denot)). AreRipe l) (sym b) y))
     (λ k x y. m.seen k (subst (λ (l : List (Record g.row.J-Receipt.Denot)). AreSeenBy k l) (sym a) x) (subst (λ (l : List (Record g.row.J-Receipt.Denot)). AreSeenBy k l) (sym b) y))
+    (subst (λ (l : List (Record g.row.J-Receipt.Denot)). AreOfBoth l hands.items c.merge_records-ran.result.items) a
+    (subst (λ (l : List (Record g.row.J-Receipt.Denot)). AreOfBoth c.from.result.items l c.merge_records-ran.result.items) b m.records))
 
 pub into_parts-rear-requires : goal.into_parts-rear-requires
 into_parts-rear-requires g c = (assumption, held-batch (param 0 g.row.J) assumption)

@@ -1,7 +1,7 @@
-use Rattle.std.proofs.Common.{◌≡◌, ◌≢◌, ℕ, ◌+◌, ◌*◌, ◌/◌, ◌<◌, rules, arith, sym, ◌∙◌}
+use Rattle.std.proofs.Common.{◌≡◌, ◌≢◌, ◌<◌, rules, arith}
 use Rattle.rcu_numbers.specs.Words.{owes_of}
 use Rattle.rcu_numbers.proofs.WordLaws.{owes-lt}
-use Rattle.rcu_gathering.proofs.Loads.{in_progress, none_owes, word_reports}
+use Rattle.rcu_gathering.proofs.Loads.{none_owes, word_reports}
 use Rattle.rcu_gathering.proofs.settling.reports_by.Goals as goal
 
 pub returns-then-mask-eq0 : goal.returns-then-mask-eq0

@@ -1,4 +1,4 @@
-use Rattle.std.proofs.Common.{◌≡◌, ◌≢◌, ℕ, ◌+◌, ◌*◌, ◌<◌, ◌≤◌, sym, ap, ◌∙◌, arith, below_more}
+use Rattle.std.proofs.Common.{◌≡◌, ℕ, ◌≤◌, ap, ◌∙◌, arith, below_more}
 use Rattle.rcu_board.specs.Plays.{GatheredAcceptLaw, GatheredTurnLaw}
 use Rattle.rcu_board.specs.Seats.{gathered_view}
 use Rattle.rcu_board.specs.Views.{seen_at}
