@@ -3,6 +3,8 @@
 
 mod retiring;
 mod table;
+#[cfg(test)]
+mod tests;
 
-pub use retiring::{Retired, versions_by_rounds, versions_by_script};
-pub use table::Version;
+pub use retiring::{versions_by_rounds, versions_by_script};
+pub use table::{Retired, Version};

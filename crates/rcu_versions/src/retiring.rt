@@ -1,25 +1,19 @@
 //! The versions that are retired, one for each call.
 
-ghost use Rattle.std.specs.Prelude.{◌≡◌, ◌≤◌, ◌+◌, ◌*◌, ◌%◌, ◌<◌, IfOk, OnOk, count_by, length, vec_len};
+ghost use Rattle.std.specs.Prelude.{◌≡◌, ◌≤◌, ◌+◌, ◌*◌, ◌<◌, [], ◌∷◌, ◌++◌, IfOk, OnOk, List, count_by, length, option_to_list, vec_len};
+ghost use Rattle.std.specs.Option.{option_len};
 ghost use Rattle.indexmap.specs.IndexMap.{index_map_len};
-ghost use Rattle.rcu_script.specs.Calls.{is_call};
+ghost use Rattle.rcu_setup.specs.Arrays.{routes_view};
+ghost use Rattle.rcu_setup.specs.Words.{Route};
+ghost use Rattle.rcu_script.specs.Calls.{is_call, route_in};
+ghost use Rattle.rcu_versions.specs.Routes.{routes_of_calls, routes_of_round, routes_of_rounds, with_routes};
+ghost use Rattle.rcu_versions.specs.Versions.{AreVersions, HasRetired};
 
-use crate::table::{Version, added_bytes, first_version, next_version};
+use crate::table::{KEY_STEP, Retired, Version, added_bytes, first_version, next_version};
 use rcu_script::{Fault, route_of};
 use rcu_setup::{Command, Setup};
 use std::alloc::Global;
 use std::mem;
-
-/// How far apart the keys of two versions are.
-const KEY_STEP: u64 = 65536;
-
-/// A version that is retired. Its key is the version's number times 65536, plus the number of its routes.
-#[derive(Drop)]
-pub struct Retired {
-    pub key: u64,
-    pub table: Version,
-    pub ghost promised: { index_map_len table ≡ key % 65536 },
-}
 
 /// How many bytes all versions of a run may take, by the count of [`route_bytes`]. A setup may ask for far more than a machine
 /// has, as each call line copies the whole table.
@@ -40,6 +34,7 @@ impl Retiring {
     /// Version 0, which the setup's routes make. None is retired yet.
     fn of_routes(alloc: Global, setup: &Setup) -> Result<Retiring, Fault>
         ensures none { IfOk result (λ retiring. vec_len retiring.retired ≡ 0) }
+        ensures first { IfOk result (HasRetired (with_routes [] (routes_view setup.now.routes)) []) }
         ensures small { IfOk result (λ retiring. index_map_len retiring.current ≤ 64) }
     {
         let (current, bytes) = first_version(alloc, setup.routes.as_slice())?;
@@ -59,6 +54,8 @@ impl Retiring {
         ensures more { OnOk result (vec_len self.new.retired ≡ vec_len self.old.retired + 1) }
         ensures small { OnOk result (index_map_len self.new.current ≤ index_map_len self.old.current + 1) }
         ensures spent { OnOk result (self.new.left + self.new.bytes ≡ self.old.left) }
+        ensures version { (first calls : List Route) → HasRetired first calls self.old
+            → OnOk result (HasRetired first (calls ++ (name.now, hop) ∷ []) self.new) }
     {
         let bytes = self.bytes.saturating_add(added_bytes(&self.current, name));
         let Some(left) = self.left.checked_sub(bytes) else {
@@ -74,17 +71,32 @@ impl Retiring {
     }
 }
 
+/// The one that a command retires, if it is a call line.
+fn retire_for(alloc: Global, retiring: &mut Retiring, command: &Command) -> Result<(), Fault>
+    requires small { index_map_len retiring.old.current < 65536 }
+    requires few { vec_len retiring.old.retired < 65536 }
+    ensures many { OnOk result (vec_len retiring.new.retired ≡ vec_len retiring.old.retired + option_len (route_in command.now)) }
+    ensures small { OnOk result (index_map_len retiring.new.current ≤ index_map_len retiring.old.current + 1) }
+    ensures versions { (first calls : List Route) → HasRetired first calls retiring.old
+        → OnOk result (HasRetired first (calls ++ option_to_list (route_in command.now)) retiring.new) }
+{
+    match route_of(command) {
+        Some((name, hop)) => retiring.retire(alloc, name, hop),
+        None => Ok(()),
+    }
+}
+
 /// Those that a script's call lines retire, one each, in order.
 fn retire_by_script(alloc: Global, retiring: &mut Retiring, script: &[Command]) -> Result<(), Fault>
     requires none { vec_len retiring.old.retired ≡ 0 }
     requires small { index_map_len retiring.old.current ≤ 64 }
     requires few { length script.now ≤ 50000 }
-    ensures { OnOk result (vec_len retiring.new.retired ≡ count_by is_call script.now) }
+    ensures many { OnOk result (vec_len retiring.new.retired ≡ count_by is_call script.now) }
+    ensures versions { (first : List Route) → HasRetired first [] retiring.old
+        → OnOk result (HasRetired first (routes_of_calls script.now) retiring.new) }
 {
     for command in script {
-        if let Some((name, hop)) = route_of(command) {
-            retiring.retire(alloc, name, hop)?;
-        }
+        retire_for(alloc, retiring, command)?;
     }
     Ok(())
 }
@@ -103,6 +115,8 @@ fn retire_round(
     requires small { index_map_len retiring.old.current ≤ 64 + vec_len retiring.old.retired }
     ensures more { OnOk result (vec_len retiring.new.retired ≡ vec_len retiring.old.retired + processors) }
     ensures small { OnOk result (index_map_len retiring.new.current ≤ 64 + vec_len retiring.new.retired) }
+    ensures versions { (first calls : List Route) → HasRetired first calls retiring.old
+        → OnOk result (HasRetired first (calls ++ routes_of_round round processors) retiring.new) }
 {
     for cpu in 0..processors {
         let name = format!(in alloc; "c{cpu}")?;
@@ -122,7 +136,9 @@ fn retire_by_rounds(
     requires calls { calls ≤ 1000 }
     requires none { vec_len retiring.old.retired ≡ 0 }
     requires small { index_map_len retiring.old.current ≤ 64 }
-    ensures { OnOk result (vec_len retiring.new.retired ≡ calls * processors) }
+    ensures many { OnOk result (vec_len retiring.new.retired ≡ calls * processors) }
+    ensures versions { (first : List Route) → HasRetired first [] retiring.old
+        → OnOk result (HasRetired first (routes_of_rounds processors calls) retiring.new) }
 {
     for round in 0..calls {
         retire_round(alloc, retiring, processors, round)?;
@@ -136,7 +152,8 @@ fn retire_by_rounds(
 ///
 /// Want of memory, also where all versions would take more than a budget of 1 GiB.
 pub fn versions_by_script(alloc: Global, setup: &Setup) -> Result<Vec<Retired>, Fault>
-    ensures { IfOk result (λ retired. vec_len retired ≡ count_by is_call setup.now.script.items) }
+    ensures many { IfOk result (λ retired. vec_len retired ≡ count_by is_call setup.now.script.items) }
+    ensures versions { IfOk result (AreVersions (routes_view setup.now.routes) (routes_of_calls setup.now.script.items)) }
 {
     let mut retiring = Retiring::of_routes(alloc, setup)?;
     retire_by_script(alloc, &mut retiring, setup.script.as_slice())?;
@@ -150,7 +167,9 @@ pub fn versions_by_script(alloc: Global, setup: &Setup) -> Result<Vec<Retired>, 
 ///
 /// Want of memory, also where all versions would take more than a budget of 1 GiB.
 pub fn versions_by_rounds(alloc: Global, setup: &Setup) -> Result<Vec<Retired>, Fault>
-    ensures { IfOk result (λ retired. vec_len retired ≡ setup.now.calls * setup.now.shape.processors) }
+    ensures many { IfOk result (λ retired. vec_len retired ≡ setup.now.calls * setup.now.shape.processors) }
+    ensures versions { IfOk result (AreVersions (routes_view setup.now.routes)
+        (routes_of_rounds setup.now.shape.processors setup.now.calls)) }
 {
     let mut retiring = Retiring::of_routes(alloc, setup)?;
     retire_by_rounds(alloc, &mut retiring, setup.shape.processors, setup.calls)?;

@@ -1,7 +1,9 @@
 //! One version of the route table.
 
-ghost use Rattle.std.specs.Prelude.{◌≤◌, ◌+◌, IfOk, OnOk, length};
+ghost use Rattle.std.specs.Prelude.{◌≡◌, ◌≤◌, ◌+◌, ◌%◌, [], IfOk, OnOk, length, map};
 ghost use Rattle.indexmap.specs.IndexMap.{index_map_len};
+ghost use Rattle.rcu_setup.specs.Arrays.{route_view};
+ghost use Rattle.rcu_versions.specs.Routes.{routes_in, with_route, with_routes};
 
 use indexmap::IndexMap;
 use rcu_script::Fault;
@@ -9,6 +11,17 @@ use std::alloc::Global;
 
 /// A version of the route table: the hop of each name.
 pub type Version = IndexMap<String, u32>;
+
+/// How far apart the keys of two versions are.
+pub const KEY_STEP: u64 = 65536;
+
+/// A version that is retired. Its key is the version's number times 65536, plus the number of its routes.
+#[derive(Drop)]
+pub struct Retired {
+    pub key: u64,
+    pub table: Version,
+    pub ghost promised: { index_map_len table ≡ key % 65536 },
+}
 
 /// How many bytes a route takes beside its name, at most: its place in the map, with what a list keeps spare.
 const ROUTE_BYTES: u64 = 128;
@@ -29,7 +42,8 @@ pub fn added_bytes(version: &Version, name: &str) -> u64 {
 
 /// Sets a route. A name that is there keeps its place.
 fn set_route(alloc: Global, version: &mut Version, name: &str, hop: u32) -> Result<(), Fault>
-    ensures { OnOk result (index_map_len version.new ≤ index_map_len version.old + 1) }
+    ensures small { OnOk result (index_map_len version.new ≤ index_map_len version.old + 1) }
+    ensures routes { OnOk result (routes_in version.new ≡ with_route (routes_in version.old) (name.now, hop)) }
 {
     let name = String::from_str(alloc, name)?;
     version.insert(name, hop)?;
@@ -43,7 +57,8 @@ pub fn next_version(
     name: &str,
     hop: u32,
 ) -> Result<Version, Fault>
-    ensures { IfOk result (λ v. index_map_len v ≤ index_map_len version.now + 1) }
+    ensures small { IfOk result (λ v. index_map_len v ≤ index_map_len version.now + 1) }
+    ensures routes { IfOk result (λ v. routes_in v ≡ with_route (routes_in version.now) (name.now, hop)) }
 {
     let mut copy = version.clone()?;
     set_route(alloc, &mut copy, name, hop)?;
@@ -52,7 +67,8 @@ pub fn next_version(
 
 /// Version 0, which the setup's routes make, and how many bytes it takes, by the count of [`route_bytes`].
 pub fn first_version(alloc: Global, routes: &[(String, u32)]) -> Result<(Version, u64), Fault>
-    ensures { IfOk result (λ v. index_map_len v.0 ≤ length routes.now) }
+    ensures small { IfOk result (λ v. index_map_len v.0 ≤ length routes.now) }
+    ensures routes { IfOk result (λ v. routes_in v.0 ≡ with_routes [] (map route_view routes.now)) }
 {
     let mut version = Version::new(alloc);
     let mut bytes = 0u64;

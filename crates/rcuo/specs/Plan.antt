@@ -2,7 +2,9 @@
 use Rattle.std.specs.Prelude.{◌≡◌, ℕ, ◌∷◌, [], List, codes, true, ◌*◌, count_by, ⊤}
 use Rattle.rcu_script.specs.Calls.{is_call}
 use Rattle.rcu_reading.specs.Reading.{IsFaultOf}
+use Rattle.rcu_setup.specs.Words.{Route}
 use Rattle.rcu_setup.specs.declared.setup.Setup.{Setup}
+use Rattle.rcu_versions.specs.Routes.{routes_of_calls, routes_of_rounds}
 use Rattle.rcuo.specs.declared.plan.Refusal.{Refusal}
 use Rattle.rcuo.specs.declared.plan.Refusal.TheVariants as refusal
 use Rattle.rcuo.specs.declared.plan.Subcommand.{Subcommand}
@@ -41,3 +43,8 @@ rcuo = with_subcommand (with_subcommand rcuo_top (new_app (codes "replay")).top)
 abbrev pub jobs_for : Subcommand → Setup → ℕ
 jobs_for subcommand.Replay setup = count_by is_call setup.script.items
 jobs_for subcommand.Threads setup = setup.calls * setup.shape.processors
+
+-- the route that each of those calls sets in the next version
+abbrev pub calls_for : Subcommand → Setup → List Route
+calls_for subcommand.Replay setup = routes_of_calls setup.script.items
+calls_for subcommand.Threads setup = routes_of_rounds setup.shape.processors setup.calls

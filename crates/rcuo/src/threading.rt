@@ -2,7 +2,10 @@
 
 ghost use Rattle.std.specs.Prelude.{◌≡◌, ◌*◌, OnOk, false, vec_len};
 ghost use Rattle.std.specs.Io.KnownBytes.{Appends};
+ghost use Rattle.rcu_jobs.specs.Promised.{Promised};
 ghost use Rattle.rcu_script.specs.Lines.{whole_totals};
+ghost use Rattle.rcu_script.specs.Scripts.{Writes};
+ghost use Rattle.rcuo.specs.Totals.{RunsInThreads};
 
 use crate::plan::Plan;
 use rcu_jobs::{BoxedJob, Closed};
@@ -30,6 +33,8 @@ pub fn threads<R: Threads + Wait + Clock + Copy + Send + 'static, W: Write>(
     writer: &mut W,
 ) -> Result<(), Fault>
     requires jobs { vec_len jobs ≡ plan.now.setup.calls * plan.now.setup.shape.processors }
+    ensures prints { OnOk result (Writes (W.contents writer.old) (W.contents writer.new)
+        (RunsInThreads (λ job. job.key) (Promised 65536) plan.now.setup jobs.items)) }
 {
     let parts = open(alloc, plan.setup.shape)?;
     match run_in_threads(rt, alloc, parts, jobs) {

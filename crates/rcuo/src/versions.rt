@@ -1,7 +1,9 @@
 //! The versions of the route table that a plan's run retires: docs/specification/program.md, "Route table".
 
 ghost use Rattle.std.specs.Prelude.{◌≡◌, IfOk, vec_len};
-ghost use Rattle.rcuo.specs.Plan.{jobs_for};
+ghost use Rattle.rcu_setup.specs.Arrays.{routes_view};
+ghost use Rattle.rcu_versions.specs.Versions.{AreVersions};
+ghost use Rattle.rcuo.specs.Plan.{calls_for, jobs_for};
 
 use crate::plan::{Plan, Subcommand};
 use rcu_script::Fault;
@@ -15,7 +17,8 @@ use std::alloc::Global;
 ///
 /// Want of memory, also where all versions would take more than a budget of 1 GiB.
 pub fn versions(alloc: Global, plan: &Plan) -> Result<Vec<Retired>, Fault>
-    ensures { IfOk result (λ retired. vec_len retired ≡ jobs_for plan.now.subcommand plan.now.setup) }
+    ensures many { IfOk result (λ retired. vec_len retired ≡ jobs_for plan.now.subcommand plan.now.setup) }
+    ensures versions { IfOk result (AreVersions (routes_view plan.now.setup.routes) (calls_for plan.now.subcommand plan.now.setup)) }
 {
     match plan.subcommand {
         Subcommand::Replay => versions_by_script(alloc, &plan.setup),

@@ -1,0 +1,38 @@
+use Rattle.std.proofs.Common.{◌≡◌, refl, false}
+use Rattle.std.proofs.lemmas.Result.{on_ok_weaker}
+use Rattle.std.specs.List.{range_with_len}
+use Rattle.rcu_jobs.specs.Promised.{Promised}
+use Rattle.rcu_parts.proofs.Zips.{zip_all}
+use Rattle.rcu_parts.specs.OneOpen.{parts_board, processors_in}
+use Rattle.rcu_parts.specs.Openings.{IsFirstProcessor}
+use Rattle.rcu_threads.specs.Ends.{AreUnused}
+use Rattle.rcu_script.specs.Lines.{whole_totals}
+use Rattle.rcu_script.specs.Scripts.{Writes}
+use Rattle.rcuo.specs.Totals.{RunsInThreads}
+use Rattle.rcuo.proofs.threading.threads.Goals as goal
+
+pub returns-in-Ok : goal.returns-in-Ok
+returns-in-Ok g c =
+    let setup = c.args.plan.now.setup in
+    let start = c.in_ok-parts.parts in
+    let closed = c.in-Ok.closed in
+    let opened = c.in_ok-parts.ensures.opened in
+    -- parts that were just opened have accepted nothing
+    let unused : AreUnused start =
+    zip_all (IsFirstProcessor setup.shape (parts_board start)) (λ p. p.state.accepted ≡ 0) (λ k p first. first.part.accepted)
+    (range_with_len 0 (parts_board start).processors) (processors_in start) opened.processors in
+    let runs : RunsInThreads (λ job. job.key) (Promised 65536) setup c.args.jobs.items (whole_totals false closed) =
+    record {
+      start = start;
+      opened = opened;
+      closed = closed;
+      closes = c.in-Ok.ensures.closes;
+      none_back = c.in-Ok.ensures.ran unused;
+      whole = refl;
+    } in
+    record {
+      prints = on_ok_weaker
+          {Q = Writes (g.W.Write.contents c.args.writer.now) (g.W.Write.contents c.print_totals.new.writer)
+          (RunsInThreads (λ job. job.key) (Promised 65536) setup c.args.jobs.items)}
+          c.print_totals.result (λ written. (whole_totals false closed, runs, written)) c.print_totals.ensures;
+    }
