@@ -210,6 +210,7 @@ uint32_t rcuo_slot_halt(struct rcuo_slot *slot);
 uint32_t rcuo_slot_halted(struct rcuo_slot *slot, bool *halted);
 uint32_t rcuo_slot_lists(struct rcuo_slot *slot, struct rcuo_lists *lists);
 uint32_t rcuo_slot_accepted(struct rcuo_slot *slot, uint64_t *accepted);
+uint32_t rcuo_slot_left(struct rcuo_slot *slot, uint64_t *left);
 uint32_t rcuo_slot_record(struct rcuo_slot *slot, uint64_t processor, uint64_t at, struct rcuo_record *record);
 uint32_t rcuo_slot_back(struct rcuo_slot *slot, uint64_t processor, uint64_t at, struct rcuo_job *job);
 uint32_t rcuo_slot_reports(struct rcuo_slot *slot, uint64_t processor, uint64_t *reports);
@@ -333,10 +334,17 @@ static inline enum rcuo_answer rcuo_quiescent(struct rcuo_slot *processor, uint6
     return (enum rcuo_answer)rcuo_slot_quiescent(processor, counted ? counted : &unused);
 }
 
-/* How many callbacks it accepted; it accepts as many as the setting `limit` says. */
+/* How many callbacks it accepted. */
 static inline enum rcuo_answer rcuo_accepted(struct rcuo_slot *processor, uint64_t *accepted) {
     if (!processor || !accepted) return RCUO_NULL;
     return (enum rcuo_answer)rcuo_slot_accepted(processor, accepted);
+}
+
+/* How many callbacks it still accepts at most: the setting `limit` less those that it accepted. At 0 each call answers
+ * RCUO_LIMIT. */
+static inline enum rcuo_answer rcuo_left(struct rcuo_slot *processor, uint64_t *left) {
+    if (!processor || !left) return RCUO_NULL;
+    return (enum rcuo_answer)rcuo_slot_left(processor, left);
 }
 
 /* What it shows of its callbacks. */
@@ -392,10 +400,11 @@ static inline enum rcuo_answer rcuo_driver_turn(struct rcuo_slot *driver, struct
     return (enum rcuo_answer)rcuo_slot_driver_turn(driver, turn ? turn : &unused);
 }
 
-/* Whether control was told to halt. */
-static inline enum rcuo_answer rcuo_halted(struct rcuo_slot *driver, bool *halted) {
-    if (!driver || !halted) return RCUO_NULL;
-    return (enum rcuo_answer)rcuo_slot_halted(driver, halted);
+/* Whether control was told to halt: by the driver, a group, a hand or a processor, each in its own thread.
+ * Answers RCUO_RUNNING where a callback of the hand or of the processor was begun and isn't finished. */
+static inline enum rcuo_answer rcuo_halted(struct rcuo_slot *slot, bool *halted) {
+    if (!slot || !halted) return RCUO_NULL;
+    return (enum rcuo_answer)rcuo_slot_halted(slot, halted);
 }
 
 /* A turn of a group: it draws what its processors released, and gives what is done to their hands. Takes memory; what it
@@ -427,11 +436,12 @@ static inline enum rcuo_answer rcuo_barrier(struct rcuo_slot *slot, struct rcuo_
     return (enum rcuo_answer)rcuo_slot_barrier(slot, barrier);
 }
 
-/* Whether a barrier's callbacks have all run (control). Answers RCUO_FOREIGN where the barrier counts other processors than
- * there are. */
-static inline enum rcuo_answer rcuo_poll(struct rcuo_slot *control, const struct rcuo_counts *barrier, bool *passed) {
-    if (!control || !barrier || !passed) return RCUO_NULL;
-    return (enum rcuo_answer)rcuo_slot_poll(control, barrier, passed);
+/* Whether a barrier's callbacks have all run, by control or by a processor, whoever opened it.
+ * Answers RCUO_FOREIGN where the barrier counts other processors than there are, RCUO_RUNNING where a callback of the
+ * processor was begun and isn't finished. */
+static inline enum rcuo_answer rcuo_poll(struct rcuo_slot *slot, const struct rcuo_counts *barrier, bool *passed) {
+    if (!slot || !barrier || !passed) return RCUO_NULL;
+    return (enum rcuo_answer)rcuo_slot_poll(slot, barrier, passed);
 }
 
 /* Whether a barrier counts the callback of a ticket: RCUO_OK, RCUO_NO_PROCESSOR, or RCUO_AHEAD. */
