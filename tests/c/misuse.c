@@ -115,8 +115,16 @@ static void settings_outside(void) {
     is("a stride too long", rcuo_open(&bad, &parts), RCUO_SHAPE);
     bad = good, bad.blimit = 0;
     is("no blimit", rcuo_open(&bad, &parts), RCUO_SHAPE);
-    bad = good, bad.qhimark = 1000001;
+    bad.blimit = 1000001;
+    is("a blimit too high", rcuo_open(&bad, &parts), RCUO_SHAPE);
+    bad = good, bad.qhimark = 0;
+    is("no qhimark", rcuo_open(&bad, &parts), RCUO_SHAPE);
+    bad.qhimark = 1000001;
     is("a qhimark too high", rcuo_open(&bad, &parts), RCUO_SHAPE);
+    bad = good, bad.limit = 0;
+    is("no limit", rcuo_open(&bad, &parts), RCUO_SHAPE);
+    bad.limit = 1000001;
+    is("a limit one too high", rcuo_open(&bad, &parts), RCUO_SHAPE);
     bad = good, bad.limit = UINT64_MAX;
     is("a limit too high", rcuo_open(&bad, &parts), RCUO_SHAPE);
     holds("no slot is full after them", !parts.control.full && !parts.processors[0].full);
@@ -234,6 +242,10 @@ static void after_close(void) {
     uint64_t at = 0, number;
     is("close", rcuo_close(&parts), RCUO_OK);
     is("close again", rcuo_close(&parts), RCUO_OTHER);
+    is("a report after close", rcuo_quiescent(&parts.processors[0], NULL), RCUO_EMPTY);
+    is("a begin after close", rcuo_begin(&parts.hands[1], 0, &job), RCUO_EMPTY);
+    is("a turn of the driver after close", rcuo_driver_turn(&parts.driver, NULL), RCUO_EMPTY);
+    is("a turn of a group after close", rcuo_group_turn(&parts.groups[1], NULL), RCUO_EMPTY);
     is("a call after close", rcuo_call(&parts.processors[0], 0, count, NULL, NULL), RCUO_EMPTY);
     is("a shut after close", rcuo_shut(&parts.control, NULL), RCUO_OTHER);
     is("open before the end", rcuo_open(&good, &parts), RCUO_FULL);
