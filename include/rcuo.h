@@ -210,10 +210,36 @@ uint32_t rcuo_slot_halt(struct rcuo_slot *slot);
 uint32_t rcuo_slot_halted(struct rcuo_slot *slot, bool *halted);
 uint32_t rcuo_slot_lists(struct rcuo_slot *slot, struct rcuo_lists *lists);
 uint32_t rcuo_slot_accepted(struct rcuo_slot *slot, uint64_t *accepted);
+uint32_t rcuo_slot_left(struct rcuo_slot *slot, uint64_t *left);
 uint32_t rcuo_slot_record(struct rcuo_slot *slot, uint64_t processor, uint64_t at, struct rcuo_record *record);
 uint32_t rcuo_slot_back(struct rcuo_slot *slot, uint64_t processor, uint64_t at, struct rcuo_job *job);
 uint32_t rcuo_slot_reports(struct rcuo_slot *slot, uint64_t processor, uint64_t *reports);
 uint32_t rcuo_slot_end(struct rcuo_slot *slot);
+
+/* ThreadSanitizer doesn't see the library's atomic steps. In a program that is compiled with it each call says that it comes
+ * after those that ended before it began, and before those that begin after it. */
+#if defined(__SANITIZE_THREAD__)
+#define RCUO_TELLS_ORDER 1
+#elif defined(__has_feature)
+#if __has_feature(thread_sanitizer)
+#define RCUO_TELLS_ORDER 1
+#endif
+#endif
+#ifdef RCUO_TELLS_ORDER
+void __tsan_acquire(void *at);
+void __tsan_release(void *at);
+static inline void rcuo_tell_order(void) {
+    __tsan_acquire((void *)(uintptr_t)rcuo_slot_open);
+    __tsan_release((void *)(uintptr_t)rcuo_slot_open);
+}
+static inline enum rcuo_answer rcuo_after_call(uint32_t answer) {
+    rcuo_tell_order();
+    return (enum rcuo_answer)answer;
+}
+#define RCUO_CALL(call) (rcuo_tell_order(), rcuo_after_call(call))
+#else
+#define RCUO_CALL(call) ((enum rcuo_answer)(call))
+#endif
 
 /* ---- open and close ---- */
 
@@ -223,7 +249,7 @@ uint32_t rcuo_slot_end(struct rcuo_slot *slot);
 static inline enum rcuo_answer rcuo_open(const struct rcuo_settings *settings, struct rcuo_parts *parts) {
     if (!settings || !parts) return RCUO_NULL;
     /* (while the runtime is open no other has its control slot, so the slot's address is the open's number) */
-    return (enum rcuo_answer)rcuo_slot_open(settings, (uint64_t)(uintptr_t)parts, parts);
+    return RCUO_CALL(rcuo_slot_open(settings, (uint64_t)(uintptr_t)parts, parts));
 }
 
 /* Closes a runtime, whose threads have ended: what is left of it, the records of the callbacks that ran and the jobs of those
@@ -234,14 +260,14 @@ static inline enum rcuo_answer rcuo_open(const struct rcuo_settings *settings, s
  * RCUO_READING where a read section is open (debug builds), RCUO_MEMORY; then nothing was lost, and the call may be made again. */
 static inline enum rcuo_answer rcuo_close(struct rcuo_parts *parts) {
     if (!parts) return RCUO_NULL;
-    return (enum rcuo_answer)rcuo_slot_close(parts);
+    return RCUO_CALL(rcuo_slot_close(parts));
 }
 
 /* After a close: the next record of a callback of this processor that ran, in the order of the callbacks' numbers. `at` is 0
  * at first. RCUO_NONE_LEFT after the last. */
 static inline enum rcuo_answer rcuo_next_ran(struct rcuo_parts *parts, uint64_t processor, uint64_t *at, struct rcuo_record *record) {
     if (!parts || !at || !record) return RCUO_NULL;
-    enum rcuo_answer answer = (enum rcuo_answer)rcuo_slot_record(&parts->control, processor, *at, record);
+    enum rcuo_answer answer = RCUO_CALL(rcuo_slot_record(&parts->control, processor, *at, record));
     if (answer == RCUO_OK) ++*at;
     return answer;
 }
@@ -251,7 +277,7 @@ static inline enum rcuo_answer rcuo_next_ran(struct rcuo_parts *parts, uint64_t 
  * its own affair. */
 static inline enum rcuo_answer rcuo_next_back(struct rcuo_parts *parts, uint64_t processor, uint64_t *at, struct rcuo_job *job) {
     if (!parts || !at || !job) return RCUO_NULL;
-    enum rcuo_answer answer = (enum rcuo_answer)rcuo_slot_back(&parts->control, processor, *at, job);
+    enum rcuo_answer answer = RCUO_CALL(rcuo_slot_back(&parts->control, processor, *at, job));
     if (answer == RCUO_OK) ++*at;
     return answer;
 }
@@ -259,13 +285,13 @@ static inline enum rcuo_answer rcuo_next_back(struct rcuo_parts *parts, uint64_t
 /* After a close: how many reports of this processor were counted by a grace period. */
 static inline enum rcuo_answer rcuo_reports(struct rcuo_parts *parts, uint64_t processor, uint64_t *reports) {
     if (!parts || !reports) return RCUO_NULL;
-    return (enum rcuo_answer)rcuo_slot_reports(&parts->control, processor, reports);
+    return RCUO_CALL(rcuo_slot_reports(&parts->control, processor, reports));
 }
 
 /* After a close: lets go what is left, after which all slots are empty. */
 static inline enum rcuo_answer rcuo_end(struct rcuo_parts *parts) {
     if (!parts) return RCUO_NULL;
-    return (enum rcuo_answer)rcuo_slot_end(&parts->control);
+    return RCUO_CALL(rcuo_slot_end(&parts->control));
 }
 
 /* ---- a processor: for the thread that owns it ---- */
@@ -279,7 +305,7 @@ static inline enum rcuo_answer rcuo_call_job(struct rcuo_slot *processor, uint64
                                              struct rcuo_ticket *ticket) {
     struct rcuo_ticket unused;
     if (!processor || !job || !job->function) return RCUO_NULL;
-    return (enum rcuo_answer)rcuo_slot_call(processor, lazy, moment, job, ticket ? ticket : &unused);
+    return RCUO_CALL(rcuo_slot_call(processor, lazy, moment, job, ticket ? ticket : &unused));
 }
 
 static inline enum rcuo_answer rcuo_call(struct rcuo_slot *processor, uint64_t moment, rcuo_function *function, void *argument,
@@ -330,19 +356,26 @@ static inline void rcuo_read_unlock(struct rcuo_slot *processor) {
 static inline enum rcuo_answer rcuo_quiescent(struct rcuo_slot *processor, uint64_t *counted) {
     uint64_t unused;
     if (!processor) return RCUO_NULL;
-    return (enum rcuo_answer)rcuo_slot_quiescent(processor, counted ? counted : &unused);
+    return RCUO_CALL(rcuo_slot_quiescent(processor, counted ? counted : &unused));
 }
 
-/* How many callbacks it accepted; it accepts as many as the setting `limit` says. */
+/* How many callbacks it accepted. */
 static inline enum rcuo_answer rcuo_accepted(struct rcuo_slot *processor, uint64_t *accepted) {
     if (!processor || !accepted) return RCUO_NULL;
-    return (enum rcuo_answer)rcuo_slot_accepted(processor, accepted);
+    return RCUO_CALL(rcuo_slot_accepted(processor, accepted));
+}
+
+/* How many callbacks it still accepts at most: the setting `limit` less those that it accepted. At 0 each call answers
+ * RCUO_LIMIT. */
+static inline enum rcuo_answer rcuo_left(struct rcuo_slot *processor, uint64_t *left) {
+    if (!processor || !left) return RCUO_NULL;
+    return RCUO_CALL(rcuo_slot_left(processor, left));
 }
 
 /* What it shows of its callbacks. */
 static inline enum rcuo_answer rcuo_lists(struct rcuo_slot *processor, struct rcuo_lists *lists) {
     if (!processor || !lists) return RCUO_NULL;
-    return (enum rcuo_answer)rcuo_slot_lists(processor, lists);
+    return RCUO_CALL(rcuo_slot_lists(processor, lists));
 }
 
 /* ---- running callbacks: a processor runs its own, by the thread that owns it; a hand those of an offloaded one ---- */
@@ -355,13 +388,13 @@ static inline enum rcuo_answer rcuo_lists(struct rcuo_slot *processor, struct rc
  * RCUO_RUNNING where one was begun. */
 static inline enum rcuo_answer rcuo_begin(struct rcuo_slot *slot, uint64_t moment, struct rcuo_job *job) {
     if (!slot || !job) return RCUO_NULL;
-    return (enum rcuo_answer)rcuo_slot_begin(slot, moment, job);
+    return RCUO_CALL(rcuo_slot_begin(slot, moment, job));
 }
 
 /* Ends the callback that was begun, and keeps its record. Answers RCUO_NOT_RUNNING where none was. */
 static inline enum rcuo_answer rcuo_finish(struct rcuo_slot *slot) {
     if (!slot) return RCUO_NULL;
-    return (enum rcuo_answer)rcuo_slot_finish(slot);
+    return RCUO_CALL(rcuo_slot_finish(slot));
 }
 
 /* Begins, calls and finishes callbacks of a processor or a hand, at most so many. `ran`, which may be null, gets how many ran.
@@ -389,13 +422,14 @@ static inline enum rcuo_answer rcuo_run(struct rcuo_slot *slot, uint64_t moment,
 static inline enum rcuo_answer rcuo_driver_turn(struct rcuo_slot *driver, struct rcuo_driver_turn *turn) {
     struct rcuo_driver_turn unused;
     if (!driver) return RCUO_NULL;
-    return (enum rcuo_answer)rcuo_slot_driver_turn(driver, turn ? turn : &unused);
+    return RCUO_CALL(rcuo_slot_driver_turn(driver, turn ? turn : &unused));
 }
 
-/* Whether control was told to halt. */
-static inline enum rcuo_answer rcuo_halted(struct rcuo_slot *driver, bool *halted) {
-    if (!driver || !halted) return RCUO_NULL;
-    return (enum rcuo_answer)rcuo_slot_halted(driver, halted);
+/* Whether control was told to halt: by the driver, a group, a hand or a processor, each in its own thread.
+ * Answers RCUO_RUNNING where a callback of the hand or of the processor was begun and isn't finished. */
+static inline enum rcuo_answer rcuo_halted(struct rcuo_slot *slot, bool *halted) {
+    if (!slot || !halted) return RCUO_NULL;
+    return RCUO_CALL(rcuo_slot_halted(slot, halted));
 }
 
 /* A turn of a group: it draws what its processors released, and gives what is done to their hands. Takes memory; what it
@@ -403,7 +437,7 @@ static inline enum rcuo_answer rcuo_halted(struct rcuo_slot *driver, bool *halte
 static inline enum rcuo_answer rcuo_group_turn(struct rcuo_slot *group, struct rcuo_group_turn *turn) {
     struct rcuo_group_turn unused;
     if (!group) return RCUO_NULL;
-    return (enum rcuo_answer)rcuo_slot_group_turn(group, turn ? turn : &unused);
+    return RCUO_CALL(rcuo_slot_group_turn(group, turn ? turn : &unused));
 }
 
 /* ---- control ---- */
@@ -412,26 +446,27 @@ static inline enum rcuo_answer rcuo_group_turn(struct rcuo_slot *group, struct r
  * Answers RCUO_NO_PROCESSOR, RCUO_NOT_OFFLOADABLE. */
 static inline enum rcuo_answer rcuo_offload(struct rcuo_slot *control, uint64_t processor) {
     if (!control) return RCUO_NULL;
-    return (enum rcuo_answer)rcuo_slot_switch(control, processor, true);
+    return RCUO_CALL(rcuo_slot_switch(control, processor, true));
 }
 
 static inline enum rcuo_answer rcuo_deoffload(struct rcuo_slot *control, uint64_t processor) {
     if (!control) return RCUO_NULL;
-    return (enum rcuo_answer)rcuo_slot_switch(control, processor, false);
+    return RCUO_CALL(rcuo_slot_switch(control, processor, false));
 }
 
 /* Opens a barrier for all callbacks accepted before this call, by control or by a processor, and urges every processor to
  * release its bypass list. The barrier is a value: it may be copied, and takes nothing. */
 static inline enum rcuo_answer rcuo_barrier(struct rcuo_slot *slot, struct rcuo_counts *barrier) {
     if (!slot || !barrier) return RCUO_NULL;
-    return (enum rcuo_answer)rcuo_slot_barrier(slot, barrier);
+    return RCUO_CALL(rcuo_slot_barrier(slot, barrier));
 }
 
-/* Whether a barrier's callbacks have all run (control). Answers RCUO_FOREIGN where the barrier counts other processors than
- * there are. */
-static inline enum rcuo_answer rcuo_poll(struct rcuo_slot *control, const struct rcuo_counts *barrier, bool *passed) {
-    if (!control || !barrier || !passed) return RCUO_NULL;
-    return (enum rcuo_answer)rcuo_slot_poll(control, barrier, passed);
+/* Whether a barrier's callbacks have all run, by control or by a processor, whoever opened it.
+ * Answers RCUO_FOREIGN where the barrier counts other processors than there are, RCUO_RUNNING where a callback of the
+ * processor was begun and isn't finished. */
+static inline enum rcuo_answer rcuo_poll(struct rcuo_slot *slot, const struct rcuo_counts *barrier, bool *passed) {
+    if (!slot || !barrier || !passed) return RCUO_NULL;
+    return RCUO_CALL(rcuo_slot_poll(slot, barrier, passed));
 }
 
 /* Whether a barrier counts the callback of a ticket: RCUO_OK, RCUO_NO_PROCESSOR, or RCUO_AHEAD. */
@@ -446,13 +481,13 @@ static inline enum rcuo_answer rcuo_counts_ticket(const struct rcuo_counts *barr
 static inline enum rcuo_answer rcuo_shut(struct rcuo_slot *control, struct rcuo_counts *counts) {
     struct rcuo_counts unused;
     if (!control) return RCUO_NULL;
-    return (enum rcuo_answer)rcuo_slot_shut(control, counts ? counts : &unused);
+    return RCUO_CALL(rcuo_slot_shut(control, counts ? counts : &unused));
 }
 
 /* Sets the halt word, which `rcuo_halted` reads. No call heeds it by itself. */
 static inline enum rcuo_answer rcuo_halt(struct rcuo_slot *control) {
     if (!control) return RCUO_NULL;
-    return (enum rcuo_answer)rcuo_slot_halt(control);
+    return RCUO_CALL(rcuo_slot_halt(control));
 }
 
 #ifdef __cplusplus

@@ -43,6 +43,8 @@ static void null_pointers(void) {
     is("quiescent of nothing", rcuo_quiescent(NULL, NULL), RCUO_NULL);
     is("accepted of nothing", rcuo_accepted(NULL, &number), RCUO_NULL);
     is("accepted into nothing", rcuo_accepted(&empty, NULL), RCUO_NULL);
+    is("left of nothing", rcuo_left(NULL, &number), RCUO_NULL);
+    is("left into nothing", rcuo_left(&empty, NULL), RCUO_NULL);
     is("lists of nothing", rcuo_lists(NULL, NULL), RCUO_NULL);
     is("begin of nothing", rcuo_begin(NULL, 0, &job), RCUO_NULL);
     is("begin into nothing", rcuo_begin(&empty, 0, NULL), RCUO_NULL);
@@ -66,7 +68,7 @@ static void null_pointers(void) {
 
 /* Every call on a slot, each of which is to answer the same. */
 static void all_calls(const char *what, struct rcuo_slot *slot, enum rcuo_answer processor, enum rcuo_answer runs, enum rcuo_answer finishes,
-                      enum rcuo_answer group, enum rcuo_answer driver, enum rcuo_answer control, enum rcuo_answer opens) {
+                      enum rcuo_answer group, enum rcuo_answer driver, enum rcuo_answer control, enum rcuo_answer opens, enum rcuo_answer halts) {
     struct rcuo_job job;
     struct rcuo_lists lists;
     struct rcuo_counts counts;
@@ -76,22 +78,23 @@ static void all_calls(const char *what, struct rcuo_slot *slot, enum rcuo_answer
     bool is_so;
     is(what, rcuo_quiescent(slot, NULL), processor);
     is(what, rcuo_accepted(slot, &number), processor);
+    is(what, rcuo_left(slot, &number), processor);
     is(what, rcuo_lists(slot, &lists), processor);
     is(what, rcuo_begin(slot, 0, &job), runs);
     is(what, rcuo_finish(slot), finishes);
     is(what, rcuo_group_turn(slot, NULL), group);
     is(what, rcuo_driver_turn(slot, NULL), driver);
-    is(what, rcuo_halted(slot, &is_so), driver);
+    is(what, rcuo_halted(slot, &is_so), halts);
     is(what, rcuo_offload(slot, 1), control);
     is(what, rcuo_deoffload(slot, 1), control);
-    is(what, rcuo_poll(slot, &counts, &is_so), control);
+    is(what, rcuo_poll(slot, &counts, &is_so), opens);
     is(what, rcuo_barrier(slot, &counts), opens);
 }
 
 static void empty_slots(void) {
     struct rcuo_slot empty = {0};
     is("call by an empty slot", rcuo_call(&empty, 0, count, NULL, NULL), RCUO_EMPTY);
-    all_calls("an empty slot", &empty, RCUO_EMPTY, RCUO_EMPTY, RCUO_EMPTY, RCUO_EMPTY, RCUO_EMPTY, RCUO_EMPTY, RCUO_EMPTY);
+    all_calls("an empty slot", &empty, RCUO_EMPTY, RCUO_EMPTY, RCUO_EMPTY, RCUO_EMPTY, RCUO_EMPTY, RCUO_EMPTY, RCUO_EMPTY, RCUO_EMPTY);
     is("shut by an empty slot", rcuo_shut(&empty, NULL), RCUO_EMPTY);
     is("halt by an empty slot", rcuo_halt(&empty), RCUO_EMPTY);
     is("close of empty slots", rcuo_close(&parts), RCUO_EMPTY);
@@ -112,19 +115,27 @@ static void settings_outside(void) {
     is("a stride too long", rcuo_open(&bad, &parts), RCUO_SHAPE);
     bad = good, bad.blimit = 0;
     is("no blimit", rcuo_open(&bad, &parts), RCUO_SHAPE);
-    bad = good, bad.qhimark = 1000001;
+    bad.blimit = 1000001;
+    is("a blimit too high", rcuo_open(&bad, &parts), RCUO_SHAPE);
+    bad = good, bad.qhimark = 0;
+    is("no qhimark", rcuo_open(&bad, &parts), RCUO_SHAPE);
+    bad.qhimark = 1000001;
     is("a qhimark too high", rcuo_open(&bad, &parts), RCUO_SHAPE);
+    bad = good, bad.limit = 0;
+    is("no limit", rcuo_open(&bad, &parts), RCUO_SHAPE);
+    bad.limit = 1000001;
+    is("a limit one too high", rcuo_open(&bad, &parts), RCUO_SHAPE);
     bad = good, bad.limit = UINT64_MAX;
     is("a limit too high", rcuo_open(&bad, &parts), RCUO_SHAPE);
     holds("no slot is full after them", !parts.control.full && !parts.processors[0].full);
 }
 
 static void wrong_kinds(void) {
-    all_calls("a processor", &parts.processors[0], RCUO_OK, RCUO_NONE_LEFT, RCUO_NOT_RUNNING, RCUO_OTHER, RCUO_OTHER, RCUO_OTHER, RCUO_OK);
-    all_calls("a group", &parts.groups[1], RCUO_OTHER, RCUO_OTHER, RCUO_OTHER, RCUO_OK, RCUO_OTHER, RCUO_OTHER, RCUO_OTHER);
-    all_calls("a hand", &parts.hands[1], RCUO_OTHER, RCUO_NONE_LEFT, RCUO_NOT_RUNNING, RCUO_OTHER, RCUO_OTHER, RCUO_OTHER, RCUO_OTHER);
-    all_calls("the driver", &parts.driver, RCUO_OTHER, RCUO_OTHER, RCUO_OTHER, RCUO_OTHER, RCUO_OK, RCUO_OTHER, RCUO_OTHER);
-    all_calls("control", &parts.control, RCUO_OTHER, RCUO_OTHER, RCUO_OTHER, RCUO_OTHER, RCUO_OTHER, RCUO_OK, RCUO_OK);
+    all_calls("a processor", &parts.processors[0], RCUO_OK, RCUO_NONE_LEFT, RCUO_NOT_RUNNING, RCUO_OTHER, RCUO_OTHER, RCUO_OTHER, RCUO_OK, RCUO_OK);
+    all_calls("a group", &parts.groups[1], RCUO_OTHER, RCUO_OTHER, RCUO_OTHER, RCUO_OK, RCUO_OTHER, RCUO_OTHER, RCUO_OTHER, RCUO_OK);
+    all_calls("a hand", &parts.hands[1], RCUO_OTHER, RCUO_NONE_LEFT, RCUO_NOT_RUNNING, RCUO_OTHER, RCUO_OTHER, RCUO_OTHER, RCUO_OTHER, RCUO_OK);
+    all_calls("the driver", &parts.driver, RCUO_OTHER, RCUO_OTHER, RCUO_OTHER, RCUO_OTHER, RCUO_OK, RCUO_OTHER, RCUO_OTHER, RCUO_OK);
+    all_calls("control", &parts.control, RCUO_OTHER, RCUO_OTHER, RCUO_OTHER, RCUO_OTHER, RCUO_OTHER, RCUO_OK, RCUO_OK, RCUO_OTHER);
     is("call by a group", rcuo_call(&parts.groups[1], 0, count, NULL, NULL), RCUO_OTHER);
     is("shut by the driver", rcuo_shut(&parts.driver, NULL), RCUO_OTHER);
     is("halt by a hand", rcuo_halt(&parts.hands[1]), RCUO_OTHER);
@@ -135,6 +146,7 @@ static void wrong_kinds(void) {
     struct rcuo_counts counts = {.processors = 3};
     bool over;
     is("a barrier of three", rcuo_poll(&parts.control, &counts, &over), RCUO_FOREIGN);
+    is("a barrier of three by a processor", rcuo_poll(&parts.processors[0], &counts, &over), RCUO_FOREIGN);
     counts.processors = UINT64_MAX;
     is("a barrier of too many", rcuo_poll(&parts.control, &counts, &over), RCUO_FOREIGN);
     is("a ticket of none", rcuo_counts_ticket(&counts, (struct rcuo_ticket){40, 0}), RCUO_NO_PROCESSOR);
@@ -170,6 +182,11 @@ static void while_it_runs(void) {
     struct rcuo_job job, second;
     struct rcuo_ticket ticket;
     struct rcuo_slot *self = &parts.processors[0];
+    struct rcuo_counts counts;
+    bool is_so;
+    uint64_t left;
+    memset(&counts, 0, sizeof counts);
+    counts.processors = 2;
     is("the first call", rcuo_call(self, 0, count, &calls, &ticket), RCUO_OK);
     holds("the first ticket", ticket.processor == 0 && ticket.number == 0);
     is("a begin", begin_one(&job), RCUO_OK);
@@ -179,6 +196,11 @@ static void while_it_runs(void) {
     is("a call while it runs", rcuo_call(self, 0, count, NULL, &ticket), RCUO_OK);
     holds("its ticket", ticket.number == 1);
     is("a report while it runs", rcuo_quiescent(self, NULL), RCUO_OK);
+    is("a barrier while it runs", rcuo_barrier(self, &counts), RCUO_RUNNING);
+    is("a poll while it runs", rcuo_poll(self, &counts, &is_so), RCUO_RUNNING);
+    is("halted while it runs", rcuo_halted(self, &is_so), RCUO_RUNNING);
+    is("left while it runs", rcuo_left(self, &left), RCUO_OK);
+    holds("how many are left", left == 2);
     is("lists while it runs", rcuo_lists(self, &(struct rcuo_lists){0}), RCUO_OK);
     is("accepted while it runs", rcuo_accepted(self, &ticket.number), RCUO_OK);
     holds("how many", ticket.number == 2);
@@ -220,6 +242,10 @@ static void after_close(void) {
     uint64_t at = 0, number;
     is("close", rcuo_close(&parts), RCUO_OK);
     is("close again", rcuo_close(&parts), RCUO_OTHER);
+    is("a report after close", rcuo_quiescent(&parts.processors[0], NULL), RCUO_EMPTY);
+    is("a begin after close", rcuo_begin(&parts.hands[1], 0, &job), RCUO_EMPTY);
+    is("a turn of the driver after close", rcuo_driver_turn(&parts.driver, NULL), RCUO_EMPTY);
+    is("a turn of a group after close", rcuo_group_turn(&parts.groups[1], NULL), RCUO_EMPTY);
     is("a call after close", rcuo_call(&parts.processors[0], 0, count, NULL, NULL), RCUO_EMPTY);
     is("a shut after close", rcuo_shut(&parts.control, NULL), RCUO_OTHER);
     is("open before the end", rcuo_open(&good, &parts), RCUO_FULL);

@@ -6,6 +6,9 @@
  *
  * A run is of one runtime; runs follow each other with rising seeds until the time is over (or one run for --seed). What
  * differs is printed with the seed, and ends it with status 1.
+ *
+ * Compiled by clang with -fsanitize=fuzzer -DFUZZED it is a target of libFuzzer: the choices of a run are the bytes of its
+ * input.
  */
 #undef NDEBUG
 #include <rcuo.h>
@@ -42,12 +45,24 @@ static bool is_barrier_open;
 static uint64_t moment, next_key, seed, state, steps, ran_in_all, came_back_in_all;
 static unsigned long differences;
 
+#ifdef FUZZED
+static const uint8_t *chosen;
+static size_t choices;
+
+/* The next byte, or two of them; 0 at the end of the input. */
+static uint64_t any(uint64_t below) {
+    uint64_t choice = 0;
+    for (int bytes = below > 256 ? 2 : 1; bytes && choices; bytes--, choices--) choice = choice << 8 | *chosen++;
+    return choice % below;
+}
+#else
 static uint64_t any(uint64_t below) {
     state ^= state << 13;
     state ^= state >> 7;
     state ^= state << 17;
     return state % below;
 }
+#endif
 
 static void differs(const char *what, uint64_t got, uint64_t wanted) {
     fprintf(stderr, "seed %llu, step %llu: %s is %llu, and not %llu\n", (unsigned long long)seed, (unsigned long long)steps, what,
@@ -146,6 +161,24 @@ static void turn_others(void) {
     }
 }
 
+/* The halt word, as a part that isn't running a callback sees it. */
+static void ask_halted(void) {
+    uint64_t p = any(settings.processors);
+    struct rcuo_slot *slots[] = {&parts.driver, &parts.processors[p], &parts.hands[p], &parts.groups[p / settings.stride]};
+    struct rcuo_slot *slot = slots[any(4)];
+    bool is_so = false;
+    if (!slot->full) {
+        same("halted by an empty slot", rcuo_halted(slot, &is_so), RCUO_EMPTY);
+        return;
+    }
+    if (cpus[p].runs == slot) {
+        same("halted while a callback runs", rcuo_halted(slot, &is_so), RCUO_RUNNING);
+        return;
+    }
+    same("halted", rcuo_halted(slot, &is_so), RCUO_OK);
+    same("whether it is halted", is_so, halted);
+}
+
 static void control(uint64_t p) {
     struct rcuo_counts counts;
     bool is_so = false;
@@ -168,7 +201,14 @@ static void control(uint64_t p) {
     case 3:
     case 4:
         if (!is_barrier_open) break;
-        same("a poll", rcuo_poll(&parts.control, &barrier, &is_so), RCUO_OK);
+        {
+            struct rcuo_slot *by = any(2) ? &parts.control : &parts.processors[0];
+            if (cpus[0].runs == by) {
+                same("a poll by a processor whose callback runs", rcuo_poll(by, &barrier, &is_so), RCUO_RUNNING);
+                break;
+            }
+            same("a poll", rcuo_poll(by, &barrier, &is_so), RCUO_OK);
+        }
         {
             bool over = true;
             for (uint64_t q = 0; q < settings.processors; q++) over = over && cpus[q].finished >= barrier.counts[q];
@@ -176,8 +216,7 @@ static void control(uint64_t p) {
         }
         break;
     case 5:
-        same("halted", rcuo_halted(&parts.driver, &is_so), RCUO_OK);
-        same("whether it is halted", is_so, halted);
+        ask_halted();
         if (any(20) == 0) {
             same("a halt", rcuo_halt(&parts.control), RCUO_OK);
             halted = true;
@@ -199,6 +238,8 @@ static void look(uint64_t p) {
     struct rcuo_lists lists;
     same("accepted", rcuo_accepted(&parts.processors[p], &accepted), RCUO_OK);
     same("how many were accepted", accepted, cpus[p].accepted);
+    same("left", rcuo_left(&parts.processors[p], &accepted), RCUO_OK);
+    same("how many are left", accepted, settings.limit - cpus[p].accepted);
     same("lists", rcuo_lists(&parts.processors[p], &lists), RCUO_OK);
     same("how many its lists say", lists.accepted, cpus[p].accepted);
 }
@@ -290,6 +331,15 @@ static void run(uint64_t number) {
     if (!differences) end();
 }
 
+#ifdef FUZZED
+int LLVMFuzzerTestOneInput(const uint8_t *data, size_t size);
+int LLVMFuzzerTestOneInput(const uint8_t *data, size_t size) {
+    chosen = data, choices = size;
+    run(0);
+    if (differences) abort();
+    return 0;
+}
+#else
 int main(int argc, char **argv) {
     long seconds = 5;
     uint64_t first = 1, runs = 0;
@@ -305,3 +355,4 @@ int main(int argc, char **argv) {
            (unsigned long long)ran_in_all, (unsigned long long)came_back_in_all, differences);
     return differences != 0;
 }
+#endif

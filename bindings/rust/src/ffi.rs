@@ -109,6 +109,7 @@ extern "C" {
     pub fn rcuo_slot_halt(slot: *mut Slot) -> u32;
     pub fn rcuo_slot_halted(slot: *mut Slot, halted: *mut bool) -> u32;
     pub fn rcuo_slot_accepted(slot: *mut Slot, accepted: *mut u64) -> u32;
+    pub fn rcuo_slot_left(slot: *mut Slot, left: *mut u64) -> u32;
     pub fn rcuo_slot_record(slot: *mut Slot, processor: u64, at: u64, record: *mut Record) -> u32;
     pub fn rcuo_slot_back(slot: *mut Slot, processor: u64, at: u64, job: *mut Job) -> u32;
     pub fn rcuo_slot_end(slot: *mut Slot) -> u32;

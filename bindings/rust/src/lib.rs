@@ -366,6 +366,39 @@ impl Drop for Running {
     }
 }
 
+/// Whether the part of a slot sees that control was told to halt.
+///
+/// # Safety
+///
+/// The slot is this thread's.
+unsafe fn is_halted(slot: *mut ffi::Slot) -> Result<bool, Error> {
+    let mut halted = false;
+    answer(ffi::rcuo_slot_halted(slot, &mut halted))?;
+    Ok(halted)
+}
+
+/// Opens a barrier by the part of a slot.
+///
+/// # Safety
+///
+/// The slot is this thread's.
+unsafe fn barrier(slot: *mut ffi::Slot) -> Result<Barrier, Error> {
+    let mut counts = ffi::Counts::default();
+    answer(ffi::rcuo_slot_barrier(slot, &mut counts))?;
+    Ok(Barrier(counts))
+}
+
+/// Whether a barrier has passed, as the part of a slot sees it.
+///
+/// # Safety
+///
+/// The slot is this thread's.
+unsafe fn poll(slot: *mut ffi::Slot, barrier: &Barrier) -> Result<bool, Error> {
+    let mut passed = false;
+    answer(ffi::rcuo_slot_poll(slot, &barrier.0, &mut passed))?;
+    Ok(passed)
+}
+
 /// Runs callbacks of a processor or a hand, at most so many. Answers how many ran.
 ///
 /// # Safety
@@ -436,6 +469,28 @@ impl Processor {
         answer(unsafe { ffi::rcuo_slot_accepted(self.slot(), &mut accepted) })?;
         Ok(accepted)
     }
+
+    /// How many callbacks it still accepts at most.
+    pub fn left(&mut self) -> Result<u64, Error> {
+        let mut left = 0;
+        answer(unsafe { ffi::rcuo_slot_left(self.slot(), &mut left) })?;
+        Ok(left)
+    }
+
+    /// Opens a barrier for all callbacks accepted before this call.
+    pub fn barrier(&mut self) -> Result<Barrier, Error> {
+        unsafe { barrier(self.slot()) }
+    }
+
+    /// Whether a barrier's callbacks have all run, whoever opened it.
+    pub fn poll(&mut self, barrier: &Barrier) -> Result<bool, Error> {
+        unsafe { poll(self.slot(), barrier) }
+    }
+
+    /// Whether control was told to halt.
+    pub fn is_halted(&mut self) -> Result<bool, Error> {
+        unsafe { is_halted(self.slot()) }
+    }
 }
 
 impl Hand {
@@ -447,6 +502,11 @@ impl Hand {
     /// Runs callbacks that may run now, at most so many. Answers how many ran.
     pub fn run(&mut self, most: u64) -> Result<u64, Error> {
         unsafe { run(self.slot(), 0, most) }
+    }
+
+    /// Whether control was told to halt.
+    pub fn is_halted(&mut self) -> Result<bool, Error> {
+        unsafe { is_halted(self.slot()) }
     }
 }
 
@@ -469,6 +529,11 @@ impl Group {
         let mut turn = ffi::GroupTurn::default();
         answer(unsafe { ffi::rcuo_slot_group_turn(self.slot(), &mut turn) })?;
         Ok(GroupTurn { took: turn.took, gave: turn.gave, held: turn.held })
+    }
+
+    /// Whether control was told to halt.
+    pub fn is_halted(&mut self) -> Result<bool, Error> {
+        unsafe { is_halted(self.slot()) }
     }
 }
 
@@ -500,9 +565,7 @@ impl Driver {
 
     /// Whether control was told to halt.
     pub fn is_halted(&mut self) -> Result<bool, Error> {
-        let mut halted = false;
-        answer(unsafe { ffi::rcuo_slot_halted(self.slot(), &mut halted) })?;
-        Ok(halted)
+        unsafe { is_halted(self.slot()) }
     }
 }
 
@@ -530,16 +593,12 @@ impl Control {
 
     /// Opens a barrier for all callbacks accepted before this call.
     pub fn barrier(&mut self) -> Result<Barrier, Error> {
-        let mut counts = ffi::Counts::default();
-        answer(unsafe { ffi::rcuo_slot_barrier(self.slot(), &mut counts) })?;
-        Ok(Barrier(counts))
+        unsafe { barrier(self.slot()) }
     }
 
-    /// Whether a barrier's callbacks have all run.
+    /// Whether a barrier's callbacks have all run, whoever opened it.
     pub fn poll(&mut self, barrier: &Barrier) -> Result<bool, Error> {
-        let mut passed = false;
-        answer(unsafe { ffi::rcuo_slot_poll(self.slot(), &barrier.0, &mut passed) })?;
-        Ok(passed)
+        unsafe { poll(self.slot(), barrier) }
     }
 
     /// Shuts every processor: from now on each call is refused. Answers how many callbacks each accepted.
@@ -550,7 +609,7 @@ impl Control {
         Ok(counts.counts[..counts.processors as usize].to_vec())
     }
 
-    /// Sets the halt word, which [`Driver::is_halted`] reads.
+    /// Sets the halt word, which `is_halted` of the other parts reads. No call heeds it by itself.
     pub fn halt(&mut self) -> Result<(), Error> {
         answer(unsafe { ffi::rcuo_slot_halt(self.slot()) })
     }

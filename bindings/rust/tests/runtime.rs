@@ -86,6 +86,7 @@ fn jobs_that_did_not_run_come_back() {
     assert_eq!(refused.error, Error::Limit);
     (refused.back)();
     assert_eq!(parts.processors[0].accepted(), Ok(2));
+    assert_eq!(parts.processors[0].left(), Ok(0));
     assert_eq!(parts.control.shut(), Ok(vec![2]));
     let closed = parts.close().unwrap();
     for job in closed.back.into_iter().flatten() {
@@ -132,4 +133,33 @@ fn errors_are_named() {
     assert_eq!(parts.driver.is_halted(), Ok(false));
     parts.control.halt().unwrap();
     assert_eq!(parts.driver.is_halted(), Ok(true));
+}
+
+#[test]
+fn each_part_but_control_reads_the_halt_word() {
+    let mut parts = open(&Settings { offloadable: 1, ..Settings::default() }).unwrap();
+    for wanted in [false, true] {
+        assert_eq!(parts.processors[0].is_halted(), Ok(wanted));
+        assert_eq!(parts.hands[0].is_halted(), Ok(wanted));
+        assert_eq!(parts.groups[0].is_halted(), Ok(wanted));
+        assert_eq!(parts.driver.is_halted(), Ok(wanted));
+        parts.control.halt().unwrap();
+    }
+}
+
+#[test]
+fn a_processor_opens_and_polls_a_barrier() {
+    let mut parts = open(&Settings::default()).unwrap();
+    parts.processors[0].call(0, || ()).unwrap();
+    let barrier = parts.processors[0].barrier().unwrap();
+    assert_eq!(barrier.counts(), [1]);
+    assert_eq!(parts.processors[0].poll(&barrier), Ok(false));
+    while parts.processors[0].run(0, 1).unwrap() == 0 {
+        parts.processors[0].quiescent().unwrap();
+        parts.driver.turn().unwrap();
+    }
+    assert_eq!(parts.processors[0].poll(&barrier), Ok(true));
+    assert_eq!(parts.control.poll(&barrier), Ok(true));
+    let other = open(&Settings { processors: 2, ..Settings::default() }).unwrap().control.barrier().unwrap();
+    assert_eq!(parts.processors[0].poll(&other), Err(Error::Foreign));
 }

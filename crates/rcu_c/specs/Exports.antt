@@ -1,20 +1,25 @@
 -- What an export answers and does: docs/c.md, "Answers".
-use Rattle.std.specs.Prelude.{◌≡◌, ℕ, Bool, cond, Result, IfOk}
+use Rattle.std.specs.Prelude.{◌≡◌, ℕ, Bool, cond, Result, IfOk, is_some}
 use Rattle.std.specs.declared.result.Result.TheVariants.{Ok, Err}
 use Rattle.std.proofs.Common.{◌⊎◌}
-use Rattle.rcu_c.specs.Words.{AreTurnWords}
+use Rattle.rcu_c.specs.Words.{AreCountsOf, AreTurnWords, IsShapeOf}
+use Rattle.rcu_c.specs.declared.words.CountWords.{CountWords}
 use Rattle.rcu_c.specs.declared.words.DriverWords.{DriverWords}
+use Rattle.rcu_c.specs.declared.words.Settings.{Settings}
+use Rattle.rcu_jobs.specs.declared.Counts.{Counts}
 use Rattle.rcu_jobs.specs.declared.DriverTurn.{DriverTurn}
 use Rattle.rcu_jobs.specs.declared.DriverTurn.TheVariants.{Spent}
+use Rattle.rcu_lending.specs.Barriers.{PollsPart}
 use Rattle.rcu_lending.specs.Faults.{fault_number}
 use Rattle.rcu_lending.specs.Gathers.{Closes, ClosesAgain, RefusesClose}
+use Rattle.rcu_lending.specs.Opens.{OpensInto}
 use Rattle.rcu_lending.specs.Others.{DriverTurnsBy}
 use Rattle.rcu_lending.specs.Slots.{OnSlot}
 use Rattle.rcu_lending.specs.declared.fault.Fault.{Fault}
-use Rattle.rcu_lending.specs.declared.fault.Fault.TheVariants.{Reading}
 use Rattle.rcu_lending.specs.declared.part.Part.{Part}
 use Rattle.rcu_lending.specs.declared.slot.PartSlots.{PartSlots}
 use Rattle.rcu_lending.specs.declared.slot.Slot.{Slot}
+use Rattle.rcu_numbers.specs.declared.shape.Shape.{Shape}
 use Rattle.rcu_lists.specs.declared.pace.Kind.{Kind}
 use Rattle.rcu_lists.specs.declared.pace.Kind.TheVariants.{Lazy, Plain}
 
@@ -30,14 +35,26 @@ pub record Tells {A : Type 0} (By : Result A Fault → Part → Part → Type 0)
   pub answer_is : answer ≡ answer_of result
   pub gives : IfOk result Gives
 
--- A read section is open, and nothing was called.
-pub record IsReading (answer : ℕ) (old new : Slot) : Type 0 where
-  pub named : answer ≡ fault_number Reading
+-- Nothing was called, and this fault says why.
+pub record Refuses (fault : Fault) (answer : ℕ) (old new : Slot) : Type 0 where
+  pub named : answer ≡ fault_number fault
   pub stays : new ≡ old
+
+-- A poll of the barrier that these words say was made, and its answer is told.
+pub record TellsPoll (barrier : CountWords) (passed : Bool) (answer : ℕ) (old new : Slot) : Type 0 where
+  pub counts : Counts
+  pub are : AreCountsOf barrier counts
+  pub tells : Tells (PollsPart counts) (λ found. passed ≡ is_some found) answer old new
 
 -- a plain call, or a lazy one
 abbrev pub kind_of_call : Bool → Kind
 kind_of_call lazy = cond lazy Lazy Plain
+
+-- The slots have all parts of a new runtime of these settings, under this number, each in its place.
+pub record OpensBy (settings : Settings) (number : ℕ) (slots : PartSlots) : Type 0 where
+  pub shape : Shape
+  pub is : IsShapeOf settings shape
+  pub opens : OpensInto shape number slots
 
 -- A close was made, and its answer is told.
 pub record TellsClose (answer : ℕ) (old new : PartSlots) : Type 0 where

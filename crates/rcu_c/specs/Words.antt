@@ -1,8 +1,20 @@
 -- What words say, as include/rcuo.h has them.
-use Rattle.std.specs.Prelude.{◌≡◌, ⊤}
+use Rattle.std.specs.Prelude.{◌≡◌, ℕ, ◌<◌, ⊤, slice_index}
+use Rattle.rcu_jobs.specs.declared.Counts.{Counts}
 use Rattle.rcu_jobs.specs.declared.DriverTurn.{DriverTurn}
 use Rattle.rcu_jobs.specs.declared.DriverTurn.TheVariants.{Ended, Idle, Spent, Started, Waits}
+use Rattle.rcu_jobs.specs.declared.Lists.{Lists}
+use Rattle.rcu_jobs.specs.declared.Lists.TheVariants.{Cpu, Folk}
+use Rattle.rcu_jobs.specs.declared.Mode.{Mode}
+use Rattle.rcu_jobs.specs.declared.Mode.TheVariants.{Deoffloading, Local, Offloaded, Offloading}
+use Rattle.rcu_jobs.specs.declared.callback.Record.{Record}
+use Rattle.rcu_lending.specs.declared.job.ForeignJob.{ForeignJob}
+use Rattle.rcu_c.specs.declared.words.CountWords.{CountWords}
 use Rattle.rcu_c.specs.declared.words.DriverWords.{DriverWords}
+use Rattle.rcu_c.specs.declared.words.ListWords.{ListWords}
+use Rattle.rcu_c.specs.declared.words.RecordWords.{RecordWords}
+use Rattle.rcu_c.specs.declared.words.Settings.{Settings}
+use Rattle.rcu_numbers.specs.declared.shape.Shape.{Shape}
 
 -- `enum rcuo_step`, with the number or the mask
 abbrev pub AreTurnWords : DriverTurn → DriverWords → Type 0
@@ -11,3 +23,37 @@ AreTurnWords (Started n) w = (w.step ≡ 1) × (w.number ≡ n)
 AreTurnWords (Ended n) w = (w.step ≡ 2) × (w.number ≡ n)
 AreTurnWords (Waits mask) w = (w.step ≡ 3) × (w.number ≡ mask)
 AreTurnWords Spent w = ⊤
+
+-- the shape of `struct rcuo_settings`
+pub record IsShapeOf (settings : Settings) (shape : Shape) : Type 0 where
+  pub processors : shape.processors ≡ settings.processors
+  pub offloadable : shape.offloadable ≡ settings.offloadable
+  pub stride : shape.stride ≡ settings.stride
+  pub blimit : shape.blimit ≡ settings.blimit
+  pub qhimark : shape.qhimark ≡ settings.qhimark
+  pub limit : shape.limit ≡ settings.limit
+
+-- the counts of a barrier's words
+pub record AreCountsOf (words : CountWords) (counts : Counts) : Type 0 where
+  pub many : counts.n ≡ words.processors
+  pub each : (p : ℕ) → p < words.processors → slice_index counts.counts p ≡ slice_index words.counts p
+
+-- `enum rcuo_mode`
+abbrev pub mode_number : Mode → ℕ
+mode_number Local = 0
+mode_number Offloading = 1
+mode_number Offloaded = 2
+mode_number Deoffloading = 3
+
+-- `struct rcuo_lists`, of a processor's lists
+abbrev pub AreListWords : Lists → ListWords → Type 0
+AreListWords (Cpu mode accepted bypass lengths numbers) w = (w.mode ≡ mode_number mode) × (w.accepted ≡ accepted) × (w.bypass ≡ bypass)
+    × (w.lengths ≡ lengths) × (w.numbers ≡ numbers)
+AreListWords (Folk lengths numbers) w = (w.lengths ≡ lengths) × (w.numbers ≡ numbers)
+
+-- `struct rcuo_record`
+pub record AreRecordWords (r : Record ForeignJob) (w : RecordWords) : Type 0 where
+  pub number : w.number ≡ r.number
+  pub stamp : w.stamp ≡ r.stamp
+  pub ready : w.ready ≡ r.ready
+  pub job : w.job ≡ r.receipt

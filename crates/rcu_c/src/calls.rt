@@ -2,10 +2,12 @@
 
 ghost use Rattle.std.specs.Prelude.{◌≡◌, ◌≢◌};
 ghost use Rattle.std.specs.Option.{unwrap_or};
-ghost use Rattle.rcu_c.specs.Exports.{IsReading, Tells, kind_of_call};
+ghost use Rattle.rcu_c.specs.Exports.{Refuses, Tells, kind_of_call};
+ghost use Rattle.rcu_c.specs.Words.{AreListWords};
 ghost use Rattle.rcu_lending.specs.Processors.{CallsBy, ReportsBy};
 ghost use Rattle.rcu_lending.specs.Runs.{BeginsBy, FinishesBy};
-ghost use Rattle.rcu_lending.specs.Shows.{OnlyShows, ShowsAccepted, ShowsLists};
+ghost use Rattle.rcu_lending.specs.Shows.{OnlyShows, ShowsAccepted, ShowsLeft, ShowsLists};
+ghost use Rattle.rcu_lending.specs.declared.fault.Fault.TheVariants.{Reading};
 
 use crate::words::{ListWords, TicketWords, words_of_lists};
 use rcu_jobs::Ticket;
@@ -48,7 +50,7 @@ pub extern "C" fn rcuo_slot_call(
 #[unsafe(no_mangle)]
 pub extern "C" fn rcuo_slot_quiescent(alloc: Global, slot: &mut Slot, counted: &mut u64) -> u32
     ensures tells { slot.old.reading ≡ 0 → Tells ReportsBy (λ n. counted.new ≡ unwrap_or n 0) result slot.old slot.new }
-    ensures reading { slot.old.reading ≢ 0 → IsReading result slot.old slot.new }
+    ensures reading { slot.old.reading ≢ 0 → Refuses Reading result slot.old slot.new }
 {
     if slot.reading != 0 {
         return Fault::Reading.number();
@@ -106,10 +108,24 @@ pub extern "C" fn rcuo_slot_accepted(alloc: Global, slot: &mut Slot, accepted: &
     }
 }
 
+/// `rcuo_left`: how many calls a processor still accepts at most.
+#[unsafe(no_mangle)]
+pub extern "C" fn rcuo_slot_left(alloc: Global, slot: &mut Slot, left: &mut u64) -> u32
+    ensures { Tells (OnlyShows ShowsLeft) (λ n. left.new ≡ n) result slot.old slot.new }
+{
+    match slot.left(alloc) {
+        Ok(number) => {
+            *left = number;
+            0
+        }
+        Err(fault) => fault.number(),
+    }
+}
+
 /// `rcuo_lists`: what a processor shows of its callbacks.
 #[unsafe(no_mangle)]
 pub extern "C" fn rcuo_slot_lists(alloc: Global, slot: &mut Slot, lists: &mut ListWords) -> u32
-    ensures { Tells (OnlyShows ShowsLists) (λ _. Unit {0}) result slot.old slot.new }
+    ensures { Tells (OnlyShows ShowsLists) (λ shown. AreListWords shown lists.new) result slot.old slot.new }
 {
     match slot.lists(alloc) {
         Ok(shown) => {

@@ -1,10 +1,11 @@
 //! Calls of control.
 
-ghost use Rattle.std.specs.Prelude.{◌≡◌};
+ghost use Rattle.std.specs.Prelude.{◌≡◌, ◌<◌, ◌≤◌};
 ghost use Rattle.std.specs.Int.{from_bool};
-ghost use Rattle.rcu_c.specs.Exports.{Tells};
+ghost use Rattle.rcu_c.specs.Exports.{Refuses, Tells, TellsPoll};
 ghost use Rattle.rcu_lending.specs.Barriers.{OpensPart};
 ghost use Rattle.rcu_lending.specs.Others.{HaltsBy, ShutsBy, SwitchesPart};
+ghost use Rattle.rcu_lending.specs.declared.fault.Fault.TheVariants.{Foreign};
 
 use crate::words::{CountWords, counts_of_words, words_of_counts};
 use rcu_lending::{Fault, Slot};
@@ -42,7 +43,10 @@ pub extern "C" fn rcuo_slot_poll(
     slot: &mut Slot,
     barrier: &CountWords,
     passed: &mut bool,
-) -> u32 {
+) -> u32
+    ensures tells { barrier.now.processors ≤ 32 → TellsPoll barrier.now passed.new result slot.old slot.new }
+    ensures foreign { 32 < barrier.now.processors → Refuses Foreign result slot.old slot.new }
+{
     let Some(counts) = counts_of_words(barrier) else {
         return Fault::Foreign.number();
     };

@@ -1,6 +1,9 @@
 //! What is left of a runtime that was closed.
 
 ghost use Rattle.std.specs.Prelude.{◌≡◌, ◌≢◌, None};
+ghost use Rattle.rcu_c.specs.Exports.{Tells};
+ghost use Rattle.rcu_c.specs.Words.{AreRecordWords};
+ghost use Rattle.rcu_lending.specs.Shows.{OnlyShows, ShowsBack, ShowsRan, ShowsReports};
 
 use crate::words::RecordWords;
 use rcu_jobs::Record;
@@ -14,9 +17,9 @@ pub extern "C" fn rcuo_slot_record(
     slot: &mut Slot,
     processor: u64,
     at: u64,
-    record: &mut RecordWords,
+    kept: &mut RecordWords,
 ) -> u32
-    ensures stays { slot.new.held.value ≡ slot.old.held.value }
+    ensures { Tells (OnlyShows (ShowsRan processor at)) (λ r. AreRecordWords r kept.new) result slot.old slot.new }
 {
     match slot.ran_at(alloc, processor, at) {
         Ok(
@@ -28,7 +31,7 @@ pub extern "C" fn rcuo_slot_record(
                 receipt,
             },
         ) => {
-            *record = RecordWords {
+            *kept = RecordWords {
                 number,
                 stamp,
                 ready,
@@ -49,7 +52,7 @@ pub extern "C" fn rcuo_slot_back(
     at: u64,
     job: &mut ForeignJob,
 ) -> u32
-    ensures stays { slot.new.held.value ≡ slot.old.held.value }
+    ensures { Tells (OnlyShows (ShowsBack processor at)) (λ back. job.new ≡ back) result slot.old slot.new }
 {
     match slot.back_at(alloc, processor, at) {
         Ok(back) => {
@@ -68,7 +71,7 @@ pub extern "C" fn rcuo_slot_reports(
     processor: u64,
     reports: &mut u64,
 ) -> u32
-    ensures stays { slot.new.held.value ≡ slot.old.held.value }
+    ensures { Tells (OnlyShows (ShowsReports processor)) (λ many. reports.new ≡ many) result slot.old slot.new }
 {
     match slot.reports_of(alloc, processor) {
         Ok(many) => {

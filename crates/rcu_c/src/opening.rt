@@ -1,9 +1,8 @@
 //! Open and close.
 
 ghost use Rattle.std.specs.Prelude.{◌≡◌, ◌≢◌};
-ghost use Rattle.rcu_c.specs.Exports.{TellsClose};
-ghost use Rattle.rcu_lending.specs.Gathers.{AreOfTheOpen, HasOpened, StayHeld};
-ghost use Rattle.rcu_lending.specs.declared.part.PartKind.TheVariants as kind;
+ghost use Rattle.rcu_c.specs.Exports.{OpensBy, TellsClose};
+ghost use Rattle.rcu_lending.specs.Gathers.{AreOfTheOpen, StayHeld};
 
 use crate::words::Settings;
 use rcu_lending::{Fault, PartSlots, close_from, open_into};
@@ -18,8 +17,7 @@ pub extern "C" fn rcuo_slot_open(
     number: u64,
     slots: &mut PartSlots,
 ) -> u32
-    ensures control { result ≡ 0 → HasOpened number kind.Control slots.new.control.held.value }
-    ensures driver { result ≡ 0 → HasOpened number kind.Driver slots.new.driver.held.value }
+    ensures opened { result ≡ 0 → OpensBy settings.now number slots.new }
     ensures refused { result ≢ 0 → StayHeld slots.old slots.new }
 {
     let Some(shape) = Shape::new(

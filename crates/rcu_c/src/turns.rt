@@ -28,7 +28,7 @@ pub extern "C" fn rcuo_slot_driver_turn(
     }
 }
 
-/// `rcuo_halted`: whether the driver sees that the runtime was halted.
+/// `rcuo_halted`: whether a part sees that the runtime was halted.
 #[unsafe(no_mangle)]
 pub extern "C" fn rcuo_slot_halted(alloc: Global, slot: &mut Slot, halted: &mut bool) -> u32
     ensures { Tells ReadsHaltBy (λ seen. halted.new ≡ seen) result slot.old slot.new }

@@ -1,7 +1,7 @@
 //! What crosses between C and the library: plain words.
 
-ghost use Rattle.std.specs.Prelude.{◌≡◌};
-ghost use Rattle.rcu_c.specs.Words.{AreTurnWords};
+ghost use Rattle.std.specs.Prelude.{◌≡◌, ◌<◌, IfNone, IfSome};
+ghost use Rattle.rcu_c.specs.Words.{AreCountsOf, AreListWords, AreTurnWords, mode_number};
 
 use rcu_jobs::{Counts, DriverTurn, Lists, Mode};
 use rcu_lending::ForeignJob;
@@ -83,7 +83,10 @@ pub(crate) fn words_of_counts(counts: &Counts) -> CountWords
 }
 
 /// The counts of words; None where there are too many processors.
-pub(crate) fn counts_of_words(words: &CountWords) -> Option<Counts> {
+pub(crate) fn counts_of_words(words: &CountWords) -> Option<Counts>
+    ensures some { IfSome result (λ counts. AreCountsOf words.now counts) }
+    ensures none { IfNone result (32 < words.now.processors) }
+{
     if words.processors > 32 {
         return None;
     }
@@ -109,7 +112,10 @@ pub(crate) fn words_of_driver(turn: DriverTurn) -> DriverWords
     }
 }
 
-fn word_of_mode(mode: Mode) -> u64 {
+/// The number of a mode, as `enum rcuo_mode` has it.
+fn word_of_mode(mode: Mode) -> u64
+    ensures { result ≡ mode_number mode }
+{
     match mode {
         Mode::Local => 0,
         Mode::Offloading => 1,
@@ -119,7 +125,9 @@ fn word_of_mode(mode: Mode) -> u64 {
 }
 
 /// The words of lists.
-pub(crate) fn words_of_lists(lists: Lists) -> ListWords {
+pub(crate) fn words_of_lists(lists: Lists) -> ListWords
+    ensures { AreListWords lists result }
+{
     match lists {
         Lists::Cpu {
             mode,

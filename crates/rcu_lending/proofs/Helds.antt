@@ -21,12 +21,12 @@ all_one : {X : Type 0} (P : X → Type 0) (x : X) → P x → All P (x ∷ [])
 all_one P x p zero d low = p
 all_one P x p (suc k) d low = absurd (omega (arith, low))
 
-lents_none : (xs : Helds) → lents (xs ++ None ∷ []) ≡ lents xs
+pub lents_none : (xs : Helds) → lents (xs ++ None ∷ []) ≡ lents xs
 lents_none [] = refl
 lents_none (None ∷ xs) = lents_none xs
 lents_none (Some l ∷ xs) = ap (λ ys. l ∷ ys) (lents_none xs)
 
-lents_some : (xs : Helds) (l : Lent) → lents (xs ++ Some l ∷ []) ≡ lents xs ++ l ∷ []
+pub lents_some : (xs : Helds) (l : Lent) → lents (xs ++ Some l ∷ []) ≡ lents xs ++ l ∷ []
 lents_some [] l = refl
 lents_some (None ∷ xs) l = lents_some xs l
 lents_some (Some m ∷ xs) l = ap (λ ys. m ∷ ys) (lents_some xs l)
@@ -74,10 +74,10 @@ pub record IsCheckedTo (o : Opening) (kind : PartKind) (i found : ℕ) (held now
 pub checked_none : (o : Opening) (kind : PartKind) (held : Helds) → IsCheckedTo o kind 0 0 held held
 checked_none o kind held = record { same = refl; checked = record { places = tt; kinds = λ k d low. absurd (omega (arith, low)); count = refl }; few = omega arith }
 
-next_is : (i : ℕ) → i + 1 ≡ suc i
+pub next_is : (i : ℕ) → i + 1 ≡ suc i
 next_is i = omega arith
 
-take-next : {X : Type 0} (xs : List X) (i : ℕ) (d : X) → i < length xs → take (i + 1) xs ≡ take i xs ++ get_or xs i d ∷ []
+pub take-next : {X : Type 0} (xs : List X) (i : ℕ) (d : X) → i < length xs → take (i + 1) xs ≡ take i xs ++ get_or xs i d ∷ []
 take-next xs i d low = ap (λ n. take n xs) (next_is i) ∙ take-suc xs i d low
 
 few_more : (found i : ℕ) (x : Option Lent) → found ≤ i → found + count_one x ≤ i + 1

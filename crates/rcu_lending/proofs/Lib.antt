@@ -1,4 +1,5 @@
 pub mod Closings
 pub mod Helds
-pub mod Polled
 pub mod Values
+pub mod Placing
+pub mod NewParts

@@ -1,6 +1,6 @@
 -- What the calls on barriers do, by control or a processor in a slot.
-use Rattle.std.specs.Prelude.{◌≡◌, ◌≢◌, Option, Result, MatchResult, []}
-use Rattle.std.specs.declared.result.Result.TheVariants.{Ok}
+use Rattle.std.specs.Prelude.{◌≡◌, ◌≢◌, ℕ, Option, Result, MatchResult, []}
+use Rattle.std.specs.declared.result.Result.TheVariants.{Err, Ok}
 use Rattle.std.proofs.Common.{◌⊎◌}
 use Rattle.rcu_control.specs.Barriers.{OpensBy, PollsBy}
 use Rattle.rcu_control.specs.Parts.{control_board, control_view}
@@ -9,12 +9,14 @@ use Rattle.rcu_control.specs.declared.control.Control.{Control as TheControl}
 use Rattle.rcu_jobs.specs.declared.Counts.{Counts}
 use Rattle.rcu_jobs.specs.declared.Passed.{Passed}
 use Rattle.rcu_lending.specs.Others.{KeepsControl}
-use Rattle.rcu_lending.specs.Parts.{Makes, IsOfAnotherKind, not_resting}
-use Rattle.rcu_lending.specs.Processors.{OpensOne}
+use Rattle.rcu_lending.specs.Parts.{Makes, not_resting}
+use Rattle.rcu_lending.specs.Processors.{ForeignCpu, KeepsProcessor, OpensOne}
 use Rattle.rcu_lending.specs.declared.fault.Fault.{Fault}
 use Rattle.rcu_lending.specs.declared.fault.Fault.TheVariants.{Foreign}
 use Rattle.rcu_lending.specs.declared.part.Part.{Part}
 use Rattle.rcu_lending.specs.declared.part.Part.TheVariants.{Control, Processor}
+use Rattle.rcu_part_processor.specs.Calls.{KeepsAll}
+use Rattle.rcu_part_processor.specs.Processors.{board_of, view_of}
 
 -- control opened a barrier
 pub record ControlOpens (b : Barrier) (c d : TheControl) : Type 0 where
@@ -32,18 +34,29 @@ pub record PollsOne (counts : Counts) (passed : Option Passed) (c d : TheControl
   pub same : KeepsControl c d
   pub polls : PollsBy counts passed (control_view c) (control_view d)
 
--- the barrier counts other processors than control's board has, and nothing was read
-pub record IsForeignTo (counts : Counts) (fault : Fault) (c d : TheControl) : Type 0 where
-  pub stays : d ≡ c
-  pub differs : counts.n ≢ (control_board c).processors
+-- a processor did, and nothing else changed
+pub record PollsCpu (counts : Counts) (passed : Option Passed) (p q : ForeignCpu) : Type 0 where
+  pub kept : KeepsProcessor p q
+  pub lists : KeepsAll p.state q.state
+  pub polls : PollsBy counts passed (view_of p.state) (view_of q.state)
+
+-- the barrier counts other processors than there are, and nothing was read
+pub record IsForeignTo (processors : ℕ) (counts : Counts) (fault : Fault) : Type 0 where
+  pub differs : counts.n ≢ processors
   pub named : fault ≡ Foreign
 
 abbrev pub PollsControl : Counts → Result (Option Passed) Fault → TheControl → TheControl → Type 0
 PollsControl counts result c d = MatchResult result
     (λ passed. PollsOne counts passed c d)
-    (λ fault. IsForeignTo counts fault c d)
+    (λ fault. (d ≡ c) × IsForeignTo (control_board c).processors counts fault)
 
+abbrev pub PollsProcessor : Counts → Result (Option Passed) Fault → ForeignCpu → ForeignCpu → Type 0
+PollsProcessor counts result p q = MatchResult result
+    (λ passed. PollsCpu counts passed p q)
+    (λ fault. (q ≡ p) × IsForeignTo (board_of p.state).processors counts fault)
+
+-- A poll, by what the part was.
 abbrev pub PollsPart : Counts → Result (Option Passed) Fault → Part → Part → Type 0
-PollsPart counts result old new = MatchResult result
-    (λ passed. Makes Control (PollsOne counts passed) old new)
-    (λ fault. Makes Control (IsForeignTo counts fault) old new ⊎ IsOfAnotherKind fault old new)
+PollsPart counts result (Control c) new = (d : TheControl) × (new ≡ Control d) × PollsControl counts result c d
+PollsPart counts result (Processor p) new = (q : ForeignCpu) × (new ≡ Processor q) × PollsProcessor counts result p q
+PollsPart counts result old new = (result ≡ Err (not_resting old)) × (new ≡ old)

@@ -109,15 +109,6 @@ pub record AreOfTheOpen (slots : PartSlots) : Type 0 where
   pub first : (o : Opening) (parts : ForeignParts) → AreHeld o parts slots → CanClose parts
   pub again : OwesAgain slots.control
 
--- ---- what open does
-
--- It is of this kind, of the open of this number; and it is in the slot.
-abbrev pub IsNewlyOpened : ℕ → PartKind → Lent → Type 0
-IsNewlyOpened number kind l = (l.opening.number ≡ number) × (kind_of l.part ≡ kind)
-
-abbrev pub HasOpened : ℕ → PartKind → Option Lent → Type 0
-HasOpened number kind held = (l : Lent) × (held ≡ Some l) × IsNewlyOpened number kind l
-
 -- ---- what close tests
 
 -- A part of this kind is in its place in a slot of its own.

@@ -2,6 +2,7 @@ pub mod Barriers
 pub mod Faults
 pub mod Gathers
 pub mod Holding
+pub mod Opens
 pub mod Others
 pub mod Parts
 pub mod Processors

@@ -16,13 +16,18 @@ use Rattle.rcu_jobs.specs.declared.DriverTurn.{DriverTurn}
 use Rattle.rcu_jobs.specs.declared.GroupTurn.{GroupTurn}
 use Rattle.rcu_jobs.specs.declared.SwitchFault.{SwitchFault}
 use Rattle.rcu_lending.specs.Faults.{switch_refusal}
-use Rattle.rcu_lending.specs.Parts.{Makes, IsOfAnotherKind}
+use Rattle.rcu_lending.specs.Parts.{Makes, IsOfAnotherKind, not_resting}
+use Rattle.rcu_lending.specs.Processors.{ForeignCpu, HasKey, KeepsProcessor, foreign_key}
+use Rattle.rcu_lending.specs.Runs.{ForeignHand}
 use Rattle.rcu_lending.specs.declared.fault.Fault.{Fault}
 use Rattle.rcu_lending.specs.declared.job.ForeignJob.{ForeignJob}
 use Rattle.rcu_lending.specs.declared.part.Part.{Part}
-use Rattle.rcu_lending.specs.declared.part.Part.TheVariants.{Control, Driver, Group}
-use Rattle.rcu_part_group.specs.Groups.{SameGroup, TurnsGroup}
+use Rattle.rcu_lending.specs.declared.part.Part.TheVariants.{Control, Driver, Group, Hand, Processor}
+use Rattle.rcu_part_group.specs.Groups.{SameGroup, TurnsGroup, group_view, members_of}
 use Rattle.rcu_part_group.specs.declared.group.Group.{Group as TheGroup}
+use Rattle.rcu_part_hand.specs.Hands.{IsSoundHand, SameHand, hand_drawn, hand_held, hand_records, hand_view}
+use Rattle.rcu_part_processor.specs.Calls.{KeepsAll}
+use Rattle.rcu_part_processor.specs.Processors.{view_of}
 
 -- the same control, and the same driver, of the same open
 abbrev pub KeepsControl : TheControl → TheControl → Type 0
@@ -41,10 +46,34 @@ pub record DrivesOne (turn : DriverTurn) (c d : TheDriver) : Type 0 where
   pub same : KeepsDriver c d
   pub drives : DrivesBy (driver_board c).processors turn (driver_view c) (driver_view d)
 
--- the halt word was read
-pub record ReadsHalt (halted : Bool) (c d : TheDriver) : Type 0 where
+-- the halt word was read, and nothing else changed: by the driver, a processor, a hand or a group
+pub record DriverReadsHalt (halted : Bool) (c d : TheDriver) : Type 0 where
   pub same : KeepsDriver c d
   pub reads : driver_view d ≡ touched halt_word (from_bool halted) (driver_view c)
+
+pub record CpuReadsHalt (halted : Bool) (p q : ForeignCpu) : Type 0 where
+  pub kept : KeepsProcessor p q
+  pub lists : KeepsAll p.state q.state
+  pub reads : view_of q.state ≡ touched halt_word (from_bool halted) (view_of p.state)
+
+pub record HandReadsHalt (halted : Bool) (h i : ForeignHand) : Type 0 where
+  pub same : SameHand h.state i.state
+  pub sound : IsSoundHand foreign_key HasKey h.state → IsSoundHand foreign_key HasKey i.state
+  pub held : hand_held i.state ≡ hand_held h.state
+  pub drawn : hand_drawn i.state ≡ hand_drawn h.state
+  pub records : hand_records i.state ≡ hand_records h.state
+  pub reads : hand_view i.state ≡ touched halt_word (from_bool halted) (hand_view h.state)
+
+pub record GroupReadsHalt (halted : Bool) (g h : TheGroup ForeignJob ForeignJob) : Type 0 where
+  pub same : SameGroup g.state h.state
+  pub members : members_of h.state ≡ members_of g.state
+  pub reads : group_view h.state ≡ touched halt_word (from_bool halted) (group_view g.state)
+
+abbrev pub ReadsHalt : Bool → Part → Part → Type 0
+ReadsHalt halted old new = Makes Driver (DriverReadsHalt halted) old new
+    ⊎ Makes Processor (CpuReadsHalt halted) old new
+    ⊎ Makes Hand (HandReadsHalt halted) old new
+    ⊎ Makes Group (GroupReadsHalt halted) old new
 
 -- a switch was asked for (x: 1 for offloaded, 0 for local), or refused
 pub record SwitchesOne (p x : ℕ) (result : Result (Unit {0}) SwitchFault) (c d : TheControl) : Type 0 where
@@ -79,8 +108,8 @@ DriverTurnsBy result old new = MatchResult result
 
 abbrev pub ReadsHaltBy : Result Bool Fault → Part → Part → Type 0
 ReadsHaltBy result old new = MatchResult result
-    (λ halted. Makes Driver (ReadsHalt halted) old new)
-    (λ fault. IsOfAnotherKind fault old new)
+    (λ halted. ReadsHalt halted old new)
+    (λ fault. (fault ≡ not_resting old) × (new ≡ old))
 
 abbrev pub SwitchesPart : ℕ → ℕ → Result (Unit {0}) Fault → Part → Part → Type 0
 SwitchesPart p x result old new = MatchResult result

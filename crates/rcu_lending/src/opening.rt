@@ -1,8 +1,8 @@
 //! Opening a runtime into slots.
 
-ghost use Rattle.std.specs.Prelude.{◌≡◌, IfErr, IfOk};
-ghost use Rattle.rcu_lending.specs.Gathers.{HasOpened, IsNewlyOpened, StayHeld, lent_of};
-ghost use Rattle.rcu_lending.specs.declared.part.PartKind.TheVariants as kind;
+ghost use Rattle.std.specs.Prelude.{◌≡◌, [], IfErr, IfOk, length, true};
+ghost use Rattle.rcu_lending.specs.Gathers.{StayHeld, held_in, lent_of, lents_in};
+ghost use Rattle.rcu_lending.specs.Opens.{AreAt, AreRising, BoxesAll, OpensBoxes, OpensInto, TakesAt, boxed, lent_groups, lent_hands, lent_processors, places_of};
 
 use crate::fault::Fault;
 use crate::job::ForeignJob;
@@ -37,10 +37,12 @@ fn box_processors(
     alloc: Global,
     opening: Opening,
     parts: Vec<Processor<ForeignJob>>,
-) -> Result<VecDeque<Box<Lent>>, AllocError> {
+) -> Result<VecDeque<Box<Lent>>, AllocError>
+    ensures { IfOk result (λ boxes. boxed boxes.items ≡ lent_processors opening parts.items) }
+{
     let mut boxes = VecDeque::new(alloc);
     for part in parts {
-        let at = boxes.len() as u64;
+        let at = part.cpu();
         boxes.push_back(box_part(alloc, opening, at, Part::Processor(part))?)?;
     }
     Ok(boxes)
@@ -50,7 +52,9 @@ fn box_groups(
     alloc: Global,
     opening: Opening,
     parts: Vec<Group<ForeignJob>>,
-) -> Result<VecDeque<Box<Lent>>, AllocError> {
+) -> Result<VecDeque<Box<Lent>>, AllocError>
+    ensures { IfOk result (λ boxes. boxed boxes.items ≡ lent_groups opening parts.items) }
+{
     let mut boxes = VecDeque::new(alloc);
     for part in parts {
         let at = part.number();
@@ -63,7 +67,9 @@ fn box_hands(
     alloc: Global,
     opening: Opening,
     parts: Vec<Hand<ForeignJob>>,
-) -> Result<VecDeque<Box<Lent>>, AllocError> {
+) -> Result<VecDeque<Box<Lent>>, AllocError>
+    ensures { IfOk result (λ boxes. boxed boxes.items ≡ lent_hands opening parts.items) }
+{
     let mut boxes = VecDeque::new(alloc);
     for part in parts {
         let at = part.cpu();
@@ -74,8 +80,7 @@ fn box_hands(
 
 /// Boxes all parts of an open.
 fn box_all(alloc: Global, number: u64, parts: Parts<ForeignJob>) -> Result<Boxes, AllocError>
-    ensures control { IfOk result (λ boxes. IsNewlyOpened number kind.Control boxes.control.value) }
-    ensures driver { IfOk result (λ boxes. IsNewlyOpened number kind.Driver boxes.driver.value) }
+    ensures { IfOk result (λ boxes. BoxesAll number parts boxes) }
 {
     let AllParts {
         processors,
@@ -101,8 +106,7 @@ fn box_all(alloc: Global, number: u64, parts: Parts<ForeignJob>) -> Result<Boxes
 
 /// Opens a runtime, and boxes its parts.
 fn open_boxes(alloc: Global, shape: Shape, number: u64) -> Result<Boxes, AllocError>
-    ensures control { IfOk result (λ boxes. IsNewlyOpened number kind.Control boxes.control.value) }
-    ensures driver { IfOk result (λ boxes. IsNewlyOpened number kind.Driver boxes.driver.value) }
+    ensures { IfOk result (λ boxes. OpensBoxes shape number boxes) }
 {
     match open::<ForeignJob>(alloc, shape) {
         Ok(parts) => box_all(alloc, number, parts),
@@ -111,7 +115,9 @@ fn open_boxes(alloc: Global, shape: Shape, number: u64) -> Result<Boxes, AllocEr
 }
 
 /// Takes the first if it belongs at this place.
-fn next_at(boxes: &mut VecDeque<Box<Lent>>, place: u64) -> Option<Box<Lent>> {
+fn next_at(boxes: &mut VecDeque<Box<Lent>>, place: u64) -> Option<Box<Lent>>
+    ensures { TakesAt place result (boxed boxes.old.items) (boxed boxes.new.items) }
+{
     if boxes.front()?.at != place {
         return None;
     }
@@ -119,7 +125,12 @@ fn next_at(boxes: &mut VecDeque<Box<Lent>>, place: u64) -> Option<Box<Lent>> {
 }
 
 /// Puts each part into the slot of its place.
-fn put_each(slots: &mut [Slot], boxes: &mut VecDeque<Box<Lent>>) {
+fn put_each(slots: &mut [Slot], boxes: &mut VecDeque<Box<Lent>>)
+    requires empty { lents_in slots.old ≡ [] }
+    requires rising { AreRising 0 (length slots.old) (places_of (boxed boxes.old.items)) }
+    ensures put { lents_in slots.new ≡ boxed boxes.old.items }
+    ensures places { AreAt 0 (held_in slots.new) }
+{
     for place in 0..slots.len() {
         if let Some(boxed) = next_at(boxes, place as u64) {
             slots[place].put(boxed);
@@ -128,9 +139,11 @@ fn put_each(slots: &mut [Slot], boxes: &mut VecDeque<Box<Lent>>) {
 }
 
 /// Whether all slots are empty.
-fn are_empty(slots: &[Slot]) -> bool {
-    for slot in slots {
-        if slot.is_full() {
+fn are_empty(slots: &[Slot]) -> bool
+    ensures empty { result ≡ true → lents_in slots.now ≡ [] }
+{
+    for place in 0..slots.len() {
+        if slots[place].is_full() {
             return false;
         }
     }
@@ -148,8 +161,7 @@ pub fn open_into(
     number: u64,
     slots: &mut PartSlots,
 ) -> Result<(), Fault>
-    ensures control { IfOk result (λ _. HasOpened number kind.Control slots.new.control.held.value) }
-    ensures driver { IfOk result (λ _. HasOpened number kind.Driver slots.new.driver.held.value) }
+    ensures opened { IfOk result (λ _. OpensInto shape number slots.new) }
     ensures refused { IfErr result (λ _. StayHeld slots.old slots.new) }
 {
     if slots.control.is_full() || slots.driver.is_full() {

@@ -1,4 +1,4 @@
-//! Calls on a group, the driver and control in slots.
+//! Calls on a group, the driver and control in slots, and the halt word that other parts read too.
 
 ghost use Rattle.std.specs.Prelude.{◌≡◌};
 ghost use Rattle.std.specs.Int.{from_bool};
@@ -49,17 +49,20 @@ impl Part {
         }
     }
 
-    /// Whether the driver sees that the runtime was halted.
+    /// Whether the runtime was halted, as the driver, a processor, a hand or a group sees it.
     ///
     /// # Errors
     ///
-    /// The part is of another kind.
+    /// A callback of the processor or of the hand runs; or the part is of another kind.
     pub fn is_halted(&mut self) -> Result<bool, Fault>
         ensures { ReadsHaltBy result self.old self.new }
     {
         match self {
             Part::Driver(driver) => Ok(driver.is_halted()),
-            other => Err(other.wrong_kind()),
+            Part::Processor(processor) => Ok(processor.is_halted()),
+            Part::Hand(hand) => Ok(hand.is_halted()),
+            Part::Group(group) => Ok(group.is_halted()),
+            other => Err(other.not_resting()),
         }
     }
 

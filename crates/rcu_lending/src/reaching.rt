@@ -6,7 +6,7 @@ ghost use Rattle.rcu_lending.specs.Barriers.{OpensPart, PollsPart};
 ghost use Rattle.rcu_lending.specs.Others.{DriverTurnsBy, GroupTurnsBy, HaltsBy, ReadsHaltBy, ShutsBy, SwitchesPart};
 ghost use Rattle.rcu_lending.specs.Processors.{CallsBy, ReportsBy};
 ghost use Rattle.rcu_lending.specs.Runs.{BeginsBy, FinishesBy};
-ghost use Rattle.rcu_lending.specs.Shows.{OnlyShows, ShowsAccepted, ShowsLists};
+ghost use Rattle.rcu_lending.specs.Shows.{OnlyShows, ShowsAccepted, ShowsBack, ShowsLeft, ShowsLists, ShowsRan, ShowsReports};
 ghost use Rattle.rcu_lending.specs.Slots.{OnSlot};
 
 use crate::fault::Fault;
@@ -232,6 +232,22 @@ impl Slot {
         answer
     }
 
+    /// `Part::left` of the slot's part.
+    ///
+    /// # Errors
+    ///
+    /// As that, or the slot is empty.
+    pub fn left(&mut self, alloc: Global) -> Result<u64, Fault>
+        ensures { OnSlot (OnlyShows ShowsLeft) result self.old self.new }
+    {
+        let Some(boxed) = self.take(alloc) else {
+            return Err(Fault::Empty);
+        };
+        let answer = boxed.part.left();
+        self.put(boxed);
+        answer
+    }
+
     /// `Part::lists` of the slot's part.
     ///
     /// # Errors
@@ -259,7 +275,7 @@ impl Slot {
         processor: u64,
         at: u64,
     ) -> Result<Record<ForeignJob>, Fault>
-        ensures stays { self.new.held.value ≡ self.old.held.value }
+        ensures { OnSlot (OnlyShows (ShowsRan processor at)) result self.old self.new }
     {
         let Some(boxed) = self.take(alloc) else {
             return Err(Fault::Empty);
@@ -275,7 +291,7 @@ impl Slot {
     ///
     /// As that, or the slot is empty.
     pub fn back_at(&mut self, alloc: Global, processor: u64, at: u64) -> Result<ForeignJob, Fault>
-        ensures stays { self.new.held.value ≡ self.old.held.value }
+        ensures { OnSlot (OnlyShows (ShowsBack processor at)) result self.old self.new }
     {
         let Some(boxed) = self.take(alloc) else {
             return Err(Fault::Empty);
@@ -291,7 +307,7 @@ impl Slot {
     ///
     /// As that, or the slot is empty.
     pub fn reports_of(&mut self, alloc: Global, processor: u64) -> Result<u64, Fault>
-        ensures stays { self.new.held.value ≡ self.old.held.value }
+        ensures { OnSlot (OnlyShows (ShowsReports processor)) result self.old self.new }
     {
         let Some(boxed) = self.take(alloc) else {
             return Err(Fault::Empty);

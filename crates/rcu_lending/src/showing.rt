@@ -1,7 +1,9 @@
 //! What parts in slots show, and what is left of a runtime that was closed.
 
-ghost use Rattle.std.specs.Prelude.{◌≡◌, IfOk, Some, slice_get};
-ghost use Rattle.rcu_lending.specs.Shows.{ShowsAccepted, ShowsLists};
+ghost use Rattle.std.specs.Prelude.{◌≡◌, slice_get};
+ghost use Rattle.std.specs.Option.{ok_or};
+ghost use Rattle.rcu_lending.specs.Shows.{ShowsAccepted, ShowsBack, ShowsLeft, ShowsLists, ShowsRan, ShowsReports};
+ghost use Rattle.rcu_lending.specs.declared.fault.Fault.TheVariants.{NoneLeft};
 
 use crate::fault::Fault;
 use crate::job::ForeignJob;
@@ -10,7 +12,7 @@ use rcu_jobs::{Lists, Record};
 
 /// The record in this place, if there is one.
 fn record_at(records: &[Record<ForeignJob>], at: usize) -> Result<Record<ForeignJob>, Fault>
-    ensures { IfOk result (λ r. slice_get records.now at ≡ Some r) }
+    ensures { result ≡ ok_or (slice_get records.now at) NoneLeft }
 {
     let Some(record) = records.get(at) else {
         return Err(Fault::NoneLeft);
@@ -48,6 +50,21 @@ impl Part {
         }
     }
 
+    /// How many calls a processor still accepts at most.
+    ///
+    /// # Errors
+    ///
+    /// The part is of another kind.
+    pub fn left(&self) -> Result<u64, Fault>
+        ensures { ShowsLeft result self.now }
+    {
+        match self {
+            Part::Processor(processor) => Ok(processor.left()),
+            Part::RunningProcessor(begun) => Ok(begun.processor.left()),
+            other => Err(other.wrong_kind()),
+        }
+    }
+
     /// What a processor shows of its callbacks.
     ///
     /// # Errors
@@ -68,7 +85,9 @@ impl Part {
     /// # Errors
     ///
     /// There is no such processor, or no such record; or the part is of another kind.
-    pub fn ran_at(&self, processor: u64, at: u64) -> Result<Record<ForeignJob>, Fault> {
+    pub fn ran_at(&self, processor: u64, at: u64) -> Result<Record<ForeignJob>, Fault>
+        ensures { ShowsRan processor at result self.now }
+    {
         match self {
             Part::Closed(closed) => match closed.ran.get(processor as usize) {
                 Some(records) => record_at(records.as_slice(), at as usize),
@@ -83,7 +102,9 @@ impl Part {
     /// # Errors
     ///
     /// There is no such processor, or no such job; or the part is of another kind.
-    pub fn back_at(&self, processor: u64, at: u64) -> Result<ForeignJob, Fault> {
+    pub fn back_at(&self, processor: u64, at: u64) -> Result<ForeignJob, Fault>
+        ensures { ShowsBack processor at result self.now }
+    {
         match self {
             Part::Closed(closed) => match closed.back.get(processor as usize) {
                 Some(jobs) => match jobs.get(at as usize) {
@@ -101,7 +122,9 @@ impl Part {
     /// # Errors
     ///
     /// There is no such processor; or the part is of another kind.
-    pub fn reports_of(&self, processor: u64) -> Result<u64, Fault> {
+    pub fn reports_of(&self, processor: u64) -> Result<u64, Fault>
+        ensures { ShowsReports processor result self.now }
+    {
         match self {
             Part::Closed(closed) => match closed.reports.get(processor as usize) {
                 Some(reports) => Ok(*reports),

@@ -62,11 +62,15 @@ impl Held {
     }
 }
 
+// What it points to is a boxed part, which may go to another thread.
+unsafe impl Send for Held {}
+
 fn is_send<T: Send>(_value: &T) {}
 
-/// A boxed part may go to another thread, and so may the slot that keeps it.
-pub fn may_change_threads(lent: &Box<Lent, Global>) {
+/// A boxed part may go to another thread, and so may the slots that keep parts.
+pub fn may_change_threads(lent: &Box<Lent, Global>, slots: &PartSlots) {
     is_send(lent);
+    is_send(slots);
 }
 
 /// A place for a part, which the program keeps. All zero it is empty.

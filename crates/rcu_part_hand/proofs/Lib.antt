@@ -1,3 +1,4 @@
 pub mod HandRuns
 pub mod Standing
 pub mod HandBegins
+pub mod InOneTurn

@@ -1,3 +1,4 @@
 pub mod HandLaw
 pub mod Hands
 pub mod Begins
+pub mod TwoSteps

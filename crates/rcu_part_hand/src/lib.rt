@@ -6,8 +6,10 @@
 mod beginning;
 mod hand;
 mod handling;
+mod laws;
 mod run;
 mod running;
 
 pub use hand::{Hand, HandState, into_state};
+pub use laws::turns_in_two_steps;
 pub use running::{RunningHand, RunningHandState};

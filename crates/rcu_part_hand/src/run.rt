@@ -15,7 +15,7 @@ use std::sync::Wait;
 
 impl<J: Job> Hand<J> {
     /// Whether the runtime was halted.
-    fn is_halted(&mut self) -> bool
+    pub fn is_halted(&mut self) -> bool
         ensures same { SameHand self.old.state self.new.state }
         ensures lists { (hand_held self.new.state ≡ hand_held self.old.state) × (hand_drawn self.new.state ≡ hand_drawn self.old.state) × (hand_records self.new.state ≡ hand_records self.old.state) }
         ensures view { hand_view self.new.state ≡ touched halt_word (from_bool result) (hand_view self.old.state) }

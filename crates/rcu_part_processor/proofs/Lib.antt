@@ -12,3 +12,4 @@ pub mod Standing
 pub mod CallPieces
 pub mod Claiming
 pub mod BeginTicks
+pub mod InOneTick

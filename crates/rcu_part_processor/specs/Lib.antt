@@ -7,3 +7,4 @@ pub mod Ticks
 pub mod Looking
 pub mod Running
 pub mod Begins
+pub mod TwoSteps

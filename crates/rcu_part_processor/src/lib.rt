@@ -8,12 +8,15 @@ mod accepting;
 mod barrier;
 mod beginning;
 mod calling;
+mod laws;
 mod processor;
+mod remaining;
 mod reporting;
 mod run;
 mod running;
 mod ticking;
 
+pub use laws::ticks_in_two_steps;
 pub use processor::{Processor, ProcessorState, into_state};
 pub use reporting::Reading;
 pub use running::{RunningProcessor, RunningProcessorState};

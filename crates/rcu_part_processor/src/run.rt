@@ -16,7 +16,7 @@ use std::sync::Wait;
 
 impl<J: Job> Processor<J> {
     /// Whether the runtime was halted.
-    fn is_halted(&mut self) -> bool
+    pub fn is_halted(&mut self) -> bool
         ensures same { SameProcessor self.old.state self.new.state }
         ensures keeps { KeepsAll self.old.state self.new.state }
         ensures view { view_of self.new.state ≡ touched halt_word (from_bool result) (view_of self.old.state) }
