@@ -2,7 +2,7 @@
 use Rattle.rcu_board.specs.Views.{Every, total, seen_at, sight, accepted_count, fresh_count, claimed, runs, cpus, one_if_equal, own_count, driver_count}
 use Rattle.rcu_board.specs.Laws.{OddEquals, BoardRule, ViewAlone, IsBoard, BoardLawInView, Reported}
 use Rattle.rcu_board.specs.Words.{accepts_word, turns_word, asks_word}
-use Rattle.rcu_board.specs.Plays.{SeatState, touched, with_stamp, stamp_own, looked, Looking, report_own, reported, Reporting, Driving}
+use Rattle.rcu_board.specs.Plays.{SeatState, touched, with_stamp, stamp_own, looked, IsWithin, Looking, report_own, reported, Reporting, Driving}
 use Rattle.std.proofs.Common.{◌≡◌, ◌≢◌, ℕ, ◌+◌, ◌*◌, ◌%◌, ◌/◌, ◌<◌, ◌≤◌, Bool, true, cond, eqb, Option, Some, None, List, [], ◌∷◌, map, length, get_or, sym, refl, ap, ◌∙◌, subst, arith, length-set, get_or-set_other, get_or-set_same, length-append}
 use mathlib.Core.Logic.{dite}
 use mathlib.Core.Option.{some, none}
@@ -70,7 +70,7 @@ beside_touched i x v w weight drives controls seen merged own reports counts run
 -- ---- steps on the board word
 
 module _ (n id : ℕ) (views : List View) (x y : ℕ) (w : View) where
-  pub here_board : IsBoard y → BoardLawInView y w → OtherViews n id views (BoardLawInView x) (BoardLawInView y) → SteppedWord n id views 0 x y w
+  pub here_board : IsBoard y × (mask_of y ≤ all_of n) → BoardLawInView y w → OtherViews n id views (BoardLawInView x) (BoardLawInView y) → SteppedWord n id views 0 x y w
   here_board is mine others = record {
     board = λ _. (is, mine, others);
     needed = λ e. absurd (omega arith);
@@ -79,6 +79,10 @@ module _ (n id : ℕ) (views : List View) (x y : ℕ) (w : View) where
     asks = λ p _ e. absurd (omega arith);
     halt = λ e. absurd (omega arith);
   }
+
+-- what the view of a seat of this board has seen says how many processors there are
+pub is_within : (n x : ℕ) (v : View) → 0 < v.weight → ViewAlone n v → mask_of x ≤ all_of n → IsWithin x v
+is_within n x v live t within k long = let same : n ≡ k = omega (arith, t.seen_long live) in subst (λ (j : ℕ). mask_of x ≤ all_of j) same within
 
 count_stamped : (s : ℕ) (xs : List Accepted) (f : Option ℕ) → length (with_stamp s xs f) + 0 ≡ length xs + fresh_count f
 count_stamped s xs None = refl
@@ -113,8 +117,8 @@ module _ (n seats slots id : ℕ) (m : SeatState) (live : 0 < m.0.weight) where
         tt,
         moved n seats s o id v w at 0 x (omega arith) lawful
             (beside_touched 0 x v v' refl refl refl refl refl (cpus-map f (λ u. refl) v.own) (λ _. same_reports) (λ p _. same_counts p) (λ p _ y h. h) (λ p _. ((λ k. refl), refl)))
-            (here_board n id s.views x x w o.board.word mine (λ k u _ _ _ h. h)),
-        record { view = refl; word = o.board.word; later = later; driver = b.driver },
+            (here_board n id s.views x x w (o.board.word, o.board.within) mine (λ k u _ _ _ h. h)),
+        record { view = refl; word = o.board.word; within = is_within n x v live t o.board.within; later = later; driver = b.driver },
       )
 
 abbrev cpu_or : List Own → ℕ
@@ -186,10 +190,11 @@ module _ (n seats slots id : ℕ) (m : SeatState) (live : 0 < m.0.weight) (o : O
         tt,
         moved n seats s k id v w at 0 y (omega arith) lawful
             (beside_touched 0 x v v' refl refl refl refl refl (cpus-map f (λ u. refl) v.own) (λ no. absurd (no refl)) (λ q _. same_counts q) (λ q _ z h. h) (λ q _. ((λ j. refl), refl)))
-            (here_board n id s.views x y w (clear_board x p small near k.board.word) mine others),
+            (here_board n id s.views x y w (clear_board x p small near k.board.word, (let le = clear_fits x p in let w = k.board.within in omega arith)) mine others),
         record {
           view = refl;
           word = k.board.word;
+          within = is_within n x v live t k.board.within;
           later = later;
           counted = λ q e owes. let is : p ≡ q.cpu = ap (λ (l : List Own). cpu_or l) (sym only ∙ e) in let same : o.reports ≡ q.reports = ap (λ (l : List Own). reports_or l) (sym only ∙ e) in
               let owes' : owes_of x p ≡ 1 = ap (owes_of x) is ∙ owes in let st = k.board.word.state in let i = k.board.word.idle in let z = owes-zero x p near in
@@ -214,9 +219,9 @@ module _ (n seats slots id : ℕ) (m : SeatState) (live : 0 < m.0.weight) (drive
   drive_beside : (z : ℕ) → OtherWords 0 m.0 (touched 0 z m.0)
   drive_beside z = beside_touched 0 z m.0 m.0 refl refl refl refl refl refl (λ no. absurd (no refl)) (λ q _ y h. h) (λ q _ y h. h) (λ q _. ((λ j. refl), refl))
 
-  pub drive_allowed : seq ≤ number_of new → (IsBoard (packed seq 0) → IsBoard new) → ((q r : ℕ) → q < n → Reported (packed seq 0) q r → Reported new q r)
+  pub drive_allowed : seq ≤ number_of new → mask_of new ≤ all_of n → (IsBoard (packed seq 0) → IsBoard new) → ((q r : ℕ) → q < n → Reported (packed seq 0) q r → Reported new q r)
       → Allows (BoardRule n seats) slots id m 0 (λ y. either (eqb y (packed seq 0)) new y) (Driving (step slots 0 (packed seq 0) new none) m)
-  drive_allowed further is law s k _ at small = let x : ℕ = get_or s.words 0 0 in let v : View = m.0 in let old : ℕ = packed seq 0 in
+  drive_allowed further few is law s k _ at small = let x : ℕ = get_or s.words 0 0 in let v : View = m.0 in let old : ℕ = packed seq 0 in
       let t = k.alone id v at in let b = k.board.in_views id v at in let lead : sight v ≡ number_of x = b.driver drives_it in
       let long : 0 < length v.seen = omega (arith, t.seen_long live) in
       let idle : sight v % 4 ≡ 0 → x ≡ packed (sight v) 0 = λ e. let i = k.board.word.idle (ap (λ (z : ℕ). z % 4) (sym lead) ∙ e) in omega arith in
@@ -234,16 +239,16 @@ module _ (n seats slots id : ℕ) (m : SeatState) (live : 0 < m.0.weight) (drive
         w,
         keeps,
         tt,
-        moved n seats s k id v w at 0 new (omega arith) (drive_alone s k at new (omega arith)) (drive_beside new) (here_board n id s.views x new w (is (subst IsBoard hit k.board.word)) mine others),
-        record { won = λ _. refl; lost = λ away. absurd (away hit); number = sym lead; idle = idle },
+        moved n seats s k id v w at 0 new (omega arith) (drive_alone s k at new (omega arith)) (drive_beside new) (here_board n id s.views x new w (is (subst IsBoard hit k.board.word), few) mine others),
+        record { won = λ _. refl; lost = λ away. absurd (away hit); number = sym lead; within = is_within n x v live t k.board.within; idle = idle },
       ))
       (λ miss. let w : View = touched 0 x v in let now : sight w ≡ number_of x = ap number_of (seen_here v 0 x long) in
       let mine : BoardLawInView x w = record { sight = omega arith; driver = λ _. now; reports = b.reports } in (
         w,
         keeps,
         tt,
-        moved n seats s k id v w at 0 x (omega arith) (drive_alone s k at x (omega arith)) (drive_beside x) (here_board n id s.views x x w k.board.word mine (λ j u _ _ _ h. h)),
-        record { won = λ hit. absurd (miss hit); lost = λ _. refl; number = sym lead; idle = idle },
+        moved n seats s k id v w at 0 x (omega arith) (drive_alone s k at x (omega arith)) (drive_beside x) (here_board n id s.views x x w (k.board.word, k.board.within) mine (λ j u _ _ _ h. h)),
+        record { won = λ hit. absurd (miss hit); lost = λ _. refl; number = sym lead; within = is_within n x v live t k.board.within; idle = idle },
       ))
 
 start_law : (n seq : ℕ) → n ≤ 32 → seq % 4 ≡ 0 → (q r : ℕ) → q < n → Reported (packed seq 0) q r → Reported (packed (seq + 1) (all_of n)) q r
@@ -263,9 +268,9 @@ module _ (n seats slots id : ℕ) (m : SeatState) (live : 0 < m.0.weight) (drive
   pub start_allowed : (old new : ℕ) → old ≡ packed seq 0 → new ≡ packed (seq + 1) (all_of n) → seq % 4 ≡ 0 → seq < 2147483644 → Drives (old, new)
   start_allowed old new eo en idle room = let f = all_fits n few in let y : ℕ = packed (seq + 1) (all_of n) in let num : number_of y ≡ seq + 1 = number-packed (seq + 1) (all_of n) f in
       subst Drives (λ i. (sym eo i, sym en i))
-      (drive_allowed n seats slots id m live drives_it seq y at_seq (omega arith) (λ _. record { state = omega arith; idle = λ (e : number_of y % 4 ≡ 0). absurd (omega arith); small = omega arith }) (start_law n seq few idle))
+      (drive_allowed n seats slots id m live drives_it seq y at_seq (omega arith) (let e = mask-packed (seq + 1) (all_of n) f in omega arith) (λ _. record { state = omega arith; idle = λ (e : number_of y % 4 ≡ 0). absurd (omega arith); small = omega arith }) (start_law n seq few idle))
 
   pub end_allowed : (old new : ℕ) → old ≡ packed seq 0 → new ≡ packed (seq + 3) 0 → seq % 4 ≡ 1 → Drives (old, new)
   end_allowed old new eo en busy = let y : ℕ = packed (seq + 3) 0 in let num : number_of y ≡ seq + 3 = number-packed (seq + 3) 0 (omega arith) in
       subst Drives (λ i. (sym eo i, sym en i))
-      (drive_allowed n seats slots id m live drives_it seq y at_seq (omega arith) (λ is. let sm = is.small in record { state = omega arith; idle = λ _. mask-packed (seq + 3) 0 (omega arith); small = omega arith }) (end_law n seq few busy))
+      (drive_allowed n seats slots id m live drives_it seq y at_seq (omega arith) (let e = mask-packed (seq + 3) 0 (omega arith) in omega arith) (λ is. let sm = is.small in record { state = omega arith; idle = λ _. mask-packed (seq + 3) 0 (omega arith); small = omega arith }) (end_law n seq few busy))

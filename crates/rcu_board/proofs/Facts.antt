@@ -1,11 +1,12 @@
 -- What a view is after a step, for whoever steps.
-use Rattle.rcu_board.specs.Words.{words_of, is_asks}
+use Rattle.rcu_board.specs.Words.{words_of, halt_word, is_asks}
 use Rattle.rcu_board.specs.Views.{cpus, seen_at, joined}
 use Rattle.rcu_board.specs.declared.board.Board.{Board}
 use Rattle.rcu_board.proofs.Groups.{joined-word-at, joined-word-greater, joined-words-long}
 use Rattle.rcu_board.specs.Plays.{touched, reported, looked, accepted, stamp_own, accept_own, with_stamp}
-use Rattle.rcu_board.specs.Seats.{NeverFalls, AtBoard, view, reports_of, first_reports, accepted_of, first_accepted, fresh_of, first_fresh}
-use Rattle.std.proofs.Common.{◌≡◌, ◌≢◌, ℕ, ◌+◌, ◌*◌, ◌<◌, ◌≤◌, max, false, ◌∙◌, List, None, [], ◌∷◌, ◌++◌, map, length, get_or, ap, refl, arith, get_or-set_other, get_or-set_same}
+use Rattle.rcu_board.specs.Seats.{NeverFalls, SameSeat, SawHalt, AtBoard, view, reports_of, first_reports, accepted_of, first_accepted, fresh_of, first_fresh}
+use Rattle.std.proofs.Common.{◌≡◌, ◌≢◌, ℕ, ◌+◌, ◌*◌, ◌%◌, ◌<◌, ◌≤◌, max, Bool, true, false, ◌∙◌, List, None, [], ◌∷◌, ◌++◌, map, length, get_or, ap, refl, arith, get_or-set_other, get_or-set_same}
+use Rattle.std.specs.Int.{from_bool}
 use Rattle.rcu_numbers.specs.Words.{owes_of, number_of}
 use Rattle.rcu_board.specs.declared.board.Seat.{Seat}
 use Rattle.rcu_board.specs.declared.board.Role.TheVariants.{Processor}
@@ -15,6 +16,14 @@ use Rattle.rcu_board.specs.declared.view.Own.{Own}
 -- what the seat last saw of the word that it stepped on
 pub seen-touched : (s : Seat) (i x : ℕ) → i < s.seat.table_id.words → seen_at (touched i x (view s)) i ≡ x
 seen-touched s i x h = get_or-set_same s.seat.me.0.seen i x 0 (omega (arith, s.of_role.can_step.seen_long))
+
+-- the words of a board, as a seat of it counts them
+pub words-at : (b : Board) (s : Seat) → AtBoard b s → s.seat.table_id.words ≡ words_of b.processors
+words-at b s at = ap (λ t. t.words) at ∙ b.sized
+
+-- what is seen of the halt word after a load that found it set
+pub saw-halt : (b : Board) (s t : Seat) (on : Bool) → AtBoard b s → view t ≡ touched halt_word (from_bool on) (view s) → on ≡ true → SawHalt (view t)
+saw-halt b s t on at e is = ap (λ v. seen_at v halt_word) e ∙ (seen-touched s halt_word (from_bool on) (omega (arith, words-at b s at)) ∙ ap from_bool is)
 
 pub seen-other : (v : View) (i j x : ℕ) → j ≢ i → seen_at (touched i x v) j ≡ seen_at v j
 seen-other v i j x ne = get_or-set_other v.seen i j x 0 ne
@@ -62,7 +71,7 @@ fresh-looked v r = fresh-stamped v.own (number_of r)
 -- ---- sights
 
 pub never_falls_same : (n : ℕ) (v : View) → NeverFalls n v v
-never_falls_same n v = record { board = omega arith; needed = omega arith; accepts = λ p low. omega arith; turns = λ p low. omega arith }
+never_falls_same n v = record { board = omega arith; needed = omega arith; accepts = λ p low. omega arith; turns = λ p low. omega arith; shut = λ p low odd. refl }
 
 -- over two steps
 pub never_falls_again : (n : ℕ) (u v w : View) → NeverFalls n u v → NeverFalls n v w → NeverFalls n u w
@@ -71,11 +80,20 @@ never_falls_again n u v w a b = record {
   needed = let x = a.needed in let y = b.needed in omega arith;
   accepts = λ p low. let x = a.accepts p low in let y = b.accepts p low in omega arith;
   turns = λ p low. let x = a.turns p low in let y = b.turns p low in omega arith;
+  shut = λ p low odd. let x = a.shut p low odd in b.shut p low (ap (λ (y : ℕ). y % 2) x ∙ odd) ∙ x;
 }
 
--- the words of a board, as a seat of it counts them
-pub words-at : (b : Board) (s : Seat) → AtBoard b s → s.seat.table_id.words ≡ words_of b.processors
-words-at b s at = ap (λ t. t.words) at ∙ b.sized
+pub same_seat : (s : Seat) → SameSeat s s
+same_seat s = record { role = refl; table = refl; weight = refl; later = λ b at. never_falls_same b.processors (view s) }
+
+-- over two calls
+pub same_seat_again : (r s t : Seat) → SameSeat r s → SameSeat s t → SameSeat r t
+same_seat_again r s t x y = record {
+  role = y.role ∙ x.role;
+  table = y.table ∙ x.table;
+  weight = y.weight ∙ x.weight;
+  later = λ b at. never_falls_again b.processors (view r) (view s) (view t) (x.later b at) (y.later b (x.table ∙ at));
+}
 
 pub seen-long : (b : Board) (s : Seat) → AtBoard b s → length (view s).seen ≡ words_of b.processors
 seen-long b s at = s.of_role.can_step.seen_long ∙ words-at b s at

@@ -107,6 +107,7 @@ joins n seats id other v w live live' s k at apart at' =
       words = k.words;
       board = record {
         word = k.board.word;
+        within = k.board.within;
         in_views = let x : ℕ = get_or s.words 0 0 in let hv = k.board.in_views id v at in let hw = k.board.in_views other w there in each (BoardLawInView x) k.board.in_views record {
           sight = let e = g 0 refl (omega arith) in let p = hv.sight in let q = hw.sight in omega arith;
           driver = λ d. let e = g 0 refl (omega arith) in let p = hv.sight in let q = hw.sight in ⊎_elim (λ t. let f = hv.driver t in omega arith) (λ t. let f = hw.driver t in omega arith) (or_split v.drives w.drives d);
@@ -211,6 +212,7 @@ module _ (n seats id : ℕ) (v : View) (lo ro : List Own) (lc rc : Bool) (big : 
     words = k.words;
     board = record {
       word = k.board.word;
+      within = k.board.within;
       in_views = let x : ℕ = get_or s.words 0 0 in let h = k.board.in_views id v at in each (BoardLawInView x) k.board.in_views
           (record { sight = h.sight; driver = h.driver; reports = lefts (λ (o : Own). Reported x o.cpu o.reports) h.reports })
           (record { sight = h.sight; driver = λ d. absurd (no_true d); reports = rights (λ (o : Own). Reported x o.cpu o.reports) h.reports });

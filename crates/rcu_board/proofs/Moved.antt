@@ -8,6 +8,7 @@ use mathlib.Core.Option.{some}
 use native.Mathlib.Decide.{ℕ_discrete}
 use lib.ListN.{get_elem?}
 use Rattle.atomic_table.specs.Table.{State}
+use Rattle.rcu_numbers.specs.Words.{mask_of, all_of}
 use Rattle.rcu_board.specs.declared.view.View.{View}
 use Rattle.rcu_board.proofs.Views.{total-set, each_set}
 use Rattle.rcu_board.proofs.Turns.{TurnCounts, turn_counts, turn_law}
@@ -31,7 +32,7 @@ module _ (n id : ℕ) where
 
   -- the law of word i, which goes from x to y
   pub record SteppedWord (views : List View) (i x y : ℕ) (w : View) : Type 0 where
-    pub board : i ≡ 0 → IsBoard y × BoardLawInView y w × OtherViews views (BoardLawInView x) (BoardLawInView y)
+    pub board : i ≡ 0 → (IsBoard y × (mask_of y ≤ all_of n)) × BoardLawInView y w × OtherViews views (BoardLawInView x) (BoardLawInView y)
     pub needed : i ≡ 1 → (seen_at w 1 ≤ y) × (x ≤ y)
     pub accepts : (p : ℕ) → p < n → i ≡ accepts_word p → AcceptLawInView p y w × OtherViews views (AcceptLawInView p x) (AcceptLawInView p y)
     pub turns : (p : ℕ) → p < n → i ≡ turns_word p → TurnLawInView p y w × OtherViews views (TurnLawInView p x) (TurnLawInView p y) × TurnCounts p y (set views id w)
@@ -75,10 +76,10 @@ module _ (n seats : ℕ) (s : State ℕ View) (o : BoardRule n seats s) (id : �
   sum_same : (f : View → ℕ) → f w ≡ f v → total f (set s.views id w) ≡ total f s.views
   sum_same f e = same_total (total f (set s.views id w)) (total f s.views) (f v) (f w) (total-set f s.views id v w at) e
 
-  moved_board : OtherWords i v w → SteppedWord n id s.views i (get_or s.words i 0) y w → BoardLaw (get_or (set s.words i y) 0 0) (set s.views id w)
+  moved_board : OtherWords i v w → SteppedWord n id s.views i (get_or s.words i 0) y w → BoardLaw n (get_or (set s.words i y) 0 0) (set s.views id w)
   moved_board b h = dite (ℕ_discrete i 0)
-      (λ e. record { word = said_same IsBoard 0 e (h.board e).0; in_views = each_same BoardLawInView 0 e o.board.in_views (h.board e).1 (h.board e).2 })
-      (λ ne. record { word = said_other IsBoard 0 ne o.board.word; in_views = each_other BoardLawInView 0 ne o.board.in_views (b.board ne) })
+      (λ e. record { word = said_same IsBoard 0 e (h.board e).0.0; within = said_same (λ (z : ℕ). mask_of z ≤ all_of n) 0 e (h.board e).0.1; in_views = each_same BoardLawInView 0 e o.board.in_views (h.board e).1 (h.board e).2 })
+      (λ ne. record { word = said_other IsBoard 0 ne o.board.word; within = said_other (λ (z : ℕ). mask_of z ≤ all_of n) 0 ne o.board.within; in_views = each_other BoardLawInView 0 ne o.board.in_views (b.board ne) })
 
   moved_turn : OtherWords i v w → SteppedWord n id s.views i (get_or s.words i 0) y w → (p : ℕ) → p < n → TurnLaw p (get_or (set s.words i y) (turns_word p) 0) (set s.views id w)
   moved_turn b h p low = dite (ℕ_discrete i (turns_word p))

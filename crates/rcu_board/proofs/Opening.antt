@@ -92,6 +92,7 @@ opens n offloadable seats ws few some_seats began = let v : View = opening_view 
       words = began.long;
       board = record {
         word = record { state = omega arith; idle = λ _. omega arith; small = omega arith };
+        within = omega arith;
         in_views = let x : ℕ = get_or ws 0 0 in all (BoardLawInView x) record {
           sight = omega arith;
           driver = λ _. omega arith;

@@ -86,7 +86,7 @@ module _ (n seats slots id : ℕ) (m : SeatState) (live : 0 < m.0.weight) where
     keeps,
     tt,
     loaded n seats s k id m.0 at live i (λ e. omega arith) (omega arith),
-    record { view = refl; later = a.sight; own = subst (λ (q : ℕ). Every (λ (o : Own). o.cpu ≡ q → x / 2 ≡ accepted_count o) m.0.own) same a.count },
+    record { view = refl; later = a.sight; final = a.odd_sight; own = subst (λ (q : ℕ). Every (λ (o : Own). o.cpu ≡ q → x / 2 ≡ accepted_count o) m.0.own) same a.count },
   )
 
   pub turn_allowed : (p : ℕ) → p < n → Allows (BoardRule n seats) slots id m (turns_word p) (λ y. y) (Loading (step slots (turns_word p) 0 0 none) m)
@@ -174,7 +174,7 @@ module _ (n seats slots id : ℕ) (m : SeatState) (live : 0 < m.0.weight) (p : �
         subst (λ (z : ℕ). BoardRule n seats (after s i z id w)) (sym (or_one x)) (moved n seats s k id v w at i y near (still_alone n seats s k id v at live i off near y v refl refl refl refl refl t.stamps t.claims t.running)
             (beside_touched i y v v refl refl refl refl refl refl (λ _ z h. h) (λ p _ z h. h) (λ p _ z h. h) (λ p _. ((λ j. refl), refl)))
             (here_accepts n seats s k id v at live p low y w mine others)),
-        record { view = refl; later = a.sight },
+        record { view = refl; later = a.sight; final = a.odd_sight },
       )
 
   pub accept_allowed : (o : Own) (key c : ℕ) → m.0.own ≡ o ∷ [] → o.cpu ≡ p → o.fresh ≡ None → length o.accepted ≡ c
@@ -220,9 +220,9 @@ module _ (n seats slots id : ℕ) (m : SeatState) (live : 0 < m.0.weight) (p : �
             (every_one (λ (u : Own). u.cpu ≡ q → z / 2 ≡ accepted_count u) (f o) (λ e. absurd (away (omega arith)))))
             (λ q _ z h. h) (λ q _. ((λ j. refl), refl)))
             (here_accepts n seats s k id v at live p low y w mine others),
-        record { won = λ key' same _. ap (λ (z : ℕ). (accepted i y z v, m.1)) (some-injective key key' same); shut = λ away. absurd (away hit); odd = λ away. absurd (away hit); later = a.sight },
+        record { won = λ key' same _. ap (λ (z : ℕ). (accepted i y z v, m.1)) (some-injective key key' same); shut = λ away. absurd (away hit); odd = λ away. absurd (away hit); later = a.sight; final = a.odd_sight },
       ))
-      (λ miss. (touched i x v, keeps, tt, loaded n seats s k id v at live i off near, record { won = λ _ _ hit. absurd (miss hit); shut = λ _. refl; odd = λ _. omega arith; later = a.sight }))
+      (λ miss. (touched i x v, keeps, tt, loaded n seats s k id v at live i off near, record { won = λ _ _ hit. absurd (miss hit); shut = λ _. refl; odd = λ _. omega arith; later = a.sight; final = a.odd_sight }))
 
 -- ---- claims
 

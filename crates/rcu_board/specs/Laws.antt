@@ -3,7 +3,7 @@ use Rattle.std.specs.Prelude.{◌≡◌, ℕ, ◌+◌, ◌*◌, ◌/◌, ◌%◌
 use mathlib.Core.Option.{some}
 use lib.ListN.{get_elem?}
 use Rattle.atomic_table.specs.Table.{State}
-use Rattle.rcu_numbers.specs.Words.{number_of, mask_of, owes_of}
+use Rattle.rcu_numbers.specs.Words.{number_of, mask_of, all_of, owes_of}
 use Rattle.rcu_board.specs.Words.{words_of, board_word, needed_word, halt_word, accepts_word, turns_word, asks_word}
 use Rattle.rcu_board.specs.Views.{seen_at, sight, Every, total, cpus, own_count, driver_count, control_count, accepted_count, claimed, runs, spent}
 use Rattle.rcu_board.specs.declared.view.View.{View}
@@ -32,8 +32,10 @@ pub record BoardLawInView (x : ℕ) (v : View) : Type 0 where
   -- "no board sight [..] is above the number", and so no stamp and no claim's sight, which are not above the view's own sight (ViewAlone)
   pub sight : sight v ≤ number_of x
 
-pub record BoardLaw (x : ℕ) (views : List View) : Type 0 where
+pub record BoardLaw (n x : ℕ) (views : List View) : Type 0 where
   pub word : IsBoard x
+  -- a bit for each processor, and no other: those from n on are clear
+  pub within : mask_of x ≤ all_of n
   pub in_views : Each views (BoardLawInView x)
 
 -- "and no sight of `needed` above that word", which is x
@@ -116,7 +118,7 @@ pub record SeatLaw (n all : ℕ) (views : List View) : Type 0 where
 pub record BoardRule (n all : ℕ) (s : State ℕ View) : Type 0 where
   pub few : n ≤ 32
   pub words : length s.words ≡ words_of n
-  pub board : BoardLaw (slice_index s.words board_word) s.views
+  pub board : BoardLaw n (slice_index s.words board_word) s.views
   pub needed : NeededLaw (slice_index s.words needed_word) s.views
   pub accept : (p : ℕ) → p < n → AcceptLaw p (slice_index s.words (accepts_word p)) s.views
   pub turn : (p : ℕ) → p < n → TurnLaw p (slice_index s.words (turns_word p)) s.views

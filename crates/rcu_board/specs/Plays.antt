@@ -1,9 +1,9 @@
 -- What each kind of step does to the view of the seat that steps, and what the rule teaches at it. A play is a fact about the step, the seat before, the number found (at a store, the one stored) and the seat after.
-use Rattle.std.specs.Prelude.{◌≡◌, ◌≢◌, ℕ, ◌+◌, ◌*◌, ◌/◌, ◌%◌, ◌<◌, ◌≤◌, true, cond, nat_lt, Option, Some, None, List, [], ◌∷◌, ◌++◌, map, slice_index, slice_set, max, bit_or, bit_and}
+use Rattle.std.specs.Prelude.{◌≡◌, ◌≢◌, ℕ, ◌+◌, ◌*◌, ◌/◌, ◌%◌, ◌<◌, ◌≤◌, true, cond, nat_lt, Option, Some, None, List, [], ◌∷◌, ◌++◌, map, length, slice_index, slice_set, max, bit_or, bit_and}
 use mathlib.Core.Option.{some}
 use Rattle.atomic_table.specs.Table.{Me, Step}
-use Rattle.rcu_numbers.specs.Words.{number_of, packed, owes_of}
-use Rattle.rcu_board.specs.Words.{cpu_of, accepts_word}
+use Rattle.rcu_numbers.specs.Words.{number_of, mask_of, packed, all_of, owes_of}
+use Rattle.rcu_board.specs.Words.{words_of, cpu_of, accepts_word}
 use Rattle.rcu_board.specs.Views.{Every, seen_at, sight, own_count, claimed, runs, accepted_count}
 use Rattle.rcu_board.specs.Laws.{IsBoard, OddEquals, Reported}
 use Rattle.rcu_board.specs.declared.view.Accepted.{Accepted}
@@ -33,6 +33,10 @@ with_stamp s xs (Some key) = xs ++ record { key = key; stamp = s } ∷ []
 abbrev pub stamp_own : ℕ → Own → Own
 stamp_own s o = record o { accepted = with_stamp s o.accepted o.fresh; fresh = None }
 
+-- the mask of the board word x has bits of the board's processors alone
+abbrev pub IsWithin : ℕ → View → Type 0
+IsWithin x v = (n : ℕ) → length v.seen ≡ words_of n → mask_of x ≤ all_of n
+
 -- look: the board sight, and the missing stamp
 abbrev pub looked : ℕ → View → View
 looked r v = touched 0 r (record v { own = map (stamp_own (number_of r)) v.own })
@@ -40,6 +44,7 @@ looked r v = touched 0 r (record v { own = map (stamp_own (number_of r)) v.own }
 pub record Looking (st : Step ℕ) (m : SeatState) (r : ℕ) (n : SeatState) : Type 0 where
   pub view : n ≡ (looked r m.0, m.1)
   pub word : IsBoard r
+  pub within : IsWithin r m.0
   pub later : sight m.0 ≤ number_of r
   pub driver : m.0.drives ≡ true → sight m.0 ≡ number_of r
 
@@ -53,6 +58,7 @@ reported r v = touched 0 r (record v { own = map (report_own r) v.own })
 pub record Reporting (st : Step ℕ) (m : SeatState) (r : ℕ) (n : SeatState) : Type 0 where
   pub view : n ≡ (reported r m.0, m.1)
   pub word : IsBoard r
+  pub within : IsWithin r m.0
   pub later : sight m.0 ≤ number_of r
   pub counted : (o : Own) → m.0.own ≡ o ∷ [] → owes_of r o.cpu ≡ 1 → number_of r ≡ 4 * o.reports + 1
 
@@ -61,6 +67,7 @@ pub record Driving (st : Step ℕ) (m : SeatState) (r : ℕ) (n : SeatState) : T
   pub won : r ≡ st.first → n ≡ (touched 0 st.second m.0, m.1)
   pub lost : r ≢ st.first → n ≡ (touched 0 r m.0, m.1)
   pub number : number_of r ≡ sight m.0
+  pub within : IsWithin r m.0
   pub idle : sight m.0 % 4 ≡ 0 → r ≡ packed (sight m.0) 0
 
 -- need: the greater of the number and the word
@@ -82,16 +89,19 @@ pub record Accepting (st : Step ℕ) (m : SeatState) (r : ℕ) (n : SeatState) :
   pub shut : r ≢ st.first → n ≡ (touched st.word r m.0, m.1)
   pub odd : r ≢ st.first → r ≡ st.first + 1
   pub later : seen_at m.0 st.word ≤ r
+  pub final : seen_at m.0 st.word % 2 ≡ 1 → seen_at m.0 st.word ≡ r
 
 -- count_of: a load of A_p, by which the seat of p itself finds the length of its own accepted list, since no other seat lengthens it
 pub record Counting (st : Step ℕ) (m : SeatState) (r : ℕ) (n : SeatState) : Type 0 where
   pub view : n ≡ (touched st.word r m.0, m.1)
   pub later : seen_at m.0 st.word ≤ r
+  pub final : seen_at m.0 st.word % 2 ≡ 1 → seen_at m.0 st.word ≡ r
   pub own : Every (λ (o : Own). o.cpu ≡ cpu_of st.word → r / 2 ≡ accepted_count o) m.0.own
 
 pub record Shutting (st : Step ℕ) (m : SeatState) (r : ℕ) (n : SeatState) : Type 0 where
   pub view : n ≡ (touched st.word (r / 2 * 2 + 1) m.0, m.1)
   pub later : seen_at m.0 st.word ≤ r
+  pub final : seen_at m.0 st.word % 2 ≡ 1 → seen_at m.0 st.word ≡ r
 
 -- ---- T_p
 

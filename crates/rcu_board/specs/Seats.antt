@@ -1,7 +1,7 @@
 -- Words for the clauses of steps.
-use Rattle.std.specs.Prelude.{◌≡◌, ℕ, ◌+◌, ◌<◌, ◌≤◌, List, [], ◌∷◌, length, Option, None}
+use Rattle.std.specs.Prelude.{◌≡◌, ℕ, ◌+◌, ◌%◌, ◌<◌, ◌≤◌, List, [], ◌∷◌, length, Option, None}
 use Rattle.rcu_numbers.specs.Words.{owes_of}
-use Rattle.rcu_board.specs.Words.{accepts_word, turns_word}
+use Rattle.rcu_board.specs.Words.{halt_word, accepts_word, turns_word}
 use Rattle.rcu_board.specs.Views.{seen_at, sight, fresh_count}
 use Rattle.rcu_board.specs.Roles.{IsProcessor, cpu_of_role}
 use Rattle.rcu_board.specs.declared.board.Role.{Role}
@@ -21,18 +21,28 @@ view s = s.seat.me.0
 abbrev pub AtBoard : Board → Seat → Type 0
 AtBoard b s = s.seat.table_id ≡ b.table.shared.table_id
 
--- it is the same seat, whatever it knows
-pub record SameSeat (s t : Seat) : Type 0 where
-  pub role : t.role ≡ s.role
-  pub table : t.seat.table_id ≡ s.seat.table_id
-  pub weight : (view t).weight ≡ (view s).weight
+-- the view has seen that processor p was shut
+abbrev pub SawShut : ℕ → View → Type 0
+SawShut p v = seen_at v (accepts_word p) % 2 ≡ 1
 
--- no sight is below what it was, on a board for n processors
+-- the view has last seen the halt word set
+abbrev pub SawHalt : View → Type 0
+SawHalt v = seen_at v halt_word ≡ 1
+
+-- no sight is below what it was, on a board for n processors, and one that saw a processor shut stays as it is
 pub record NeverFalls (n : ℕ) (v w : View) : Type 0 where
   pub board : sight v ≤ sight w
   pub needed : seen_at v 1 ≤ seen_at w 1
   pub accepts : (p : ℕ) → p < n → seen_at v (accepts_word p) ≤ seen_at w (accepts_word p)
   pub turns : (p : ℕ) → p < n → seen_at v (turns_word p) ≤ seen_at w (turns_word p)
+  pub shut : (p : ℕ) → p < n → SawShut p v → seen_at w (accepts_word p) ≡ seen_at v (accepts_word p)
+
+-- it is the same seat, and whatever it knows besides, none of its sights has fallen
+pub record SameSeat (s t : Seat) : Type 0 where
+  pub role : t.role ≡ s.role
+  pub table : t.seat.table_id ≡ s.seat.table_id
+  pub weight : (view t).weight ≡ (view s).weight
+  pub later : (b : Board) → AtBoard b s → NeverFalls b.processors (view s) (view t)
 
 -- ---- the processor whose seat it is
 

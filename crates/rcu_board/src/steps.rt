@@ -1,7 +1,7 @@
 //! The steps of the running seats, each on one word (docs/specification/tables.md, "Kinds of atomic step"). Each asks
 //! that its seat is one of those that the table names.
 
-ghost use Rattle.std.specs.Prelude.{◌≡◌, ◌≢◌, ℕ, ◌+◌, ◌*◌, ◌/◌, ◌%◌, ◌<◌, ◌≤◌, ◌↔◌, IsTrue, IfSome, IfNone, IfOk, IfErr, OnOk, None, [], length, max, bit_or, bit_and};
+ghost use Rattle.std.specs.Prelude.{◌≡◌, ◌≢◌, ℕ, ◌+◌, ◌*◌, ◌/◌, ◌%◌, ◌<◌, ◌≤◌, ◌↔◌, IsTrue, IfSome, IfNone, IsNone, IfOk, IfErr, OnOk, None, [], length, max, bit_or, bit_and};
 ghost use Rattle.std.specs.Int.{from_bool};
 ghost use Rattle.rcu_numbers.specs.Numbers.{IsIdle, IsInProgress};
 ghost use Rattle.rcu_numbers.specs.Words.{Owes, packed, all_of, all_but_of, owes_of};
@@ -10,7 +10,7 @@ ghost use Rattle.rcu_board.specs.Views.{sight, seen_at};
 ghost use Rattle.rcu_board.specs.Laws.{IsBoard};
 ghost use Rattle.rcu_board.specs.Plays.{touched, looked, reported, accepted, claiming, finished, urged};
 ghost use Rattle.rcu_board.specs.Roles.{IsProcessor, IsDriver, IsControl, MayNeed, MayCount, MayClaim, MayHalt, cpu_of_role};
-ghost use Rattle.rcu_board.specs.Seats.{view, AtBoard, SameSeat, NeverFalls, MayHear, IsRunning, running_number, reports_of, accepted_of, fresh_of, count_of_own};
+ghost use Rattle.rcu_board.specs.Seats.{view, AtBoard, SameSeat, SawShut, MayHear, IsRunning, running_number, reports_of, accepted_of, fresh_of, count_of_own};
 ghost use Rattle.rcu_board.specs.Claims.{IfWon, IfNot};
 
 use crate::board::{Board, Role, Seat};
@@ -47,9 +47,9 @@ pub fn look(board: &Board, seat: &mut Seat) -> BoardWord
     requires { AtBoard board.now seat.old }
     ensures same { SameSeat seat.old seat.new }
     ensures view { view seat.new ≡ looked (bits_of result) (view seat.old) }
-    ensures later { NeverFalls board.now.processors (view seat.old) (view seat.new) }
     ensures sight { sight (view seat.new) ≡ result.seq }
     ensures word { IsBoard (bits_of result) }
+    ensures within { result.mask ≤ all_of board.now.processors }
     ensures driver { seat.old.role ≡ Role.Driver → result.seq ≡ sight (view seat.old) }
 {
     BoardWord::from_bits(board.table.shared.load::<Look>(&mut seat.seat, BOARD_WORD))
@@ -61,8 +61,8 @@ pub fn report(board: &Board, seat: &mut Seat) -> BoardWord
     requires who { IsProcessor seat.old.role }
     ensures same { SameSeat seat.old seat.new }
     ensures view { view seat.new ≡ reported (bits_of result) (view seat.old) }
-    ensures later { NeverFalls board.now.processors (view seat.old) (view seat.new) }
     ensures word { IsBoard (bits_of result) }
+    ensures within { result.mask ≤ all_of board.now.processors }
     ensures counted { Owes result (cpu_of_role seat.old.role) → result.seq ≡ 4 * reports_of (view seat.old) + 1 }
 {
     let Role::Processor(p) = seat.role else {
@@ -84,7 +84,6 @@ pub fn start(board: &Board, seat: &mut Seat, seq: u64)
     requires left { seq < 2147483644 }
     ensures same { SameSeat seat.old seat.new }
     ensures view { view seat.new ≡ touched 0 (packed (seq + 1) (all_of board.now.processors)) (view seat.old) }
-    ensures later { NeverFalls board.now.processors (view seat.old) (view seat.new) }
     ensures sight { sight (view seat.new) ≡ seq + 1 }
 {
     let idle = BoardWord::pack(seq, 0).bits();
@@ -106,12 +105,12 @@ pub fn end(board: &Board, seat: &mut Seat, seq: u64) -> Result<(), BoardWord>
     requires seen { sight (view seat.old) ≡ seq }
     requires busy { IsInProgress seq }
     ensures same { SameSeat seat.old seat.new }
-    ensures later { NeverFalls board.now.processors (view seat.old) (view seat.new) }
     ensures ended { OnOk result (view seat.new ≡ touched 0 (packed (seq + 3) 0) (view seat.old)) }
     ensures next { OnOk result (sight (view seat.new) ≡ seq + 3) }
     ensures waits { IfErr result (λ word. view seat.new ≡ touched 0 (bits_of word) (view seat.old)) }
     ensures number { IfErr result (λ word. word.seq ≡ seq) }
     ensures owed { IfErr result (λ word. word.mask ≢ 0) }
+    ensures within { IfErr result (λ word. word.mask ≤ all_of board.now.processors) }
 {
     let clear = BoardWord::pack(seq, 0).bits();
     let over = BoardWord::pack(ended(seq), 0).bits();
@@ -131,7 +130,6 @@ pub fn need(board: &Board, seat: &mut Seat, seq: u64) -> u64
     requires who { MayNeed seat.old.role }
     ensures same { SameSeat seat.old seat.new }
     ensures view { view seat.new ≡ touched 1 (max result seq) (view seat.old) }
-    ensures later { NeverFalls board.now.processors (view seat.old) (view seat.new) }
 {
     board
         .table
@@ -145,7 +143,6 @@ pub fn needed(board: &Board, seat: &mut Seat) -> u64
     requires who { IsDriver seat.old.role }
     ensures same { SameSeat seat.old seat.new }
     ensures view { view seat.new ≡ touched 1 result (view seat.old) }
-    ensures later { NeverFalls board.now.processors (view seat.old) (view seat.new) }
 {
     board.table.shared.load::<Load>(&mut seat.seat, NEEDED_WORD)
 }
@@ -161,10 +158,10 @@ pub fn accept(board: &Board, seat: &mut Seat, count: u64, key: u64) -> Option<u6
     requires stamped { fresh_of (view seat.old) ≡ None }
     requires small { count < 1000000 }
     ensures same { SameSeat seat.old seat.new }
-    ensures later { NeverFalls board.now.processors (view seat.old) (view seat.new) }
     ensures number { IfSome result (λ number. number ≡ count) }
     ensures won { IfSome result (λ number. view seat.new ≡ accepted (accepts_word (cpu_of_role seat.old.role)) (2 * count + 2) key (view seat.old)) }
     ensures shut { IfNone result (view seat.new ≡ touched (accepts_word (cpu_of_role seat.old.role)) (2 * count + 1) (view seat.old)) }
+    ensures closed { SawShut (cpu_of_role seat.old.role) (view seat.old) → IsNone result }
 {
     let Role::Processor(p) = seat.role else {
         unreachable!()
@@ -190,7 +187,6 @@ pub fn shut_one(board: &Board, seat: &mut Seat, p: u64) -> u64
     requires processor { p < board.now.processors }
     ensures same { SameSeat seat.old seat.new }
     ensures view { view seat.new ≡ touched (accepts_word p) (2 * result + 1) (view seat.old) }
-    ensures later { NeverFalls board.now.processors (view seat.old) (view seat.new) }
 {
     let found = board
         .table
@@ -207,7 +203,6 @@ pub fn count_of(board: &Board, seat: &mut Seat, p: u64) -> u64
     requires processor { p < board.now.processors }
     ensures same { SameSeat seat.old seat.new }
     ensures view { view seat.new ≡ touched (accepts_word p) result (view seat.old) }
-    ensures later { NeverFalls board.now.processors (view seat.old) (view seat.new) }
     ensures own { seat.old.role ≡ Role.Processor p → result / 2 ≡ count_of_own (view seat.old) }
 {
     board
@@ -234,7 +229,6 @@ pub fn claim(board: &Board, seat: &mut Seat, number: u64) -> Claimed
     requires rests { (view seat.old).running ≡ [] }
     requires small { number < 1000000 }
     ensures same { SameSeat seat.old seat.new }
-    ensures later { NeverFalls board.now.processors (view seat.old) (view seat.new) }
     ensures won { let p = cpu_of_role seat.old.role in IfWon result (view seat.new ≡ claiming (turns_word p) (2 * number + 1) p number (view seat.old)) }
     ensures lost { IfNot result (λ word. view seat.new ≡ touched (turns_word (cpu_of_role seat.old.role)) word (view seat.old)) }
     ensures other { IfNot result (λ word. word ≢ 2 * number) }
@@ -260,7 +254,6 @@ pub fn finish(board: &Board, seat: &mut Seat)
     requires runs { IsRunning (cpu_of_role seat.old.role) (view seat.old) }
     ensures same { SameSeat seat.old seat.new }
     ensures view { view seat.new ≡ finished (turns_word (cpu_of_role seat.old.role)) (2 * running_number (view seat.old) + 2) (view seat.old) }
-    ensures later { NeverFalls board.now.processors (view seat.old) (view seat.new) }
 {
     let p = cpu(&seat.role);
     board
@@ -276,7 +269,6 @@ pub fn turn_of(board: &Board, seat: &mut Seat, p: u64) -> u64
     requires processor { p < board.now.processors }
     ensures same { SameSeat seat.old seat.new }
     ensures view { view seat.new ≡ touched (turns_word p) result (view seat.old) }
-    ensures later { NeverFalls board.now.processors (view seat.old) (view seat.new) }
 {
     board
         .table
@@ -304,7 +296,6 @@ pub fn ask(board: &Board, seat: &mut Seat, p: u64, on: bool)
     requires processor { p < board.now.processors }
     ensures same { SameSeat seat.old seat.new }
     ensures view { view seat.new ≡ touched (asks_word p) (from_bool on) (view seat.old) }
-    ensures later { NeverFalls board.now.processors (view seat.old) (view seat.new) }
 {
     board.table.shared.store::<Switch>(
         &mut seat.seat,
@@ -319,7 +310,6 @@ pub fn asked(board: &Board, seat: &mut Seat) -> bool
     requires who { IsProcessor seat.old.role }
     ensures same { SameSeat seat.old seat.new }
     ensures view { view seat.new ≡ touched (asks_word (cpu_of_role seat.old.role)) (from_bool result) (view seat.old) }
-    ensures later { NeverFalls board.now.processors (view seat.old) (view seat.new) }
 {
     let Role::Processor(p) = seat.role else {
         unreachable!()
@@ -337,7 +327,6 @@ pub fn halt(board: &Board, seat: &mut Seat)
     requires who { IsControl seat.old.role }
     ensures same { SameSeat seat.old seat.new }
     ensures view { view seat.new ≡ touched 2 1 (view seat.old) }
-    ensures later { NeverFalls board.now.processors (view seat.old) (view seat.new) }
 {
     board
         .table
@@ -351,7 +340,6 @@ pub fn halted(board: &Board, seat: &mut Seat) -> bool
     requires who { MayHalt seat.old.role }
     ensures same { SameSeat seat.old seat.new }
     ensures view { view seat.new ≡ touched 2 (from_bool result) (view seat.old) }
-    ensures later { NeverFalls board.now.processors (view seat.old) (view seat.new) }
 {
     board.table.shared.load::<Switch>(&mut seat.seat, HALT_WORD) == 1
 }
@@ -362,7 +350,6 @@ pub fn urge(board: &Board, seat: &mut Seat)
     requires who { MayCount seat.old.role }
     ensures same { SameSeat seat.old seat.new }
     ensures view { let i = urge_word board.now.processors in let found = seen_at (view seat.new) i in view seat.new ≡ urged i found (bit_or found (all_of board.now.processors)) (view seat.old) }
-    ensures later { NeverFalls board.now.processors (view seat.old) (view seat.new) }
 {
     let every = u64::from(all_processors(board.processors));
     let urge_word = FIRST_ACCEPTS + WORDS_EACH * board.processors as usize;
@@ -378,7 +365,6 @@ pub fn heard(board: &Board, seat: &mut Seat) -> bool
     requires who { MayHear board.now seat.old.role }
     ensures same { SameSeat seat.old seat.new }
     ensures view { let i = urge_word board.now.processors in let found = seen_at (view seat.new) i in view seat.new ≡ urged i found (bit_and found (all_but_of (cpu_of_role seat.old.role))) (view seat.old) }
-    ensures later { NeverFalls board.now.processors (view seat.old) (view seat.new) }
     ensures heard { IsTrue result ↔ (owes_of (seen_at (view seat.new) (urge_word board.now.processors)) (cpu_of_role seat.old.role) ≡ 1) }
 {
     let Role::Processor(p) = seat.role else {

@@ -27,7 +27,7 @@ impl Control {
     ghost use Rattle.rcu_board.specs.Plays.{touched};
     ghost use Rattle.rcu_board.specs.Words.{halt_word};
     ghost use Rattle.rcu_control.specs.Parts.{control_board, control_seat, control_view};
-    ghost use Rattle.rcu_control.specs.Control.{SwitchesBy, Shuts};
+    ghost use Rattle.rcu_control.specs.Control.{SwitchesBy, Shuts, CountsAgain};
     ghost use Rattle.rcu_control.specs.Barriers.{OpensBy};
 
     /// Control of a board, from its seat.
@@ -88,11 +88,12 @@ impl Control {
         Ok(())
     }
 
-    /// Shuts every processor, and answers the final counts of what they accepted.
+    /// Shuts every processor, and answers the final counts of what they accepted: a second time the same ones.
     pub fn shut(&mut self) -> Counts
         ensures same { SamePart (control_board self.old) (control_board self.new) (control_seat self.old) (control_seat self.new) }
         ensures many { result.n ≡ (control_board self.old).processors }
         ensures shuts { Shuts (control_board self.old).processors result (control_view self.old) (control_view self.new) }
+        ensures again { CountsAgain (control_board self.old).processors result (control_view self.old) }
     {
         let n = self.processors();
         let mut counts = Counts::new(n);

@@ -1,8 +1,9 @@
 //! The loops of the running parts that hold no callbacks. They alone may wait.
 
 ghost use Rattle.std.specs.Prelude.{◌≡◌};
+ghost use Rattle.rcu_board.specs.Seats.{SawHalt};
 ghost use Rattle.rcu_control.specs.Views.{SamePart};
-ghost use Rattle.rcu_control.specs.Parts.{driver_board, driver_seat, control_board, control_seat, control_view};
+ghost use Rattle.rcu_control.specs.Parts.{driver_board, driver_seat, driver_view, control_board, control_seat, control_view};
 ghost use Rattle.rcu_control.specs.Barriers.{IsOver};
 
 use crate::barrier::Barrier;
@@ -25,6 +26,7 @@ impl Driver {
     /// Turns until the runtime is halted, and gives the driver back. Between turns that did nothing it pauses.
     pub fn run<R: Wait + Clock>(self, rt: &R) -> Driver
         ensures same { SamePart (driver_board self) (driver_board result) (driver_seat self) (driver_seat result) }
+        ensures halted { SawHalt (driver_view result) }
     {
         let mut driver = self;
         let mut pauses = Pauses::new();

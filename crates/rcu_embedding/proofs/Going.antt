@@ -5,7 +5,7 @@ use Rattle.std.proofs.lemmas.List.Sums.{sum_by-append, sum_by-cons, sum_by-set}
 use Rattle.std.specs.Global.{Vec}
 use Rattle.std.specs.Vec.{with_items}
 use Rattle.std.specs.List.{AllZip}
-use Rattle.rcu_control.proofs.Stepping.{same_again}
+use Rattle.rcu_control.proofs.Stepping.{same_again, same_part}
 use Rattle.rcu_control.specs.Parts.{control_board, control_seat, driver_board, driver_seat}
 use Rattle.rcu_control.specs.Views.{SamePart}
 use Rattle.rcu_control.specs.declared.control.Control.{Control}
@@ -115,9 +115,6 @@ hands_stay (h ∷ hs) [] z = absurd z
 hands_stay (h ∷ hs) (i ∷ is) z = (z.0.same, hands_stay hs is z.1)
 
 -- ---- all parts
-
-same_part : (b : Board) (s : Seat) → SamePart b b s s
-same_part b s = record { board = refl; seat = record { role = refl; table = refl; weight = refl } }
 
 pub driver_same : (d : Driver) → SamePart (driver_board d) (driver_board d) (driver_seat d) (driver_seat d)
 driver_same d = same_part (driver_board d) (driver_seat d)

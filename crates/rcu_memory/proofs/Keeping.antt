@@ -22,9 +22,7 @@ use Rattle.rcu_part_processor.proofs.TickRuns.{same_processor}
 use Rattle.rcu_memory.specs.Driven.{AreDriven}
 use Rattle.rcu_memory.specs.Works.{IsOwnKey, key_of_work}
 use Rattle.rcu_memory.specs.declared.work.Work.{Work}
-
-same_part : (b : Board) (s : Seat) → SamePart b b s s
-same_part b s = record { board = refl; seat = record { role = refl; table = refl; weight = refl } }
+use Rattle.rcu_control.proofs.Stepping.{same_part}
 
 module _ (old : Parts Work ℕ) (driven : AreDriven old) where
   all_same : AreSameParts old old

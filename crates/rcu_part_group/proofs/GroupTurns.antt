@@ -24,6 +24,7 @@ use Rattle.rcu_part_group.specs.Groups.{GivesTo, IsEmptyFolk, LooksAt, LooksAtAl
 use Rattle.rcu_part_group.specs.declared.folk.Folk.{Folk}
 use Rattle.rcu_part_group.specs.declared.group.GroupState.{GroupState}
 use Rattle.rcu_part_group.proofs.GroupLists.{each_all, each_zip, greatest_upto, zip_map, zip_again, zip_same}
+use Rattle.rcu_board.proofs.Facts.{same_seat}
 
 -- what holds of each
 always : {A : Type 0} (xs : List A) → All (λ (x : A). Unit {0}) xs
@@ -164,7 +165,7 @@ module _ {J : Type 0} where
   places_same ms = zip_same PassesOn (λ m. record { got = []; given = []; received = sym (append-nil (relay_of m).received); put = sym (append-nil (relay_of m).put); order = append-nil (held_of m) }) ms
 
   pub same_group : (p : GroupState J) → SameGroup p p
-  same_group p = record { part = record { board = refl; seat = record { role = refl; table = refl; weight = refl } }; group = refl; blimit = refl; members = folks_same (members_of p) }
+  same_group p = record { part = record { board = refl; seat = same_seat _ }; group = refl; blimit = refl; members = folks_same (members_of p) }
 
   -- ---- the law
 

@@ -3,7 +3,7 @@
 ghost use Rattle.std.specs.Prelude.{◌≡◌, ◌+◌, ◌≤◌, [], ◌∷◌, IfSome, length, sum_by};
 ghost use Rattle.std.specs.List.{AllZip};
 ghost use Rattle.rcu_board.specs.Roles.{MayNeed};
-ghost use Rattle.rcu_board.specs.Seats.{view, AtBoard, SameSeat, NeverFalls};
+ghost use Rattle.rcu_board.specs.Seats.{view, AtBoard, SameSeat};
 ghost use Rattle.rcu_board.specs.Views.{seen_at, sight, tally};
 ghost use Rattle.rcu_board.specs.Words.{board_word, needed_word};
 ghost use Rattle.rcu_control.specs.Views.{KeepsLists};
@@ -143,7 +143,6 @@ fn want(board: &Board, seat: &mut Seat, most: Option<u64>)
     ensures same { SameSeat seat.old seat.new }
     ensures asks { AsksFor most (view seat.old) (view seat.new) }
     ensures lists { KeepsLists (view seat.old) (view seat.new) }
-    ensures later { NeverFalls board.now.processors (view seat.old) (view seat.new) }
     ensures sight { sight (view seat.new) ≡ sight (view seat.old) }
     ensures fresh { tally (view seat.new) board_word ≡ tally (view seat.old) board_word }
     ensures needed { IfSome most (λ n. n ≤ seen_at (view seat.new) needed_word) }

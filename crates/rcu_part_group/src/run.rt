@@ -1,8 +1,9 @@
 //! The loop of a group. It alone may wait.
 
-ghost use Rattle.std.specs.Prelude.{◌≡◌};
+ghost use Rattle.std.specs.Prelude.{◌≡◌, IfNone};
 ghost use Rattle.std.specs.Int.{from_bool};
 ghost use Rattle.rcu_board.specs.Plays.{touched};
+ghost use Rattle.rcu_board.specs.Seats.{SawHalt};
 ghost use Rattle.rcu_board.specs.Words.{halt_word};
 ghost use Rattle.std.specs.List.{AllZip};
 ghost use Rattle.rcu_part_group.specs.Groups.{SameGroup, PassesOn, group_view, members_of};
@@ -28,6 +29,7 @@ impl<J: Job> Group<J> {
     /// Turns once, unless the runtime was halted. Answers whether a callback moved.
     fn turn_unless_halted(&mut self) -> Option<bool>
         ensures same { SameGroup self.old.state self.new.state }
+        ensures halted { IfNone result (SawHalt (group_view self.new.state)) }
         ensures places { AllZip PassesOn (members_of self.old.state) (members_of self.new.state) }
     {
         if self.is_halted() {
@@ -40,6 +42,7 @@ impl<J: Job> Group<J> {
     /// Turns until the runtime is halted, and gives the group back. Between turns that moved nothing it pauses.
     pub fn run<R: Wait + Clock>(self, rt: &R) -> Group<J>
         ensures same { SameGroup self.state result.state }
+        ensures halted { SawHalt (group_view result.state) }
         ensures places { AllZip PassesOn (members_of self.state) (members_of result.state) }
     {
         let mut group = self;

@@ -10,6 +10,7 @@ use Rattle.rcu_board.specs.declared.view.Claim.{Claim}
 use Rattle.rcu_board.specs.declared.view.View.{View}
 use Rattle.rcu_control.proofs.Stepping.{has_words, same_again}
 use Rattle.rcu_jobs.specs.Records.{Given}
+use Rattle.rcu_jobs.specs.declared.HandTurn.{HandTurn}
 use Rattle.rcu_jobs.specs.declared.callback.Callback.{Callback}
 use Rattle.rcu_jobs.specs.declared.callback.Record.{Record}
 use Rattle.rcu_numbers.specs.Numbers.{snap_of}
@@ -19,9 +20,10 @@ use Rattle.rcu_part_steps.specs.Changes.{Keeps, Claims, Finishes, StepsOnly, cla
 use Rattle.rcu_board.specs.Words.{board_word, turns_word}
 use Rattle.rcu_part_steps.proofs.Turning.{steps_more}
 use Rattle.rcu_part_hand.specs.HandLaw.{IsLawfulHand}
-use Rattle.rcu_part_hand.specs.Hands.{Looks, Loads, Ran, SameHand, hand_board, hand_held, hand_drawn, hand_records, hand_view}
+use Rattle.rcu_part_hand.specs.Hands.{AddsRecords, Looks, Loads, Ran, SameHand, TurnsBy, hand_board, hand_held, hand_drawn, hand_records, hand_view}
 use Rattle.rcu_part_steps.specs.Places.{AreKeyed, numbered_callback, claim_of}
 use Rattle.rcu_part_hand.specs.declared.hand.HandState.{HandState}
+use Rattle.rcu_board.proofs.Facts.{same_seat}
 
 pub all_one : {X : Type 0} (P : X → Type 0) (x : X) → P x → All P (x ∷ [])
 all_one P x p zero d low = p
@@ -136,10 +138,21 @@ module _ {J R : Type 0} where
       (all_one (λ (x : Record R). gives x.key x.receipt) r (given (keyed_at key_of taken c rest split))))
 
   pub same_hand : (p : HandState J R) → SameHand p p
-  same_hand p = record { part = record { board = refl; seat = record { role = refl; table = refl; weight = refl } }; lane = refl; cpu = refl; blimit = refl }
+  same_hand p = record { part = record { board = refl; seat = same_seat _ }; lane = refl; cpu = refl; blimit = refl }
 
   pub same_hand_again : (p q r : HandState J R) → SameHand p q → SameHand q r → SameHand p r
   same_hand_again p q r a b = record { part = same_again _ _ _ _ _ _ a.part b.part; lane = b.lane ∙ a.lane; cpu = b.cpu ∙ a.cpu; blimit = b.blimit ∙ a.blimit }
+
+  -- records that stay, or to which others are added, and then others
+  pub records_kept : (p q : HandState J R) → hand_records q ≡ hand_records p → AddsRecords p q
+  records_kept p q e = ([], e ∙ sym (append-nil (hand_records p)))
+
+  pub records_again : (p q r : HandState J R) → AddsRecords p q → AddsRecords q r → AddsRecords p r
+  records_again p q r a b = (a.0 ++ b.0, b.1 ∙ (ap (λ l. l ++ b.0) a.1 ∙ append_assoc (hand_records p) a.0 b.0))
+
+  -- a turn adds the records of what it ran
+  pub records_turned : (answer : HandTurn) (p q : HandState J R) → TurnsBy answer p q → AddsRecords p q
+  records_turned answer p q t = (t.ran.records, t.ran.more ∙ ap (λ l. l ++ t.ran.records) (t.loads.records ∙ t.looks.records))
 
   -- a step that changes no claim
   pub hand_watched : (cpu : ℕ) (v w : View) (ran : List (Record R)) (taken : List (Callback J)) → w.claims ≡ v.claims → w.running ≡ v.running → IsLawfulHand cpu v ran taken → IsLawfulHand cpu w ran taken

@@ -51,6 +51,10 @@ module _ {J R : Type 0} where
     pub cpu : q.cpu ≡ p.cpu
     pub blimit : q.blimit ≡ p.blimit
 
+  -- the records that there were stand before all others
+  abbrev pub AddsRecords : HandState J R → HandState J R → Type 0
+  AddsRecords p q = (more : List (Record R)) × (hand_records q ≡ hand_records p ++ more)
+
   -- What a hand knows of jobs: where each callback that it drew has its job's key, each receipt is as the relation wants it.
   abbrev pub IsSoundHand : (J → ℕ) → (ℕ → R → Type 0) → HandState J R → Type 0
   IsSoundHand key_of gives h = AreKeyed key_of (hand_drawn h) → Given gives (hand_records h)

@@ -1,10 +1,11 @@
 //! The loop of a hand. It alone may wait.
 
-ghost use Rattle.std.specs.Prelude.{◌≡◌};
+ghost use Rattle.std.specs.Prelude.{◌≡◌, IfNone};
 ghost use Rattle.std.specs.Int.{from_bool};
 ghost use Rattle.rcu_board.specs.Plays.{touched};
+ghost use Rattle.rcu_board.specs.Seats.{SawHalt};
 ghost use Rattle.rcu_board.specs.Words.{halt_word};
-ghost use Rattle.rcu_part_hand.specs.Hands.{SameHand, IsSoundHand, hand_view, hand_held, hand_drawn, hand_records};
+ghost use Rattle.rcu_part_hand.specs.Hands.{SameHand, AddsRecords, IsSoundHand, hand_view, hand_held, hand_drawn, hand_records};
 
 use crate::hand::Hand;
 use rcu_board::halted;
@@ -28,6 +29,8 @@ impl<J: Job> Hand<J> {
     /// Turns once, unless the runtime was halted. Answers whether a callback ran.
     fn turn_unless_halted(&mut self) -> Option<bool>
         ensures same { SameHand self.old.state self.new.state }
+        ensures halted { IfNone result (SawHalt (hand_view self.new.state)) }
+        ensures records { AddsRecords self.old.state self.new.state }
         ensures sound { IsSoundHand J.key_of J.gives self.old.state → IsSoundHand J.key_of J.gives self.new.state }
     {
         if self.is_halted() {
@@ -39,6 +42,8 @@ impl<J: Job> Hand<J> {
     /// Turns until the runtime is halted, and gives the hand back. Between turns that ran nothing it pauses.
     pub fn run<R: Wait + Clock>(self, rt: &R) -> Hand<J>
         ensures same { SameHand self.state result.state }
+        ensures halted { SawHalt (hand_view result.state) }
+        ensures records { AddsRecords self.state result.state }
         ensures sound { IsSoundHand J.key_of J.gives self.state → IsSoundHand J.key_of J.gives result.state }
     {
         let mut hand = self;

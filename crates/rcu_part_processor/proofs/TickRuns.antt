@@ -1,5 +1,5 @@
 -- What the runs of a tick come to.
-use Rattle.std.proofs.Common.{◌≡◌, ◌≢◌, ℕ, ◌+◌, ◌≤◌, cond, get_or, List, [], ◌∷◌, ◌++◌, map, length-append, append-nil, append_assoc, ap, sym, ◌∙◌, refl, subst, arith}
+use Rattle.std.proofs.Common.{◌≡◌, ◌≢◌, ℕ, ◌+◌, ◌≤◌, Bool, true, false, cond, get_or, List, [], ◌∷◌, ◌++◌, map, length-append, append-nil, append_assoc, ap, sym, ◌∙◌, refl, subst, arith}
 use Rattle.std.proofs.lemmas.List.{map-append}
 use Rattle.std.proofs.lemmas.List.Elements.{All-append, All-cons, All-head, All-nil, All-tail}
 use Rattle.std.proofs.lemmas.List.Sums.{sum_by-cons}
@@ -8,6 +8,7 @@ use Rattle.rcu_board.specs.Words.{turns_word}
 use Rattle.rcu_control.proofs.Stepping.{same_again}
 use Rattle.rcu_holdings.specs.Callers.{Holding, passed_on}
 use Rattle.rcu_jobs.specs.Records.{Given}
+use Rattle.rcu_jobs.specs.declared.Ticked.{Ticked}
 use Rattle.rcu_jobs.specs.declared.callback.Callback.{Callback}
 use Rattle.rcu_jobs.specs.declared.callback.Record.{Record}
 use Rattle.rcu_lists.specs.Labels.{Done, Labelled, marked, count, is_done}
@@ -15,10 +16,11 @@ use Rattle.rcu_places.specs.Places.{Numbered}
 use Rattle.rcu_records.specs.Records.{numbered_record}
 use Rattle.rcu_part_steps.specs.Changes.{StepsOnly}
 use Rattle.rcu_part_steps.specs.Places.{AreKeyed, numbered_callback}
-use Rattle.rcu_part_processor.specs.Processors.{IsSound, SameProcessor, lists_of, records_of, view_of}
-use Rattle.rcu_part_processor.specs.Ticks.{RanDone}
+use Rattle.rcu_part_processor.specs.Processors.{AddsRecords, IsSound, SameProcessor, lists_of, records_of, view_of}
+use Rattle.rcu_part_processor.specs.Ticks.{RanDone, TicksBy}
 use Rattle.rcu_part_processor.specs.declared.processor.ProcessorState.{ProcessorState}
 use Rattle.rcu_part_steps.proofs.Turning.{steps_more}
+use Rattle.rcu_board.proofs.Facts.{same_seat}
 
 module _ {J : Type 0} where
   -- a list whose first callback is done
@@ -31,7 +33,7 @@ module _ {J : Type 0} where
 
 module _ {J R : Type 0} where
   pub same_processor : (p : ProcessorState J R) → SameProcessor p p
-  same_processor p = record { part = record { board = refl; seat = record { role = refl; table = refl; weight = refl } }; lane = refl; cpu = refl; offloadable = refl; limit = refl; blimit = refl }
+  same_processor p = record { part = record { board = refl; seat = same_seat _ }; lane = refl; cpu = refl; offloadable = refl; limit = refl; blimit = refl }
 
   pub same_processor_again : (p q r : ProcessorState J R) → SameProcessor p q → SameProcessor q r → SameProcessor p r
   same_processor_again p q r a b = record {
@@ -42,6 +44,20 @@ module _ {J R : Type 0} where
     limit = b.limit ∙ a.limit;
     blimit = b.blimit ∙ a.blimit;
   }
+
+  -- records that stay, or to which others are added, and then others
+  pub records_kept : (p q : ProcessorState J R) → records_of q ≡ records_of p → AddsRecords p q
+  records_kept p q e = ([], e ∙ sym (append-nil (records_of p)))
+
+  pub records_again : (p q r : ProcessorState J R) → AddsRecords p q → AddsRecords q r → AddsRecords p r
+  records_again p q r a b = (a.0 ++ b.0, b.1 ∙ (ap (λ l. l ++ b.0) a.1 ∙ append_assoc (records_of p) a.0 b.0))
+
+  -- a tick adds the records of what it ran
+  pub records_ticked : (moment : ℕ) (answer : Ticked) (p q : ProcessorState J R) → TicksBy moment answer p q → AddsRecords p q
+  records_ticked moment answer p q t = (t.ran.records, t.ran.more ∙ ap (λ l. l ++ t.ran.records) (before p.offloadable refl)) where
+    before : (on : Bool) → p.offloadable ≡ on → records_of t.third ≡ records_of p
+    before true is = (t.settles is).records ∙ ((t.heeds is).records ∙ t.catches_up.records)
+    before false is = let e = t.local is in ap records_of e.1 ∙ (ap records_of e.0 ∙ t.catches_up.records)
 
   -- nothing was run
   pub done_none : (tried seen : ℕ) (p q : ProcessorState J R) → lists_of q ≡ lists_of p → records_of q ≡ records_of p → StepsOnly (turns_word p.cpu) tried (view_of p) (view_of q)

@@ -1,5 +1,5 @@
 -- What contracts see of a processor's part.
-use Rattle.std.specs.Prelude.{◌≡◌, ℕ, List}
+use Rattle.std.specs.Prelude.{◌≡◌, ℕ, List, ◌++◌}
 use Rattle.std.specs.Arc.{arc_value}
 use Rattle.rcu_board.specs.Seats.{view}
 use Rattle.rcu_board.specs.declared.board.Board.{Board}
@@ -37,6 +37,10 @@ module _ {J R : Type 0} where
     pub offloadable : q.offloadable ≡ p.offloadable
     pub limit : q.limit ≡ p.limit
     pub blimit : q.blimit ≡ p.blimit
+
+  -- the records that there were stand before all others
+  abbrev pub AddsRecords : ProcessorState J R → ProcessorState J R → Type 0
+  AddsRecords p q = (more : List (Record R)) × (records_of q ≡ records_of p ++ more)
 
   -- What a processor knows of jobs: each callback that it put on its lane or holds has its job's key, and each receipt is as
   -- the relation wants it for its record's key.

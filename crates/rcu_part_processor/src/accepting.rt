@@ -1,7 +1,7 @@
 //! How a job is accepted, by a processor that rests and by one of which a claim runs.
 
 ghost use Rattle.std.specs.Prelude.{◌≡◌, ◌<◌, ◌≤◌, Bool, IfOk, IfErr, IsErr, List, None, length};
-ghost use Rattle.rcu_board.specs.Seats.{view, AtBoard, SameSeat, accepted_of, fresh_of};
+ghost use Rattle.rcu_board.specs.Seats.{view, AtBoard, SameSeat, SawShut, accepted_of, fresh_of};
 ghost use Rattle.rcu_board.specs.declared.board.Role.{Role};
 ghost use Rattle.rcu_holdings.specs.Callers.{holding, passed_on, rear_of};
 ghost use Rattle.rcu_lanes.specs.Ends.{SameRear};
@@ -48,6 +48,7 @@ pub(crate) fn accept_job<J: Job>(
         (pieces request.cpu request.limit accepted.old seat.old lists.old) (pieces request.cpu request.limit accepted.new seat.new lists.new)) }
     ensures refused { IfErr result (λ r. Refuses request.job r
         (pieces request.cpu request.limit accepted.old seat.old lists.old) (pieces request.cpu request.limit accepted.new seat.new lists.new)) }
+    ensures closed { SawShut request.cpu (view seat.old) → IsErr result }
     ensures full { accepted.old ≡ request.limit → IfErr result (λ r. IsLimit r) × IsErr result }
     ensures small { accepted.new ≤ request.limit }
     ensures claims { ((view seat.new).claims ≡ (view seat.old).claims) × ((view seat.new).running ≡ (view seat.old).running) }

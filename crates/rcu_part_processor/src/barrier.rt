@@ -26,8 +26,7 @@ impl<J: Job> Processor<J> {
 }
 
 impl<J: Job> ReadsTurns for Processor<J> {
-    ghost use Rattle.std.proofs.Common.{rules};
-    ghost use Rattle.rcu_part_processor.specs.Looking.{OnlyLooks};
+    ghost use Rattle.rcu_part_processor.specs.Looking.{OnlyLooks, looks_none, looks_again};
     ghost use Rattle.rcu_part_processor.specs.Processors.{board_of, seat_of};
 
     ghost board_of = { λ p. board_of p.state };
@@ -41,7 +40,7 @@ impl<J: Job> ReadsTurns for Processor<J> {
         turn_of(&state.board, &mut state.seat, p)
     }
 
-    ghost keeps_itself = { Prim.search rules };
+    ghost keeps_itself = { λ w. looks_none J.key_of J.gives w.state };
 
-    ghost keeps_again = { Prim.search rules };
+    ghost keeps_again = { λ u v w x y. looks_again J.key_of J.gives u.state v.state w.state x y };
 }

@@ -1,10 +1,11 @@
 //! How a processor accepts a job.
 
 ghost use Rattle.std.specs.Prelude.{◌≡◌, IfOk, IfErr, IsErr};
+ghost use Rattle.rcu_board.specs.Seats.{SawShut};
 ghost use Rattle.rcu_lists.specs.declared.pace.Kind.TheVariants.{Plain, Lazy};
 ghost use Rattle.rcu_part_processor.specs.Accepting.{IsLimit};
 ghost use Rattle.rcu_part_processor.specs.Calls.{IsAccepted, KeepsAll, IsRefusedAs};
-ghost use Rattle.rcu_part_processor.specs.Processors.{SameProcessor, IsSound};
+ghost use Rattle.rcu_part_processor.specs.Processors.{SameProcessor, IsSound, view_of};
 
 use crate::accepting::{Request, accept_job};
 use crate::processor::Processor;
@@ -25,6 +26,7 @@ impl<J: Job> Processor<J> {
         ensures ok { IfOk result (λ t. IsAccepted moment Plain (J.key_of job) job t self.old.state self.new.state) }
         ensures err { IfErr result (λ _. KeepsAll self.old.state self.new.state) }
         ensures refused { IfErr result (λ r. IsRefusedAs job r self.old.state self.new.state) }
+        ensures closed { SawShut self.old.state.cpu (view_of self.old.state) → IsErr result }
         ensures full { self.old.state.accepted ≡ self.old.state.limit → IfErr result (λ r. IsLimit r) × IsErr result }
         ensures sound { IsSound J.key_of J.gives self.old.state → IsSound J.key_of J.gives self.new.state }
     {
@@ -41,6 +43,7 @@ impl<J: Job> Processor<J> {
         ensures ok { IfOk result (λ t. IsAccepted moment Lazy (J.key_of job) job t self.old.state self.new.state) }
         ensures err { IfErr result (λ _. KeepsAll self.old.state self.new.state) }
         ensures refused { IfErr result (λ r. IsRefusedAs job r self.old.state self.new.state) }
+        ensures closed { SawShut self.old.state.cpu (view_of self.old.state) → IsErr result }
         ensures full { self.old.state.accepted ≡ self.old.state.limit → IfErr result (λ r. IsLimit r) × IsErr result }
         ensures sound { IsSound J.key_of J.gives self.old.state → IsSound J.key_of J.gives self.new.state }
     {
@@ -53,6 +56,7 @@ impl<J: Job> Processor<J> {
         ensures ok { IfOk result (λ t. IsAccepted moment kind (J.key_of job) job t self.old.state self.new.state) }
         ensures err { IfErr result (λ _. KeepsAll self.old.state self.new.state) }
         ensures refused { IfErr result (λ r. IsRefusedAs job r self.old.state self.new.state) }
+        ensures closed { SawShut self.old.state.cpu (view_of self.old.state) → IsErr result }
         ensures full { self.old.state.accepted ≡ self.old.state.limit → IfErr result (λ r. IsLimit r) × IsErr result }
         ensures sound { IsSound J.key_of J.gives self.old.state → IsSound J.key_of J.gives self.new.state }
     {

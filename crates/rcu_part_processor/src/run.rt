@@ -1,11 +1,12 @@
 //! The loop of a processor. It alone may wait.
 
-ghost use Rattle.std.specs.Prelude.{◌≡◌};
+ghost use Rattle.std.specs.Prelude.{◌≡◌, IfNone};
 ghost use Rattle.std.specs.Int.{from_bool};
 ghost use Rattle.rcu_board.specs.Plays.{touched};
+ghost use Rattle.rcu_board.specs.Seats.{SawHalt};
 ghost use Rattle.rcu_board.specs.Words.{halt_word};
 ghost use Rattle.rcu_part_processor.specs.Calls.{KeepsAll};
-ghost use Rattle.rcu_part_processor.specs.Processors.{SameProcessor, IsSound, view_of};
+ghost use Rattle.rcu_part_processor.specs.Processors.{SameProcessor, AddsRecords, IsSound, view_of};
 
 use crate::processor::Processor;
 use rcu_board::halted;
@@ -29,7 +30,9 @@ impl<J: Job> Processor<J> {
     /// Reports and ticks once, unless the runtime was halted. Answers whether a report was counted or a callback ran.
     fn turn_unless_halted(&mut self, moment: u64) -> Option<bool>
         ensures same { SameProcessor self.old.state self.new.state }
+        ensures halted { IfNone result (SawHalt (view_of self.new.state)) }
         ensures count { self.new.state.accepted ≡ self.old.state.accepted }
+        ensures records { AddsRecords self.old.state self.new.state }
         ensures sound { IsSound J.key_of J.gives self.old.state → IsSound J.key_of J.gives self.new.state }
     {
         if self.is_halted() {
@@ -44,7 +47,9 @@ impl<J: Job> Processor<J> {
     /// the processor back. Between turns that did nothing it pauses.
     pub fn run<R: Wait + Clock>(self, rt: &R) -> Processor<J>
         ensures same { SameProcessor self.state result.state }
+        ensures halted { SawHalt (view_of result.state) }
         ensures count { result.state.accepted ≡ self.state.accepted }
+        ensures records { AddsRecords self.state result.state }
         ensures sound { IsSound J.key_of J.gives self.state → IsSound J.key_of J.gives result.state }
     {
         let mut processor = self;

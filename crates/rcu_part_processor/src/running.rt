@@ -3,7 +3,7 @@
 ghost use Rattle.std.specs.Prelude.{◌≡◌, ◌<◌, ◌≤◌, true};
 ghost use Rattle.std.specs.Arc.{arc_value};
 ghost use Rattle.std.specs.Vec.{vec_len, vec_capacity};
-ghost use Rattle.rcu_board.specs.Seats.{view, AtBoard};
+ghost use Rattle.rcu_board.specs.Seats.{view, AtBoard, SawShut};
 ghost use Rattle.rcu_board.specs.declared.board.Role.{Role};
 ghost use Rattle.rcu_holdings.specs.Callers.{holding};
 ghost use Rattle.rcu_numbers.specs.Words.{owes_of};
@@ -123,6 +123,7 @@ impl<J: Job> RunningProcessor<J> {
         ensures ok { IfOk result (λ t. IsAccepted moment Plain (J.key_of job) job t self.old.state self.new.state) }
         ensures err { IfErr result (λ _. KeepsAll self.old.state self.new.state) }
         ensures refused { IfErr result (λ r. IsRefusedAs job r self.old.state self.new.state) }
+        ensures closed { SawShut self.old.state.cpu (running_view self.old.state) → IsErr result }
         ensures full { self.old.state.accepted ≡ self.old.state.limit → IfErr result (λ r. IsLimit r) × IsErr result }
         ensures claimed { self.new.state.claimed ≡ self.old.state.claimed }
         ensures sound { IsSoundRunning J.key_of J.gives self.old.state → IsSoundRunning J.key_of J.gives self.new.state }
@@ -140,6 +141,7 @@ impl<J: Job> RunningProcessor<J> {
         ensures ok { IfOk result (λ t. IsAccepted moment Lazy (J.key_of job) job t self.old.state self.new.state) }
         ensures err { IfErr result (λ _. KeepsAll self.old.state self.new.state) }
         ensures refused { IfErr result (λ r. IsRefusedAs job r self.old.state self.new.state) }
+        ensures closed { SawShut self.old.state.cpu (running_view self.old.state) → IsErr result }
         ensures full { self.old.state.accepted ≡ self.old.state.limit → IfErr result (λ r. IsLimit r) × IsErr result }
         ensures claimed { self.new.state.claimed ≡ self.old.state.claimed }
         ensures sound { IsSoundRunning J.key_of J.gives self.old.state → IsSoundRunning J.key_of J.gives self.new.state }
@@ -153,6 +155,7 @@ impl<J: Job> RunningProcessor<J> {
         ensures ok { IfOk result (λ t. IsAccepted moment kind (J.key_of job) job t self.old.state self.new.state) }
         ensures err { IfErr result (λ _. KeepsAll self.old.state self.new.state) }
         ensures refused { IfErr result (λ r. IsRefusedAs job r self.old.state self.new.state) }
+        ensures closed { SawShut self.old.state.cpu (running_view self.old.state) → IsErr result }
         ensures full { self.old.state.accepted ≡ self.old.state.limit → IfErr result (λ r. IsLimit r) × IsErr result }
         ensures claimed { self.new.state.claimed ≡ self.old.state.claimed }
         ensures sound { IsSoundRunning J.key_of J.gives self.old.state → IsSoundRunning J.key_of J.gives self.new.state }

@@ -2,7 +2,7 @@
 
 ghost use Rattle.std.specs.Prelude.{◌≡◌, ◌<◌, [], ◌∷◌};
 ghost use Rattle.rcu_board.specs.Roles.{MayClaim, cpu_of_role};
-ghost use Rattle.rcu_board.specs.Seats.{view, AtBoard, SameSeat, NeverFalls};
+ghost use Rattle.rcu_board.specs.Seats.{view, AtBoard, SameSeat};
 ghost use Rattle.rcu_board.specs.Words.{turns_word};
 ghost use Rattle.rcu_part_steps.specs.Changes.{Finishes, StepsOnly, claim_at};
 ghost use Rattle.rcu_records.specs.Records.{numbered_record};
@@ -27,7 +27,6 @@ pub fn run_claimed<J: Job>(
     ensures same { SameSeat seat.old seat.new }
     ensures ends { Finishes (view seat.old) (view seat.new) }
     ensures only { StepsOnly (turns_word (cpu_of_role seat.old.role)) 1 (view seat.old) (view seat.new) }
-    ensures later { NeverFalls board.now.processors (view seat.old) (view seat.new) }
     ensures record { numbered_record result ≡ numbered_callback callback }
     ensures ready { result.ready ≡ ready }
     ensures given { J.key_of callback.job ≡ callback.key → J.gives result.key result.receipt }

@@ -1,9 +1,9 @@
 // Steps of a processor's or a hand's seat that belong together.
 
-ghost use Rattle.std.specs.Prelude.{◌≡◌, ◌≢◌, ℕ, ◌+◌, ◌*◌, ◌<◌, ◌≤◌, [], None, IfSome, IfNone, length, true, false};
+ghost use Rattle.std.specs.Prelude.{◌≡◌, ◌≢◌, ℕ, ◌+◌, ◌*◌, ◌<◌, ◌≤◌, [], None, IfSome, IfNone, IsNone, length, true, false};
 ghost use Rattle.rcu_board.specs.Plays.{looked, touched, accepted};
 ghost use Rattle.rcu_board.specs.Roles.{MayClaim, cpu_of_role};
-ghost use Rattle.rcu_board.specs.Seats.{view, AtBoard, SameSeat, NeverFalls, IsRunning, accepted_of, fresh_of};
+ghost use Rattle.rcu_board.specs.Seats.{view, AtBoard, SameSeat, SawShut, IsRunning, accepted_of, fresh_of};
 ghost use Rattle.rcu_board.specs.Views.{seen_at, sight};
 ghost use Rattle.rcu_board.specs.Words.{accepts_word, bits_of, turns_word};
 ghost use Rattle.rcu_board.specs.declared.board.Role.{Role};
@@ -24,10 +24,10 @@ pub fn enter(board: &Board, seat: &mut Seat, cpu: u64, count: u64, key: u64) -> 
     ensures same { SameSeat seat.old seat.new }
     ensures enters { IfSome result (λ word. Enters key word.seq (view seat.old) (view seat.new)) }
     ensures view { IfSome result (λ word. view seat.new ≡ looked (bits_of word) (accepted (accepts_word cpu) (2 * count + 2) key (view seat.old))) }
-    ensures later { NeverFalls board.now.processors (view seat.old) (view seat.new) }
     ensures stamp { IfSome result (λ word. (word.seq ≡ sight (view seat.new)) × (word.seq ≤ GREATEST_NUMBER)) }
     ensures keeps { IfNone result (Keeps (view seat.old) (view seat.new)) }
     ensures shut { IfNone result (view seat.new ≡ touched (accepts_word cpu) (2 * count + 1) (view seat.old)) }
+    ensures closed { SawShut cpu (view seat.old) → IsNone result }
 {
     accept(board, seat, count, key)?;
     Some(look(board, seat))
@@ -41,7 +41,6 @@ pub fn tell(board: &Board, seat: &mut Seat, cpu: u64) -> Option<u64>
     ensures same { SameSeat seat.old seat.new }
     ensures tells { Tells (view seat.old) (view seat.new) }
     ensures reports { Reports cpu result (view seat.old) (view seat.new) }
-    ensures later { NeverFalls board.now.processors (view seat.old) (view seat.new) }
 {
     let word = report(board, seat);
     if word.owes(cpu) {
@@ -57,7 +56,6 @@ pub fn watch(board: &Board, seat: &mut Seat) -> BoardWord
     ensures same { SameSeat seat.old seat.new }
     ensures view { view seat.new ≡ looked (bits_of result) (view seat.old) }
     ensures claims { ((view seat.new).claims ≡ (view seat.old).claims) × ((view seat.new).running ≡ (view seat.old).running) }
-    ensures later { NeverFalls board.now.processors (view seat.old) (view seat.new) }
     ensures sight { (result.seq ≡ sight (view seat.new)) × (result.seq ≤ GREATEST_NUMBER) }
 {
     look(board, seat)
@@ -74,7 +72,6 @@ pub fn take(board: &Board, seat: &mut Seat, cpu: u64, number: u64) -> bool
     ensures won { result ≡ true → Claims cpu number (view seat.old) (view seat.new) }
     ensures lost { result ≡ false → Keeps (view seat.old) (view seat.new) × (sight (view seat.new) ≡ sight (view seat.old)) × (seen_at (view seat.new) (turns_word cpu) ≢ 2 * number) }
     ensures only { StepsOnly (turns_word cpu) 1 (view seat.old) (view seat.new) }
-    ensures later { NeverFalls board.now.processors (view seat.old) (view seat.new) }
 {
     match claim(board, seat, number) {
         Claimed::Won => true,
@@ -90,7 +87,6 @@ pub fn end_claim(board: &Board, seat: &mut Seat)
     ensures same { SameSeat seat.old seat.new }
     ensures ends { Finishes (view seat.old) (view seat.new) }
     ensures only { StepsOnly (turns_word (cpu_of_role seat.old.role)) 1 (view seat.old) (view seat.new) }
-    ensures later { NeverFalls board.now.processors (view seat.old) (view seat.new) }
 {
     finish(board, seat)
 }

@@ -3,4 +3,5 @@ pub mod AtClose
 pub mod Rooms
 pub mod Ending
 pub mod SameParts
+pub mod Drained
 pub mod Openings

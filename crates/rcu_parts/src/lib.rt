@@ -12,7 +12,7 @@ mod parts;
 mod room;
 
 pub use closing::{AllClosing, Closing, close};
-pub use laws::same_parts;
+pub use laws::{drained, same_parts};
 pub use opening::open;
 pub use parts::{AllParts, Parts};
 pub use rcu_control::{Barrier, Control, Driver, ReadsTurns};

@@ -22,9 +22,7 @@ use Rattle.rcu_part_group.proofs.GroupTurns.{same_group}
 use Rattle.rcu_part_hand.proofs.HandRuns.{same_hand}
 use Rattle.rcu_part_processor.proofs.TickRuns.{same_processor}
 use Rattle.rcu_parts_replay.specs.Printed.{KeepsParts}
-
-same_part : (b : Board) (s : Seat) → SamePart b b s s
-same_part b s = record { board = refl; seat = record { role = refl; table = refl; weight = refl } }
+use Rattle.rcu_control.proofs.Stepping.{same_part}
 
 -- A barrier that is open stays one of this board.
 pub stays_ours : (opened : Option Barrier) (b c : Board) → c ≡ b → IfSome opened (λ x. b.processors ≡ x.counts.n) → IfSome opened (λ x. c.processors ≡ x.counts.n)

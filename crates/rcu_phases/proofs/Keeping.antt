@@ -2,7 +2,7 @@
 use Rattle.std.proofs.Common.{◌≡◌, ℕ, List, refl, subst, sym}
 use Rattle.rcu_board.specs.declared.board.Board.{Board}
 use Rattle.rcu_board.specs.declared.board.Seat.{Seat}
-use Rattle.rcu_control.proofs.Stepping.{same_again}
+use Rattle.rcu_control.proofs.Stepping.{same_again, same_part}
 use Rattle.rcu_control.specs.Views.{SamePart}
 use Rattle.rcu_control.specs.declared.control.Control.{Control}
 use Rattle.rcu_control.specs.declared.driver.Driver.{Driver}
@@ -21,9 +21,6 @@ use Rattle.rcu_part_processor.specs.declared.processor.Processor.{Processor}
 use Rattle.rcu_phases.specs.Company.{CompanyKeeps, parts_of}
 use Rattle.rcu_phases.specs.Kept.{ControlKeeps, DriverKeeps, GroupsKeep, HandsKeep, ProcessorsKeep}
 use Rattle.rcu_phases.specs.declared.playing.Company.{Company}
-
-same_part : (b : Board) (s : Seat) → SamePart b b s s
-same_part b s = record { board = refl; seat = record { role = refl; table = refl; weight = refl } }
 
 pub driver_none : (d : Driver) → DriverKeeps d d
 driver_none d = same_part _ _

@@ -9,6 +9,7 @@ use Rattle.rcu_board.specs.Plays.{accept_own}
 use Rattle.rcu_board.specs.Seats.{first_accepted, first_fresh}
 use Rattle.rcu_board.proofs.Views.{cpus-map}
 use Rattle.rcu_board.proofs.Roles.{alone, role_else, alike_same, alike_own}
+use Rattle.rcu_board.proofs.Facts.{seen-long}
 use Rattle.rcu_board.proofs.Later.{later_accepts}
 use Rattle.rcu_board.proofs.WordSteps.{accept_allowed}
 use Rattle.rcu_board.proofs.steps.accept.Goals as goal
@@ -26,18 +27,14 @@ invariant_of-seat c = let m = c.args.seat.now.seat.me in let e = c.compare_excha
 }
 
 pub returns-clause-same : goal.returns-clause-same
-returns-clause-same c = let e = c.compare_exchange_with-found.ensures in record {
-  role = refl;
-  table = e.0;
-  weight = dite (ℕ_discrete c.compare_exchange_with-found.result (2 * c.args.count))
-      (λ hit. ap (λ (k : Me ℕ View). k.0.weight) (e.2.won c.args.key refl hit))
-      (λ miss. ap (λ (k : Me ℕ View). k.0.weight) (e.2.shut miss));
-}
-
-pub returns-clause-later : goal.returns-clause-later
-returns-clause-later c = let m = c.args.seat.now.seat.me in let e = c.compare_exchange_with-found.ensures in let n = c.args.board.now.processors in let p = c.in-Processor.p in
-    let own = map (accept_own c.args.key) m.0.own in
-    let long : length m.0.seen ≡ words_of n = omega (arith, c.args.seat.now.of_role.can_step.seen_long, ap (λ z. z.words) c.requires.board, c.args.board.now.sized) in
-    dite (ℕ_discrete c.compare_exchange_with-found.result (2 * c.args.count))
-    (λ hit. subst (λ (k : Me ℕ View). NeverFalls n m.0 k.0) (sym (e.2.won c.args.key refl hit)) (later_accepts n m.0 (record m.0 { own = own }) (3 + 3 * p) (2 * c.args.count + 2) refl long p refl (omega (arith, e.2.later))))
-    (λ miss. subst (λ (k : Me ℕ View). NeverFalls n m.0 k.0) (sym (e.2.shut miss)) (later_accepts n m.0 m.0 (3 + 3 * p) c.compare_exchange_with-found.result refl long p refl e.2.later))
+returns-clause-same c = let m = c.args.seat.now.seat.me in let e = c.compare_exchange_with-found.ensures in let p = c.in-Processor.p in
+    let r = c.compare_exchange_with-found.result in let own = map (accept_own c.args.key) m.0.own in record {
+      role = refl;
+      table = e.0;
+      weight = dite (ℕ_discrete r (2 * c.args.count)) (λ hit. ap (λ (k : Me ℕ View). k.0.weight) (e.2.won c.args.key refl hit)) (λ miss. ap (λ (k : Me ℕ View). k.0.weight) (e.2.shut miss));
+      later = λ b at. let long = seen-long b c.args.seat.now at in dite (ℕ_discrete r (2 * c.args.count))
+          (λ hit. subst (λ (k : Me ℕ View). NeverFalls b.processors m.0 k.0) (sym (e.2.won c.args.key refl hit))
+          (later_accepts b.processors m.0 (record m.0 { own = own }) (3 + 3 * p) (2 * c.args.count + 2) refl long p refl (omega (arith, e.2.later)) (λ odd. let h = e.2.final odd in absurd (omega arith))))
+          (λ miss. subst (λ (k : Me ℕ View). NeverFalls b.processors m.0 k.0) (sym (e.2.shut miss))
+          (later_accepts b.processors m.0 m.0 (3 + 3 * p) r refl long p refl e.2.later e.2.final));
+    }

@@ -1,4 +1,4 @@
-use Rattle.std.proofs.Common.{ℕ, ◌≡◌, ◌+◌, ◌*◌, ◌<◌, arith, ap, sym, subst, ◌∙◌, refl, map, length}
+use Rattle.std.proofs.Common.{ℕ, ◌≡◌, ◌+◌, ◌*◌, ◌<◌, ◌≤◌, arith, ap, sym, subst, ◌∙◌, refl, map, length}
 use Rattle.atomic_table.specs.Table.{Me}
 use Rattle.rcu_board.specs.declared.view.View.{View}
 use Rattle.rcu_board.specs.Words.{words_of}
@@ -6,7 +6,7 @@ use Rattle.rcu_board.specs.Seats.{NeverFalls}
 use mathlib.Core.Option.{none}
 use Rattle.std.specs.Prelude.{bit_and}
 use Rattle.atomic_table.specs.Table.{step, Allows}
-use Rattle.rcu_numbers.specs.Words.{number_of, owes_of, all_but_of}
+use Rattle.rcu_numbers.specs.Words.{number_of, all_of, owes_of, all_but_of}
 use Rattle.rcu_numbers.proofs.WordLaws.{owes-mask}
 use Rattle.rcu_board.specs.Laws.{BoardRule, IsBoard}
 use Rattle.rcu_board.specs.Plays.{report_own, reported, Reporting, all_seats}
@@ -14,6 +14,7 @@ use Rattle.rcu_board.specs.Roles.{cpu_of_role}
 use Rattle.rcu_board.specs.Seats.{first_reports}
 use Rattle.rcu_board.proofs.Views.{cpus-map}
 use Rattle.rcu_board.proofs.Roles.{role_board, alone, alike_own, bits_read}
+use Rattle.rcu_board.proofs.Facts.{seen-long}
 use Rattle.rcu_board.proofs.Later.{later_board}
 use Rattle.rcu_board.proofs.BoardSteps.{report_allowed}
 use Rattle.rcu_board.proofs.steps.report.Goals as goal
@@ -39,19 +40,23 @@ invariant_of-seat c = let m = c.args.seat.now.seat.me in let e = c.fetch_and-fou
 }
 
 pub returns-clause-same : goal.returns-clause-same
-returns-clause-same c = record { role = refl; table = c.fetch_and-found.ensures.0; weight = ap (λ (k : Me ℕ View). k.0.weight) c.fetch_and-found.ensures.2.view }
+returns-clause-same c = let m = c.args.seat.now.seat.me in let e = c.fetch_and-found.ensures in let own = map (report_own c.fetch_and-found.result) m.0.own in record {
+  role = refl;
+  table = e.0;
+  weight = ap (λ (k : Me ℕ View). k.0.weight) e.2.view;
+  later = λ b at. subst (λ (k : Me ℕ View). NeverFalls b.processors m.0 k.0) (sym e.2.view)
+      (later_board b.processors m.0 (record m.0 { own = own }) 0 c.fetch_and-found.result refl (seen-long b c.args.seat.now at) refl e.2.later);
+}
 
 pub returns-clause-view : goal.returns-clause-view
 returns-clause-view c = ap (λ (k : Me ℕ View). k.0) c.fetch_and-found.ensures.2.view ∙ ap (λ (x : ℕ). reported x c.args.seat.now.seat.me.0) (bits_read _ _ c.from_bits.ensures)
 
-pub returns-clause-later : goal.returns-clause-later
-returns-clause-later c = let b = c.args.board.now.sized in let m = c.args.seat.now.seat.me in let e = c.fetch_and-found.ensures in
-    let own = map (report_own c.fetch_and-found.result) m.0.own in
-    let long : length m.0.seen ≡ words_of c.args.board.now.processors = omega (arith, c.args.seat.now.of_role.can_step.seen_long, ap (λ z. z.words) c.requires.board, c.args.board.now.sized) in
-    subst (λ (k : Me ℕ View). NeverFalls c.args.board.now.processors m.0 k.0) (sym e.2.view) (later_board c.args.board.now.processors m.0 (record m.0 { own = own }) 0 c.fetch_and-found.result refl long refl e.2.later)
-
 pub returns-clause-word : goal.returns-clause-word
 returns-clause-word c = subst IsBoard (bits_read _ _ c.from_bits.ensures) c.fetch_and-found.ensures.2.word
+
+pub returns-clause-within : goal.returns-clause-within
+returns-clause-within c = subst (λ (x : ℕ). x ≤ all_of c.args.board.now.processors) (sym (ap (λ z. z.mask) c.from_bits.ensures))
+    (c.fetch_and-found.ensures.2.within c.args.board.now.processors (seen-long c.args.board.now c.args.seat.now c.requires.board))
 
 pub returns-clause-counted : goal.returns-clause-counted
 returns-clause-counted c owes = let m = c.args.seat.now.seat.me in let p = c.in-Processor.p in let is = c.in-Processor.is in let x = c.fetch_and-found.result in

@@ -1,3 +1,4 @@
+use Rattle.rcu_control.proofs.Stepping.{same_again}
 use Rattle.rcu_embedding.specs.Tables.{generation_of}
 use Rattle.rcu_embedding.proofs.Going.{keeps_again, keeps_count}
 use Rattle.rcu_embedding.proofs.acts.retire_while_read.Goals as goal
@@ -12,3 +13,6 @@ returns-clause-writer g c = let a = generation_of c.args.table.now in let b = ge
 
 pub returns-clause-reader : goal.returns-clause-reader
 returns-clause-reader g c = keeps_count 0 c.args.reader.now c.quiescent-2.new.self c.quiescent-2.ensures.same c.quiescent-2.ensures.sound c.quiescent-2.ensures.keeps.count
+
+pub returns-clause-driver : goal.returns-clause-driver
+returns-clause-driver g c = same_again _ _ _ _ _ _ c.turn.ensures.same (same_again _ _ _ _ _ _ c.turn-2.ensures.same c.turn-3.ensures.same)

@@ -32,7 +32,7 @@ returns-clause-places g c claimed has =
     let all : passed_on h' ≡ passed_on h ++ x ∷ [] = c.place.ensures.places ∙ ap (λ (o : Holding g.row.J.Denot). passed_on o ++ x ∷ []) c.in-Ok.ensures.same in
     let more = takes_more r.moment r.kind x h h' takes in
     let enters : Enters x.key x.stamp v w = subst (λ (t : ℕ). Enters x.key t v w) (sym c.seq.ensures.same) e.enters in
-    places_by_enters n _ v w claimed h h' more.0 x refl enters e.later more.1 all more.2 (λ k. takes_up r.moment r.kind x h h' k takes) has
+    places_by_enters n _ v w claimed h h' more.0 x refl enters (e.same.later c.args.board.now c.requires.board) more.1 all more.2 (λ k. takes_up r.moment r.kind x h h' k takes) has
 
 pub returns-clause-local : goal.returns-clause-local
 returns-clause-local g c offloadable =
@@ -116,7 +116,7 @@ returns-in_default-enter-clause-claims g c = let k = c.in_default-enter.ensures.
 pub returns-in_default-enter-clause-places : goal.returns-in_default-enter-clause-places
 returns-in_default-enter-clause-places g c claimed has = let e = c.in_default-enter.ensures in
     subst (λ (h : Holding g.row.J.Denot). HasPlaces c.args.accepted.now (view c.enter.new.seat) claimed h) (sym c.in-Ok.ensures.same)
-    (places_by_keeps c.args.accepted.now _ (view c.args.seat.now) (view c.enter.new.seat) claimed (holding c.args.lists.now) e.keeps e.later has)
+    (places_by_keeps c.args.accepted.now _ (view c.args.seat.now) (view c.enter.new.seat) claimed (holding c.args.lists.now) e.keeps (e.same.later c.args.board.now c.requires.board) has)
 
 pub returns-in_default-enter-clause-local : goal.returns-in_default-enter-clause-local
 returns-in_default-enter-clause-local g c offloadable local = subst (λ (h : Holding g.row.J.Denot). StaysLocal offloadable h) (sym c.in-Ok.ensures.same) local

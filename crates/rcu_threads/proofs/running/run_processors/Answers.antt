@@ -1,5 +1,6 @@
 use Rattle.std.proofs.Common.{subst}
 use Rattle.rcu_control.specs.Parts.{control_view}
+use Rattle.rcu_control.proofs.Stepping.{same_again}
 use Rattle.rcu_threads.specs.Calls.{HasCalled}
 use Rattle.rcu_threads.specs.Parts.{ProcessorStays}
 use Rattle.rcu_threads.specs.Runs.{AreOver}
@@ -51,3 +52,12 @@ join_all-requires-room-T-Destruct g c κs within = assumption
 
 pub drop-ended-requires-room-T-Destruct : goal.drop-ended-requires-room-T-Destruct
 drop-ended-requires-room-T-Destruct g c κs within = assumption
+
+pub returns-in_err-ended-clause-same : goal.returns-in_err-ended-clause-same
+returns-in_err-ended-clause-same g c = same_again _ _ _ _ _ _ c.pass_barrier-passed.ensures.same c.finish.ensures.same
+
+pub returns-in_err-passed-clause-same : goal.returns-in_err-passed-clause-same
+returns-in_err-passed-clause-same g c = same_again _ _ _ _ _ _ c.pass_barrier-passed.ensures.same c.finish.ensures.same
+
+pub returns-clause-same : goal.returns-clause-same
+returns-clause-same g c = same_again _ _ _ _ _ _ c.pass_barrier-passed.ensures.same c.finish.ensures.same

@@ -6,6 +6,7 @@ use Rattle.rcu_part_hand.specs.Hands.{SameHand}
 use Rattle.rcu_part_group.specs.Groups.{SameGroup}
 use Rattle.rcu_parts.proofs.StaySame.{stay_same}
 use Rattle.rcu_parts.specs.OneOpen.{groups_in, hands_in}
+use Rattle.rcu_control.proofs.Stepping.{same_part}
 use Rattle.rcu_two_steps_tests.proofs.stepping.work_and_close.Goals as goal
 
 pub close-requires-after_bounds : goal.close-requires-after_bounds
@@ -17,7 +18,7 @@ close-requires-after_bounds c κs = (
       omega arith,
       (
         stay_same c.args.parts _ (record {
-          control = record { board = refl; seat = record { role = refl; table = refl; weight = refl } };
+          control = same_part _ _;
           driver = c.work_last.ensures.driver;
           processors = c.work_last.ensures.same;
           groups = zip_same (λ g h. SameGroup g.state h.state) (λ g. same_group g.state) (groups_in c.args.parts);

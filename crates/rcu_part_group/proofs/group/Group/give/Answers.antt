@@ -6,6 +6,7 @@ use Rattle.rcu_part_group.specs.contracts.group.Group as row
 use Rattle.rcu_board.specs.Seats.{view}
 use Rattle.rcu_part_group.specs.GroupLaw.{folks_in}
 use Rattle.rcu_part_group.proofs.GroupTurns.{gives_same, lawful_gives}
+use Rattle.rcu_board.proofs.Facts.{same_seat}
 use Rattle.rcu_part_group.proofs.group.Group.give.Goals as goal
 
 pub invariant_of-state : goal.invariant_of-state
@@ -17,7 +18,7 @@ invariant_of-state g c = let s = c.args.self.now.state in record {
 
 pub returns-clause-same : goal.returns-clause-same
 returns-clause-same g c = let s = c.args.self.now.state in record {
-  part = record { board = refl; seat = record { role = refl; table = refl; weight = refl } };
+  part = record { board = refl; seat = same_seat _ };
   group = refl;
   blimit = refl;
   members = gives_same s.blimit c.give.result (folks_in s.members) (folks_in c.give.new.self) c.give.ensures;

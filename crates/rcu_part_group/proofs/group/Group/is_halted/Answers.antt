@@ -1,4 +1,5 @@
 use Rattle.std.proofs.Common.{◌∙◌, refl}
+use Rattle.std.specs.Arc.{arc_value}
 use Rattle.std.specs.Int.{from_bool}
 use Rattle.rcu_board.specs.Seats.{view}
 use Rattle.rcu_board.specs.Words.{halt_word}
@@ -10,7 +11,7 @@ pub invariant_of-state : goal.invariant_of-state
 invariant_of-state g c = let s = c.args.self.now.state in let e = c.halted.ensures in record {
   here = e.same.table ∙ s.here;
   role = e.same.role ∙ s.role;
-  lawful = lawful_later _ halt_word (from_bool c.halted.result) (view s.seat) (view c.halted.new.seat) (folks_in s.members) e.view e.later s.lawful;
+  lawful = lawful_later _ halt_word (from_bool c.halted.result) (view s.seat) (view c.halted.new.seat) (folks_in s.members) e.view (e.same.later (arc_value s.board) s.here) s.lawful;
 }
 
 pub returns-clause-same : goal.returns-clause-same

@@ -2,7 +2,7 @@ use Rattle.std.proofs.Common.{◌≡◌, ◌≤◌, ap, refl, sym, subst, ◌∙
 use Rattle.std.specs.Mem.{FitsInMemory}
 use denote.Param.{param}
 use Rattle.std.specs.Arc.{arc_value}
-use Rattle.rcu_board.proofs.Facts.{steps-touched, words-at}
+use Rattle.rcu_board.proofs.Facts.{steps-touched, words-at, same_seat_again}
 use Rattle.rcu_holdings.proofs.Sizes.{in_struct}
 use Rattle.rcu_numbers.specs.declared.sequence.TheConstants.{GREATEST_NUMBER}
 use Rattle.rcu_part_group.specs.contracts.group.Group as row
@@ -23,7 +23,7 @@ invariant_of-state g c = let s = c.args.self.now.state in let a = c.watch.ensure
     let v = view s.seat in let u = view c.watch.new.seat in let w = view c.want.new.seat in let r = bits_of c.watch.result in
     let keeps : KeepsLists (looked r v) w = subst (λ (x : View). KeepsLists x w) a.view b.lists in
     let seen : sight w ≡ c.seq-seen.result = b.sight ∙ (sym a.sight.0 ∙ sym c.seq-seen.ensures.same) in
-    let later : seen_at v needed_word ≤ seen_at w needed_word = let x = a.later.needed in let y = b.later.needed in omega arith in record {
+    let later : seen_at v needed_word ≤ seen_at w needed_word = let x = (a.same.later (arc_value s.board) s.here).needed in let y = (b.same.later (arc_value s.board) (a.same.table ∙ s.here)).needed in omega arith in record {
       here = b.same.table ∙ (a.same.table ∙ s.here);
       role = b.same.role ∙ (a.same.role ∙ s.role);
       lawful = lawful_looks r c.seq-seen.result v w c.look-most.result (folks_in s.members) (folks_in c.look-most.new.self) keeps seen later b.needed c.look-most.ensures s.lawful;
@@ -31,7 +31,7 @@ invariant_of-state g c = let s = c.args.self.now.state in let a = c.watch.ensure
 
 pub returns-clause-same : goal.returns-clause-same
 returns-clause-same g c = let s = c.args.self.now.state in let a = c.watch.ensures.same in let b = c.want.ensures.same in record {
-  part = record { board = refl; seat = record { role = b.role ∙ a.role; table = b.table ∙ a.table; weight = b.weight ∙ a.weight } };
+  part = record { board = refl; seat = same_seat_again _ _ _ a b };
   group = refl;
   blimit = refl;
   members = looks_same c.seq-seen.result c.look-most.result (folks_in s.members) (folks_in c.look-most.new.self) c.look-most.ensures;
@@ -40,7 +40,7 @@ returns-clause-same g c = let s = c.args.self.now.state in let a = c.watch.ensur
 pub look-most-requires : goal.look-most-requires
 look-most-requires g c =
     let h : FitsInMemory (row.the_row (param 0 g.row.J) (param 1 g.row.J-Receipt)) = assumption in
-    let e = c.watch.ensures in let later = e.later.board in let seen = c.seq-seen.ensures.same ∙ e.sight.0 in
+    let e = c.watch.ensures in let later = (e.same.later (arc_value c.args.self.now.state.board) c.args.self.now.state.here).board in let seen = c.seq-seen.ensures.same ∙ e.sight.0 in
     let small : c.seq-seen.result ≤ GREATEST_NUMBER = omega (arith, c.seq-seen.ensures.same, e.sight.1) in
     (in_struct _ _ _ (in_struct _ _ _ h), ((λ k d low. let before = c.args.self.now.state.lawful.looked k d low in omega (arith, later, seen)), small))
 

@@ -39,3 +39,6 @@ unreachable-requires g c = let f : false ≡ true = c.in-None.ensures.steps in c
 
 pub loop-smaller-in-Some-true : goal.loop-smaller-in-Some-true
 loop-smaller-in-Some-true g c = (c.in-Some.ensures.goes.on tt).2
+
+pub returns-in-None-turn_unless_halted-clause-halted : goal.returns-in-None-turn_unless_halted-clause-halted
+returns-in-None-turn_unless_halted-clause-halted g c = c.in-None-turn_unless_halted.ensures.halted

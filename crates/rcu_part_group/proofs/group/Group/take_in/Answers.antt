@@ -6,6 +6,7 @@ use Rattle.rcu_part_group.specs.contracts.group.Group as row
 use Rattle.rcu_board.specs.Seats.{view}
 use Rattle.rcu_part_group.specs.GroupLaw.{folks_in}
 use Rattle.rcu_part_group.proofs.GroupTurns.{takes_same, lawful_takes}
+use Rattle.rcu_board.proofs.Facts.{same_seat}
 use Rattle.rcu_part_group.proofs.group.Group.take_in.Goals as goal
 
 pub invariant_of-self : goal.invariant_of-self
@@ -17,7 +18,7 @@ invariant_of-self g c = let s = c.args.self.now.state in record {
 
 pub returns-clause-same : goal.returns-clause-same
 returns-clause-same g c = let s = c.args.self.now.state in record {
-  part = record { board = refl; seat = record { role = refl; table = refl; weight = refl } };
+  part = record { board = refl; seat = same_seat _ };
   group = refl;
   blimit = refl;
   members = takes_same c.take_in.result (folks_in s.members) (folks_in c.take_in.new.self) c.take_in.ensures;

@@ -1,4 +1,6 @@
 use Rattle.std.proofs.Common.{List, subst, sym}
+use Rattle.std.specs.Arc.{arc_value}
+use Rattle.rcu_board.proofs.Facts.{saw-halt}
 use Rattle.std.specs.List.{AllZip}
 use Rattle.rcu_part_group.specs.Groups.{PassesOn, members_of}
 use Rattle.rcu_part_group.specs.declared.folk.Folk.{Folk}
@@ -29,3 +31,6 @@ returns-else-turned-gt0-clause-same g c = same_group_again c.args.self.now.state
 
 pub returns-else-turned-gt0-clause-places : goal.returns-else-turned-gt0-clause-places
 returns-else-turned-gt0-clause-places g c = subst (λ (ms : List (Folk g.row.J.Denot)). AllZip PassesOn ms (members_of c.turn-turned.new.self.state)) c.is_halted.ensures.members c.turn-turned.ensures.places
+
+pub returns-then-is_halted-clause-halted : goal.returns-then-is_halted-clause-halted
+returns-then-is_halted-clause-halted g c = let s = c.args.self.now.state in saw-halt (arc_value s.board) s.seat c.is_halted.new.self.state.seat c.is_halted.result s.here c.is_halted.ensures.view c.if-is_halted.true

@@ -5,6 +5,7 @@ use Rattle.rcu_part_hand.proofs.HandRuns.{fetched, hand_sound_drawn}
 use Rattle.rcu_board.specs.Seats.{view}
 use Rattle.rcu_jobs.specs.declared.callback.Callback.{Callback}
 use Rattle.rcu_part_hand.specs.HandLaw.{IsLawfulHand}
+use Rattle.rcu_board.proofs.Facts.{same_seat}
 use Rattle.rcu_part_hand.proofs.hand.Hand.load.Goals as goal
 
 pub returns-in-Got-clause-loads : goal.returns-in-Got-clause-loads
@@ -51,10 +52,10 @@ invariant_of-self g c = let s = c.args.self.now.state in record {
 }
 
 pub returns-in-Got-clause-same : goal.returns-in-Got-clause-same
-returns-in-Got-clause-same g c = record { part = record { board = refl; seat = record { role = refl; table = refl; weight = refl } }; lane = c.fetch.ensures.lane; cpu = refl; blimit = refl }
+returns-in-Got-clause-same g c = record { part = record { board = refl; seat = same_seat _ }; lane = c.fetch.ensures.lane; cpu = refl; blimit = refl }
 
 pub returns-in-Empty-clause-same : goal.returns-in-Empty-clause-same
-returns-in-Empty-clause-same g c = record { part = record { board = refl; seat = record { role = refl; table = refl; weight = refl } }; lane = c.fetch.ensures.lane; cpu = refl; blimit = refl }
+returns-in-Empty-clause-same g c = record { part = record { board = refl; seat = same_seat _ }; lane = c.fetch.ensures.lane; cpu = refl; blimit = refl }
 
 pub returns-in-Again-clause-same : goal.returns-in-Again-clause-same
-returns-in-Again-clause-same g c = record { part = record { board = refl; seat = record { role = refl; table = refl; weight = refl } }; lane = c.fetch.ensures.lane; cpu = refl; blimit = refl }
+returns-in-Again-clause-same g c = record { part = record { board = refl; seat = same_seat _ }; lane = c.fetch.ensures.lane; cpu = refl; blimit = refl }

@@ -13,9 +13,9 @@ use Rattle.rcu_part_steps.proofs.Turning.{steps_more, steps_none}
 use Rattle.rcu_part_hand.proofs.HandRuns.{hand_kept, hand_ran, hand_sound_kept, hand_sound_ran, ran_none, ran_one, same_first, not_none}
 use Rattle.std.specs.Arc.{arc_value}
 use Rattle.rcu_part_hand.proofs.Standing.{same_lane, stands}
-use Rattle.rcu_control.proofs.Stepping.{same_seat_again}
 use Rattle.rcu_jobs.specs.declared.callback.Record.{Record}
 use Rattle.rcu_part_hand.specs.HandLaw.{IsLawfulHand}
+use Rattle.rcu_board.proofs.Facts.{same_seat, same_seat_again}
 use Rattle.rcu_part_hand.proofs.hand.Hand.run_one.Goals as goal
 
 pub returns-in_default-clause-not : goal.returns-in_default-clause-not
@@ -84,16 +84,16 @@ returns-clause-sound g c = let s = c.args.self.now.state in
     (s.held.order ∙ ap (λ l. taken_by s.held ++ l) c.in-Some-take.ensures.first) drawn (c.push_reserved.ensures.items ∙ ap (λ rs. rs ++ c.run_claimed-record.result ∷ []) c.reserve.ensures.items) c.run_claimed-record.ensures.given
 
 pub returns-in_default-clause-same : goal.returns-in_default-clause-same
-returns-in_default-clause-same g c = record { part = record { board = refl; seat = record { role = refl; table = refl; weight = refl } }; lane = refl; cpu = refl; blimit = refl }
+returns-in_default-clause-same g c = record { part = record { board = refl; seat = same_seat _ }; lane = refl; cpu = refl; blimit = refl }
 
 pub snap-requires : goal.snap-requires
 snap-requires g c = c.in-Some.ensures.safe.0
 
 pub returns-then-snap-seen-clause-same : goal.returns-then-snap-seen-clause-same
-returns-then-snap-seen-clause-same g c = record { part = record { board = refl; seat = record { role = refl; table = refl; weight = refl } }; lane = refl; cpu = refl; blimit = refl }
+returns-then-snap-seen-clause-same g c = record { part = record { board = refl; seat = same_seat _ }; lane = refl; cpu = refl; blimit = refl }
 
 pub returns-in_default-reserve-clause-same : goal.returns-in_default-reserve-clause-same
-returns-in_default-reserve-clause-same g c = record { part = record { board = refl; seat = record { role = refl; table = refl; weight = refl } }; lane = refl; cpu = refl; blimit = refl }
+returns-in_default-reserve-clause-same g c = record { part = record { board = refl; seat = same_seat _ }; lane = refl; cpu = refl; blimit = refl }
 
 pub take-requires-clause-board : goal.take-requires-clause-board
 take-requires-clause-board g c = let s = c.args.self.now.state in stands (arc_value s.board) c.deref.result.now s.seat c.deref.ensures s.here

@@ -18,7 +18,7 @@ invariant_of-state g c = let s = c.args.self.now.state in let e = c.turn_of.ensu
   bit = s.bit;
   local = s.local;
   small = s.small;
-  lawful = kept_by_tells s.cpu s.accepted _ v w s.ran.items (holding s.lists) (tells_touched (turns_word c.args.p) c.turn_of.result v w e.view) e.later s.lawful;
+  lawful = kept_by_tells s.cpu s.accepted _ v w s.ran.items (holding s.lists) (tells_touched (turns_word c.args.p) c.turn_of.result v w e.view) (e.same.later (arc_value s.board) s.here) s.lawful;
 }
 
 pub returns-clause-keeps : goal.returns-clause-keeps

@@ -54,6 +54,9 @@ returns-clause-refused g c = let s = c.args.self.now.state in
     refuses_with s.ran.items c.args.job
     (pieces s.cpu s.limit s.accepted s.seat s.lists) (pieces s.cpu s.limit c.accept_job.new.accepted c.accept_job.new.seat c.accept_job.new.lists) c.accept_job.result c.accept_job.ensures.refused
 
+pub returns-clause-closed : goal.returns-clause-closed
+returns-clause-closed g c = c.accept_job.ensures.closed
+
 pub returns-clause-full : goal.returns-clause-full
 returns-clause-full g c = c.accept_job.ensures.full
 

@@ -17,17 +17,17 @@ use Rattle.rcu_part_processor.proofs.Taking.{sound_moved}
 use Rattle.rcu_part_steps.proofs.Telling.{sight_touched, tells_again, tells_looked, tells_touched}
 use Rattle.rcu_part_processor.proofs.Standing.{same_lane, stands}
 use Rattle.rcu_board.specs.Roles.{MayNeed}
-use Rattle.rcu_control.proofs.Stepping.{same_seat_again}
+use Rattle.rcu_board.proofs.Facts.{same_seat_again}
 use Rattle.rcu_part_processor.proofs.processor.Processor.catch_up.Goals as goal
 
 pub look-requires : goal.look-requires
 look-requires g c = let h : FitsInMemory (row.the_row (param 0 g.row.J) (param 1 g.row.J-Receipt)) = assumption in
-    let s = c.args.self.now.state in let e = c.watch.ensures in let z = s.lawful.looked in let y = e.later.board in
+    let s = c.args.self.now.state in let e = c.watch.ensures in let z = s.lawful.looked in let y = (e.same.later (arc_value s.board) s.here).board in
     (in_struct _ _ _ (in_struct _ _ _ h), (omega (arith, e.sight.0, c.seq-seen.ensures.same), omega (arith, e.sight.1, c.seq-seen.ensures.same)))
 
 pub invariant_of-state : goal.invariant_of-state
 invariant_of-state g c = let s = c.args.self.now.state in let e = c.watch.ensures in let n = c.need.ensures in let l = c.in-Some.ensures in
-    let u = view c.watch.new.seat in let w = view c.need.new.seat in let y = n.later in let z = e.later in record {
+    let u = view c.watch.new.seat in let w = view c.need.new.seat in let y = n.same.later (arc_value s.board) (e.same.table ∙ s.here) in let z = e.same.later (arc_value s.board) s.here in record {
       here = n.same.table ∙ (e.same.table ∙ s.here);
       role = n.same.role ∙ (e.same.role ∙ s.role);
       there = s.there;
@@ -43,7 +43,7 @@ invariant_of-state g c = let s = c.args.self.now.state in let e = c.watch.ensure
 
 pub invariant_of-state-in_default : goal.invariant_of-state-in_default
 invariant_of-state-in_default g c = let s = c.args.self.now.state in let e = c.watch.ensures in let l = c.in_default.ensures in
-    let w = view c.watch.new.seat in let z = e.later in record {
+    let w = view c.watch.new.seat in let z = e.same.later (arc_value s.board) s.here in record {
       here = e.same.table ∙ s.here;
       role = e.same.role ∙ s.role;
       there = s.there;

@@ -49,7 +49,7 @@ invariant_of-state g c = let s = c.args.self.state in let e = c.if-not-take.ensu
   bit = s.bit;
   local = s.local;
   small = s.small;
-  lawful = kept_by_keeps s.cpu s.accepted _ (view s.seat) (view c.take.new.seat) s.ran.items (holding s.lists) (e.lost refl).0 e.later s.lawful;
+  lawful = kept_by_keeps s.cpu s.accepted _ (view s.seat) (view c.take.new.seat) s.ran.items (holding s.lists) (e.lost refl).0 (e.same.later (arc_value s.board) s.here) s.lawful;
 }
 
 pub returns-then-not-take-clause-stays : goal.returns-then-not-take-clause-stays
@@ -57,7 +57,7 @@ returns-then-not-take-clause-stays g c = record { part = record { board = refl; 
 
 pub returns-then-not-take-clause-lost : goal.returns-then-not-take-clause-lost
 returns-then-not-take-clause-lost g c = let s = c.args.self.state in let e = c.if-not-take.ensures in
-    done_none 1 c.args.claimed.ready s _ refl refl e.only (subst (λ (b : Board). s.cpu < b.processors → seen_at (view s.seat) (turns_word s.cpu) ≤ seen_at (view c.take.new.seat) (turns_word s.cpu)) c.deref.ensures (e.later.turns s.cpu) s.there)
+    done_none 1 c.args.claimed.ready s _ refl refl e.only ((e.same.later (arc_value s.board) s.here).turns s.cpu s.there)
 
 pub returns-then-not-take-clause-stops : goal.returns-then-not-take-clause-stops
 returns-then-not-take-clause-stops g c = let n = c.requires.next in let k = ap (λ (x : ClaimedCallback). x.number) n.claimed in let l = (c.if-not-take.ensures.lost refl).2 in
@@ -86,7 +86,7 @@ invariant_of-state-2 g c =
     let is : c.args.claimed ≡ claimed_as seen x = n.claimed ∙ ap (claimed_as seen) first in
     let won : Claims s.cpu x.number (view s.seat) (view c.take.new.seat) = subst (λ (k : ℕ). Claims s.cpu k (view s.seat) (view c.take.new.seat)) (ap (λ (y : ClaimedCallback). y.number) is) (e.won refl) in
     let m = (arc_value s.board).processors in
-    let later : NeverFalls m (view s.seat) (view c.take.new.seat) = subst (λ (b : Board). NeverFalls b.processors (view s.seat) (view c.take.new.seat)) c.deref.ensures e.later in
+    let later : NeverFalls m (view s.seat) (view c.take.new.seat) = e.same.later (arc_value s.board) s.here in
     let over : snap_of x.stamp ≤ seen = let a = t.graced in let b = c.requires.seen.1 in omega arith in
     let less : (m : ℕ) → AreUpTo m h.own → AreUpTo m h'.own = λ m up. All-rest (λ (y : Labelled g.row.J.Denot). IsTrue (is_up_to m y.label)) (record { label = Done; callback = x }) h'.own h.own t.taken.0 up in record {
       here = e.same.table ∙ s.here;

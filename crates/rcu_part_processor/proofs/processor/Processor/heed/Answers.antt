@@ -13,7 +13,7 @@ use Rattle.rcu_board.specs.Views.{seen_at}
 use Rattle.rcu_board.specs.Words.{asks_word, urge_word}
 use Rattle.rcu_board.specs.declared.board.Role.{Role}
 use Rattle.rcu_board.specs.declared.view.View.{View}
-use Rattle.rcu_board.proofs.Facts.{never_falls_again}
+use Rattle.rcu_board.proofs.Facts.{never_falls_again, same_seat_again}
 use Rattle.rcu_holdings.specs.Callers.{holding}
 use Rattle.rcu_holdings.proofs.Sizes.{in_struct}
 use Rattle.rcu_part_processor.specs.contracts.processor.Processor as row
@@ -21,7 +21,6 @@ use Rattle.rcu_part_processor.proofs.Heeding.{heeding, shifts_below, shifts_law,
 use Rattle.rcu_part_processor.proofs.Taking.{sound_moved}
 use Rattle.rcu_part_steps.proofs.Telling.{sight_touched, sight_urged, tells_again, tells_touched, tells_urged, urges}
 use Rattle.rcu_part_processor.proofs.Standing.{stands}
-use Rattle.rcu_control.proofs.Stepping.{same_seat_again}
 use Rattle.rcu_part_processor.proofs.processor.Processor.heed.Goals as goal
 
 pub heard-urged-requires-clause-who : goal.heard-urged-requires-clause-who
@@ -44,8 +43,8 @@ invariant_of-state g c = let s = c.args.self.now.state in let a = c.asked-on.ens
     let v = view s.seat in let u = view c.asked-on.new.seat in let w = view c.heard-urged.new.seat in
     let h = holding s.lists in let i = holding c.release.new.self in let j = holding c.switch.new.self in
     let n = (arc_value s.board).processors in let found = seen_at w (urge_word n) in
-    let first : NeverFalls n v u = subst (λ (t : Board). NeverFalls t.processors v u) c.deref.ensures a.later in
-    let second : NeverFalls n u w = subst (λ (t : Board). NeverFalls t.processors u w) c.deref-2.ensures b.later in
+    let first : NeverFalls n v u = a.same.later (arc_value s.board) s.here in
+    let second : NeverFalls n u w = b.same.later (arc_value s.board) (a.same.table ∙ s.here) in
     let step = urges (arc_value s.board) c.deref-2.result.now c.deref-2.ensures (cpu_of_role c.asked-on.new.seat.role) u w b.view in record {
       here = b.same.table ∙ (a.same.table ∙ s.here);
       role = b.same.role ∙ (a.same.role ∙ s.role);

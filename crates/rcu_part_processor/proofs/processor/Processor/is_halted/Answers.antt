@@ -18,7 +18,7 @@ invariant_of-state g c = let s = c.args.self.now.state in let e = c.halted.ensur
   bit = s.bit;
   local = s.local;
   small = s.small;
-  lawful = kept_by_tells s.cpu s.accepted _ v w s.ran.items (holding s.lists) (tells_touched halt_word (from_bool c.halted.result) v w e.view) e.later s.lawful;
+  lawful = kept_by_tells s.cpu s.accepted _ v w s.ran.items (holding s.lists) (tells_touched halt_word (from_bool c.halted.result) v w e.view) (e.same.later (arc_value s.board) s.here) s.lawful;
 }
 
 pub halted-requires-clause-board : goal.halted-requires-clause-board

@@ -12,7 +12,7 @@ invariant_of-state g c = let s = c.args.self.now.state in let e = c.tell.ensures
   bit = s.bit;
   local = s.local;
   small = s.small;
-  lawful = kept_by_tells s.cpu s.accepted _ _ _ s.ran.items _ e.tells e.later s.lawful;
+  lawful = kept_by_tells s.cpu s.accepted _ _ _ s.ran.items _ e.tells (e.same.later (arc_value s.board) s.here) s.lawful;
 }
 
 pub tell-requires-clause-board : goal.tell-requires-clause-board

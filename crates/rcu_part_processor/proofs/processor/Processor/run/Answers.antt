@@ -1,5 +1,5 @@
 use Rattle.std.proofs.Common.{◌∙◌, ◌≡◌, false, true, refl}
-use Rattle.rcu_part_processor.proofs.TickRuns.{same_processor_again, same_processor}
+use Rattle.rcu_part_processor.proofs.TickRuns.{records_again, records_kept, same_processor_again, same_processor}
 use Rattle.rcu_part_processor.proofs.processor.Processor.run.Goals as goal
 
 pub returns-in-None-turn_unless_halted-clause-sound : goal.returns-in-None-turn_unless_halted-clause-sound
@@ -11,6 +11,7 @@ loop-preserved g c = let i = c.loop.invariant in let e = c.turn_unless_halted.en
   finite = tt;
   same = same_processor_again c.args.self.state c.loop.processor.state c.turn_unless_halted.new.self.state i.same e.same;
   accepted = e.count ∙ i.accepted;
+  records = records_again c.args.self.state c.loop.processor.state c.turn_unless_halted.new.self.state i.records e.records;
   sound = λ sound. e.sound (i.sound sound);
 }
 
@@ -18,13 +19,19 @@ pub turn_unless_halted-requires : goal.turn_unless_halted-requires
 turn_unless_halted-requires g c = assumption
 
 pub loop-init : goal.loop-init
-loop-init g c = record { next = tt; finite = tt; same = same_processor c.args.self.state; accepted = refl; sound = λ sound. sound }
+loop-init g c = record { next = tt; finite = tt; same = same_processor c.args.self.state; accepted = refl; records = records_kept c.args.self.state c.args.self.state refl; sound = λ sound. sound }
 
 pub returns-in-None-turn_unless_halted-clause-same : goal.returns-in-None-turn_unless_halted-clause-same
 returns-in-None-turn_unless_halted-clause-same g c = same_processor_again c.args.self.state c.loop.processor.state c.turn_unless_halted.new.self.state c.loop.invariant.same c.turn_unless_halted.ensures.same
 
 pub returns-in-None-turn_unless_halted-clause-count : goal.returns-in-None-turn_unless_halted-clause-count
 returns-in-None-turn_unless_halted-clause-count g c = c.turn_unless_halted.ensures.count ∙ c.loop.invariant.accepted
+
+pub returns-in-None-turn_unless_halted-clause-halted : goal.returns-in-None-turn_unless_halted-clause-halted
+returns-in-None-turn_unless_halted-clause-halted g c = c.in-None-turn_unless_halted.ensures.halted
+
+pub returns-in-None-turn_unless_halted-clause-records : goal.returns-in-None-turn_unless_halted-clause-records
+returns-in-None-turn_unless_halted-clause-records g c = records_again c.args.self.state c.loop.processor.state c.turn_unless_halted.new.self.state c.loop.invariant.records c.turn_unless_halted.ensures.records
 
 pub loop-smaller : goal.loop-smaller
 loop-smaller g c = (c.in-Some.ensures.goes.on tt).2

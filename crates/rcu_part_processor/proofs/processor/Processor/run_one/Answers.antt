@@ -9,7 +9,7 @@ use Rattle.rcu_board.specs.Views.{seen_at, sight}
 use Rattle.rcu_board.specs.Words.{turns_word}
 use Rattle.rcu_board.specs.declared.board.Board.{Board}
 use Rattle.rcu_board.specs.declared.view.Claim.{Claim}
-use Rattle.rcu_board.proofs.Facts.{never_falls_again}
+use Rattle.rcu_board.proofs.Facts.{never_falls_again, same_seat, same_seat_again}
 use Rattle.std.specs.Arc.{arc_value}
 use Rattle.rcu_holdings.specs.Aims.{AreUpTo, is_up_to}
 use Rattle.rcu_holdings.specs.Callers.{Holding, held_in, holding, put_by}
@@ -27,7 +27,6 @@ use Rattle.rcu_part_processor.proofs.Taking.{sound_same}
 use Rattle.rcu_part_processor.proofs.TickRuns.{done_none, done_one, done_some, same_done, sound_ran}
 use Rattle.rcu_part_steps.proofs.Turning.{steps_more, steps_none}
 use Rattle.rcu_part_processor.proofs.Standing.{same_lane, stands}
-use Rattle.rcu_control.proofs.Stepping.{same_seat_again}
 use Rattle.rcu_part_processor.proofs.processor.Processor.run_one.Goals as goal
 
 pub first-requires : goal.first-requires
@@ -66,13 +65,13 @@ invariant_of-state-then-not-take g c = let s = c.args.self.now.state in let e = 
   local = s.local;
   small = s.small;
   lawful = subst (λ (rs : List (Record g.row.J-Receipt.Denot)). IsLawful s.cpu s.accepted (view c.take.new.seat) rs (holding s.lists)) (sym c.reserve.ensures.items)
-      (kept_by_keeps s.cpu s.accepted _ (view s.seat) (view c.take.new.seat) s.ran.items (holding s.lists) (e.lost refl).0 e.later s.lawful);
+      (kept_by_keeps s.cpu s.accepted _ (view s.seat) (view c.take.new.seat) s.ran.items (holding s.lists) (e.lost refl).0 (e.same.later (arc_value s.board) s.here) s.lawful);
 }
 
 pub returns-then-not-take-clause-not : goal.returns-then-not-take-clause-not
 returns-then-not-take-clause-not g c = let s = c.args.self.now.state in let f = c.in-Some.ensures.first in let e = c.if-not-take.ensures in let l = e.lost refl in (
   1,
-  done_none 1 c.args.seen s _ refl c.reserve.ensures.items e.only (subst (λ (b : Board). s.cpu < b.processors → seen_at (view s.seat) (turns_word s.cpu) ≤ seen_at (view c.take.new.seat) (turns_word s.cpu)) c.deref.ensures (e.later.turns s.cpu) s.there),
+  done_none 1 c.args.seen s _ refl c.reserve.ensures.items e.only ((e.same.later (arc_value s.board) s.here).turns s.cpu s.there),
   λ n. (refl, (c.in-Some.first.now, f.0, f.1, l.2)),
 )
 
@@ -103,8 +102,8 @@ invariant_of-state-2 g c =
     let first = same_done c.in-Some.first.now x c.in-Some.ensures.first.0 h'.own (sym c.in-Some.ensures.first.1 ∙ t.taken.0) in
     let won : Claims s.cpu x.number (view s.seat) (view c.take.new.seat) = subst (λ (y : Callback g.row.J.Denot). Claims s.cpu y.number (view s.seat) (view c.take.new.seat)) first w in
     let n = (arc_value s.board).processors in
-    let later : NeverFalls n (view s.seat) (view c.take.new.seat) = subst (λ (b : Board). NeverFalls b.processors (view s.seat) (view c.take.new.seat)) c.deref.ensures e.later in
-    let later2 : NeverFalls n (view c.take.new.seat) (view c.run_claimed-record.new.seat) = subst (λ (b : Board). NeverFalls b.processors (view c.take.new.seat) (view c.run_claimed-record.new.seat)) c.deref-2.ensures r.later in
+    let later : NeverFalls n (view s.seat) (view c.take.new.seat) = e.same.later (arc_value s.board) s.here in
+    let later2 : NeverFalls n (view c.take.new.seat) (view c.run_claimed-record.new.seat) = r.same.later (arc_value s.board) (e.same.table ∙ s.here) in
     let over : snap_of x.stamp ≤ c.args.seen = let a = t.graced in let b = c.requires.seen.1 in omega arith in
     let less : (m : ℕ) → AreUpTo m h.own → AreUpTo m h'.own = λ m up. All-rest (λ (y : Labelled g.row.J.Denot). IsTrue (is_up_to m y.label)) (record { label = Done; callback = x }) h'.own h.own t.taken.0 up in record {
       here = r.same.table ∙ (e.same.table ∙ s.here);
@@ -121,8 +120,8 @@ invariant_of-state-2 g c =
 pub returns-clause-ran : goal.returns-clause-ran
 returns-clause-ran g c = let s = c.args.self.now.state in let e = c.if-not-take.ensures in let r = c.run_claimed-record.ensures in let t = c.in-Some-take.ensures in
     let u = view c.take.new.seat in let w = view c.run_claimed-record.new.seat in
-    let first : seen_at (view s.seat) (turns_word s.cpu) ≤ seen_at u (turns_word s.cpu) = subst (λ (b : Board). s.cpu < b.processors → seen_at (view s.seat) (turns_word s.cpu) ≤ seen_at u (turns_word s.cpu)) c.deref.ensures (e.later.turns s.cpu) s.there in
-    let second : seen_at u (turns_word s.cpu) ≤ seen_at w (turns_word s.cpu) = subst (λ (b : Board). s.cpu < b.processors → seen_at u (turns_word s.cpu) ≤ seen_at w (turns_word s.cpu)) c.deref-2.ensures (r.later.turns s.cpu) s.there in
+    let first : seen_at (view s.seat) (turns_word s.cpu) ≤ seen_at u (turns_word s.cpu) = (e.same.later (arc_value s.board) s.here).turns s.cpu s.there in
+    let second : seen_at u (turns_word s.cpu) ≤ seen_at w (turns_word s.cpu) = (r.same.later (arc_value s.board) (e.same.table ∙ s.here)).turns s.cpu s.there in
     done_one c.args.seen s _ c.in-Some-take.callback c.run_claimed-record.result t.taken.0 t.taken.1 (c.push_reserved.ensures.items ∙ ap (λ rs. rs ++ c.run_claimed-record.result ∷ []) c.reserve.ensures.items) r.record r.ready
     (steps_more (turns_word s.cpu) 1 1 (view s.seat) u w e.only (subst (λ (p : ℕ). StepsOnly (turns_word p) 1 u w) (ap cpu_of_role (e.same.role ∙ s.role)) r.only)) (omega (arith, first, second))
 
@@ -136,13 +135,13 @@ returns-clause-sound g c = let s = c.args.self.now.state in let t = c.in-Some-ta
     (c.push_reserved.ensures.items ∙ ap (λ rs. rs ++ c.run_claimed-record.result ∷ []) c.reserve.ensures.items) c.run_claimed-record.ensures.given
 
 pub returns-in_default-clause-same : goal.returns-in_default-clause-same
-returns-in_default-clause-same g c = record { part = record { board = refl; seat = record { role = refl; table = refl; weight = refl } }; lane = refl; cpu = refl; offloadable = refl; limit = refl; blimit = refl }
+returns-in_default-clause-same g c = record { part = record { board = refl; seat = same_seat _ }; lane = refl; cpu = refl; offloadable = refl; limit = refl; blimit = refl }
 
 pub returns-in_default-clause-sight : goal.returns-in_default-clause-sight
 returns-in_default-clause-sight g c = c.requires.seen
 
 pub returns-in_default-reserve-clause-same : goal.returns-in_default-reserve-clause-same
-returns-in_default-reserve-clause-same g c = record { part = record { board = refl; seat = record { role = refl; table = refl; weight = refl } }; lane = refl; cpu = refl; offloadable = refl; limit = refl; blimit = refl }
+returns-in_default-reserve-clause-same g c = record { part = record { board = refl; seat = same_seat _ }; lane = refl; cpu = refl; offloadable = refl; limit = refl; blimit = refl }
 
 pub returns-in_default-reserve-clause-sight : goal.returns-in_default-reserve-clause-sight
 returns-in_default-reserve-clause-sight g c = c.requires.seen

@@ -6,7 +6,7 @@ use Rattle.rcu_board.specs.Seats.{view}
 use Rattle.rcu_board.specs.Views.{seen_at}
 use Rattle.rcu_board.specs.Words.{turns_word}
 use Rattle.rcu_board.specs.declared.view.View.{View}
-use Rattle.rcu_board.proofs.Facts.{seen-touched, words-of-processor}
+use Rattle.rcu_board.proofs.Facts.{seen-touched, words-of-processor, same_seat}
 use Rattle.rcu_holdings.specs.Callers.{Holding, holding, passed_on, put_by}
 use Rattle.rcu_holdings.specs.Modes.{is_deoffloading, settled}
 use Rattle.rcu_holdings.specs.Safe.{AreBelow}
@@ -36,7 +36,7 @@ invariant_of-state g c = let s = c.args.self.now.state in let e = c.turn_of-turn
   local = λ is. (let f : true ≡ false = sym c.requires.offloadable ∙ is in cc);
   small = s.small;
   lawful = settled_law s.cpu s.accepted _ (view s.seat) (view c.turn_of-turn.new.seat) s.ran.items h (holding c.settle.new.self) (settled h.left c.turn_of-turn.result h.mode)
-      (tells_touched (turns_word s.cpu) c.turn_of-turn.result (view s.seat) (view c.turn_of-turn.new.seat) e.view) e.later c.settle.ensures.settled s.lawful;
+      (tells_touched (turns_word s.cpu) c.turn_of-turn.result (view s.seat) (view c.turn_of-turn.new.seat) e.view) (e.same.later (arc_value s.board) s.here) c.settle.ensures.settled s.lawful;
 }
 
 pub invariant_of-state-else-is_leaving : goal.invariant_of-state-else-is_leaving
@@ -81,7 +81,7 @@ pub returns-then-is_leaving-clause-same : goal.returns-then-is_leaving-clause-sa
 returns-then-is_leaving-clause-same g c = record { part = record { board = refl; seat = c.turn_of-turn.ensures.same }; lane = same_lane c.args.self.now.state.lists c.settle.new.self c.settle.ensures.rear; cpu = refl; offloadable = refl; limit = refl; blimit = refl }
 
 pub returns-else-is_leaving-clause-same : goal.returns-else-is_leaving-clause-same
-returns-else-is_leaving-clause-same g c = record { part = record { board = refl; seat = record { role = refl; table = refl; weight = refl } }; lane = refl; cpu = refl; offloadable = refl; limit = refl; blimit = refl }
+returns-else-is_leaving-clause-same g c = record { part = record { board = refl; seat = same_seat _ }; lane = refl; cpu = refl; offloadable = refl; limit = refl; blimit = refl }
 
 pub returns-else-is_leaving-clause-sight : goal.returns-else-is_leaving-clause-sight
 returns-else-is_leaving-clause-sight g c = (refl, refl)

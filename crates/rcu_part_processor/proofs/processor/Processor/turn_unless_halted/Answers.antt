@@ -1,5 +1,7 @@
 use Rattle.std.proofs.Common.{◌∙◌}
-use Rattle.rcu_part_processor.proofs.TickRuns.{same_processor_again}
+use Rattle.std.specs.Arc.{arc_value}
+use Rattle.rcu_board.proofs.Facts.{saw-halt}
+use Rattle.rcu_part_processor.proofs.TickRuns.{records_again, records_kept, records_ticked, same_processor_again}
 use Rattle.rcu_part_processor.proofs.processor.Processor.turn_unless_halted.Goals as goal
 
 pub returns-then-counted-clause-sound : goal.returns-then-counted-clause-sound
@@ -20,6 +22,12 @@ returns-then-is_halted-clause-count g c = c.is_halted.ensures.keeps.count
 pub returns-then-is_halted-clause-sound : goal.returns-then-is_halted-clause-sound
 returns-then-is_halted-clause-sound g c = c.is_halted.ensures.sound
 
+pub returns-then-is_halted-clause-halted : goal.returns-then-is_halted-clause-halted
+returns-then-is_halted-clause-halted g c = let s = c.args.self.now.state in saw-halt (arc_value s.board) s.seat c.is_halted.new.self.state.seat c.is_halted.result s.here c.is_halted.ensures.view c.if-is_halted.true
+
+pub returns-then-is_halted-clause-records : goal.returns-then-is_halted-clause-records
+returns-then-is_halted-clause-records g c = records_kept c.args.self.now.state c.is_halted.new.self.state c.is_halted.ensures.keeps.records
+
 pub quiescent-requires : goal.quiescent-requires
 quiescent-requires g c = assumption
 
@@ -39,3 +47,11 @@ returns-else-counted-clause-same g c = let p = c.args.self.now.state in let q = 
 
 pub returns-else-counted-clause-count : goal.returns-else-counted-clause-count
 returns-else-counted-clause-count g c = c.tick-ticked.ensures.count ∙ (c.quiescent.ensures.keeps.count ∙ c.is_halted.ensures.keeps.count)
+
+pub returns-then-counted-clause-records : goal.returns-then-counted-clause-records
+returns-then-counted-clause-records g c = let p = c.args.self.now.state in let q = c.quiescent.new.self.state in let r = c.tick-ticked.new.self.state in
+    records_again p q r (records_kept p q (c.quiescent.ensures.keeps.records ∙ c.is_halted.ensures.keeps.records)) (records_ticked c.args.moment c.tick-ticked.result q r c.tick-ticked.ensures.ticks)
+
+pub returns-else-counted-clause-records : goal.returns-else-counted-clause-records
+returns-else-counted-clause-records g c = let p = c.args.self.now.state in let q = c.quiescent.new.self.state in let r = c.tick-ticked.new.self.state in
+    records_again p q r (records_kept p q (c.quiescent.ensures.keeps.records ∙ c.is_halted.ensures.keeps.records)) (records_ticked c.args.moment c.tick-ticked.result q r c.tick-ticked.ensures.ticks)

@@ -1,4 +1,5 @@
 use Rattle.std.proofs.Common.{ℕ, ◌∙◌, ap, refl, subst}
+use Rattle.std.specs.Arc.{arc_value}
 use Rattle.rcu_board.specs.Roles.{cpu_of_role}
 use Rattle.rcu_board.specs.Seats.{view}
 use Rattle.rcu_board.specs.Words.{turns_word}
@@ -15,7 +16,7 @@ invariant_of-state g c = let s = c.args.self.state in let e = c.end_claim.ensure
   bit = s.bit;
   local = s.local;
   small = s.small;
-  lawful = finished_law s.cpu s.accepted _ s.claimed c.args.receipt (view s.seat) (view c.end_claim.new.seat) s.ran.items c.push_reserved.new.self.items (holding s.lists) e.ends e.later c.push_reserved.ensures.items s.lawful;
+  lawful = finished_law s.cpu s.accepted _ s.claimed c.args.receipt (view s.seat) (view c.end_claim.new.seat) s.ran.items c.push_reserved.new.self.items (holding s.lists) e.ends (e.same.later (arc_value s.board) s.here) c.push_reserved.ensures.items s.lawful;
 }
 
 pub returns-clause-same : goal.returns-clause-same

@@ -14,7 +14,7 @@ invariant_of-state g c = let s = c.args.self.now.state in let e = c.tell.ensures
   small = s.small;
   below = s.below;
   room = s.room;
-  lawful = runs_by_tells s.cpu s.accepted _ s.claimed _ _ s.ran.items _ e.tells e.later s.lawful;
+  lawful = runs_by_tells s.cpu s.accepted _ s.claimed _ _ s.ran.items _ e.tells (e.same.later (arc_value s.board) s.here) s.lawful;
 }
 
 pub tell-requires-clause-board : goal.tell-requires-clause-board

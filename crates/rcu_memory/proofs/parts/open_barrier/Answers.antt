@@ -1,0 +1,5 @@
+use Rattle.rcu_control.proofs.Stepping.{same_again}
+use Rattle.rcu_memory.proofs.parts.open_barrier.Goals as goal
+
+pub returns : goal.returns
+returns c = same_again _ _ _ _ _ _ c.barrier.ensures.same c.poll.ensures.same
