@@ -14,6 +14,7 @@ use Rattle.rcu_lending.specs.Faults.{fault_number}
 use Rattle.rcu_lending.specs.Gathers.{Closes, ClosesAgain, RefusesClose}
 use Rattle.rcu_lending.specs.Opens.{OpensInto}
 use Rattle.rcu_lending.specs.Others.{DriverTurnsBy}
+use Rattle.rcu_lending.specs.Shows.{OnlyShows}
 use Rattle.rcu_lending.specs.Slots.{OnSlot}
 use Rattle.rcu_lending.specs.declared.fault.Fault.{Fault}
 use Rattle.rcu_lending.specs.declared.part.Part.{Part}
@@ -34,6 +35,10 @@ pub record Tells {A : Type 0} (By : Result A Fault → Part → Part → Type 0)
   pub does : OnSlot By result old new
   pub answer_is : answer ≡ answer_of result
   pub gives : IfOk result Gives
+
+-- The same of a call that only shows something of the slot's part.
+abbrev pub TellsShown : {A : Type 0} → (Result A Fault → Part → Type 0) → (A → Type 0) → ℕ → Slot → Slot → Type 0
+TellsShown Shows Gives answer old new = Tells (OnlyShows Shows) Gives answer old new
 
 -- Nothing was called, and this fault says why.
 pub record Refuses (fault : Fault) (answer : ℕ) (old new : Slot) : Type 0 where

@@ -46,13 +46,13 @@ mode_number Offloaded = 2
 mode_number Deoffloading = 3
 
 -- `struct rcuo_lists`, of a processor's lists
-abbrev pub AreListWords : Lists → ListWords → Type 0
-AreListWords (Cpu mode accepted bypass lengths numbers) w = (w.mode ≡ mode_number mode) × (w.accepted ≡ accepted) × (w.bypass ≡ bypass)
+abbrev pub AreListWords : ListWords → Lists → Type 0
+AreListWords w (Cpu mode accepted bypass lengths numbers) = (w.mode ≡ mode_number mode) × (w.accepted ≡ accepted) × (w.bypass ≡ bypass)
     × (w.lengths ≡ lengths) × (w.numbers ≡ numbers)
-AreListWords (Folk lengths numbers) w = (w.lengths ≡ lengths) × (w.numbers ≡ numbers)
+AreListWords w (Folk lengths numbers) = (w.lengths ≡ lengths) × (w.numbers ≡ numbers)
 
 -- `struct rcuo_record`
-pub record AreRecordWords (r : Record ForeignJob) (w : RecordWords) : Type 0 where
+pub record AreRecordWords (w : RecordWords) (r : Record ForeignJob) : Type 0 where
   pub number : w.number ≡ r.number
   pub stamp : w.stamp ≡ r.stamp
   pub ready : w.ready ≡ r.ready

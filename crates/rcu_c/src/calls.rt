@@ -2,11 +2,11 @@
 
 ghost use Rattle.std.specs.Prelude.{◌≡◌, ◌≢◌};
 ghost use Rattle.std.specs.Option.{unwrap_or};
-ghost use Rattle.rcu_c.specs.Exports.{Refuses, Tells, kind_of_call};
+ghost use Rattle.rcu_c.specs.Exports.{Refuses, Tells, TellsShown, kind_of_call};
 ghost use Rattle.rcu_c.specs.Words.{AreListWords};
 ghost use Rattle.rcu_lending.specs.Processors.{CallsBy, ReportsBy};
 ghost use Rattle.rcu_lending.specs.Runs.{BeginsBy, FinishesBy};
-ghost use Rattle.rcu_lending.specs.Shows.{OnlyShows, ShowsAccepted, ShowsLeft, ShowsLists};
+ghost use Rattle.rcu_lending.specs.Shows.{ShowsAccepted, ShowsLeft, ShowsLists};
 ghost use Rattle.rcu_lending.specs.declared.fault.Fault.TheVariants.{Reading};
 
 use crate::words::{ListWords, TicketWords, words_of_lists};
@@ -97,7 +97,7 @@ pub extern "C" fn rcuo_slot_finish(alloc: Global, slot: &mut Slot) -> u32
 /// `rcuo_accepted`: how many callbacks a processor accepted.
 #[unsafe(no_mangle)]
 pub extern "C" fn rcuo_slot_accepted(alloc: Global, slot: &mut Slot, accepted: &mut u64) -> u32
-    ensures { Tells (OnlyShows ShowsAccepted) (λ n. accepted.new ≡ n) result slot.old slot.new }
+    ensures { TellsShown ShowsAccepted (λ n. accepted.new ≡ n) result slot.old slot.new }
 {
     match slot.accepted(alloc) {
         Ok(number) => {
@@ -111,7 +111,7 @@ pub extern "C" fn rcuo_slot_accepted(alloc: Global, slot: &mut Slot, accepted: &
 /// `rcuo_left`: how many calls a processor still accepts at most.
 #[unsafe(no_mangle)]
 pub extern "C" fn rcuo_slot_left(alloc: Global, slot: &mut Slot, left: &mut u64) -> u32
-    ensures { Tells (OnlyShows ShowsLeft) (λ n. left.new ≡ n) result slot.old slot.new }
+    ensures { TellsShown ShowsLeft (λ n. left.new ≡ n) result slot.old slot.new }
 {
     match slot.left(alloc) {
         Ok(number) => {
@@ -125,7 +125,7 @@ pub extern "C" fn rcuo_slot_left(alloc: Global, slot: &mut Slot, left: &mut u64)
 /// `rcuo_lists`: what a processor shows of its callbacks.
 #[unsafe(no_mangle)]
 pub extern "C" fn rcuo_slot_lists(alloc: Global, slot: &mut Slot, lists: &mut ListWords) -> u32
-    ensures { Tells (OnlyShows ShowsLists) (λ shown. AreListWords shown lists.new) result slot.old slot.new }
+    ensures { TellsShown ShowsLists (AreListWords lists.new) result slot.old slot.new }
 {
     match slot.lists(alloc) {
         Ok(shown) => {

@@ -44,7 +44,8 @@ pub extern "C" fn rcuo_slot_poll(
     barrier: &CountWords,
     passed: &mut bool,
 ) -> u32
-    ensures tells { barrier.now.processors ≤ 32 → TellsPoll barrier.now passed.new result slot.old slot.new }
+    ensures tells { barrier.now.processors ≤ 32
+        → TellsPoll barrier.now passed.new result slot.old slot.new }
     ensures foreign { 32 < barrier.now.processors → Refuses Foreign result slot.old slot.new }
 {
     let Some(counts) = counts_of_words(barrier) else {

@@ -1,9 +1,9 @@
 //! What is left of a runtime that was closed.
 
 ghost use Rattle.std.specs.Prelude.{◌≡◌, ◌≢◌, None};
-ghost use Rattle.rcu_c.specs.Exports.{Tells};
+ghost use Rattle.rcu_c.specs.Exports.{TellsShown};
 ghost use Rattle.rcu_c.specs.Words.{AreRecordWords};
-ghost use Rattle.rcu_lending.specs.Shows.{OnlyShows, ShowsBack, ShowsRan, ShowsReports};
+ghost use Rattle.rcu_lending.specs.Shows.{ShowsBack, ShowsRan, ShowsReports};
 
 use crate::words::RecordWords;
 use rcu_jobs::Record;
@@ -19,7 +19,7 @@ pub extern "C" fn rcuo_slot_record(
     at: u64,
     kept: &mut RecordWords,
 ) -> u32
-    ensures { Tells (OnlyShows (ShowsRan processor at)) (λ r. AreRecordWords r kept.new) result slot.old slot.new }
+    ensures { TellsShown (ShowsRan processor at) (AreRecordWords kept.new) result slot.old slot.new }
 {
     match slot.ran_at(alloc, processor, at) {
         Ok(
@@ -52,7 +52,7 @@ pub extern "C" fn rcuo_slot_back(
     at: u64,
     job: &mut ForeignJob,
 ) -> u32
-    ensures { Tells (OnlyShows (ShowsBack processor at)) (λ back. job.new ≡ back) result slot.old slot.new }
+    ensures { TellsShown (ShowsBack processor at) (λ back. job.new ≡ back) result slot.old slot.new }
 {
     match slot.back_at(alloc, processor, at) {
         Ok(back) => {
@@ -71,7 +71,7 @@ pub extern "C" fn rcuo_slot_reports(
     processor: u64,
     reports: &mut u64,
 ) -> u32
-    ensures { Tells (OnlyShows (ShowsReports processor)) (λ many. reports.new ≡ many) result slot.old slot.new }
+    ensures { TellsShown (ShowsReports processor) (λ many. reports.new ≡ many) result slot.old slot.new }
 {
     match slot.reports_of(alloc, processor) {
         Ok(many) => {

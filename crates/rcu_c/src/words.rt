@@ -126,7 +126,7 @@ fn word_of_mode(mode: Mode) -> u64
 
 /// The words of lists.
 pub(crate) fn words_of_lists(lists: Lists) -> ListWords
-    ensures { AreListWords lists result }
+    ensures { AreListWords result lists }
 {
     match lists {
         Lists::Cpu {
