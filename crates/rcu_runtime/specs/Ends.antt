@@ -1,0 +1,17 @@
+-- What is left of a runtime that was closed: docs/embedding.md, "The end".
+use Rattle.std.specs.Prelude.{ℕ, length, sum_by, All}
+use Rattle.rcu_jobs.specs.Records.{Given}
+use Rattle.rcu_jobs.specs.declared.answers.Closed.{Closed}
+
+module _ {J R : Type 0} where
+  -- how many callbacks ran
+  abbrev pub ran_in : Closed J R → ℕ
+  ran_in closed = sum_by (λ records. length records.items) closed.ran.items
+
+  -- how many jobs are handed back
+  abbrev pub back_in : Closed J R → ℕ
+  back_in closed = sum_by (λ jobs. length jobs.items) closed.back.items
+
+  -- each receipt is given for the key of its record
+  abbrev pub HaveReceipts : (ℕ → R → Type 0) → Closed J R → Type 0
+  HaveReceipts gives closed = All (λ records. Given gives records.items) closed.ran.items

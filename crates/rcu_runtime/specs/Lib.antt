@@ -1,0 +1,6 @@
+pub mod Runtimes
+pub mod Calls
+pub mod Turns
+pub mod Ends
+pub mod Faults
+pub mod Passing

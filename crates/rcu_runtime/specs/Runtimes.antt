@@ -1,0 +1,24 @@
+-- What is said of a whole runtime, in the words of its parts: docs/embedding.md.
+use Rattle.std.specs.Prelude.{◌≡◌, ℕ, ◌≤◌, sum_by, All}
+use Rattle.rcu_parts.specs.OneOpen.{AreOfOneOpen, AreSoundParts, Parts, processors_in}
+use Rattle.rcu_parts.specs.SameParts.{AreSameParts}
+
+module _ {J R : Type 0} where
+  -- how many callbacks its processors have accepted
+  abbrev pub accepted_in : Parts J R → ℕ
+  accepted_in parts = sum_by (λ p. p.state.accepted) (processors_in parts)
+
+  -- The same runtime, later: each part is the same part of the same open, and nothing that was accepted is forgotten.
+  pub record Continues (old new : Parts J R) : Type 0 where
+    pub same : AreSameParts old new
+    pub accepted : accepted_in old ≤ accepted_in new
+
+  -- What `close` asks: the parts are those of one open, and know of their jobs what they should.
+  pub record CanClose (key_of : J → ℕ) (gives : ℕ → R → Type 0) (parts : Parts J R) : Type 0 where
+    pub one : AreOfOneOpen parts
+    pub sound : AreSoundParts key_of gives parts
+
+  -- What a runtime keeps at any time: it can be closed, and each of its processors accepts so many callbacks at most.
+  pub record IsWhole (key_of : J → ℕ) (gives : ℕ → R → Type 0) (limit : ℕ) (parts : Parts J R) : Type 0 where
+    pub close : CanClose key_of gives parts
+    pub limits : All (λ p. p.state.limit ≡ limit) (processors_in parts)

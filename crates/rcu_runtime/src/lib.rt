@@ -1,0 +1,28 @@
+//! A whole runtime in one object: what a program of one's own names to defer work until all readers are past it
+//! (docs/embedding.md). All parts of one open are in it, and it keeps what `close` asks of them; so a program over it writes
+//! its job type and its calls, and nothing else.
+#![tactic(auto)]
+
+mod calling;
+mod closing;
+mod fault;
+mod laws;
+mod opening;
+mod runtime;
+mod seeing;
+mod steering;
+mod turning;
+mod whole;
+
+pub use closing::Closing;
+pub use fault::{NoProcessor, NotCalled, OtherBarrier};
+pub use laws::{continues_again, continues_itself};
+pub use opening::open;
+pub use rcu_jobs::{
+    BarrierFault, Closed, Counts, DriverTurn, Job, Lists, Mode, Passed, Record, Refused, Stop,
+    SwitchFault, Ticked, Ticket,
+};
+pub use rcu_numbers::Shape;
+pub use rcu_parts::{Barrier, Reading};
+pub use runtime::Runtime;
+pub use whole::{Whole, Wholeness};
