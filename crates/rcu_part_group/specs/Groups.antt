@@ -126,6 +126,8 @@ module _ {J : Type 0} where
   pub record TurnsGroup (answer : GroupTurn) (p q : GroupState J) : Type 0 where
     pub first : GroupState J
     pub second : GroupState J
+    -- all the while it is the same group, with its own limit
+    pub same : SameGroup p first × SameGroup p second
     pub takes : TakesInAll answer.took p first
     pub looks : LooksOnce first second
     pub gives : GivesToAll answer.gave second q

@@ -36,6 +36,10 @@ none_of P k d low = absurd (omega (arith, low))
 pub same_first : {X : Type 0} (x y : X) (xs ys : List X) → x ∷ xs ≡ y ∷ ys → x ≡ y
 same_first x y xs ys e = ap (λ l. get_or l 0 x) e
 
+pub first_none : {X : Type 0} (xs ys : List X) → xs ++ ys ≡ [] → xs ≡ []
+first_none [] ys e = refl
+first_none (x ∷ xs) ys e = absurd (omega (arith, ap length e))
+
 pub not_none : {X : Type 0} (x : X) (xs ys : List X) → ys ≡ x ∷ xs → ys ≡ [] → ⊥
 not_none x xs ys e none = omega (arith, ap length (sym e ∙ none))
 

@@ -17,7 +17,7 @@ use Rattle.rcu_part_steps.specs.Begins.{claimed_as, record_with}
 use Rattle.rcu_part_steps.specs.Changes.{Claims, Finishes, StepsOnly}
 use Rattle.rcu_part_steps.specs.Places.{AreKeyed}
 use Rattle.rcu_part_steps.specs.declared.begins.ClaimedCallback.{ClaimedCallback}
-use Rattle.rcu_part_hand.specs.Hands.{Looks, Loads, TurnsBy, hand_board, hand_view, hand_records, hand_drawn, hand_held}
+use Rattle.rcu_part_hand.specs.Hands.{SameHand, Looks, Loads, TurnsBy, hand_board, hand_view, hand_records, hand_drawn, hand_held}
 use Rattle.rcu_part_hand.specs.declared.hand.HandState.{HandState}
 use Rattle.rcu_part_hand.specs.declared.running.RunningHandState.{RunningHandState}
 
@@ -95,6 +95,8 @@ module _ {J R : Type 0} where
     pub seen : ℕ
     pub first : HandState J R
     pub second : HandState J R
+    -- all the while it is the same hand
+    pub same : SameHand p first × SameHand p second
     pub looks : Looks seen p first
     pub loads : Loads first second
     pub claims : ClaimsFirst seen second q job

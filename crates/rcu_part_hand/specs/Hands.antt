@@ -1,5 +1,5 @@
 -- What contracts see of a hand's part, and what its turn does: docs/specification/rules.md, "The calls, step by step", `Hand::turn`.
-use Rattle.std.specs.Prelude.{◌≡◌, ◌≢◌, ℕ, ◌+◌, ◌*◌, ◌<◌, List, [], ◌∷◌, ◌++◌, length, All}
+use Rattle.std.specs.Prelude.{◌≡◌, ◌≢◌, ℕ, ◌+◌, ◌≤◌, ◌*◌, ◌<◌, List, [], ◌∷◌, ◌++◌, length, All}
 use Rattle.std.proofs.Common.{◌⊎◌}
 use Rattle.std.specs.Arc.{arc_value}
 use Rattle.rcu_board.specs.Seats.{view}
@@ -79,13 +79,17 @@ module _ {J R : Type 0} where
   IsNotItsTurn ran tried seen h = (c : Callback J) × (rest : List (Callback J)) × (hand_held h ≡ c ∷ rest)
       × (((seen < snap_of c.stamp) × (tried ≡ ran)) ⊎ ((seen_at (hand_view h) (turns_word h.cpu) ≢ 2 * c.number) × (tried ≡ ran + 1)))
 
+  -- the wait of the first of what it holds is over at the number seen
+  abbrev pub IsDue : ℕ → HandState J R → Type 0
+  IsDue seen h = (c : Callback J) × (rest : List (Callback J)) × (hand_held h ≡ c ∷ rest) × (snap_of c.stamp ≤ seen)
+
   -- why no more were run, once `ran` were and so many claims were tried
   abbrev pub StopsAt : Stop → ℕ → ℕ → ℕ → HandState J R → Type 0
   StopsAt Limit ran tried seen h = (ran ≡ h.blimit) × (tried ≡ ran)
   StopsAt Again ran tried seen h = (hand_held h ≡ []) × (tried ≡ ran)
   StopsAt Empty ran tried seen h = (hand_held h ≡ []) × (tried ≡ ran)
   StopsAt Turn ran tried seen h = IsNotItsTurn ran tried seen h
-  StopsAt Memory ran tried seen h = (hand_held h ≢ []) × (tried ≡ ran)
+  StopsAt Memory ran tried seen h = IsDue seen h × (tried ≡ ran)
 
   -- one look, which found the number `seen`
   pub record Looks (seen : ℕ) (p q : HandState J R) : Type 0 where
@@ -112,6 +116,8 @@ module _ {J R : Type 0} where
     pub tried : ℕ
     pub first : HandState J R
     pub second : HandState J R
+    -- all the while it is the same hand
+    pub same : SameHand p first × SameHand p second
     pub looks : Looks seen p first
     pub loads : Loads first second
     pub ran : Ran answer.ran tried seen second q

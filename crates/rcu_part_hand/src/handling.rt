@@ -1,10 +1,12 @@
 //! The turn of a hand.
 
-ghost use Rattle.std.specs.Prelude.{◌≡◌, ◌+◌, ◌≤◌, ℕ, IfNone, IfSome};
+ghost use Rattle.std.specs.Prelude.{◌≡◌, ◌≢◌, ◌+◌, ◌≤◌, ℕ, [], IfNone, IfSome};
 ghost use Rattle.rcu_board.specs.Views.{sight, tally};
 ghost use Rattle.rcu_board.specs.Words.{board_word};
+ghost use Rattle.rcu_jobs.specs.declared.Stop.TheVariants.{Limit, Again};
 ghost use Rattle.rcu_numbers.specs.declared.sequence.TheConstants.{GREATEST_NUMBER};
-ghost use Rattle.rcu_part_hand.specs.Hands.{SameHand, IsSoundHand, Looks, Loads, Ran, StopsAt, TurnsBy, hand_view};
+ghost use Rattle.rcu_part_hand.specs.Hands.{SameHand, IsSoundHand, Looks, Loads, Ran, StopsAt, TurnsBy, hand_held, hand_view};
+ghost use Rattle.rcu_part_steps.specs.Stops.{StopsInTime};
 
 use crate::hand::Hand;
 use rcu_holdings::Fetched;
@@ -19,6 +21,7 @@ impl<J: Job> Hand<J> {
         requires small { seen ≤ GREATEST_NUMBER }
         ensures same { SameHand self.old.state self.new.state }
         ensures ran { IfNone result (Ran 1 1 seen self.old.state self.new.state) }
+        ensures counts { IfSome result (λ stop. (stop ≢ Limit) × (stop ≢ Again)) }
         ensures not { IfSome result (λ stop. (tried : ℕ) × Ran 0 tried seen self.old.state self.new.state × ((n : ℕ) → StopsAt stop n (n + tried) seen self.new.state)) }
         ensures sound { IsSoundHand J.key_of J.gives self.old.state → IsSoundHand J.key_of J.gives self.new.state }
     {
@@ -50,6 +53,8 @@ impl<J: Job> Hand<J> {
         requires small { seen ≤ GREATEST_NUMBER }
         ensures same { SameHand self.old.state self.new.state }
         ensures ran { (tried : ℕ) × Ran result.ran tried seen self.old.state self.new.state × StopsAt result.stop result.ran tried seen self.new.state }
+        ensures first { StopsInTime result.stop result.ran self.old.state.blimit }
+        ensures goes_on { result.stop ≢ Again }
         ensures few { result.ran ≤ self.old.state.blimit }
         ensures sound { IsSoundHand J.key_of J.gives self.old.state → IsSoundHand J.key_of J.gives self.new.state }
     {
@@ -97,6 +102,8 @@ impl<J: Job> Hand<J> {
         ensures same { SameHand self.old.state self.new.state }
         ensures turn { TurnsBy result self.old.state self.new.state }
         ensures few { result.ran ≤ self.old.state.blimit }
+        ensures first { StopsInTime result.stop result.ran self.old.state.blimit }
+        ensures again { result.stop ≡ Again → (hand_held self.old.state ≡ []) × (result.ran ≡ 0) }
         ensures fresh { tally (hand_view self.new.state) board_word ≡ tally (hand_view self.old.state) board_word + 1 }
         ensures sound { IsSoundHand J.key_of J.gives self.old.state → IsSoundHand J.key_of J.gives self.new.state }
     {

@@ -9,7 +9,7 @@ use Rattle.rcu_part_steps.specs.Begins.{claimed_as}
 use Rattle.rcu_part_steps.specs.Changes.{Claims, StepsOnly}
 use Rattle.rcu_part_steps.proofs.Turning.{steps_none}
 use Rattle.rcu_part_processor.specs.Begins.{BeginsTick, ClaimsFirst, ClaimsNone, KeepsProcessor, StopsBegin}
-use Rattle.rcu_part_processor.specs.Processors.{view_of}
+use Rattle.rcu_part_processor.specs.Processors.{SameProcessor, view_of}
 use Rattle.rcu_part_processor.specs.Running.{running_lists, running_view}
 use Rattle.rcu_part_processor.specs.Ticks.{CatchesUp, Heeds, RanDone, Settles, StopsTick}
 use Rattle.rcu_part_processor.specs.declared.processor.ProcessorState.{ProcessorState}
@@ -41,12 +41,13 @@ module _ {J R : Type 0} where
   lost_after seen ready stop p q r is cpu k ran stops = record { tried = 1; ran = done_more 0 0 0 1 seen p q r cpu (kept_none seen p q k) (subst (λ (s : ℕ). RanDone 0 1 s q r) is ran); why = stops }
 
   -- a processor that isn't offloadable only catches up before
-  pub begins_local : (seen moment : ℕ) (p q : ProcessorState J R) (r : RunningProcessorState J R) (job : J) → CatchesUp seen p q → p.offloadable ≡ false → ClaimsFirst seen q r job → BeginsTick moment p r job
-  begins_local seen moment p q r job c off claims = record {
+  pub begins_local : (seen moment : ℕ) (p q : ProcessorState J R) (r : RunningProcessorState J R) (job : J) → SameProcessor p q → CatchesUp seen p q → p.offloadable ≡ false → ClaimsFirst seen q r job → BeginsTick moment p r job
+  begins_local seen moment p q r job same c off claims = record {
     seen = seen;
     first = q;
     second = q;
     third = q;
+    same = (same, same, same);
     catches_up = c;
     local = λ _. (refl, refl);
     heeds = λ on. (let f : true ≡ false = sym on ∙ off in cc);
@@ -54,13 +55,14 @@ module _ {J R : Type 0} where
     claims = claims;
   }
 
-  pub stops_local : (seen moment : ℕ) (stop : Stop) (p q r : ProcessorState J R) → CatchesUp seen p q → p.offloadable ≡ false → ClaimsNone seen stop q r → StopsBegin moment stop p r
-  stops_local seen moment stop p q r c off none = record {
+  pub stops_local : (seen moment : ℕ) (stop : Stop) (p q r : ProcessorState J R) → SameProcessor p q → CatchesUp seen p q → p.offloadable ≡ false → ClaimsNone seen stop q r → StopsBegin moment stop p r
+  stops_local seen moment stop p q r same c off none = record {
     seen = seen;
     tried = none.tried;
     first = q;
     second = q;
     third = q;
+    same = (same, same, same);
     catches_up = c;
     local = λ _. (refl, refl);
     heeds = λ on. (let f : true ≡ false = sym on ∙ off in cc);
@@ -70,12 +72,13 @@ module _ {J R : Type 0} where
   }
 
   -- an offloadable one heeds what is asked, and settles
-  pub begins_switching : (seen moment : ℕ) (p q s t : ProcessorState J R) (r : RunningProcessorState J R) (job : J) → CatchesUp seen p q → p.offloadable ≡ true → Heeds moment q s → Settles s t → ClaimsFirst seen t r job → BeginsTick moment p r job
-  begins_switching seen moment p q s t r job c on heeds settles claims = record {
+  pub begins_switching : (seen moment : ℕ) (p q s t : ProcessorState J R) (r : RunningProcessorState J R) (job : J) → SameProcessor p q × SameProcessor p s × SameProcessor p t → CatchesUp seen p q → p.offloadable ≡ true → Heeds moment q s → Settles s t → ClaimsFirst seen t r job → BeginsTick moment p r job
+  begins_switching seen moment p q s t r job same c on heeds settles claims = record {
     seen = seen;
     first = q;
     second = s;
     third = t;
+    same = same;
     catches_up = c;
     local = λ off. (let f : true ≡ false = sym on ∙ off in cc);
     heeds = λ _. heeds;
@@ -83,13 +86,14 @@ module _ {J R : Type 0} where
     claims = claims;
   }
 
-  pub stops_switching : (seen moment : ℕ) (stop : Stop) (p q s t r : ProcessorState J R) → CatchesUp seen p q → p.offloadable ≡ true → Heeds moment q s → Settles s t → ClaimsNone seen stop t r → StopsBegin moment stop p r
-  stops_switching seen moment stop p q s t r c on heeds settles none = record {
+  pub stops_switching : (seen moment : ℕ) (stop : Stop) (p q s t r : ProcessorState J R) → SameProcessor p q × SameProcessor p s × SameProcessor p t → CatchesUp seen p q → p.offloadable ≡ true → Heeds moment q s → Settles s t → ClaimsNone seen stop t r → StopsBegin moment stop p r
+  stops_switching seen moment stop p q s t r same c on heeds settles none = record {
     seen = seen;
     tried = none.tried;
     first = q;
     second = s;
     third = t;
+    same = same;
     catches_up = c;
     local = λ off. (let f : true ≡ false = sym on ∙ off in cc);
     heeds = λ _. heeds;

@@ -8,7 +8,7 @@ use Rattle.rcu_numbers.specs.Numbers.{snap_of}
 use Rattle.rcu_part_steps.specs.Begins.{claimed_as, record_with}
 use Rattle.rcu_part_steps.specs.Changes.{Claims, Finishes, StepsOnly}
 use Rattle.rcu_part_steps.specs.declared.begins.ClaimedCallback.{ClaimedCallback}
-use Rattle.rcu_part_processor.specs.Processors.{view_of, lists_of, records_of}
+use Rattle.rcu_part_processor.specs.Processors.{SameProcessor, view_of, lists_of, records_of}
 use Rattle.rcu_part_processor.specs.Running.{running_view, running_lists, running_records}
 use Rattle.rcu_part_processor.specs.Ticks.{CatchesUp, Heeds, Settles, RanDone, StopsTick, TicksBy}
 use Rattle.rcu_part_processor.specs.declared.processor.ProcessorState.{ProcessorState}
@@ -56,6 +56,8 @@ module _ {J R : Type 0} where
     pub first : ProcessorState J R
     pub second : ProcessorState J R
     pub third : ProcessorState J R
+    -- all the while it is the same processor
+    pub same : SameProcessor p first × SameProcessor p second × SameProcessor p third
     pub catches_up : CatchesUp seen p first
     pub local : p.offloadable ≡ false → (second ≡ first) × (third ≡ second)
     pub heeds : p.offloadable ≡ true → Heeds moment first second

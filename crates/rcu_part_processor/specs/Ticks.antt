@@ -19,7 +19,7 @@ use Rattle.rcu_lists.specs.Labels.{Done, Labelled, marked, count, is_done}
 use Rattle.rcu_records.specs.Records.{numbered_records}
 use Rattle.rcu_part_steps.specs.Changes.{StepsOnly}
 use Rattle.rcu_part_steps.specs.Places.{numbered_callbacks}
-use Rattle.rcu_part_processor.specs.Processors.{board_of, view_of, lists_of, records_of}
+use Rattle.rcu_part_processor.specs.Processors.{SameProcessor, board_of, view_of, lists_of, records_of}
 use Rattle.rcu_part_processor.specs.declared.processor.ProcessorState.{ProcessorState}
 
 -- the step that asks for a number, where one is wanted: the word becomes the greater of it and what was found
@@ -94,6 +94,8 @@ module _ {J R : Type 0} where
     pub first : ProcessorState J R
     pub second : ProcessorState J R
     pub third : ProcessorState J R
+    -- all the while it is the same processor
+    pub same : SameProcessor p first × SameProcessor p second × SameProcessor p third
     pub catches_up : CatchesUp seen p first
     pub local : p.offloadable ≡ false → (second ≡ first) × (third ≡ second)
     pub heeds : p.offloadable ≡ true → Heeds moment first second

@@ -1,10 +1,12 @@
 //! The tick of a processor.
 
-ghost use Rattle.std.specs.Prelude.{◌≡◌, ℕ, ◌+◌, ◌≤◌, true, IfNone, IfSome};
+ghost use Rattle.std.specs.Prelude.{◌≡◌, ◌≢◌, ℕ, ◌+◌, ◌≤◌, true, IfNone, IfSome};
 ghost use Rattle.rcu_holdings.specs.Modes.{is_deoffloading};
 ghost use Rattle.rcu_board.specs.Views.{sight};
+ghost use Rattle.rcu_jobs.specs.declared.Stop.TheVariants.{Limit};
 ghost use Rattle.rcu_part_processor.specs.Processors.{SameProcessor, IsSound, lists_of, view_of};
 ghost use Rattle.rcu_part_processor.specs.Ticks.{CatchesUp, Heeds, Settles, RanDone, StopsTick, TicksBy, IsFresh, IsLocalOnceRun, RunsNoneOffloaded};
+ghost use Rattle.rcu_part_steps.specs.Stops.{StopsInTime};
 
 use crate::processor::Processor;
 use rcu_board::{asked, heard, need, turn_of};
@@ -76,6 +78,7 @@ impl<J: Job> Processor<J> {
         requires seen { (sight (view_of self.old.state) ≡ seen) × ((lists_of self.old.state).advanced ≡ seen) }
         ensures same { SameProcessor self.old.state self.new.state }
         ensures ran { IfNone result (RanDone 1 1 seen self.old.state self.new.state) }
+        ensures counts { IfSome result (λ stop. stop ≢ Limit) }
         ensures not { IfSome result (λ stop. (tried : ℕ) × RanDone 0 tried seen self.old.state self.new.state × ((n : ℕ) → StopsTick stop n (n + tried) self.new.state)) }
         ensures sight { (sight (view_of self.new.state) ≡ seen) × ((lists_of self.new.state).advanced ≡ seen) }
         ensures count { self.new.state.accepted ≡ self.old.state.accepted }
@@ -106,6 +109,7 @@ impl<J: Job> Processor<J> {
         ensures same { SameProcessor self.old.state self.new.state }
         ensures ran { (tried : ℕ) × RanDone result.ran tried seen self.old.state self.new.state × StopsTick result.stop result.ran tried self.new.state }
         ensures few { result.ran ≤ self.old.state.blimit }
+        ensures first { StopsInTime result.stop result.ran self.old.state.blimit }
         ensures count { self.new.state.accepted ≡ self.old.state.accepted }
         ensures sound { IsSound J.key_of J.gives self.old.state → IsSound J.key_of J.gives self.new.state }
     {
@@ -129,6 +133,7 @@ impl<J: Job> Processor<J> {
         ensures same { SameProcessor self.old.state self.new.state }
         ensures ticks { TicksBy moment result self.old.state self.new.state }
         ensures few { result.ran ≤ self.old.state.blimit }
+        ensures first { StopsInTime result.stop result.ran self.old.state.blimit }
         ensures count { self.new.state.accepted ≡ self.old.state.accepted }
         ensures fresh { IsFresh self.old.state self.new.state }
         ensures local { IsLocalOnceRun self.old.state self.new.state }

@@ -1,3 +1,4 @@
 pub mod Turning
 pub mod Telling
 pub mod Beginning
+pub mod Stopping

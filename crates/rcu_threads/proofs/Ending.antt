@@ -20,7 +20,8 @@ use Rattle.rcu_part_processor.specs.Processors.{IsSound, SameProcessor, view_of}
 use Rattle.rcu_parts.specs.SameParts.{AreSameParts}
 use Rattle.rcu_part_hand.specs.declared.hand.Hand.{Hand}
 use Rattle.rcu_part_processor.specs.declared.processor.Processor.{Processor}
-use Rattle.rcu_threads.specs.Ends.{AreUnused, HasNoneBack}
+use Rattle.rcu_parts.specs.Drained.{HasNoneBack}
+use Rattle.rcu_threads.specs.Ends.{AreUnused}
 use Rattle.rcu_threads.specs.Parts.{HandStays}
 use Rattle.rcu_threads.specs.Runs.{HasRun, HaveRun}
 use Rattle.rcu_threads.proofs.Zips.{zip_all, zip_imp}

@@ -1,5 +1,5 @@
 -- How a run in threads ends: docs/specification/promises.md, "Headline on the running parts", close, and program.md, "threads".
-use Rattle.std.specs.Prelude.{◌≡◌, ℕ, [], All}
+use Rattle.std.specs.Prelude.{◌≡◌, ℕ, All}
 use Rattle.rcu_jobs.specs.declared.answers.Closed.{Closed}
 use Rattle.rcu_parts.specs.AtClose.{ClosesWith}
 use Rattle.rcu_parts.specs.OneOpen.{Parts, processors_in}
@@ -15,7 +15,3 @@ module _ {J R : Type 0} where
   -- nothing was accepted yet
   abbrev pub AreUnused : Parts J R → Type 0
   AreUnused parts = All (λ p. p.state.accepted ≡ 0) (processors_in parts)
-
-  -- no job is handed back
-  abbrev pub HasNoneBack : Closed J R → Type 0
-  HasNoneBack closed = All (λ jobs. jobs.items ≡ []) closed.back.items

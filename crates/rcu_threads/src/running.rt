@@ -5,7 +5,8 @@ ghost use Rattle.std.specs.List.{AllZip};
 ghost use Rattle.rcu_control.specs.Parts.{control_board, control_seat, control_view};
 ghost use Rattle.rcu_control.specs.Views.{SamePart};
 ghost use Rattle.rcu_parts.specs.OneOpen.{AreOfOneOpen, AreSoundParts};
-ghost use Rattle.rcu_threads.specs.Ends.{AreUnused, ClosesSame, HasNoneBack};
+ghost use Rattle.rcu_parts.specs.Drained.{HasNoneBack};
+ghost use Rattle.rcu_threads.specs.Ends.{AreUnused, ClosesSame};
 ghost use Rattle.rcu_threads.specs.Runs.{AreOver, HasRun, HaveRun};
 ghost use Rattle.rcu_threads.specs.Parts.{GivesBack};
 

@@ -38,6 +38,7 @@ pub returns-clause-turn : goal.returns-clause-turn
 returns-clause-turn g c = record {
   first = c.take_in-took.new.self.state;
   second = c.look.new.self.state;
+  same = (c.take_in-took.ensures.same, same_group_again c.args.self.now.state c.take_in-took.new.self.state c.look.new.self.state c.take_in-took.ensures.same c.look.ensures.same);
   takes = c.take_in-took.ensures.takes;
   looks = c.look.ensures.looks;
   gives = c.give-gave.ensures.gives;

@@ -25,6 +25,7 @@ returns-in-Some-clause-stops g c = let q = c.load.new.self.state in record {
   tried = 0;
   first = c.look-seen.new.self.state;
   second = q;
+  same = (c.look-seen.ensures.same, same_hand_again c.args.self.state c.look-seen.new.self.state c.load.new.self.state c.look-seen.ensures.same c.load.ensures.same);
   looks = c.look-seen.ensures.looks;
   loads = c.load.ensures.loads;
   ran = ran_none 0 c.look-seen.result q q refl refl refl (ap (λ (v : View). sight v) c.load.ensures.loads.view ∙ c.look-seen.ensures.looks.sight) (steps_none _ _ _ refl);
@@ -47,6 +48,7 @@ returns-in-Err-clause-stops g c = let q = c.next.new.self.state in let k = c.nex
   tried = 0;
   first = c.look-seen.new.self.state;
   second = q;
+  same = (c.look-seen.ensures.same, same_hand_again c.args.self.state c.load.new.self.state c.next.new.self.state (same_hand_again c.args.self.state c.look-seen.new.self.state c.load.new.self.state c.look-seen.ensures.same c.load.ensures.same) c.next.ensures.same);
   looks = c.look-seen.ensures.looks;
   loads = loads_kept c.look-seen.new.self.state c.load.new.self.state q c.load.ensures.loads k;
   ran = ran_none 0 c.look-seen.result q q refl refl refl (ap (λ (v : View). sight v) k.view ∙ (ap (λ (v : View). sight v) c.load.ensures.loads.view ∙ c.look-seen.ensures.looks.sight)) (steps_none _ _ _ refl);
@@ -81,6 +83,7 @@ returns-in-Ok-clause-runs g c = let r = c.next.new.self.state in let a = c.look-
       seen = a.result;
       first = a.new.self.state;
       second = r;
+      same = (c.look-seen.ensures.same, same_hand_again c.args.self.state c.load.new.self.state c.next.new.self.state (same_hand_again c.args.self.state c.look-seen.new.self.state c.load.new.self.state c.look-seen.ensures.same c.load.ensures.same) c.next.ensures.same);
       looks = a.ensures.looks;
       loads = loads;
       claims = subst (λ (s : ℕ). ClaimsFirst s r running.state job) is claims;
@@ -96,6 +99,7 @@ returns-in-Ok-clause-stops g c = let r = c.next.new.self.state in let a = c.look
       tried = 1;
       first = a.new.self.state;
       second = r;
+      same = (c.look-seen.ensures.same, same_hand_again c.args.self.state c.load.new.self.state c.next.new.self.state (same_hand_again c.args.self.state c.look-seen.new.self.state c.load.new.self.state c.look-seen.ensures.same c.load.ensures.same) c.next.ensures.same);
       looks = a.ensures.looks;
       loads = loads;
       ran = subst (λ (s : ℕ). Ran 0 1 s r hand.state) is ran;

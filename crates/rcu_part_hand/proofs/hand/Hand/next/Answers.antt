@@ -1,10 +1,10 @@
 use Rattle.std.proofs.Common.{◌≡◌, List, inl, sym, subst, refl, arith}
 use Rattle.rcu_board.specs.Seats.{view}
-use Rattle.rcu_holdings.specs.Helds.{drawn_by, held_by, taken_by}
+use Rattle.rcu_holdings.specs.Helds.{drawn_by, taken_by}
 use Rattle.rcu_jobs.specs.declared.Stop.TheVariants.{Limit, Empty, Turn, Memory}
 use Rattle.rcu_jobs.specs.declared.callback.Record.{Record}
 use Rattle.rcu_part_hand.specs.HandLaw.{IsLawfulHand}
-use Rattle.rcu_part_hand.proofs.HandRuns.{hand_sound_kept, not_none}
+use Rattle.rcu_part_hand.proofs.HandRuns.{hand_sound_kept}
 use Rattle.rcu_part_hand.proofs.hand.Hand.next.Goals as goal
 
 pub returns-in_default-clause-stops : goal.returns-in_default-clause-stops
@@ -21,7 +21,7 @@ pub returns-then-snap-seen-clause-counts : goal.returns-then-snap-seen-clause-co
 returns-then-snap-seen-clause-counts g c = λ e. (let f : Turn ≡ Limit = e in cc)
 
 pub returns-in_default-reserve-clause-stops : goal.returns-in_default-reserve-clause-stops
-returns-in_default-reserve-clause-stops g c = let f = c.in-Some.ensures.first in (not_none c.in-Some.first.now f.0 (held_by c.args.self.now.state.held) f.1, refl)
+returns-in_default-reserve-clause-stops g c = let f = c.in-Some.ensures.first in ((c.in-Some.first.now, f.0, f.1, omega (arith, c.if-snap-seen.false, c.snap.ensures.value)), refl)
 
 pub returns-in_default-reserve-clause-counts : goal.returns-in_default-reserve-clause-counts
 returns-in_default-reserve-clause-counts g c = λ e. (let f : Memory ≡ Limit = e in cc)

@@ -1,6 +1,8 @@
 use Rattle.std.proofs.Common.{◌≡◌, ℕ, ◌+◌, subst, sym, refl, arith}
 use Rattle.rcu_part_hand.specs.Hands.{Ran}
 use Rattle.rcu_part_hand.proofs.HandRuns.{ran_none, ran_more, same_hand, same_hand_again}
+use Rattle.rcu_jobs.specs.declared.Stop.TheVariants.{Limit, Again}
+use Rattle.rcu_part_steps.proofs.Stopping.{in_time}
 use Rattle.rcu_part_steps.proofs.Turning.{steps_none}
 use Rattle.rcu_part_hand.proofs.hand.Hand.run_held.Goals as goal
 
@@ -36,3 +38,15 @@ returns-clause-same g c = c.loop-ran.invariant.same
 
 pub returns-clause-sound : goal.returns-clause-sound
 returns-clause-sound g c = c.loop-ran.invariant.sound
+
+pub returns-in-Some-clause-first : goal.returns-in-Some-clause-first
+returns-in-Some-clause-first g c = in_time c.in-Some.stop c.loop-ran.ran c.args.self.now.state.blimit c.in-Some.ensures.counts.0 (λ _. c.loop-ran-test.true)
+
+pub returns-in-Some-clause-goes_on : goal.returns-in-Some-clause-goes_on
+returns-in-Some-clause-goes_on g c = c.in-Some.ensures.counts.1
+
+pub returns-clause-first : goal.returns-clause-first
+returns-clause-first g c = refl
+
+pub returns-clause-goes_on : goal.returns-clause-goes_on
+returns-clause-goes_on g c = λ e. (let f : Limit ≡ Again = e in cc)

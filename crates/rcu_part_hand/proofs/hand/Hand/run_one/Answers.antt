@@ -5,6 +5,7 @@ use Rattle.rcu_board.specs.Views.{sight}
 use Rattle.rcu_board.specs.declared.view.Claim.{Claim}
 use Rattle.rcu_holdings.specs.Helds.{drawn_by, held_by, taken_by}
 use Rattle.rcu_holdings.specs.Lanes.{drawn_calls}
+use Rattle.rcu_jobs.specs.declared.Stop.TheVariants.{Limit, Again, Empty, Turn, Memory}
 use Rattle.rcu_jobs.specs.declared.callback.Callback.{Callback}
 use Rattle.rcu_numbers.specs.Numbers.{snap_of}
 use Rattle.rcu_board.specs.Words.{turns_word}
@@ -27,7 +28,7 @@ returns-then-snap-seen-clause-not g c = let f = c.in-Some.ensures.first in
 
 pub returns-in_default-reserve-clause-not : goal.returns-in_default-reserve-clause-not
 returns-in_default-reserve-clause-not g c = let f = c.in-Some.ensures.first in
-    (0, ran_none 0 c.args.seen c.args.self.now.state _ refl refl c.reserve.ensures.items c.requires.seen (steps_none _ _ _ refl), λ n. (not_none c.in-Some.first.now f.0 (held_by c.args.self.now.state.held) f.1, omega arith))
+    (0, ran_none 0 c.args.seen c.args.self.now.state _ refl refl c.reserve.ensures.items c.requires.seen (steps_none _ _ _ refl), λ n. ((c.in-Some.first.now, f.0, f.1, omega (arith, c.if-snap-seen.false, c.snap.ensures.value)), omega arith))
 
 pub returns-in_default-reserve-clause-sound : goal.returns-in_default-reserve-clause-sound
 returns-in_default-reserve-clause-sound g c = hand_sound_kept g.J.Job.key_of g.J.Job.gives (drawn_by c.args.self.now.state.held) (drawn_by c.args.self.now.state.held) c.args.self.now.state.ran.items c.reserve.new.self.items refl c.reserve.ensures.items
@@ -146,3 +147,15 @@ returns-in_default-clause-sound g c = λ sound. sound
 
 pub returns-then-snap-seen-clause-sound : goal.returns-then-snap-seen-clause-sound
 returns-then-snap-seen-clause-sound g c = λ sound. sound
+
+pub returns-in_default-clause-counts : goal.returns-in_default-clause-counts
+returns-in_default-clause-counts g c = ((λ e. (let f : Empty ≡ Limit = e in cc)), λ e. (let f : Empty ≡ Again = e in cc))
+
+pub returns-then-snap-seen-clause-counts : goal.returns-then-snap-seen-clause-counts
+returns-then-snap-seen-clause-counts g c = ((λ e. (let f : Turn ≡ Limit = e in cc)), λ e. (let f : Turn ≡ Again = e in cc))
+
+pub returns-in_default-reserve-clause-counts : goal.returns-in_default-reserve-clause-counts
+returns-in_default-reserve-clause-counts g c = ((λ e. (let f : Memory ≡ Limit = e in cc)), λ e. (let f : Memory ≡ Again = e in cc))
+
+pub returns-then-not-take-clause-counts : goal.returns-then-not-take-clause-counts
+returns-then-not-take-clause-counts g c = ((λ e. (let f : Turn ≡ Limit = e in cc)), λ e. (let f : Turn ≡ Again = e in cc))

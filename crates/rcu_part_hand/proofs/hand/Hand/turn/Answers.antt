@@ -1,8 +1,13 @@
-use Rattle.std.proofs.Common.{◌∙◌, ap, refl, arith, ℕ, ◌≤◌, subst}
+use Rattle.std.proofs.Common.{◌∙◌, ◌≡◌, ◌<◌, [], sym, ap, refl, arith, ℕ, ◌≤◌, subst}
 use Rattle.rcu_board.specs.Words.{board_word}
 use Rattle.rcu_board.specs.Views.{sight}
 use Rattle.rcu_board.specs.declared.view.View.{View}
-use Rattle.rcu_part_hand.proofs.HandRuns.{looked_once, ran_none, same_hand_again}
+use Rattle.rcu_jobs.specs.declared.Stop.{Stop}
+use Rattle.rcu_part_steps.specs.Stops.{StopsInTime}
+use Rattle.rcu_part_steps.proofs.Stopping.{in_time}
+use Rattle.rcu_part_hand.specs.Hands.{StopsAt, hand_held}
+use Rattle.rcu_part_hand.proofs.HandBegins.{never_limit}
+use Rattle.rcu_part_hand.proofs.HandRuns.{first_none, looked_once, ran_none, same_hand_again}
 use Rattle.rcu_part_steps.proofs.Turning.{steps_none}
 use Rattle.rcu_part_hand.proofs.hand.Hand.turn.Goals as goal
 
@@ -12,6 +17,7 @@ returns-in-Some-clause-turn g c = let a = c.look-seen.ensures in let b = c.load.
   tried = 0;
   first = c.look-seen.new.self.state;
   second = q;
+  same = (c.look-seen.ensures.same, same_hand_again c.args.self.now.state c.look-seen.new.self.state q c.look-seen.ensures.same c.load.ensures.same);
   looks = a.looks;
   loads = b.loads;
   ran = ran_none 0 c.look-seen.result q q refl refl refl (ap (λ (v : View). sight v) b.loads.view ∙ a.looks.sight) (steps_none _ _ _ refl);
@@ -54,6 +60,7 @@ returns-clause-turn g c = let r = c.run_held.ensures.ran in record {
   tried = r.0;
   first = c.look-seen.new.self.state;
   second = c.load.new.self.state;
+  same = (c.look-seen.ensures.same, same_hand_again c.args.self.now.state c.look-seen.new.self.state c.load.new.self.state c.look-seen.ensures.same c.load.ensures.same);
   looks = c.look-seen.ensures.looks;
   loads = c.load.ensures.loads;
   ran = r.1;
@@ -62,3 +69,17 @@ returns-clause-turn g c = let r = c.run_held.ensures.ran in record {
 
 pub returns-clause-few : goal.returns-clause-few
 returns-clause-few g c = subst (λ (n : ℕ). c.run_held.result.ran ≤ n) (c.load.ensures.same.blimit ∙ c.look-seen.ensures.same.blimit) c.run_held.ensures.few
+
+pub returns-in-Some-clause-first : goal.returns-in-Some-clause-first
+returns-in-Some-clause-first g c = in_time c.in-Some.stop 0 c.args.self.now.state.blimit (never_limit c.in-Some.stop c.load.new.self.state c.in-Some.ensures.none) (λ some. some)
+
+pub returns-in-Some-clause-again : goal.returns-in-Some-clause-again
+returns-in-Some-clause-again g c again = let q = c.load.new.self.state in
+    let none : hand_held q ≡ [] = (subst (λ (s : Stop). StopsAt s 0 0 c.look-seen.result q) again (c.in-Some.ensures.none 0 c.look-seen.result)).0 in
+    (sym c.look-seen.ensures.looks.held ∙ first_none (hand_held c.look-seen.new.self.state) c.load.ensures.loads.batch (sym c.load.ensures.loads.held ∙ none), refl)
+
+pub returns-clause-first : goal.returns-clause-first
+returns-clause-first g c = subst (λ (n : ℕ). StopsInTime c.run_held.result.stop c.run_held.result.ran n) (c.load.ensures.same.blimit ∙ c.look-seen.ensures.same.blimit) c.run_held.ensures.first
+
+pub returns-clause-again : goal.returns-clause-again
+returns-clause-again g c again = absurd (c.run_held.ensures.goes_on again)

@@ -34,12 +34,12 @@ returns-then-not-processor-clause-stays g c = let p = c.args.self.state in let a
 pub returns-then-not-processor-clause-runs : goal.returns-then-not-processor-clause-runs
 returns-then-not-processor-clause-runs g c = let p = c.args.self.state in let a = c.catch_up-seen in let q = a.new.self.state in
     runs_map (λ running job. ClaimsFirst a.result q running.state job) (λ running job. BeginsTick c.args.moment p running.state job) c.claim_done.result
-    (λ running job x. begins_local a.result c.args.moment p q running.state job a.ensures.catches_up (sym a.ensures.same.offloadable ∙ c.if-not-processor.true) x) c.claim_done.ensures.runs
+    (λ running job x. begins_local a.result c.args.moment p q running.state job a.ensures.same a.ensures.catches_up (sym a.ensures.same.offloadable ∙ c.if-not-processor.true) x) c.claim_done.ensures.runs
 
 pub returns-then-not-processor-clause-stops : goal.returns-then-not-processor-clause-stops
 returns-then-not-processor-clause-stops g c = let p = c.args.self.state in let a = c.catch_up-seen in let q = a.new.self.state in
     stops_map (λ processor stop. ClaimsNone a.result stop q processor.state) (λ processor stop. StopsBegin c.args.moment stop p processor.state) c.claim_done.result
-    (λ processor stop x. stops_local a.result c.args.moment stop p q processor.state a.ensures.catches_up (sym a.ensures.same.offloadable ∙ c.if-not-processor.true) x) c.claim_done.ensures.stops
+    (λ processor stop x. stops_local a.result c.args.moment stop p q processor.state a.ensures.same a.ensures.catches_up (sym a.ensures.same.offloadable ∙ c.if-not-processor.true) x) c.claim_done.ensures.stops
 
 pub returns-then-not-processor-clause-count : goal.returns-then-not-processor-clause-count
 returns-then-not-processor-clause-count g c = let p = c.args.self.state in let a = c.catch_up-seen in let q = a.new.self.state in
@@ -67,12 +67,12 @@ returns-clause-stays g c = let p = c.args.self.state in let a = c.catch_up-seen 
 pub returns-clause-runs : goal.returns-clause-runs
 returns-clause-runs g c = let p = c.args.self.state in let a = c.catch_up-seen in let q = a.new.self.state in let h = c.heed in let t = c.settle in let o = t.new.self.state in
     runs_map (λ running job. ClaimsFirst a.result o running.state job) (λ running job. BeginsTick c.args.moment p running.state job) c.claim_done-2.result
-    (λ running job x. begins_switching a.result c.args.moment p q h.new.self.state o running.state job a.ensures.catches_up (sym a.ensures.same.offloadable ∙ c.if-not-processor.false) h.ensures.heeds t.ensures.settles x) c.claim_done-2.ensures.runs
+    (λ running job x. begins_switching a.result c.args.moment p q h.new.self.state o running.state job (a.ensures.same, same_processor_again p q h.new.self.state a.ensures.same h.ensures.same, same_processor_again p h.new.self.state o (same_processor_again p q h.new.self.state a.ensures.same h.ensures.same) t.ensures.same) a.ensures.catches_up (sym a.ensures.same.offloadable ∙ c.if-not-processor.false) h.ensures.heeds t.ensures.settles x) c.claim_done-2.ensures.runs
 
 pub returns-clause-stops : goal.returns-clause-stops
 returns-clause-stops g c = let p = c.args.self.state in let a = c.catch_up-seen in let q = a.new.self.state in let h = c.heed in let t = c.settle in let o = t.new.self.state in
     stops_map (λ processor stop. ClaimsNone a.result stop o processor.state) (λ processor stop. StopsBegin c.args.moment stop p processor.state) c.claim_done-2.result
-    (λ processor stop x. stops_switching a.result c.args.moment stop p q h.new.self.state o processor.state a.ensures.catches_up (sym a.ensures.same.offloadable ∙ c.if-not-processor.false) h.ensures.heeds t.ensures.settles x) c.claim_done-2.ensures.stops
+    (λ processor stop x. stops_switching a.result c.args.moment stop p q h.new.self.state o processor.state (a.ensures.same, same_processor_again p q h.new.self.state a.ensures.same h.ensures.same, same_processor_again p h.new.self.state o (same_processor_again p q h.new.self.state a.ensures.same h.ensures.same) t.ensures.same) a.ensures.catches_up (sym a.ensures.same.offloadable ∙ c.if-not-processor.false) h.ensures.heeds t.ensures.settles x) c.claim_done-2.ensures.stops
 
 pub returns-clause-count : goal.returns-clause-count
 returns-clause-count g c = let p = c.args.self.state in let a = c.catch_up-seen in let q = a.new.self.state in let h = c.heed in let t = c.settle in let o = t.new.self.state in

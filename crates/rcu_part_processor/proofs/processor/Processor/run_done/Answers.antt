@@ -1,6 +1,7 @@
 use Rattle.std.proofs.Common.{◌≡◌, ℕ, ◌+◌, ◌∙◌, subst, sym, refl, arith}
 use Rattle.rcu_part_processor.specs.Ticks.{RanDone}
 use Rattle.rcu_part_processor.proofs.TickRuns.{done_more, done_none, same_processor, same_processor_again}
+use Rattle.rcu_part_steps.proofs.Stopping.{in_time}
 use Rattle.rcu_part_steps.proofs.Turning.{steps_none}
 use Rattle.rcu_part_processor.proofs.processor.Processor.run_done.Goals as goal
 
@@ -50,3 +51,9 @@ returns-clause-count g c = c.loop-ran.invariant.accepted
 
 pub returns-clause-sound : goal.returns-clause-sound
 returns-clause-sound g c = c.loop-ran.invariant.sound
+
+pub returns-in-Some-clause-first : goal.returns-in-Some-clause-first
+returns-in-Some-clause-first g c = in_time c.in-Some.stop c.loop-ran.ran c.args.self.now.state.blimit c.in-Some.ensures.counts (λ _. c.loop-ran-test.true)
+
+pub returns-clause-first : goal.returns-clause-first
+returns-clause-first g c = refl

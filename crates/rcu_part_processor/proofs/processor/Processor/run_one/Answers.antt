@@ -1,4 +1,4 @@
-use Rattle.std.proofs.Common.{ℕ, ◌<◌, ◌≤◌, List, [], ◌∷◌, ◌++◌, ◌∙◌, ap, sym, subst, refl, arith}
+use Rattle.std.proofs.Common.{◌≡◌, ℕ, ◌<◌, ◌≤◌, List, [], ◌∷◌, ◌++◌, ◌∙◌, ap, sym, subst, refl, arith}
 use Rattle.std.specs.Mem.{FitsInMemory}
 use Rattle.std.specs.Prelude.{IsTrue}
 use Rattle.std.proofs.lemmas.List.Elements.{All-rest}
@@ -14,6 +14,7 @@ use Rattle.std.specs.Arc.{arc_value}
 use Rattle.rcu_holdings.specs.Aims.{AreUpTo, is_up_to}
 use Rattle.rcu_holdings.specs.Callers.{Holding, held_in, holding, put_by}
 use Rattle.rcu_holdings.proofs.Sizes.{in_struct}
+use Rattle.rcu_jobs.specs.declared.Stop.TheVariants.{Limit, Empty, Turn, Memory}
 use Rattle.rcu_jobs.specs.declared.callback.Callback.{Callback}
 use Rattle.rcu_jobs.specs.declared.callback.Record.{Record}
 use Rattle.rcu_lists.specs.Labels.{Done, Labelled}
@@ -175,3 +176,12 @@ run_claimed-record-requires-clause-small g c κs within = c.in-Some-take.ensures
 
 pub returns-clause-same : goal.returns-clause-same
 returns-clause-same g c = let s = c.args.self.now.state in record { part = record { board = refl; seat = same_seat_again s.seat c.take.new.seat c.run_claimed-record.new.seat c.if-not-take.ensures.same c.run_claimed-record.ensures.same }; lane = same_lane s.lists c.take-2.new.self c.in-Some-take.ensures.rear; cpu = refl; offloadable = refl; limit = refl; blimit = refl }
+
+pub returns-in_default-clause-counts : goal.returns-in_default-clause-counts
+returns-in_default-clause-counts g c = λ e. (let f : Empty ≡ Limit = e in cc)
+
+pub returns-in_default-reserve-clause-counts : goal.returns-in_default-reserve-clause-counts
+returns-in_default-reserve-clause-counts g c = λ e. (let f : Memory ≡ Limit = e in cc)
+
+pub returns-then-not-take-clause-counts : goal.returns-then-not-take-clause-counts
+returns-then-not-take-clause-counts g c = λ e. (let f : Turn ≡ Limit = e in cc)

@@ -1,4 +1,5 @@
 use Rattle.std.proofs.Common.{◌≡◌, ℕ, ◌≤◌, ◌∙◌, true, false, sym, refl, subst}
+use Rattle.rcu_part_steps.specs.Stops.{StopsInTime}
 use Rattle.rcu_part_processor.proofs.TickLaws.{before_local, before_offloadable, tick_fresh, tick_local, tick_none}
 use Rattle.rcu_part_processor.proofs.TickRuns.{same_processor_again}
 use Rattle.rcu_part_processor.proofs.processor.Processor.tick.Goals as goal
@@ -10,6 +11,7 @@ returns-then-not-self-clause-ticks g c = let q = c.catch_up-seen.new.self.state 
   first = q;
   second = q;
   third = q;
+  same = (c.catch_up-seen.ensures.same, c.catch_up-seen.ensures.same, c.catch_up-seen.ensures.same);
   catches_up = c.catch_up-seen.ensures.catches_up;
   local = λ off. (refl, refl);
   heeds = λ on. (let f : true ≡ false = sym on ∙ (sym c.catch_up-seen.ensures.same.offloadable ∙ c.if-not-self.true) in cc);
@@ -34,19 +36,21 @@ pub returns-then-not-self-clause-sound : goal.returns-then-not-self-clause-sound
 returns-then-not-self-clause-sound g c = λ sound. c.run_done.ensures.sound (c.catch_up-seen.ensures.sound sound)
 
 pub returns-clause-ticks : goal.returns-clause-ticks
-returns-clause-ticks g c = let r = c.run_done-2.ensures.ran in record {
-  seen = c.catch_up-seen.result;
-  tried = r.0;
-  first = c.catch_up-seen.new.self.state;
-  second = c.heed.new.self.state;
-  third = c.settle.new.self.state;
-  catches_up = c.catch_up-seen.ensures.catches_up;
-  local = λ off. (let f : true ≡ false = sym (sym c.catch_up-seen.ensures.same.offloadable ∙ c.if-not-self.false) ∙ off in cc);
-  heeds = λ on. c.heed.ensures.heeds;
-  settles = λ on. c.settle.ensures.settles;
-  ran = r.1;
-  stop = r.2;
-}
+returns-clause-ticks g c = let r = c.run_done-2.ensures.ran in let p = c.args.self.now.state in let q = c.heed.new.self.state in
+    let heeded = same_processor_again p c.catch_up-seen.new.self.state q c.catch_up-seen.ensures.same c.heed.ensures.same in record {
+      seen = c.catch_up-seen.result;
+      tried = r.0;
+      first = c.catch_up-seen.new.self.state;
+      second = c.heed.new.self.state;
+      third = c.settle.new.self.state;
+      same = (c.catch_up-seen.ensures.same, heeded, same_processor_again p q c.settle.new.self.state heeded c.settle.ensures.same);
+      catches_up = c.catch_up-seen.ensures.catches_up;
+      local = λ off. (let f : true ≡ false = sym (sym c.catch_up-seen.ensures.same.offloadable ∙ c.if-not-self.false) ∙ off in cc);
+      heeds = λ on. c.heed.ensures.heeds;
+      settles = λ on. c.settle.ensures.settles;
+      ran = r.1;
+      stop = r.2;
+    }
 
 pub returns-clause-fresh : goal.returns-clause-fresh
 returns-clause-fresh g c = let p = c.args.self.now.state in let a = c.catch_up-seen in let q = a.new.self.state in let h = c.heed in let t = c.settle in let r = c.run_done-2.ensures.ran in
@@ -101,3 +105,10 @@ returns-clause-few g c = subst (λ (n : ℕ). c.run_done-2.result.ran ≤ n) (c.
 
 pub returns-clause-count : goal.returns-clause-count
 returns-clause-count g c = c.run_done-2.ensures.count ∙ (c.settle.ensures.count ∙ (c.heed.ensures.count ∙ c.catch_up-seen.ensures.count))
+
+pub returns-then-not-self-clause-first : goal.returns-then-not-self-clause-first
+returns-then-not-self-clause-first g c = subst (λ (n : ℕ). StopsInTime c.run_done.result.stop c.run_done.result.ran n) c.catch_up-seen.ensures.same.blimit c.run_done.ensures.first
+
+pub returns-clause-first : goal.returns-clause-first
+returns-clause-first g c = subst (λ (n : ℕ). StopsInTime c.run_done-2.result.stop c.run_done-2.result.ran n)
+    (c.settle.ensures.same.blimit ∙ (c.heed.ensures.same.blimit ∙ c.catch_up-seen.ensures.same.blimit)) c.run_done-2.ensures.first
