@@ -3,3 +3,4 @@ pub mod Helds
 pub mod Values
 pub mod Placing
 pub mod NewParts
+pub mod Opened
