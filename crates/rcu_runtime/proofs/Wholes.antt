@@ -3,9 +3,7 @@ use Rattle.std.proofs.Common.{◌≡◌, ℕ, zero, suc, ◌+◌, ◌<◌, ◌�
 use Rattle.std.proofs.lemmas.List.Sums.{sum_by-cons, sum_by-set}
 use Rattle.std.specs.List.{AllZip}
 use Rattle.std.specs.Vec.{with_item}
-use Rattle.rcu_board.specs.declared.board.Board.{Board}
-use Rattle.rcu_board.specs.declared.board.Seat.{Seat}
-use Rattle.rcu_control.proofs.Stepping.{same_again}
+use Rattle.rcu_control.proofs.Stepping.{same_again, same_part}
 use Rattle.rcu_control.specs.Parts.{control_board, control_seat, driver_board, driver_seat}
 use Rattle.rcu_control.specs.Views.{SamePart}
 use Rattle.rcu_control.specs.declared.control.Control.{Control}
@@ -31,10 +29,6 @@ use Rattle.rcu_runtime.specs.Turns.{GroupTurns, HandTurns, ReportsAndTicks, Tick
 use Rattle.rcu_jobs.specs.declared.turns.Ticked.{Ticked}
 use Rattle.rcu_runtime.proofs.Changing.{all_along, all_changed, zip_changed, zip_weaker}
 
--- a part that made no step is the same part
-part_itself : (b : Board) (s : Seat) → SamePart b b s s
-part_itself b s = record { board = refl; seat = record { role = refl; table = refl; weight = refl } }
-
 -- the same control, and the same driver
 abbrev pub SameControl : Control → Control → Type 0
 SameControl c d = SamePart (control_board c) (control_board d) (control_seat c) (control_seat d)
@@ -43,10 +37,10 @@ abbrev pub SameDriver : Driver → Driver → Type 0
 SameDriver d e = SamePart (driver_board d) (driver_board e) (driver_seat d) (driver_seat e)
 
 pub control_itself : (c : Control) → SameControl c c
-control_itself c = part_itself _ _
+control_itself c = same_part _ _
 
 pub driver_itself : (d : Driver) → SameDriver d d
-driver_itself d = part_itself _ _
+driver_itself d = same_part _ _
 
 control_along : (c d : Control) → d ≡ c → SameControl c d
 control_along c d e = subst (SameControl c) (sym e) (control_itself c)
