@@ -1,139 +1,120 @@
 //! What the example does, act by act. In each, versions of the table are retired.
 
-ghost use Rattle.std.specs.Prelude.{OnOk};
-ghost use Rattle.rcu_control.specs.Parts.{driver_board, driver_seat};
-ghost use Rattle.rcu_control.specs.Views.{SamePart};
-ghost use Rattle.rcu_embedding.specs.Keeping.{GoesOn, Keeps, KeepsEach};
-ghost use Rattle.rcu_embedding.specs.Tables.{generation_of};
+ghost use Rattle.std.specs.Prelude.{◌≡◌, ◌+◌};
+ghost use Rattle.std.specs.Arc.{arc_value};
+ghost use Rattle.rcu_runtime.specs.Runtimes.{accepted_in};
 
 use crate::fault::Fault;
 use crate::retired::RetiredTable;
 use crate::table::Table;
-use crate::turns::turn_all;
 use crate::version::Row;
-use rcu_jobs::Ticket;
-use rcu_parts::{Driver, Parts, Processor};
+use rcu_runtime::{Barrier, Runtime, Ticket};
 use std::alloc::Global;
 
-/// How many turns of all parts a barrier is given. In threads `Barrier::wait` polls for as long as it takes.
-const MOST_ROUNDS: u64 = 16;
-
-/// Retires a version by the writer's processor, while a reader on another processor looks at it. No grace period ends before
-/// the reader does.
-fn retire_while_read(
-    rt: &impl Print,
-    alloc: Global,
-    writer: &mut Processor<RetiredTable>,
-    reader: &mut Processor<RetiredTable>,
-    driver: &mut Driver,
-    table: &mut Table,
-) -> Result<(), Fault>
-    ensures writer { OnOk result (Keeps (generation_of table.old) (generation_of table.new) writer.old writer.new) }
-    ensures reader { OnOk result (Keeps 0 0 reader.old reader.new) }
-    ensures driver { OnOk result (SamePart (driver_board driver.old) (driver_board driver.new) (driver_seat driver.old) (driver_seat driver.new)) }
-{
-    let section = reader.reading();
+/// A reader on processor 1 looks at the table.
+fn look_up(rt: &impl Print, runtime: &Runtime<RetiredTable>, table: &Table) -> Result<(), Fault> {
+    let section = runtime.reading(1)?;
     let seen = table.read(&section)?;
-
-    let Ticket { cpu, number } = table.update(alloc, writer, 1, Row::new(7, 1))?;
-    let generation = seen.version().generation;
-    println!(rt; "call {number} of processor {cpu} retires generation {generation}")?;
-    writer.tick(1);
-    println!(rt; "driver: {:?}", driver.turn())?;
-    writer.quiescent();
-    println!(rt; "driver: {:?}", driver.turn())?;
     println!(rt; "reader: hop to 7 is {:?}", seen.version().hop_to(7))?;
-    drop(seen);
-    drop(section);
-
-    reader.quiescent();
-    println!(rt; "driver: {:?}", driver.turn())?;
-    println!(rt; "processor {cpu}: {:?}", writer.tick(2))?;
     Ok(())
 }
 
-/// Processor 0 retires a version while a reader on processor 1 looks at it.
-fn beside_a_reader(
-    rt: &impl Print,
-    alloc: Global,
-    processors: &mut [Processor<RetiredTable>],
-    driver: &mut Driver,
-    table: &mut Table,
-) -> Result<(), Fault>
-    ensures processors { OnOk result (KeepsEach (generation_of table.old) (generation_of table.new) processors.old processors.new) }
-    ensures driver { OnOk result (SamePart (driver_board driver.old) (driver_board driver.new) (driver_seat driver.old) (driver_seat driver.new)) }
-{
-    if processors.len() < 2 {
-        return Err(Fault::NoProcessor);
-    }
-    let (writers, readers) = processors.split_at_mut(1);
-    retire_while_read(rt, alloc, &mut writers[0], &mut readers[0], driver, table)
-}
-
-/// Retires a version by this processor.
+/// Retires a version by processor `p`.
 fn retire(
     rt: &impl Print,
     alloc: Global,
-    processors: &mut Vec<Processor<RetiredTable>>,
-    place: usize,
+    runtime: &mut Runtime<RetiredTable>,
     table: &mut Table,
+    p: u64,
     moment: u64,
+    row: Row,
 ) -> Result<Ticket, Fault>
-    ensures { KeepsEach (generation_of table.old) (generation_of table.new) processors.old.items processors.new.items }
+    ensures { accepted_in runtime.new + (arc_value table.old.current).generation ≡ accepted_in runtime.old + (arc_value table.new.current).generation }
 {
-    if place >= processors.len() {
-        return Err(Fault::NoProcessor);
-    }
     let generation = table.generation();
-    let row = Row::new(8, 2);
-    let ticket = table.update(alloc, &mut processors[place], moment, row)?;
+    let ticket = table.update(alloc, runtime, p, moment, row)?;
     let Ticket { cpu, number } = ticket;
     println!(rt; "call {number} of processor {cpu} retires generation {generation}")?;
     Ok(ticket)
+}
+
+/// Processor 0 retires a version that a reader on processor 1 looked at. It is let go once both have reported.
+fn retire_after_a_reader(
+    rt: &impl Print,
+    alloc: Global,
+    runtime: &mut Runtime<RetiredTable>,
+    table: &mut Table,
+) -> Result<(), Fault>
+    ensures { accepted_in runtime.new + (arc_value table.old.current).generation ≡ accepted_in runtime.old + (arc_value table.new.current).generation }
+{
+    look_up(rt, runtime, table)?;
+    retire(rt, alloc, runtime, table, 0, 1, Row::new(7, 1))?;
+    runtime.tick(0, 1)?;
+    println!(rt; "driver: {:?}", runtime.turn_driver())?;
+    runtime.quiescent(0)?;
+    println!(rt; "driver: {:?}", runtime.turn_driver())?;
+    runtime.quiescent(1)?;
+    println!(rt; "driver: {:?}", runtime.turn_driver())?;
+    println!(rt; "processor 0: {:?}", runtime.tick(0, 2)?)?;
+    Ok(())
+}
+
+/// One turn of all parts. Answers whether the barrier has passed.
+fn turn_and_poll(
+    rt: &impl Print,
+    runtime: &mut Runtime<RetiredTable>,
+    barrier: &Barrier,
+    moment: u64,
+) -> Result<bool, Fault>
+    ensures { accepted_in runtime.new ≡ accepted_in runtime.old }
+{
+    println!(rt; "driver: {:?}", runtime.turn_all(moment))?;
+    Ok(runtime.poll(barrier)?.is_some())
 }
 
 /// Each processor retires a version. Then all parts turn until a barrier with both tickets has passed.
 fn retire_and_wait(
     rt: &impl Print,
     alloc: Global,
-    parts: &mut Parts<RetiredTable>,
+    runtime: &mut Runtime<RetiredTable>,
     table: &mut Table,
 ) -> Result<(), Fault>
-    ensures { OnOk result (GoesOn (generation_of table.old) (generation_of table.new) parts.old parts.new) }
+    ensures { accepted_in runtime.new + (arc_value table.old.current).generation ≡ accepted_in runtime.old + (arc_value table.new.current).generation }
 {
-    let first = retire(rt, alloc, &mut parts.processors, 0, table, 3)?;
-    let second = retire(rt, alloc, &mut parts.processors, 1, table, 3)?;
-    let Ok(mut barrier) = parts.control.barrier(&[first, second]) else {
+    let row = Row::new(8, 2);
+    let first = retire(rt, alloc, runtime, table, 0, 3, row)?;
+    let second = retire(rt, alloc, runtime, table, 1, 3, row)?;
+    let Ok(barrier) = runtime.barrier(&[first, second]) else {
         return Err(Fault::NotPassed);
     };
-    for round in 0..MOST_ROUNDS {
-        println!(rt; "driver: {:?}", turn_all(parts, 4 + round))?;
-        if barrier.poll(&mut parts.control).is_some() {
-            println!(rt; "the barrier has passed")?;
-            return Ok(());
-        }
+    let passed = turn_and_poll(rt, runtime, &barrier, 4)?
+        || turn_and_poll(rt, runtime, &barrier, 5)?
+        || turn_and_poll(rt, runtime, &barrier, 6)?;
+    if !passed {
+        return Err(Fault::NotPassed);
     }
-    Err(Fault::NotPassed)
+    println!(rt; "the barrier has passed")?;
+    Ok(())
 }
 
 /// Retires a version that no turn is left to run, and shuts. A version that is retired then is refused, and stays.
 fn retire_too_late(
     rt: &impl Print,
     alloc: Global,
-    parts: &mut Parts<RetiredTable>,
+    runtime: &mut Runtime<RetiredTable>,
     table: &mut Table,
 ) -> Result<(), Fault>
-    ensures { OnOk result (GoesOn (generation_of table.old) (generation_of table.new) parts.old parts.new) }
+    ensures { accepted_in runtime.new + (arc_value table.old.current).generation ≡ accepted_in runtime.old + (arc_value table.new.current).generation }
 {
-    retire(rt, alloc, &mut parts.processors, 1, table, 20)?;
-    let counts = parts.control.shut();
+    let row = Row::new(8, 2);
+    retire(rt, alloc, runtime, table, 1, 20, row)?;
+    let counts = runtime.shut();
     println!(rt; "shut: {:?}", counts.of_processors())?;
-    match retire(rt, alloc, &mut parts.processors, 1, table, 21) {
+    match retire(rt, alloc, runtime, table, 1, 21, row) {
         Err(Fault::Refused(number)) => println!(rt; "refused: {number}")?,
         Err(fault) => return Err(fault),
         Ok(_) => {}
     }
-    parts.control.finish();
     Ok(())
 }
 
@@ -141,12 +122,12 @@ fn retire_too_late(
 pub fn run_acts(
     rt: &impl Print,
     alloc: Global,
-    parts: &mut Parts<RetiredTable>,
+    runtime: &mut Runtime<RetiredTable>,
     table: &mut Table,
 ) -> Result<(), Fault>
-    ensures { OnOk result (GoesOn (generation_of table.old) (generation_of table.new) parts.old parts.new) }
+    ensures { accepted_in runtime.new + (arc_value table.old.current).generation ≡ accepted_in runtime.old + (arc_value table.new.current).generation }
 {
-    beside_a_reader(rt, alloc, &mut parts.processors, &mut parts.driver, table)?;
-    retire_and_wait(rt, alloc, parts, table)?;
-    retire_too_late(rt, alloc, parts, table)
+    retire_after_a_reader(rt, alloc, runtime, table)?;
+    retire_and_wait(rt, alloc, runtime, table)?;
+    retire_too_late(rt, alloc, runtime, table)
 }

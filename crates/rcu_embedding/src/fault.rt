@@ -1,5 +1,6 @@
 //! What can go wrong.
 
+use rcu_runtime::{NoProcessor, OtherBarrier};
 use std::alloc::AllocError;
 use std::io;
 use thiserror::Error;
@@ -13,11 +14,13 @@ pub enum Fault {
     Write(#[from] io::Error),
     #[error("no shape of these numbers")]
     NoShape,
-    #[error("no such processor")]
-    NoProcessor,
+    #[error("{0}")]
+    NoProcessor(#[from] NoProcessor),
     /// By its number: docs/specification/surface.md, "Refusals by number".
     #[error("refusal {0}")]
     Refused(u64),
+    #[error("{0}")]
+    OtherBarrier(#[from] OtherBarrier),
     #[error("the barrier has not passed")]
     NotPassed,
 }

@@ -2,26 +2,22 @@
 //! at them. docs/embedding.md walks through it.
 #![tactic(auto)]
 
-ghost use Rattle.std.specs.Prelude.{◌≡◌, IfOk};
-ghost use Rattle.rcu_embedding.specs.Ends.{HaveReceipts, left_in};
-ghost use Rattle.rcu_embedding.specs.Tables.{generation_of};
+ghost use Rattle.std.specs.Prelude.{◌≡◌, ◌+◌, IfOk};
+ghost use Rattle.std.specs.Arc.{arc_value};
+ghost use Rattle.rcu_runtime.specs.Ends.{HaveReceipts, back_in, ran_in};
 
 mod acts;
-mod ending;
 mod fault;
 mod retired;
 mod table;
-mod turns;
 mod version;
 
 use acts::run_acts;
-use ending::{close_all, print_ends};
 use fault::Fault;
-use rcu_jobs::Closed;
-use rcu_numbers::Shape;
-use rcu_parts::open;
+use rcu_runtime::{Closed, Job, Shape, open};
 use retired::RetiredTable;
-use std::alloc::Global;
+use std::alloc::{AllocError, Global};
+use std::io;
 use std::process::ExitCode;
 use table::Table;
 
@@ -33,19 +29,42 @@ struct Outcome {
 }
 
 /// Opens two processors, of which the second is offloadable, has them retire versions of a table, and closes. Each version
-/// but the last is either let go or handed back.
+/// but the last is either let go or handed back, and each receipt is of the version that its record names.
 fn run_once(rt: &impl Print, alloc: Global) -> Result<Outcome, Fault>
-    ensures none_lost { IfOk result (λ outcome. left_in outcome.closed ≡ generation_of outcome.table) }
-    ensures receipts { IfOk result (λ outcome. HaveReceipts outcome.closed) }
+    ensures none_lost { IfOk result (λ outcome. ran_in outcome.closed + back_in outcome.closed ≡ (arc_value outcome.table.current).generation) }
+    ensures receipts { IfOk result (λ outcome. HaveReceipts ⟦<RetiredTable as Job>⟧.gives outcome.closed) }
 {
     let Some(shape) = Shape::new(2, 0b10, 1, 10, 16, 100) else {
         return Err(Fault::NoShape);
     };
-    let mut parts = open::<RetiredTable>(alloc, shape)?;
+    let mut runtime = open::<RetiredTable>(alloc, shape)?;
     let mut table = Table::new(alloc)?;
-    run_acts(rt, alloc, &mut parts, &mut table)?;
-    let closed = close_all(alloc, parts)?;
-    Ok(Outcome { table, closed })
+    run_acts(rt, alloc, &mut runtime, &mut table)?;
+    match runtime.close(alloc) {
+        Ok(closed) => Ok(Outcome { table, closed }),
+        Err(_) => Err(Fault::Memory(AllocError)),
+    }
+}
+
+/// Prints what ran, in order, and what is handed back.
+fn print_ends(rt: &impl Print, closed: &Closed<RetiredTable>) -> io::Result<()> {
+    for (cpu, records) in closed.ran.iter().enumerate() {
+        for record in records {
+            println!(rt;
+                "processor {cpu} ran call {} at {}: {:?}",
+                record.number, record.ready, record.receipt
+            )?;
+        }
+    }
+    for (cpu, jobs) in closed.back.iter().enumerate() {
+        for job in jobs {
+            println!(rt;
+                "processor {cpu} hands back generation {}",
+                job.version.generation
+            )?;
+        }
+    }
+    Ok(())
 }
 
 fn run(rt: &impl Print, alloc: Global) -> Result<(), Fault> {

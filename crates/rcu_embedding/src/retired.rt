@@ -2,10 +2,9 @@
 
 ghost use Rattle.std.specs.Prelude.{◌≡◌};
 ghost use Rattle.std.specs.Arc.{arc_value};
-ghost use Rattle.rcu_embedding.specs.Receipts.{IsFreed, retired_generation};
 
 use crate::version::Version;
-use rcu_jobs::Job;
+use rcu_runtime::Job;
 use std::sync::Arc;
 
 /// A version that was replaced. Readers that found it before may still look at it; the job that lets go of it runs when
@@ -27,10 +26,10 @@ impl Job for RetiredTable {
     type Receipt = Freed;
 
     // The key is the generation that is retired,
-    ghost key_of = { retired_generation };
+    ghost key_of = { λ job. (arc_value job.version).generation };
 
-    // and the receipt is of that generation, with its number of rows.
-    ghost gives = { IsFreed };
+    // and the receipt is of that generation, with its number of rows, which is the generation's.
+    ghost gives = { λ generation freed. (freed.generation ≡ generation) × (freed.rows ≡ generation) };
 
     fn key(&self) -> u64 {
         self.version.generation

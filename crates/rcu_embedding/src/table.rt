@@ -1,16 +1,14 @@
 //! The table: readers find its current version, and an update replaces it.
 
-ghost use Rattle.std.specs.Prelude.{◌≡◌, IfOk, OnErr};
-ghost use Rattle.rcu_embedding.specs.Keeping.{Keeps};
-ghost use Rattle.rcu_embedding.specs.Tables.{IsNext, current_in, generation_of, version_in};
-ghost use Rattle.rcu_lists.specs.declared.pace.Kind.TheVariants.{Plain};
-ghost use Rattle.rcu_part_processor.specs.Calls.{IsAccepted};
+ghost use Rattle.std.specs.Prelude.{◌≡◌, ◌+◌, [], ◌∷◌, ◌++◌, IfOk, OnErr};
+ghost use Rattle.std.specs.Arc.{arc_value};
+ghost use Rattle.rcu_runtime.specs.Calls.{AcceptsPlain, OnProcessor};
+ghost use Rattle.rcu_runtime.specs.Runtimes.{accepted_in};
 
 use crate::fault::Fault;
 use crate::retired::RetiredTable;
 use crate::version::{Row, Version};
-use rcu_jobs::Ticket;
-use rcu_parts::{Processor, Reading};
+use rcu_runtime::{Reading, Runtime, Ticket};
 use std::alloc::{AllocError, Global};
 use std::mem;
 use std::sync::Arc;
@@ -18,7 +16,7 @@ use std::sync::Arc;
 /// A read-mostly table.
 #[derive(Drop)]
 pub struct Table {
-    current: Arc<Version>,
+    pub current: Arc<Version>,
 }
 
 /// A version that a reader looks at. It doesn't outlive its read section.
@@ -31,7 +29,7 @@ pub struct Seen<'s> {
 impl Seen<'_> {
     /// The version.
     pub fn version(&self) -> &Version
-        ensures { result.now ≡ version_in self.now }
+        ensures { result.now ≡ arc_value self.now.version }
     {
         &self.version
     }
@@ -40,7 +38,7 @@ impl Seen<'_> {
 impl Table {
     /// A table with no row.
     pub fn new(alloc: Global) -> Result<Table, AllocError>
-        ensures { IfOk result (λ table. generation_of table ≡ 0) }
+        ensures { IfOk result (λ table. (arc_value table.current).generation ≡ 0) }
     {
         let current = Arc::new(alloc, Version::new(alloc))?;
         Ok(Table { current })
@@ -48,20 +46,20 @@ impl Table {
 
     /// The number of the current version.
     pub fn generation(&self) -> u64
-        ensures { result ≡ generation_of self.now }
+        ensures { result ≡ (arc_value self.now.current).generation }
     {
         self.current.generation
     }
 
     /// The current version, for a reader.
     pub fn read<'s>(&self, section: &'s Reading<'s, RetiredTable>) -> Result<Seen<'s>, AllocError>
-        ensures { IfOk result (λ seen. version_in seen ≡ current_in self.now) }
+        ensures { IfOk result (λ seen. arc_value seen.version ≡ arc_value self.now.current) }
     {
         let version = Arc::try_clone(&self.current)?;
         Ok(Seen { version, section })
     }
 
-    /// Publishes a version with one row more, and retires the one before by `call_rcu` of this processor.
+    /// Publishes a version with one row more, and retires the one before by `call_rcu` of processor `p`.
     ///
     /// # Errors
     ///
@@ -69,18 +67,20 @@ impl Table {
     pub fn update(
         &mut self,
         alloc: Global,
-        processor: &mut Processor<RetiredTable>,
+        runtime: &mut Runtime<RetiredTable>,
+        p: u64,
         moment: u64,
         row: Row,
     ) -> Result<Ticket, Fault>
-        ensures publishes { IfOk result (λ _. IsNext row self.old self.new) }
-        ensures retires { IfOk result (λ ticket. IsAccepted moment Plain (generation_of self.old) (record { version = self.old.current }) ticket processor.old.state processor.new.state) }
+        ensures generation { IfOk result (λ _. (arc_value self.new.current).generation ≡ (arc_value self.old.current).generation + 1) }
+        ensures rows { IfOk result (λ _. (arc_value self.new.current).rows.items ≡ (arc_value self.old.current).rows.items ++ row ∷ []) }
+        ensures retires { IfOk result (λ ticket. OnProcessor p (AcceptsPlain moment (arc_value self.old.current).generation (record { version = self.old.current }) ticket) runtime.old runtime.new) }
         ensures refused { OnErr result (self.new ≡ self.old) }
-        ensures keeps { Keeps (generation_of self.old) (generation_of self.new) processor.old processor.new }
+        ensures pace { accepted_in runtime.new + (arc_value self.old.current).generation ≡ accepted_in runtime.old + (arc_value self.new.current).generation }
     {
         let next = Arc::new(alloc, self.current.with(row)?)?;
         let old = mem::replace(&mut self.current, next);
-        match processor.call_rcu(moment, RetiredTable { version: old }) {
+        match runtime.call_rcu(p, moment, RetiredTable { version: old }) {
             Ok(ticket) => Ok(ticket),
             Err(refused) => {
                 let number = refused.number();

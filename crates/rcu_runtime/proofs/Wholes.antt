@@ -3,6 +3,7 @@ use Rattle.std.proofs.Common.{◌≡◌, ℕ, zero, suc, ◌+◌, ◌<◌, ◌�
 use Rattle.std.proofs.lemmas.List.Sums.{sum_by-cons, sum_by-set}
 use Rattle.std.specs.List.{AllZip}
 use Rattle.std.specs.Vec.{with_item}
+use Rattle.rcu_board.specs.declared.board.Board.{Board}
 use Rattle.rcu_control.proofs.Stepping.{same_again, same_part}
 use Rattle.rcu_control.specs.Parts.{control_board, control_seat, driver_board, driver_seat}
 use Rattle.rcu_control.specs.Views.{SamePart}
