@@ -22,7 +22,7 @@ use Rattle.rcu_part_steps.specs.Reports.{Reports}
 use Rattle.rcu_parts.specs.OneOpen.{Parts, processors_in}
 use Rattle.rcu_runtime.specs.declared.fault.NoProcessor.{NoProcessor}
 use Rattle.rcu_runtime.specs.declared.fault.NotCalled.{NotCalled}
-use Rattle.rcu_runtime.specs.declared.fault.NotCalled.TheVariants as not
+use Rattle.rcu_runtime.specs.declared.fault.NotCalled.TheVariants as not_called
 
 module _ {J R : Type 0} where
   -- This is processor k.
@@ -94,8 +94,8 @@ module _ {J R : Type 0} where
 
   -- The job comes back: there is no such processor, or it refused the job.
   abbrev pub GivesBack : ℕ → J → NotCalled J → Parts J R → Parts J R → Type 0
-  GivesBack k job (not.NoProcessor cpu back) old new = (back ≡ job) × FindsNone k (record { cpu = cpu }) old new
-  GivesBack k job (not.Refused refused) old new = OnProcessor k (RefusesJob job refused) old new
+  GivesBack k job (not_called.NoProcessor cpu back) old new = (back ≡ job) × FindsNone k (record { cpu = cpu }) old new
+  GivesBack k job (not_called.Refused refused) old new = OnProcessor k (RefusesJob job refused) old new
 
 -- ---- what control's calls do to it
 
