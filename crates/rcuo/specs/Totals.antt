@@ -1,11 +1,12 @@
 -- What `rcuo threads` prints: docs/specification/program.md, "threads"
 use Rattle.std.specs.Prelude.{◌≡◌, ℕ, List, false}
 use Rattle.rcu_jobs.specs.declared.answers.Closed.{Closed}
+use Rattle.rcu_parts.specs.Drained.{HasNoneBack}
 use Rattle.rcu_parts.specs.OneOpen.{Parts}
 use Rattle.rcu_parts.specs.Openings.{IsOpened}
 use Rattle.rcu_script.specs.Lines.{whole_totals}
 use Rattle.rcu_setup.specs.declared.setup.Setup.{Setup}
-use Rattle.rcu_threads.specs.Ends.{ClosesSame, HasNoneBack}
+use Rattle.rcu_threads.specs.Ends.{ClosesSame}
 
 -- A run in threads of jobs like these prints this text: all parts of the setup's shape are opened, the same parts are closed,
 -- however far they came, no job is handed back, and then the totals of what was closed are printed, without the reports.
