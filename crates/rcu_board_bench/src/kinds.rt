@@ -6,7 +6,8 @@ ghost use Rattle.rcu_board.specs.declared.board.Board.{Board};
 ghost use Rattle.rcu_board.specs.declared.board.Seat.{Seat};
 ghost use Rattle.rcu_board.specs.declared.board.Role.TheVariants.{Processor, Driver, Control};
 ghost use Rattle.rcu_board.specs.Roles.{MayClaim, MayCount};
-ghost use Rattle.rcu_board.specs.Seats.{view, AtBoard, SameSeat, accepted_of, fresh_of};
+ghost use Rattle.rcu_board_bench.specs.Stays.{StaysSeat};
+ghost use Rattle.rcu_board.specs.Seats.{view, AtBoard, accepted_of, fresh_of};
 
 use rcu_board::{
     Board, Claimed, Seat, accept, ask, asked, claim, count_of, finish, halt, halted, heard, look,
@@ -26,7 +27,7 @@ pub(crate) trait Kind: Send + Sync {
         requires board { AtBoard board.now seat.old }
         requires some { 0 < board.now.processors }
         requires ready { ready board.now seat.old number }
-        ensures same { SameSeat seat.old seat.new }
+        ensures same { StaysSeat seat.old seat.new }
         ensures ready { IsTrue result → ready board.now seat.new (number + 1) };
 }
 

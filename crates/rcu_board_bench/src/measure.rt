@@ -3,7 +3,8 @@
 ghost use Rattle.std.specs.Prelude.{◌≡◌, ◌≤◌, ◌<◌, ◌+◌, IsTrue};
 ghost use Rattle.std.specs.Thread.{IsSync};
 ghost use Rattle.rcu_board.specs.Views.{sight};
-ghost use Rattle.rcu_board.specs.Seats.{view, AtBoard, SameSeat};
+ghost use Rattle.rcu_board_bench.specs.Stays.{StaysSeat};
+ghost use Rattle.rcu_board.specs.Seats.{view, AtBoard};
 
 use crate::kinds::{Kind, Look};
 use rcu_board::{Board, Role, Seat, end, look, report, start};
@@ -29,7 +30,7 @@ fn repeat<K: Kind>(board: &Board, seat: &mut Seat, from: u64, to: u64) -> bool
     requires some { 0 < board.now.processors }
     requires ready { K.ready board.now seat.old from }
     requires rises { from ≤ to }
-    ensures same { SameSeat seat.old seat.new }
+    ensures same { StaysSeat seat.old seat.new }
     ensures ready { IsTrue result → K.ready board.now seat.new to }
 {
     for number in from..to {
@@ -148,7 +149,7 @@ pub(crate) fn measure<K: Kind, O: Kind, R: Threads + Wait + Sync + Clock + Print
 fn repeat_grace_periods(board: &Board, driver: &mut Seat, processor: &mut Seat, rounds: u64) -> bool
     requires board { AtBoard board.now driver.old × AtBoard board.now processor.old }
     requires who { (driver.old.role ≡ Role.Driver) × (processor.old.role ≡ Role.Processor 0) }
-    ensures same { SameSeat driver.old driver.new × SameSeat processor.old processor.new }
+    ensures same { StaysSeat driver.old driver.new × StaysSeat processor.old processor.new }
 {
     let mut seq = look(board, driver).seq();
     if seq % 4 != 0 {

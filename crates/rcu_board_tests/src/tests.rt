@@ -4,7 +4,8 @@ ghost use Rattle.rcu_numbers.specs.Words.{owes_of};
 ghost use Rattle.rcu_board.specs.Plays.{all_seats};
 ghost use Rattle.rcu_board.specs.Roles.{IsDriver, IsControl, MayClaim};
 ghost use Rattle.rcu_board.specs.Opened.{AreNew, IsNew, IsNewProcessor};
-ghost use Rattle.rcu_board.specs.Seats.{view, AtBoard, SameSeat, accepted_of, fresh_of};
+ghost use Rattle.rcu_board_tests.specs.Stays.{StaysSeat};
+ghost use Rattle.rcu_board.specs.Seats.{view, AtBoard, accepted_of, fresh_of};
 
 use rcu_board::{
     Board, Claimed, Gathered, Role, Seat, Seats, accept, ask, asked, claim, end, finish, halt,
@@ -45,7 +46,7 @@ pub(crate) fn run_one(board: &Board, seat: &mut Seat, number: u64) -> u64
     requires who { MayClaim seat.old.role }
     requires rests { (view seat.old).running ≡ [] }
     requires small { number < 1000000 }
-    ensures same { SameSeat seat.old seat.new }
+    ensures same { StaysSeat seat.old seat.new }
     ensures rests { (view seat.new).running ≡ [] }
     ensures accepted { (accepted_of (view seat.new) ≡ accepted_of (view seat.old)) × (fresh_of (view seat.new) ≡ fresh_of (view seat.old)) }
     ensures few { result ≤ 1 }
@@ -65,7 +66,7 @@ pub(crate) fn accept_one(board: &Board, seat: &mut Seat, p: u64, count: u64) -> 
     requires stamped { fresh_of (view seat.old) ≡ None }
     requires rests { (view seat.old).running ≡ [] }
     requires small { count < 1000000 }
-    ensures same { SameSeat seat.old seat.new }
+    ensures same { StaysSeat seat.old seat.new }
     ensures rests { (view seat.new).running ≡ [] }
     ensures stamped { fresh_of (view seat.new) ≡ None }
     ensures more { IsTrue result → length (accepted_of (view seat.new)) ≡ count + 1 }
@@ -81,7 +82,7 @@ pub(crate) fn accept_one(board: &Board, seat: &mut Seat, p: u64, count: u64) -> 
 fn report_one(board: &Board, seat: &mut Seat) -> u64
     requires board { AtBoard board.now seat.old }
     requires who { seat.old.role ≡ Role.Processor 0 }
-    ensures same { SameSeat seat.old seat.new }
+    ensures same { StaysSeat seat.old seat.new }
     ensures rests { (view seat.new).running ≡ (view seat.old).running }
     ensures accepted { (length (accepted_of (view seat.new)) ≡ length (accepted_of (view seat.old))) × (fresh_of (view seat.new) ≡ fresh_of (view seat.old)) }
     ensures few { result ≤ 1 }
@@ -102,7 +103,7 @@ fn be_processor(board: &Board, mut seat: Seat) -> Done
     requires board { AtBoard board.now seat }
     requires who { seat.role ≡ Role.Processor 0 }
     requires new { (accepted_of (view seat) ≡ []) × (fresh_of (view seat) ≡ None) × ((view seat).running ≡ []) }
-    ensures same { SameSeat seat result.seat }
+    ensures same { StaysSeat seat result.seat }
     ensures rests { (view result.seat).running ≡ [] }
     ensures few { (result.reports ≤ CALLS) × (result.won ≤ CALLS) }
 {
@@ -134,7 +135,7 @@ pub(crate) fn run_all(board: &Board, mut seat: Seat, count: u64) -> (Seat, u64)
     requires who { MayClaim seat.role }
     requires rests { (view seat).running ≡ [] }
     requires small { count ≤ CALLS }
-    ensures same { SameSeat seat result.0 }
+    ensures same { StaysSeat seat result.0 }
     ensures rests { (view result.0).running ≡ [] }
     ensures few { result.1 ≤ count }
 {
@@ -149,7 +150,7 @@ pub(crate) fn run_all(board: &Board, mut seat: Seat, count: u64) -> (Seat, u64)
 pub(crate) fn drive(board: &Board, seat: &mut Seat) -> bool
     requires board { AtBoard board.now seat.old }
     requires who { seat.old.role ≡ Role.Driver }
-    ensures same { SameSeat seat.old seat.new }
+    ensures same { StaysSeat seat.old seat.new }
     ensures rests { (view seat.new).running ≡ (view seat.old).running }
 {
     let seq = look(board, seat).seq();
@@ -166,7 +167,7 @@ pub(crate) fn drive(board: &Board, seat: &mut Seat) -> bool
 fn be_driver(board: &Board, mut seat: Seat) -> Seat
     requires board { AtBoard board.now seat }
     requires who { seat.role ≡ Role.Driver }
-    ensures same { SameSeat seat result }
+    ensures same { StaysSeat seat result }
     ensures rests { (view result).running ≡ (view seat).running }
 {
     for _n in 0..CALLS {
@@ -179,7 +180,7 @@ fn be_control(board: &Board, mut seat: Seat) -> (Seat, u64)
     requires board { AtBoard board.now seat }
     requires who { seat.role ≡ Role.Control }
     requires some { 0 < board.now.processors }
-    ensures same { SameSeat seat result.0 }
+    ensures same { StaysSeat seat result.0 }
     ensures rests { (view result.0).running ≡ (view seat).running }
 {
     for round in 0..CALLS / 10 {
@@ -224,7 +225,7 @@ fn run_both<R: Threads + Sync>(
     requires who { (processor.role ≡ Role.Processor 0) × MayClaim hand.role }
     requires new { (accepted_of (view processor) ≡ []) × (fresh_of (view processor) ≡ None) }
     requires rests { ((view processor).running ≡ []) × ((view hand).running ≡ []) }
-    ensures same { SameSeat processor result.0.seat × SameSeat hand result.1.0 }
+    ensures same { StaysSeat processor result.0.seat × StaysSeat hand result.1.0 }
     ensures rests { ((view result.0.seat).running ≡ []) × ((view result.1.0).running ≡ []) }
     ensures few { (result.0.reports ≤ CALLS) × (result.0.won ≤ CALLS) × (result.1.1 ≤ CALLS) }
 {
@@ -232,11 +233,11 @@ fn run_both<R: Threads + Sync>(
         rt,
         move || -> Done
             requires { AtBoard board.now processor × (processor.role ≡ Role.Processor 0) × (accepted_of (view processor) ≡ []) × (fresh_of (view processor) ≡ None) × ((view processor).running ≡ []) }
-            ensures { SameSeat processor result.seat × ((view result.seat).running ≡ []) × (result.reports ≤ CALLS) × (result.won ≤ CALLS) }
+            ensures { StaysSeat processor result.seat × ((view result.seat).running ≡ []) × (result.reports ≤ CALLS) × (result.won ≤ CALLS) }
         { be_processor(board, processor) },
         move || -> (Seat, u64)
             requires { AtBoard board.now hand × MayClaim hand.role × ((view hand).running ≡ []) }
-            ensures { SameSeat hand result.0 × ((view result.0).running ≡ []) × (result.1 ≤ CALLS) }
+            ensures { StaysSeat hand result.0 × ((view result.0).running ≡ []) × (result.1 ≤ CALLS) }
         { run_all(board, hand, CALLS) },
     )
 }
@@ -252,18 +253,18 @@ fn run_rest<R: Threads + Sync>(
     requires who { (driver.role ≡ Role.Driver) × (control.role ≡ Role.Control) }
     requires some { 0 < board.now.processors }
     requires rests { ((view driver).running ≡ []) × ((view control).running ≡ []) }
-    ensures same { SameSeat driver result.0 × SameSeat control result.1.0 }
+    ensures same { StaysSeat driver result.0 × StaysSeat control result.1.0 }
     ensures rests { ((view result.0).running ≡ []) × ((view result.1.0).running ≡ []) }
 {
     thread::join(
         rt,
         move || -> Seat
             requires { AtBoard board.now driver × (driver.role ≡ Role.Driver) × ((view driver).running ≡ []) }
-            ensures { SameSeat driver result × ((view result).running ≡ []) }
+            ensures { StaysSeat driver result × ((view result).running ≡ []) }
         { be_driver(board, driver) },
         move || -> (Seat, u64)
             requires { AtBoard board.now control × (control.role ≡ Role.Control) × (0 < board.now.processors) × ((view control).running ≡ []) }
-            ensures { SameSeat control result.0 × ((view result.0).running ≡ []) }
+            ensures { StaysSeat control result.0 × ((view result.0).running ≡ []) }
         { be_control(board, control) },
     )
 }
@@ -397,11 +398,11 @@ fn run_parts<R: Threads + Sync>(rt: &R, board: &Board, parts: OneOfEach) -> Outc
         rt,
         move || -> (Done, (Seat, u64))
             requires { IsSync R.row × AtBoard board.now processor × AtBoard board.now hand × (processor.role ≡ Role.Processor 0) × MayClaim hand.role × (accepted_of (view processor) ≡ []) × (fresh_of (view processor) ≡ None) × ((view processor).running ≡ []) × ((view hand).running ≡ []) }
-            ensures { SameSeat processor result.0.seat × SameSeat hand result.1.0 × ((view result.0.seat).running ≡ []) × ((view result.1.0).running ≡ []) × (result.0.reports ≤ CALLS) × (result.0.won ≤ CALLS) × (result.1.1 ≤ CALLS) }
+            ensures { StaysSeat processor result.0.seat × StaysSeat hand result.1.0 × ((view result.0.seat).running ≡ []) × ((view result.1.0).running ≡ []) × (result.0.reports ≤ CALLS) × (result.0.won ≤ CALLS) × (result.1.1 ≤ CALLS) }
         { run_both(rt, board, processor, hand) },
         move || -> (Seat, (Seat, u64))
             requires { IsSync R.row × AtBoard board.now driver × AtBoard board.now control × (driver.role ≡ Role.Driver) × (control.role ≡ Role.Control) × (0 < board.now.processors) × ((view driver).running ≡ []) × ((view control).running ≡ []) }
-            ensures { SameSeat driver result.0 × SameSeat control result.1.0 × ((view result.0).running ≡ []) × ((view result.1.0).running ≡ []) }
+            ensures { StaysSeat driver result.0 × StaysSeat control result.1.0 × ((view result.0).running ≡ []) × ((view result.1.0).running ≡ []) }
         { run_rest(rt, board, driver, control) },
     );
     let (done, (hand, hand_won)) = first;

@@ -5,7 +5,8 @@ ghost use Rattle.std.specs.Thread.{IsSync};
 ghost use Rattle.rcu_board.specs.Opened.{IsNewProcessor};
 ghost use Rattle.rcu_board.specs.Roles.{MayClaim};
 ghost use Rattle.rcu_numbers.specs.Words.{owes_of};
-ghost use Rattle.rcu_board.specs.Seats.{view, AtBoard, SameSeat, MayHear, accepted_of, fresh_of};
+ghost use Rattle.rcu_board_tests.specs.Stays.{StaysSeat};
+ghost use Rattle.rcu_board.specs.Seats.{view, AtBoard, MayHear, accepted_of, fresh_of};
 ghost use Rattle.rcu_board.specs.declared.board.Role.{Role};
 
 use crate::tests::{TwoOfEach, accept_one, take_two_apart};
@@ -162,7 +163,7 @@ fn wait_for_urge<R: Wait>(rt: &R, board: &Board, mut seat: Seat) -> Seat
     requires board { AtBoard board.now seat }
     requires who { seat.role ≡ Role.Processor 0 }
     requires offloadable { owes_of board.now.offloadable 0 ≡ 1 }
-    ensures same { SameSeat seat result }
+    ensures same { StaysSeat seat result }
 {
     for _ in rt.forever() {
         if heard(board, &mut seat) {
@@ -178,13 +179,13 @@ fn urge_across<R: Threads + Wait + Sync>(rt: &R, board: &Board, first: Seat, con
     requires first { AtBoard board.now first × (first.role ≡ Role.Processor 0) }
     requires control { AtBoard board.now control × (control.role ≡ Role.Control) }
     requires offloadable { owes_of board.now.offloadable 0 ≡ 1 }
-    ensures same { SameSeat first result }
+    ensures same { StaysSeat first result }
 {
     let (first, ()) = thread::join(
         rt,
         move || -> Seat
             requires { IsSync R.row × AtBoard board.now first × (first.role ≡ Role.Processor 0) × (owes_of board.now.offloadable 0 ≡ 1) }
-            ensures { SameSeat first result }
+            ensures { StaysSeat first result }
         { wait_for_urge(rt, board, first) },
         move || -> ()
             requires { AtBoard board.now control × (control.role ≡ Role.Control) }

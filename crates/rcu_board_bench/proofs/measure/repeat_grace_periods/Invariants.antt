@@ -1,15 +1,16 @@
 use Rattle.std.proofs.Common.{◌≡◌}
 use Rattle.rcu_numbers.specs.Numbers.{IsIdle}
 use Rattle.rcu_board.specs.Views.{sight}
-use Rattle.rcu_board.specs.Seats.{view, AtBoard, SameSeat}
+use Rattle.rcu_board_bench.specs.Stays.{StaysSeat}
+use Rattle.rcu_board.specs.Seats.{view, AtBoard}
 use Rattle.rcu_board_bench.proofs.measure.repeat_grace_periods.Given as goal
 
 abbrev pub invariant-loop-round : goal.invariant-loop-round
 invariant-loop-round l = record {
   driver : AtBoard l.board l.driver;
   processor : AtBoard l.board l.processor;
-  same_driver : SameSeat l.fn.driver l.driver;
-  same_processor : SameSeat l.fn.processor l.processor;
+  same_driver : StaysSeat l.fn.driver l.driver;
+  same_processor : StaysSeat l.fn.processor l.processor;
   seen : sight (view l.driver) ≡ l.seq;
   idle : IsIdle l.seq;
 }

@@ -1,12 +1,13 @@
 use Rattle.std.proofs.Common.{◌≡◌, ◌≤◌, [], length}
 use Rattle.std.specs.Prelude.{None}
-use Rattle.rcu_board.specs.Seats.{view, AtBoard, SameSeat, accepted_of, fresh_of}
+use Rattle.rcu_board_tests.specs.Stays.{StaysSeat}
+use Rattle.rcu_board.specs.Seats.{view, AtBoard, accepted_of, fresh_of}
 use Rattle.rcu_board_tests.proofs.tests.be_processor.Given as goal
 
 abbrev pub invariant-loop-count : goal.invariant-loop-count
 invariant-loop-count l = record {
   board : AtBoard l.board l.seat;
-  same : SameSeat l.fn.seat l.seat;
+  same : StaysSeat l.fn.seat l.seat;
   rests : (view l.seat).running ≡ [];
   counted : length (accepted_of (view l.seat)) ≡ l.count;
   stamped : fresh_of (view l.seat) ≡ None;

@@ -1,12 +1,13 @@
 use Rattle.std.proofs.Common.{◌≡◌, [], length}
 use Rattle.std.specs.Prelude.{None}
-use Rattle.rcu_board.specs.Seats.{view, AtBoard, SameSeat, accepted_of, fresh_of}
+use Rattle.rcu_board_tests.specs.Stays.{StaysSeat}
+use Rattle.rcu_board.specs.Seats.{view, AtBoard, accepted_of, fresh_of}
 use Rattle.rcu_board_tests.proofs.tests_threads.accept_all.Given as goal
 
 abbrev pub invariant-loop-number : goal.invariant-loop-number
 invariant-loop-number l = record {
   board : AtBoard l.board l.seat;
-  same : SameSeat l.fn.seat l.seat;
+  same : StaysSeat l.fn.seat l.seat;
   rests : (view l.seat).running ≡ [];
   counted : length (accepted_of (view l.seat)) ≡ l.number;
   stamped : fresh_of (view l.seat) ≡ None;
