@@ -1,0 +1,11 @@
+use Rattle.std.proofs.Common.{subst, sym}
+use Rattle.rcu_torture.specs.Kept.{GoesOn}
+use Rattle.rcu_torture.proofs.Keeping.{keeps_none}
+use Rattle.rcu_torture.proofs.acting.Actor.update.Goals as goal
+use Rattle.rcu_torture.proofs.acting.Actor.update.Goals.{in-Some, in-None}
+
+pub returns : goal.returns
+returns c = elim c.match-retire.branch [
+  | in-Some w ↦ subst (GoesOn c.args.self.now) (sym w.self-is) w.call-called.ensures
+  | in-None w ↦ subst (GoesOn c.args.self.now) (sym w.self-is) (keeps_none _ _)
+]
