@@ -3,6 +3,7 @@ use Rattle.rcu_board.specs.Words.{words_of, halt_word, is_asks}
 use Rattle.rcu_board.specs.Views.{cpus, seen_at, joined}
 use Rattle.rcu_board.specs.declared.board.Board.{Board}
 use Rattle.rcu_board.proofs.Groups.{joined-word-at, joined-word-greater, joined-words-long}
+use Rattle.rcu_board.specs.Memory.{many}
 use Rattle.rcu_board.specs.Plays.{touched, reported, looked, accepted, stamp_own, accept_own, with_stamp}
 use Rattle.rcu_board.specs.Seats.{NeverFalls, SameSeat, SawHalt, AtBoard, view, reports_of, first_reports, accepted_of, first_accepted, fresh_of, first_fresh}
 use Rattle.std.proofs.Common.{◌≡◌, ◌≢◌, ℕ, ◌+◌, ◌*◌, ◌%◌, ◌<◌, ◌≤◌, max, Bool, true, false, ◌∙◌, List, None, [], ◌∷◌, ◌++◌, map, length, get_or, ap, refl, arith, get_or-set_other, get_or-set_same}
@@ -14,12 +15,12 @@ use Rattle.rcu_board.specs.declared.view.View.{View}
 use Rattle.rcu_board.specs.declared.view.Own.{Own}
 
 -- what the seat last saw of the word that it stepped on
-pub seen-touched : (s : Seat) (i x : ℕ) → i < s.seat.table_id.words → seen_at (touched i x (view s)) i ≡ x
+pub seen-touched : (s : Seat) (i x : ℕ) → i < many s.seat.table_id → seen_at (touched i x (view s)) i ≡ x
 seen-touched s i x h = get_or-set_same s.seat.me.0.seen i x 0 (omega (arith, s.of_role.can_step.seen_long))
 
 -- the words of a board, as a seat of it counts them
-pub words-at : (b : Board) (s : Seat) → AtBoard b s → s.seat.table_id.words ≡ words_of b.processors
-words-at b s at = ap (λ t. t.words) at ∙ b.sized
+pub words-at : (b : Board) (s : Seat) → AtBoard b s → many s.seat.table_id ≡ words_of b.processors
+words-at b s at = let e = ap (λ z. z.words) at in let w = b.sized in omega arith
 
 -- what is seen of the halt word after a load that found it set
 pub saw-halt : (b : Board) (s t : Seat) (on : Bool) → AtBoard b s → view t ≡ touched halt_word (from_bool on) (view s) → on ≡ true → SawHalt (view t)
@@ -28,7 +29,7 @@ saw-halt b s t on at e is = ap (λ v. seen_at v halt_word) e ∙ (seen-touched s
 pub seen-other : (v : View) (i j x : ℕ) → j ≢ i → seen_at (touched i x v) j ≡ seen_at v j
 seen-other v i j x ne = get_or-set_other v.seen i j x 0 ne
 
-pub steps-touched : (s : Seat) (i x : ℕ) → i < s.seat.table_id.words → get_or (touched i x (view s)).steps i 0 ≡ get_or (view s).steps i 0 + 1
+pub steps-touched : (s : Seat) (i x : ℕ) → i < many s.seat.table_id → get_or (touched i x (view s)).steps i 0 ≡ get_or (view s).steps i 0 + 1
 steps-touched s i x h = get_or-set_same s.seat.me.0.steps i (get_or s.seat.me.0.steps i 0 + 1) 0 (omega (arith, s.of_role.can_step.steps_long))
 
 reports-own : (l : List Own) (p r : ℕ) → cpus l ≡ p ∷ [] → first_reports (map (Rattle.rcu_board.specs.Plays.report_own r) l) ≡ first_reports l + owes_of r p
@@ -38,10 +39,10 @@ reports-own (o ∷ os) p r e = ap (λ (l : List ℕ). o.reports + owes_of r (get
 pub reports-reported : (s : Seat) (p r : ℕ) → s.role ≡ Processor p → reports_of (reported r (view s)) ≡ reports_of (view s) + owes_of r p
 reports-reported s p r is = reports-own s.seat.me.0.own p r (s.of_role.own p is)
 
-pub seen-reported : (s : Seat) (r : ℕ) → 0 < s.seat.table_id.words → seen_at (reported r (view s)) 0 ≡ r
+pub seen-reported : (s : Seat) (r : ℕ) → 0 < many s.seat.table_id → seen_at (reported r (view s)) 0 ≡ r
 seen-reported s r h = get_or-set_same s.seat.me.0.seen 0 r 0 (omega (arith, s.of_role.can_step.seen_long))
 
-pub words-of-processor : (s : Seat) (p : ℕ) → s.role ≡ Processor p → 5 + 3 * p < s.seat.table_id.words
+pub words-of-processor : (s : Seat) (p : ℕ) → s.role ≡ Processor p → 5 + 3 * p < many s.seat.table_id
 words-of-processor s p is = s.of_role.processor p is
 
 -- ---- accepted numbers

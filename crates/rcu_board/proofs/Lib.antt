@@ -1,3 +1,4 @@
+pub mod Apart
 pub mod Asks
 pub mod Views
 pub mod Turns

@@ -1,8 +1,10 @@
 pub mod Words
+pub mod Padding
 pub mod Views
 pub mod Laws
 pub mod Plays
 pub mod Roles
 pub mod Seats
+pub mod Memory
 pub mod Opened
 pub mod Claims

@@ -3,6 +3,7 @@ use Rattle.std.specs.Prelude.{◌≡◌, ℕ, ◌+◌, ◌%◌, ◌<◌, ◌≤�
 use Rattle.rcu_numbers.specs.Words.{owes_of}
 use Rattle.rcu_board.specs.Words.{halt_word, accepts_word, turns_word}
 use Rattle.rcu_board.specs.Views.{seen_at, sight, fresh_count}
+use Rattle.rcu_board.specs.Memory.{id_of}
 use Rattle.rcu_board.specs.Roles.{IsProcessor, cpu_of_role}
 use Rattle.rcu_board.specs.declared.board.Role.{Role}
 use Rattle.rcu_board.specs.declared.board.Board.{Board}
@@ -19,7 +20,7 @@ view s = s.seat.me.0
 
 -- the seat is one of this board
 abbrev pub AtBoard : Board → Seat → Type 0
-AtBoard b s = s.seat.table_id ≡ b.table.shared.table_id
+AtBoard b s = s.seat.table_id ≡ id_of b.words
 
 -- the view has seen that processor p was shut
 abbrev pub SawShut : ℕ → View → Type 0
@@ -103,13 +104,13 @@ abbrev pub maker_view : Maker → View
 maker_view s = s.seat.me.0
 
 abbrev pub MakerAt : Board → Maker → Type 0
-MakerAt b s = s.seat.table_id ≡ b.table.shared.table_id
+MakerAt b s = s.seat.table_id ≡ id_of b.words
 
 abbrev pub gathered_view : Gathered → View
 gathered_view s = s.seat.me.0
 
 abbrev pub GatheredAt : Board → Gathered → Type 0
-GatheredAt b s = s.seat.table_id ≡ b.table.shared.table_id
+GatheredAt b s = s.seat.table_id ≡ id_of b.words
 
 abbrev pub SameGathered : Gathered → Gathered → Type 0
 SameGathered s t = t.seat.table_id ≡ s.seat.table_id

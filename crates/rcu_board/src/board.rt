@@ -1,14 +1,14 @@
 //! What the parts share, and what each of them steps with.
 
 ghost use Rattle.std.specs.Prelude.{◌≡◌, ◌+◌, ◌*◌, ◌<◌, ◌≤◌, ◌^◌, ◌↔◌, IsTrue};
+ghost use Rattle.rcu_board.specs.Memory.{id_of, many};
 ghost use Rattle.rcu_board.specs.Roles.{SeatOfRole, FirstSeat};
+ghost use Rattle.rcu_board.specs.declared.padding.TheConstants.{LINE_WORDS};
 ghost use Rattle.rcu_numbers.specs.Words.{owes_of};
 
-use crate::plays::Rule;
+use crate::padding::Words;
 use crate::view::View;
-use atomic_table::Table;
 use rcu_numbers::BoardWord;
-use std::alloc::Global;
 
 /// What a board was made for: how many processors, and the mask of the offloadable ones.
 #[derive(Clone, Copy)]
@@ -22,11 +22,11 @@ pub struct Frame {
 /// `BoardRule` in specs/Laws. To share a board among threads, put it into an `Arc`.
 #[derive(Drop)]
 pub struct Board {
-    pub(crate) table: Table<u64, View, Frame, Rule, Global>,
+    pub(crate) words: Words,
     pub(crate) processors: u64,
     pub(crate) offloadable: u32,
-    ghost sized: { table.shared.table_id.words ≡ 4 + 3 * processors },
-    ghost framed: { table.shared.key.processors ≡ processors },
+    ghost sized: { (id_of words).words ≡ LINE_WORDS * (4 + 3 * processors) },
+    ghost framed: { words.table.shared.key.processors ≡ processors },
     ghost few: { processors ≤ 32 },
 }
 
@@ -74,7 +74,7 @@ pub enum Role {
 pub struct Seat {
     pub(crate) seat: atomic_table::Seat<u64, View>,
     pub(crate) role: Role,
-    ghost of_role: { SeatOfRole role seat.table_id.words seat.me },
+    ghost of_role: { SeatOfRole role (many seat.table_id) seat.me },
 }
 
 impl Seat {
@@ -90,7 +90,7 @@ impl Seat {
 #[derive(Drop)]
 pub struct Maker {
     pub(crate) seat: atomic_table::Seat<u64, View>,
-    ghost first_seat: { FirstSeat seat.table_id.words seat.me },
+    ghost first_seat: { FirstSeat (many seat.table_id) seat.me },
 }
 
 /// A seat that takes in others, and can make no more steps of any role.

@@ -32,7 +32,7 @@ pub fn merge(board: &Board, all: &mut Gathered, seat: Seat)
     ensures view { gathered_view all.new ≡ joined (gathered_view all.old) (view seat) }
 {
     let Seat { seat, role: _ } = seat;
-    board.table.shared.join_seat::<Gather>(&mut all.seat, seat);
+    board.words.join_seat::<Gather>(&mut all.seat, seat);
 }
 
 /// Loads the board word, which says what each processor of the gathered seats has reported, and that none of their
@@ -44,12 +44,7 @@ pub fn last_look(board: &Board, all: &mut Gathered) -> BoardWord
     ensures later { sight (gathered_view all.old) ≤ result.seq }
     ensures stands { GatheredBoardLaw (bits_of result) (gathered_view all.old) }
 {
-    BoardWord::from_bits(
-        board
-            .table
-            .shared
-            .load::<LastLook>(&mut all.seat, BOARD_WORD),
-    )
+    BoardWord::from_bits(board.words.load::<LastLook>(&mut all.seat, BOARD_WORD))
 }
 
 /// Loads the turn word of processor `p` once all seats are one: each number below the turn was claimed once, and no
@@ -64,8 +59,7 @@ pub fn last_turn_of(board: &Board, all: &mut Gathered, p: u64) -> u64
     ensures settled { GatheredTurnLaw p result (gathered_view all.old) }
 {
     board
-        .table
-        .shared
+        .words
         .load::<LastTurn>(&mut all.seat, FIRST_TURNS + WORDS_EACH * p as usize)
 }
 
@@ -80,7 +74,6 @@ pub fn last_count_of(board: &Board, all: &mut Gathered, p: u64) -> u64
     ensures counted { GatheredAcceptLaw p result (gathered_view all.old) }
 {
     board
-        .table
-        .shared
+        .words
         .load::<LastCount>(&mut all.seat, FIRST_ACCEPTS + WORDS_EACH * p as usize)
 }

@@ -9,6 +9,7 @@
 mod board;
 mod gather;
 mod open;
+mod padding;
 mod plays;
 mod steps;
 mod view;

@@ -8,8 +8,8 @@ ghost use Rattle.rcu_board.specs.Seats.{view, AtBoard, maker_view, MakerAt};
 ghost use Rattle.rcu_board.specs.Opened.{AreNew, InOrder, SeatForEach, numbers_where, is_offloadable, has_offloadable, IsNewProcessor, IsNewHand, IsNewGroup};
 
 use crate::board::{Board, Frame, Maker, Role, Seat, is_offloadable};
+use crate::padding::Words;
 use crate::plays::{Plain, WithControl, WithOwn};
-use atomic_table::Table;
 use rcu_numbers::Shape;
 use std::alloc::{AllocError, Global};
 
@@ -40,9 +40,9 @@ fn make_board(alloc: Global, shape: &Shape) -> Result<(Board, Maker), AllocError
         processors: n,
         offloadable,
     };
-    let (table, seat) = Table::of_words(alloc, &words[..4 + 3 * n as usize], &frame)?;
+    let (words, seat) = Words::new(alloc, &words[..4 + 3 * n as usize], &frame)?;
     let board = Board {
-        table,
+        words,
         processors: n,
         offloadable,
     };
@@ -59,7 +59,7 @@ fn own_seat(board: &Board, maker: &mut Maker, p: u64) -> Seat
     ensures maker { maker_view maker.new ≡ given_own (maker_view maker.old) }
     ensures seat { (result.role ≡ Role.Processor p) × (view result ≡ with_own (maker_view maker.old)) }
 {
-    let seat = board.table.shared.split_seat::<WithOwn>(&mut maker.seat);
+    let seat = board.words.split_seat::<WithOwn>(&mut maker.seat);
     Seat {
         seat,
         role: Role::Processor(p),
@@ -75,7 +75,7 @@ fn plain_seat(board: &Board, maker: &mut Maker, role: Role) -> Seat
     ensures maker { maker_view maker.new ≡ given_plain (maker_view maker.old) }
     ensures seat { (result.role ≡ role) × (view result ≡ plain (maker_view maker.old)) }
 {
-    let seat = board.table.shared.split_seat::<Plain>(&mut maker.seat);
+    let seat = board.words.split_seat::<Plain>(&mut maker.seat);
     Seat { seat, role }
 }
 
@@ -88,10 +88,7 @@ fn control_seat(board: &Board, maker: &mut Maker) -> Seat
     ensures maker { maker_view maker.new ≡ given_control (maker_view maker.old) }
     ensures seat { (result.role ≡ Role.Control) × (view result ≡ with_control (maker_view maker.old)) }
 {
-    let seat = board
-        .table
-        .shared
-        .split_seat::<WithControl>(&mut maker.seat);
+    let seat = board.words.split_seat::<WithControl>(&mut maker.seat);
     Seat {
         seat,
         role: Role::Control,

@@ -1,6 +1,7 @@
 //! The rule of the table, and the names of its steps. What each says stands in specs/Laws and specs/Plays.
 
 ghost use Rattle.rcu_board.specs.Laws.{BoardRule};
+ghost use Rattle.rcu_board.specs.Padding.{Padded};
 ghost use Rattle.rcu_board.specs.Views.{opening_view, given_plain, plain, given_own, with_own, given_control, with_control, joined, spent};
 ghost use Rattle.rcu_board.specs.Plays.{Loading, Looking, Reporting, Driving, Needing, Accepting, Counting, Shutting, Claiming, Finishing, Switching, Urging, Hearing, LastLooking, LastTurning, LastCounting, all_seats};
 
@@ -8,11 +9,11 @@ use crate::board::Frame;
 use crate::view::View;
 use atomic_table::{Join, Play, Split, TableRule};
 
-/// The rule that the words and the views of a board keep.
+/// The rule that the words and the views of a board keep, padded as the words are.
 pub struct Rule;
 
 impl TableRule<u64, View, Frame> for Rule {
-    ghost holds = { λ frame. BoardRule frame.processors all_seats };
+    ghost holds = { λ frame. Padded (BoardRule frame.processors all_seats) };
 
     ghost first = { λ frame. opening_view frame.processors frame.offloadable all_seats };
 }

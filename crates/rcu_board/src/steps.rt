@@ -52,7 +52,7 @@ pub fn look(board: &Board, seat: &mut Seat) -> BoardWord
     ensures within { result.mask ≤ all_of board.now.processors }
     ensures driver { seat.old.role ≡ Role.Driver → result.seq ≡ sight (view seat.old) }
 {
-    BoardWord::from_bits(board.table.shared.load::<Look>(&mut seat.seat, BOARD_WORD))
+    BoardWord::from_bits(board.words.load::<Look>(&mut seat.seat, BOARD_WORD))
 }
 
 /// Clears the bit of the seat's processor, and answers the word as it was. The report is counted where the bit was set.
@@ -69,8 +69,7 @@ pub fn report(board: &Board, seat: &mut Seat) -> BoardWord
         unreachable!()
     };
     let found = board
-        .table
-        .shared
+        .words
         .fetch_and::<Report>(&mut seat.seat, BOARD_WORD, all_but(p));
     BoardWord::from_bits(found)
 }
@@ -89,8 +88,7 @@ pub fn start(board: &Board, seat: &mut Seat, seq: u64)
     let idle = BoardWord::pack(seq, 0).bits();
     let begun = BoardWord::pack(seq + 1, all_processors(board.processors)).bits();
     board
-        .table
-        .shared
+        .words
         .compare_exchange::<Drive>(&mut seat.seat, BOARD_WORD, idle, begun);
 }
 
@@ -115,8 +113,7 @@ pub fn end(board: &Board, seat: &mut Seat, seq: u64) -> Result<(), BoardWord>
     let clear = BoardWord::pack(seq, 0).bits();
     let over = BoardWord::pack(ended(seq), 0).bits();
     let found = board
-        .table
-        .shared
+        .words
         .compare_exchange::<Drive>(&mut seat.seat, BOARD_WORD, clear, over);
     if found == clear {
         return Ok(());
@@ -132,8 +129,7 @@ pub fn need(board: &Board, seat: &mut Seat, seq: u64) -> u64
     ensures view { view seat.new ≡ touched 1 (max result seq) (view seat.old) }
 {
     board
-        .table
-        .shared
+        .words
         .fetch_max::<Need>(&mut seat.seat, NEEDED_WORD, seq)
 }
 
@@ -144,7 +140,7 @@ pub fn needed(board: &Board, seat: &mut Seat) -> u64
     ensures same { SameSeat seat.old seat.new }
     ensures view { view seat.new ≡ touched 1 result (view seat.old) }
 {
-    board.table.shared.load::<Load>(&mut seat.seat, NEEDED_WORD)
+    board.words.load::<Load>(&mut seat.seat, NEEDED_WORD)
 }
 
 // ---- the accept words
@@ -167,7 +163,7 @@ pub fn accept(board: &Board, seat: &mut Seat, count: u64, key: u64) -> Option<u6
         unreachable!()
     };
     let old = 2 * count;
-    let found = board.table.shared.compare_exchange_with::<Accept>(
+    let found = board.words.compare_exchange_with::<Accept>(
         &mut seat.seat,
         FIRST_ACCEPTS + WORDS_EACH * p as usize,
         old,
@@ -189,8 +185,7 @@ pub fn shut_one(board: &Board, seat: &mut Seat, p: u64) -> u64
     ensures view { view seat.new ≡ touched (accepts_word p) (2 * result + 1) (view seat.old) }
 {
     let found = board
-        .table
-        .shared
+        .words
         .fetch_or::<Shut>(&mut seat.seat, FIRST_ACCEPTS + WORDS_EACH * p as usize, 1);
     found / 2
 }
@@ -206,8 +201,7 @@ pub fn count_of(board: &Board, seat: &mut Seat, p: u64) -> u64
     ensures own { seat.old.role ≡ Role.Processor p → result / 2 ≡ count_of_own (view seat.old) }
 {
     board
-        .table
-        .shared
+        .words
         .load::<Count>(&mut seat.seat, FIRST_ACCEPTS + WORDS_EACH * p as usize)
 }
 
@@ -235,7 +229,7 @@ pub fn claim(board: &Board, seat: &mut Seat, number: u64) -> Claimed
 {
     let p = cpu(&seat.role);
     let old = 2 * number;
-    let found = board.table.shared.compare_exchange::<Claim>(
+    let found = board.words.compare_exchange::<Claim>(
         &mut seat.seat,
         FIRST_TURNS + WORDS_EACH * p as usize,
         old,
@@ -257,8 +251,7 @@ pub fn finish(board: &Board, seat: &mut Seat)
 {
     let p = cpu(&seat.role);
     board
-        .table
-        .shared
+        .words
         .fetch_add::<Finish>(&mut seat.seat, FIRST_TURNS + WORDS_EACH * p as usize, 1);
 }
 
@@ -271,8 +264,7 @@ pub fn turn_of(board: &Board, seat: &mut Seat, p: u64) -> u64
     ensures view { view seat.new ≡ touched (turns_word p) result (view seat.old) }
 {
     board
-        .table
-        .shared
+        .words
         .load::<Load>(&mut seat.seat, FIRST_TURNS + WORDS_EACH * p as usize)
 }
 
@@ -297,7 +289,7 @@ pub fn ask(board: &Board, seat: &mut Seat, p: u64, on: bool)
     ensures same { SameSeat seat.old seat.new }
     ensures view { view seat.new ≡ touched (asks_word p) (from_bool on) (view seat.old) }
 {
-    board.table.shared.store::<Switch>(
+    board.words.store::<Switch>(
         &mut seat.seat,
         FIRST_ASKS + WORDS_EACH * p as usize,
         u64::from(on),
@@ -315,8 +307,7 @@ pub fn asked(board: &Board, seat: &mut Seat) -> bool
         unreachable!()
     };
     let found = board
-        .table
-        .shared
+        .words
         .load::<Switch>(&mut seat.seat, FIRST_ASKS + WORDS_EACH * p as usize);
     found == 1
 }
@@ -328,10 +319,7 @@ pub fn halt(board: &Board, seat: &mut Seat)
     ensures same { SameSeat seat.old seat.new }
     ensures view { view seat.new ≡ touched 2 1 (view seat.old) }
 {
-    board
-        .table
-        .shared
-        .store::<Switch>(&mut seat.seat, HALT_WORD, 1);
+    board.words.store::<Switch>(&mut seat.seat, HALT_WORD, 1);
 }
 
 /// Whether the halt word was set.
@@ -341,7 +329,7 @@ pub fn halted(board: &Board, seat: &mut Seat) -> bool
     ensures same { SameSeat seat.old seat.new }
     ensures view { view seat.new ≡ touched 2 (from_bool result) (view seat.old) }
 {
-    board.table.shared.load::<Switch>(&mut seat.seat, HALT_WORD) == 1
+    board.words.load::<Switch>(&mut seat.seat, HALT_WORD) == 1
 }
 
 /// Urges every processor to release its bypass list.
@@ -354,8 +342,7 @@ pub fn urge(board: &Board, seat: &mut Seat)
     let every = u64::from(all_processors(board.processors));
     let urge_word = FIRST_ACCEPTS + WORDS_EACH * board.processors as usize;
     board
-        .table
-        .shared
+        .words
         .fetch_or::<Urge>(&mut seat.seat, urge_word, every);
 }
 
@@ -372,8 +359,7 @@ pub fn heard(board: &Board, seat: &mut Seat) -> bool
     };
     let urge_word = FIRST_ACCEPTS + WORDS_EACH * board.processors as usize;
     let found = board
-        .table
-        .shared
+        .words
         .fetch_and::<Hear>(&mut seat.seat, urge_word, all_but(p));
     (found >> p) & 1 == 1
 }

@@ -12,6 +12,7 @@ use Rattle.rcu_board.proofs.Roles.{alone, role_else, alike_same, alike_own}
 use Rattle.rcu_board.proofs.Facts.{seen-long}
 use Rattle.rcu_board.proofs.Later.{later_accepts}
 use Rattle.rcu_board.proofs.WordSteps.{accept_allowed}
+use Rattle.rcu_board.specs.Memory.{many}
 use Rattle.rcu_board.proofs.steps.accept.Goals as goal
 
 pub compare_exchange_with-found-requires : goal.compare_exchange_with-found-requires
@@ -20,7 +21,7 @@ compare_exchange_with-found-requires c = let b = c.args.board.now in let w = b.s
     (r.board, omega arith, accept_allowed _ _ _ _ m s.can_step.live p (omega arith) a.0 c.args.key c.args.count a.1 a.2 (sym (ap first_fresh a.1) ∙ r.stamped) (ap (λ l. length (first_accepted l)) (sym a.1) ∙ r.count))
 
 pub invariant_of-seat : goal.invariant_of-seat
-invariant_of-seat c = let m = c.args.seat.now.seat.me in let e = c.compare_exchange_with-found.ensures in let s = c.args.seat.now.of_role in let own = map (accept_own c.args.key) m.0.own in let same = ap (λ z. z.words) e.0 in record {
+invariant_of-seat c = let m = c.args.seat.now.seat.me in let e = c.compare_exchange_with-found.ensures in let s = c.args.seat.now.of_role in let own = map (accept_own c.args.key) m.0.own in let same = ap many e.0 in record {
   of_role = dite (ℕ_discrete c.compare_exchange_with-found.result (2 * c.args.count))
       (λ hit. role_else _ _ m _ _ _ (record m.0 { own = own }) same (e.2.won c.args.key refl hit) (alike_own m.0 own (cpus-map (accept_own c.args.key) (λ o. refl) m.0.own)) _ s (λ z. omega arith))
       (λ miss. role_else _ _ m _ _ _ m.0 same (e.2.shut miss) (alike_same m.0) _ s (λ z. omega arith));

@@ -11,6 +11,7 @@ use Rattle.rcu_board.proofs.Roles.{role_board, alike_own, bits_read}
 use Rattle.rcu_board.proofs.Facts.{seen-long}
 use Rattle.rcu_board.proofs.Later.{later_board}
 use Rattle.rcu_board.proofs.BoardSteps.{look_allowed, seen_here}
+use Rattle.rcu_board.specs.Memory.{many}
 use Rattle.rcu_board.proofs.steps.look.Goals as goal
 
 pub load-requires : goal.load-requires
@@ -21,7 +22,7 @@ from_bits-requires c = let s = c.load.ensures.2.word.small in omega arith
 
 pub invariant_of-seat : goal.invariant_of-seat
 invariant_of-seat c = let m = c.args.seat.now.seat.me in let e = c.load.ensures in let b = c.args.board.now.sized in let own = map (stamp_own (number_of c.load.result)) m.0.own in record {
-  of_role = role_board _ _ m _ 0 c.load.result (record m.0 { own = own }) (ap (λ z. z.words) e.0) e.2.view (alike_own m.0 own (cpus-map (stamp_own (number_of c.load.result)) (λ o. refl) m.0.own)) _ c.args.seat.now.of_role refl (omega (arith, ap (λ z. z.words) c.requires)) e.2.word.small;
+  of_role = role_board _ _ m _ 0 c.load.result (record m.0 { own = own }) (ap many e.0) e.2.view (alike_own m.0 own (cpus-map (stamp_own (number_of c.load.result)) (λ o. refl) m.0.own)) _ c.args.seat.now.of_role refl (omega (arith, ap (λ z. z.words) c.requires)) e.2.word.small;
 }
 
 pub returns-clause-same : goal.returns-clause-same

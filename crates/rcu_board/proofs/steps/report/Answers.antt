@@ -17,6 +17,7 @@ use Rattle.rcu_board.proofs.Roles.{role_board, alone, alike_own, bits_read}
 use Rattle.rcu_board.proofs.Facts.{seen-long}
 use Rattle.rcu_board.proofs.Later.{later_board}
 use Rattle.rcu_board.proofs.BoardSteps.{report_allowed}
+use Rattle.rcu_board.specs.Memory.{many}
 use Rattle.rcu_board.proofs.steps.report.Goals as goal
 
 pub all_but-requires : goal.all_but-requires
@@ -27,7 +28,7 @@ fetch_and-found-requires c = let b = c.args.board.now in let s = c.args.seat.now
     let a = alone m.0.own c.in-Processor.p (s.own c.in-Processor.p c.in-Processor.is) in (
       c.requires.board,
       omega arith,
-      subst (λ (k : ℕ). Allows (BoardRule b.table.shared.key.processors all_seats) b.table.shared.table_id.slots c.args.seat.now.seat.id m 0 (λ y. bit_and y k) (Reporting (step b.table.shared.table_id.slots 0 k 0 none) m))
+      subst (λ (k : ℕ). Allows (BoardRule b.words.table.shared.key.processors all_seats) b.words.table.shared.table_id.slots c.args.seat.now.seat.id m 0 (λ y. bit_and y k) (Reporting (step b.words.table.shared.table_id.slots 0 k 0 none) m))
           (ap all_but_of a.2 ∙ sym c.all_but.ensures) (report_allowed _ _ _ _ m s.can_step.live a.0 a.1),
     )
 
@@ -36,7 +37,7 @@ from_bits-requires c = let s = c.fetch_and-found.ensures.2.word.small in omega a
 
 pub invariant_of-seat : goal.invariant_of-seat
 invariant_of-seat c = let m = c.args.seat.now.seat.me in let e = c.fetch_and-found.ensures in let x = c.fetch_and-found.result in let b = c.args.board.now.sized in let own = map (report_own x) m.0.own in record {
-  of_role = role_board _ _ m _ 0 x (record m.0 { own = own }) (ap (λ z. z.words) e.0) e.2.view (alike_own m.0 own (cpus-map (report_own x) (λ o. refl) m.0.own)) _ c.args.seat.now.of_role refl (omega (arith, ap (λ z. z.words) c.requires.board)) e.2.word.small;
+  of_role = role_board _ _ m _ 0 x (record m.0 { own = own }) (ap many e.0) e.2.view (alike_own m.0 own (cpus-map (report_own x) (λ o. refl) m.0.own)) _ c.args.seat.now.of_role refl (omega (arith, ap (λ z. z.words) c.requires.board)) e.2.word.small;
 }
 
 pub returns-clause-same : goal.returns-clause-same
