@@ -2,7 +2,9 @@
 
 ghost use Rattle.std.specs.Prelude.{◌≡◌, ℕ, ◌+◌, ◌≤◌, ◌↔◌, [], ◌∷◌, ◌++◌, length, take, drop, IsOk, IsTrue, List, MatchOption, OnOk, OnErr};
 ghost use Rattle.std.specs.VecDeque.{deque_capacity};
+ghost use Rattle.smallvec.specs.SmallVec.{HasRoomFor};
 ghost use Rattle.rcu_lists.specs.Filled.{AreFilled};
+ghost use Rattle.rcu_lists.specs.declared.batch.TheConstants.{INLINE_PLACES};
 
 use rcu_jobs::Callback;
 use smallvec::SmallVec;
@@ -22,6 +24,8 @@ pub struct Batch<J> {
     next: usize,
     ghost within: { next ≤ length slots.items },
     ghost full: { AreFilled (drop next slots.items) },
+    ghost inline: { INLINE_PLACES ≤ slots.capacity },
+    ghost fits: { HasRoomFor slots 0 },
 }
 
 impl<J: Drop> Batch<J> {
@@ -117,11 +121,24 @@ impl<J: Drop> Batch<J> {
         mem::replace(self, empty)
     }
 
+    // Where all callbacks were taken, their places are free again.
+    pub(crate) fn free_places(&mut self)
+        ensures items { batch_items self.new ≡ batch_items self.old }
+        ensures inline { batch_items self.new ≡ [] → HasRoom self.new INLINE_PLACES }
+        ensures room { (k : ℕ) → HasRoom self.old k → HasRoom self.new k }
+    {
+        if self.is_empty() {
+            self.slots.clear();
+            self.next = 0;
+        }
+    }
+
     // Moves so many callbacks from the front of a list to the end, in the room that there is.
     pub(crate) fn take_from(&mut self, list: &mut VecDeque<Callback<J>>, number: usize)
         requires few { number ≤ length list.old.items }
         requires room { HasRoom self.old number }
         ensures moved { batch_items self.new ≡ batch_items self.old ++ take number list.old.items }
+        ensures left_room { (k : ℕ) → HasRoom self.old (number + k) → HasRoom self.new k }
         ensures left { list.new.items ≡ drop number list.old.items }
         ensures capacity { deque_capacity list.new ≡ deque_capacity list.old }
     {

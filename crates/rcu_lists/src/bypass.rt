@@ -2,6 +2,7 @@
 
 ghost use Rattle.std.specs.Prelude.{◌≡◌, ◌↔◌, ℕ, ◌+◌, true, false, [], ◌∷◌, ◌++◌, None, IsOk, IsTrue, OnOk, OnErr, length};
 ghost use Rattle.rcu_lists.specs.Batches.{batch_items, HasRoom};
+ghost use Rattle.rcu_lists.specs.declared.batch.TheConstants.{INLINE_PLACES};
 
 use crate::batch::{Batch, INLINE_PLACES};
 use crate::pace::{Kind, Pace};
@@ -19,6 +20,8 @@ pub struct Bypass<J> {
     // The pace knows a plain callback, or a kept moment, exactly where the list holds callbacks.
     ghost unmarked: { batch_items held ≡ [] → (pace.plain ≡ false) × (pace.lazy ≡ None) },
     ghost marked: { pace.plain ≡ false → pace.lazy ≡ None → batch_items held ≡ [] },
+    // An empty list has the room that stands in the value itself.
+    ghost roomy: { batch_items held ≡ [] → HasRoom held INLINE_PLACES },
 }
 
 /// What became of a callback that was placed.
@@ -55,7 +58,7 @@ impl<J: Drop> Bypass<J> {
         self.held.len()
     }
 
-    /// Finds room for one more.
+    /// Finds room for one more. An empty list has it.
     ///
     /// # Errors
     ///
@@ -64,6 +67,7 @@ impl<J: Drop> Bypass<J> {
         ensures same { BypassUnchanged self.old self.new }
         ensures found { OnOk result (BypassRoom self.new 1) }
         ensures had { BypassRoom self.old 1 → IsOk result }
+        ensures none { bypass_items self.old ≡ [] → IsOk result }
     {
         self.make_room(1)
     }
@@ -168,6 +172,7 @@ impl<J: Drop> Bypass<J> {
     {
         self.pace.plain = !batch.is_empty();
         self.held = batch;
+        self.held.free_places();
         self.pace.lazy = None;
     }
 

@@ -3,13 +3,13 @@
 ghost use Rattle.std.specs.Prelude.{◌≡◌, ℕ, ◌+◌, ◌<◌, ◌≤◌, ◌↔◌, [], ◌∷◌, ◌++◌, true, ⊤, IsTrue, length, min, max, option_to_list, All, List, MatchOption, IfSome, IfOk, IsOk, OnOk, OnErr};
 ghost use Rattle.rcu_numbers.specs.Numbers.{snap_of};
 ghost use Rattle.rcu_lists.specs.Batches.{batch_items};
-ghost use Rattle.rcu_lists.specs.Bypasses.{bypass_items, bypass_pace, bypass_qhimark, BypassUnchanged};
+ghost use Rattle.rcu_lists.specs.Bypasses.{bypass_items, bypass_pace, bypass_qhimark, BypassRoom, BypassUnchanged};
 ghost use Rattle.rcu_lists.specs.Cut.{cut};
 ghost use Rattle.rcu_lists.specs.Labels.{IsGraced};
 ghost use Rattle.rcu_lists.specs.Release.{joined_plain};
 ghost use Rattle.rcu_lists.specs.Stamps.{stamps_from, newest_of};
 
-use crate::batch::Batch;
+use crate::batch::{Batch, INLINE_PLACES};
 use crate::bypass::Bypass;
 use rcu_jobs::Callback;
 use std::alloc::{AllocError, Global};
@@ -202,6 +202,9 @@ impl<J: Drop> Segments<J> {
         ensures graced { IfOk result (λ b. All (λ c. snap_of c.stamp ≤ advanced_by self.old) (batch_items b)) }
         ensures advanced { advanced_by self.new ≡ advanced_by self.old }
         ensures room { IfOk result (λ b. (k : ℕ) → SegmentsRoom self.old k → SegmentsRoom self.new (k + length (batch_items b))) }
+
+        // Sixteen places stand in the batch itself.
+        ensures inline { min max (count is_done (labelled self.old)) ≤ INLINE_PLACES → IsOk result }
         ensures refused { OnErr result (SegmentsUnchanged self.old self.new) }
     {
         let number = max.min(self.done);
@@ -223,6 +226,10 @@ impl<J: Drop> Segments<J> {
         ensures pace { OnOk result (bypass_pace bypass.new ≡ joined_plain (callbacks_of (labelled self.old)) (bypass_pace bypass.old)) }
         ensures advanced { advanced_by self.new ≡ advanced_by self.old }
         ensures qhimark { bypass_qhimark bypass.new ≡ bypass_qhimark bypass.old }
+
+        // Room that is there is used, and an empty list wants none.
+        ensures had { BypassRoom bypass.old (length (labelled self.old)) → IsOk result }
+        ensures none { labelled self.old ≡ [] → IsOk result }
         ensures refused { OnErr result (SegmentsUnchanged self.old self.new × BypassUnchanged bypass.old bypass.new) }
     {
         bypass.make_room(self.list.len())?;

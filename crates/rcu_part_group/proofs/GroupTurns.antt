@@ -1,8 +1,10 @@
 -- How a group keeps its law, and what its turn comes to.
-use Rattle.std.proofs.Common.{◌≡◌, ◌⊎◌, inl, inr, ℕ, ◌<◌, ◌≤◌, Bool, true, false, IsTrue, cond, List, [], ◌∷◌, ◌++◌, map, length, length-append, append-nil, append_assoc, Option, Some, None, IfSome, ap, sym, ◌∙◌, refl, subst, arith}
+use Rattle.std.proofs.Common.{◌≡◌, ◌⊎◌, inl, inr, ℕ, ◌*◌, sum, ◌<◌, ◌≤◌, Bool, true, false, IsTrue, cond, List, [], ◌∷◌, ◌++◌, map, length, length-append, append-nil, append_assoc, Option, Some, None, IfSome, ap, sym, ◌∙◌, refl, subst, arith}
 use Rattle.std.specs.List.{All, AllPairs, AllZip}
+use Rattle.std.proofs.Math.Nat.{mul-suc}
 use Rattle.std.proofs.lemmas.List.{append_cancel_left}
 use Rattle.std.proofs.lemmas.List.Elements.{All-nil, All-cons, All-tail, All-append, All-weaker, length_all_zip}
+use Rattle.std.proofs.lemmas.List.Sums.{sum_by-cons}
 use Rattle.rcu_board.specs.Plays.{looked, stamp_own, touched}
 use Rattle.rcu_board.specs.Seats.{NeverFalls}
 use Rattle.rcu_board.specs.Views.{seen_at, sight}
@@ -18,7 +20,7 @@ use Rattle.rcu_holdings.specs.declared.member.Member.{Member}
 use Rattle.rcu_jobs.specs.declared.callback.Callback.{Callback}
 use Rattle.rcu_lists.specs.Labels.{Labelled, Done, Bare, marked, callbacks_of, carries}
 use Rattle.rcu_numbers.specs.Words.{number_of}
-use Rattle.rcu_part_group.specs.Each.{Sums}
+use Rattle.rcu_part_group.specs.Each.{Each, Sums}
 use Rattle.rcu_part_group.specs.GroupLaw.{AreMembers, IsLawfulGroup, relay_of}
 use Rattle.rcu_part_group.specs.Groups.{GivesTo, IsEmptyFolk, LooksAt, LooksAtAll, PassesOn, SameFolk, SameGroup, TakesFrom, held_of, members_of}
 use Rattle.rcu_part_group.specs.declared.folk.Folk.{Folk}
@@ -86,6 +88,39 @@ module _ {J : Type 0} where
   pub gives_few : (most gave : ℕ) (m n : Member J) → Gives most gave (relay m) (relay n) → gave ≤ 1000000
   gives_few most gave m n g = let p = gives_put most gave (relay m) (relay n) g in let r = relay n in
       omega (arith, n.few, ap length n.order, length-append r.put (r.out ++ (callbacks_of r.list ++ r.drawn)), ap length p.1, length-append (relay m).put p.0, p.2)
+
+  -- what waits was loaded under the limit, and so is what is given at most that
+  loads_within : (most : ℕ) (o n : Relay J) → (n ≡ o) ⊎ Loads most o n → length o.out ≤ most → length n.out ≤ most
+  loads_within most o n (inl e) h = omega (arith, h, ap (λ (r : Relay J). length r.out) e)
+  loads_within most o n (inr l) h = omega (arith, l.number)
+
+  hands_within : (most gave : ℕ) (o n : Relay J) → Hands gave o n → length o.out ≤ most → (gave ≤ most) × (length n.out ≤ most)
+  hands_within most gave o n (inl p) h = (omega (arith, h, p.0), omega (arith, ap (λ (r : Relay J). length r.out) p.1))
+  hands_within most gave o n (inr p) h = (omega (arith, p.0), omega (arith, h, ap (λ (r : Relay J). length r.out) p.1))
+
+  pub gives_within : (most gave : ℕ) (o n : Relay J) → Gives most gave o n → length o.out ≤ most → gave ≤ most
+  gives_within most gave o n g h = (hands_within most gave g.between n g.hands (loads_within most o g.between g.loads h)).0
+
+  gives_left : (most gave : ℕ) (o n : Relay J) → Gives most gave o n → length o.out ≤ most → length n.out ≤ most
+  gives_left most gave o n g h = (hands_within most gave g.between n g.hands (loads_within most o g.between g.loads h)).1
+
+  -- so much for each member
+  each_within : (blimit : ℕ) (answers : List ℕ) (ms ns : List (Folk J)) → Each (GivesTo blimit) answers ms ns → sum answers ≤ blimit * length ms
+  each_within blimit [] [] [] e = omega arith
+  each_within blimit [] [] (n ∷ ns) e = absurd e
+  each_within blimit [] (m ∷ ms) ns e = absurd e
+  each_within blimit (a ∷ answers) [] ns e = absurd e
+  each_within blimit (a ∷ answers) (m ∷ ms) [] e = absurd e
+  each_within blimit (a ∷ answers) (m ∷ ms) (n ∷ ns) e = let rest = each_within blimit answers ms ns e.1 in
+      omega (arith, rest, e.0.few, sum_by-cons (λ (k : ℕ). k) a answers, mul-suc blimit (length ms))
+
+  pub sums_within : (blimit gave : ℕ) (ms ns : List (Folk J)) → Sums (GivesTo blimit) gave ms ns → gave ≤ blimit * length ms
+  sums_within blimit gave ms ns s = let all = each_within blimit s.each ms ns s.elements in omega (arith, all, s.total_is)
+
+  -- of the same group, whose members are as many
+  pub within_same : (gave : ℕ) (p q : GroupState J) → SameGroup p q → gave ≤ q.blimit * length (members_of q) → gave ≤ p.blimit * length (members_of p)
+  within_same gave p q same few = subst (λ (k : ℕ). gave ≤ k * length (members_of p)) same.blimit
+      (subst (λ (k : ℕ). gave ≤ q.blimit * k) (sym (length_all_zip SameFolk (members_of p) (members_of q) same.members)) few)
 
   -- ---- places
 
@@ -170,26 +205,29 @@ module _ {J : Type 0} where
   -- ---- the law
 
   -- a step on a word that no member waits for
-  pub lawful_later : (n i x : ℕ) (v w : View) (ms : List (Folk J)) → w ≡ touched i x v → NeverFalls n v w → IsLawfulGroup v ms → IsLawfulGroup w ms
-  lawful_later n i x v w ms e later l = record {
+  pub lawful_later : (n i x : ℕ) (v w : View) (blimit : ℕ) (ms : List (Folk J)) → w ≡ touched i x v → NeverFalls n v w → IsLawfulGroup v blimit ms → IsLawfulGroup w blimit ms
+  lawful_later n i x v w blimit ms e later l = record {
     bare = record { own = ap (λ (u : View). u.own) e ∙ l.bare.own; claims = ap (λ (u : View). u.claims) e ∙ l.bare.claims; running = ap (λ (u : View). u.running) e ∙ l.bare.running };
     members_are = l.members_are;
     looked = All-weaker (λ (m : Folk J). (relay_of m).advanced ≤ sight v) (λ (m : Folk J). (relay_of m).advanced ≤ sight w) (λ m le. let b = later.board in omega arith) ms l.looked;
     needed = All-weaker (λ (m : Folk J). AreUpTo (seen_at v needed_word) (relay_of m).list) (λ (m : Folk J). AreUpTo (seen_at w needed_word) (relay_of m).list)
         (λ m up. up-raised (seen_at v needed_word) (seen_at w needed_word) (relay_of m).list later.needed up) ms l.needed;
+    loaded = l.loaded;
   }
 
-  pub lawful_takes : (v : View) (took : ℕ) (ms ns : List (Folk J)) → Sums TakesFrom took ms ns → IsLawfulGroup v ms → IsLawfulGroup v ns
-  lawful_takes v took ms ns s l = record {
+  pub lawful_takes : (v : View) (blimit took : ℕ) (ms ns : List (Folk J)) → Sums TakesFrom took ms ns → IsLawfulGroup v blimit ms → IsLawfulGroup v blimit ns
+  lawful_takes v blimit took ms ns s l = record {
     bare = l.bare;
     members_are = members_kept ms ns (takes_same took ms ns s) l.members_are;
     looked = each_all TakesFrom (λ _. Unit {0}) (λ m. (relay_of m).advanced ≤ sight v) (λ m. (relay_of m).advanced ≤ sight v)
         (λ n x y r t h. omega (arith, h, takes_advanced MOST_BATCHES n (relay_of x) (relay_of y) r.takes)) s.each ms ns s.elements (always s.each) l.looked;
     needed = each_all TakesFrom (λ _. Unit {0}) (λ m. AreUpTo (seen_at v needed_word) (relay_of m).list) (λ m. AreUpTo (seen_at v needed_word) (relay_of m).list)
         (λ n x y r t h. takes_upto (seen_at v needed_word) MOST_BATCHES n (relay_of x) (relay_of y) r.takes h) s.each ms ns s.elements (always s.each) l.needed;
+    loaded = each_all TakesFrom (λ _. Unit {0}) (λ m. length (relay_of m).out ≤ blimit) (λ m. length (relay_of m).out ≤ blimit)
+        (λ n x y r t h. omega (arith, h, ap (λ (z : Relay J). length z.out) r.takes.others)) s.each ms ns s.elements (always s.each) l.loaded;
   }
 
-  pub lawful_gives : (v : View) (blimit gave : ℕ) (ms ns : List (Folk J)) → Sums (GivesTo blimit) gave ms ns → IsLawfulGroup v ms → IsLawfulGroup v ns
+  pub lawful_gives : (v : View) (blimit gave : ℕ) (ms ns : List (Folk J)) → Sums (GivesTo blimit) gave ms ns → IsLawfulGroup v blimit ms → IsLawfulGroup v blimit ns
   lawful_gives v blimit gave ms ns s l = record {
     bare = l.bare;
     members_are = members_kept ms ns (gives_same blimit gave ms ns s) l.members_are;
@@ -197,6 +235,8 @@ module _ {J : Type 0} where
         (λ n x y r t h. let p = gives_put blimit n (relay_of x) (relay_of y) r.gives in omega (arith, h, p.4)) s.each ms ns s.elements (always s.each) l.looked;
     needed = each_all (GivesTo blimit) (λ _. Unit {0}) (λ m. AreUpTo (seen_at v needed_word) (relay_of m).list) (λ m. AreUpTo (seen_at v needed_word) (relay_of m).list)
         (λ n x y r t h. gives_upto (seen_at v needed_word) blimit n (relay_of x) (relay_of y) r.gives h) s.each ms ns s.elements (always s.each) l.needed;
+    loaded = each_all (GivesTo blimit) (λ _. Unit {0}) (λ m. length (relay_of m).out ≤ blimit) (λ m. length (relay_of m).out ≤ blimit)
+        (λ n x y r t h. gives_left blimit n (relay_of x) (relay_of y) r.gives h) s.each ms ns s.elements (always s.each) l.loaded;
   }
 
   -- what a look makes of one list
@@ -207,9 +247,9 @@ module _ {J : Type 0} where
       subst (λ (r : Relay J). AreUpTo t r.list) (sym l.list)
       (look-needed seen t xs (wants_upto t (aim seen xs) (carries (aim seen xs) (list_looked seen xs)) wanted_below) (up-raised s t xs le h))
 
-  pub lawful_looks : (r seen : ℕ) (v w : View) (most : Option ℕ) (ms ns : List (Folk J)) → KeepsLists (looked r v) w → sight w ≡ seen → seen_at v needed_word ≤ seen_at w needed_word
-      → IfSome most (λ n. n ≤ seen_at w needed_word) → LooksAtAll seen most ms ns → IsLawfulGroup v ms → IsLawfulGroup w ns
-  lawful_looks r seen v w most ms ns k at later below a l = record {
+  pub lawful_looks : (r seen : ℕ) (v w : View) (blimit : ℕ) (most : Option ℕ) (ms ns : List (Folk J)) → KeepsLists (looked r v) w → sight w ≡ seen → seen_at v needed_word ≤ seen_at w needed_word
+      → IfSome most (λ n. n ≤ seen_at w needed_word) → LooksAtAll seen most ms ns → IsLawfulGroup v blimit ms → IsLawfulGroup w blimit ns
+  lawful_looks r seen v w blimit most ms ns k at later below a l = record {
     bare = bare_looked r v w k l.bare;
     members_are = members_kept ms ns (looks_same seen most ms ns a) l.members_are;
     looked = each_all (LooksAt seen) (λ _. Unit {0}) (λ m. (relay_of m).advanced ≤ sight v) (λ m. (relay_of m).advanced ≤ sight w)
@@ -217,14 +257,17 @@ module _ {J : Type 0} where
     needed = each_all (LooksAt seen) (λ n. IfSome n (λ k. k ≤ seen_at w needed_word)) (λ m. AreUpTo (seen_at v needed_word) (relay_of m).list) (λ m. AreUpTo (seen_at w needed_word) (relay_of m).list)
         (λ n x y q t h. looks_upto seen (seen_at v needed_word) (seen_at w needed_word) n x y later q t h) a.wants ms ns a.members
         (greatest_upto (seen_at w needed_word) most a.wants a.greatest below) l.needed;
+    loaded = each_all (LooksAt seen) (λ _. Unit {0}) (λ m. length (relay_of m).out ≤ blimit) (λ m. length (relay_of m).out ≤ blimit)
+        (λ n x y q t h. omega (arith, h, ap (λ (z : Relay J). length z.out) q.list)) a.wants ms ns a.members (always a.wants) l.loaded;
   }
 
   -- before any step
-  pub lawful_first : (v : View) (ms : List (Folk J)) → IsBare v → AreMembers ms → All (λ (m : Folk J). IsEmptyFolk m) ms → IsLawfulGroup v ms
-  lawful_first v ms bare members empty = record {
+  pub lawful_first : (v : View) (blimit : ℕ) (ms : List (Folk J)) → IsBare v → AreMembers ms → All (λ (m : Folk J). IsEmptyFolk m) ms → IsLawfulGroup v blimit ms
+  lawful_first v blimit ms bare members empty = record {
     bare = bare;
     members_are = members;
     looked = All-weaker (λ (m : Folk J). IsEmptyFolk m) (λ (m : Folk J). (relay_of m).advanced ≤ sight v) (λ m e. omega (arith, ap (λ (r : Relay J). r.advanced) e)) ms empty;
     needed = All-weaker (λ (m : Folk J). IsEmptyFolk m) (λ (m : Folk J). AreUpTo (seen_at v needed_word) (relay_of m).list)
         (λ m e. subst (λ (r : Relay J). AreUpTo (seen_at v needed_word) r.list) (sym e) (All-nil (λ (x : Labelled J). IsTrue (is_up_to (seen_at v needed_word) x.label)))) ms empty;
+    loaded = All-weaker (λ (m : Folk J). IsEmptyFolk m) (λ (m : Folk J). length (relay_of m).out ≤ blimit) (λ m e. omega (arith, ap (λ (r : Relay J). length r.out) e)) ms empty;
   }

@@ -33,16 +33,22 @@ module _ {J : Type 0} where
   abbrev pub AreWaitingTo : ℕ → List (Folk J) → Type 0
   AreWaitingTo s members = All (λ m. AreUpTo s (relay_of m).list) members
 
+  -- no batch that waits for its done lane is longer than this
+  abbrev pub AreLoadedUpTo : ℕ → List (Folk J) → Type 0
+  AreLoadedUpTo blimit members = All (λ m. length (relay_of m).out ≤ blimit) members
+
   -- The members of a group: in rising order of processors, no more than there can be.
   pub record AreMembers (members : List (Folk J)) : Type 0 where
     pub few : length members ≤ MOST_PROCESSORS
     pub rising : AllPairs (λ p q. p < q) (cpus_of members)
 
-  -- The view of a group, and its members.
-  pub record IsLawfulGroup (v : View) (members : List (Folk J)) : Type 0 where
+  -- The view of a group, its limit, and its members.
+  pub record IsLawfulGroup (v : View) (blimit : ℕ) (members : List (Folk J)) : Type 0 where
     -- it accepts nothing and claims nothing
     pub bare : IsBare v
     pub members_are : AreMembers members
     -- each list was advanced by what a look showed, and each number that is waited for was asked for
     pub looked : AreAdvancedTo (sight v) members
     pub needed : AreWaitingTo (seen_at v needed_word) members
+    -- each batch that waits for a done lane was loaded under the limit
+    pub loaded : AreLoadedUpTo blimit members

@@ -1,6 +1,6 @@
 -- What contracts see of a group's part, and what its turn does: docs/specification/rules.md, "The calls, step by step",
 -- `Group::turn`.
-use Rattle.std.specs.Prelude.{◌≡◌, ◌≢◌, ℕ, ◌+◌, max, List, [], ◌++◌, length, sum_by, All, Option, Some, None}
+use Rattle.std.specs.Prelude.{◌≡◌, ◌≢◌, ℕ, ◌+◌, ◌≤◌, max, List, [], ◌++◌, length, sum_by, All, Option, Some, None}
 use Rattle.std.specs.List.{AllZip, Any}
 use Rattle.std.specs.Arc.{arc_value}
 use Rattle.rcu_board.specs.Plays.{looked, touched}
@@ -51,10 +51,11 @@ module _ {J : Type 0} where
     pub members : Each (LooksAt seen) wants olds news
     pub greatest : IsGreatest most wants
 
-  -- so many of its done callbacks were put on its done lane
+  -- so many of its done callbacks, at most `blimit`, were put on its done lane
   pub record GivesTo (blimit gave : ℕ) (m n : Folk J) : Type 0 where
     pub same : SameFolk m n
     pub gives : Gives blimit gave (relay_of m) (relay_of n)
+    pub few : gave ≤ blimit
 
   -- how many of its callbacks wait in batches, drawn or to be put
   abbrev pub waiting_of : Folk J → ℕ

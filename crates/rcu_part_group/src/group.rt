@@ -25,7 +25,7 @@ pub struct GroupState<J> {
     pub(crate) members: Members<J>,
     ghost here: { AtBoard (arc_value board) seat },
     ghost role: { seat.role ≡ Role.Group group },
-    ghost lawful: { IsLawfulGroup (view seat) (folks_in members) },
+    ghost lawful: { IsLawfulGroup (view seat) blimit (folks_in members) },
 }
 
 /// The part of a group: it takes what its members release, waits for the grace periods, and gives what is done to their

@@ -1,6 +1,6 @@
 //! The turn of a group.
 
-ghost use Rattle.std.specs.Prelude.{◌≡◌, ◌+◌, ◌≤◌, [], ◌∷◌, IfSome, length, sum_by};
+ghost use Rattle.std.specs.Prelude.{◌≡◌, ◌+◌, ◌*◌, ◌≤◌, [], ◌∷◌, IfSome, length, sum_by};
 ghost use Rattle.std.specs.List.{AllZip};
 ghost use Rattle.rcu_board.specs.Roles.{MayNeed};
 ghost use Rattle.rcu_board.specs.Seats.{view, AtBoard, SameSeat};
@@ -10,7 +10,7 @@ ghost use Rattle.rcu_control.specs.Views.{KeepsLists};
 ghost use Rattle.rcu_numbers.specs.declared.sequence.TheConstants.{GREATEST_NUMBER};
 ghost use Rattle.rcu_numbers.specs.declared.shape.TheConstants.{MOST_CALLBACKS, MOST_PROCESSORS};
 ghost use Rattle.rcu_part_group.specs.Each.{IsGreatest, Sums};
-ghost use Rattle.rcu_part_group.specs.GroupLaw.{AreAdvancedTo, AreWaitingTo, folks_in, relay_of};
+ghost use Rattle.rcu_part_group.specs.GroupLaw.{AreAdvancedTo, AreLoadedUpTo, AreWaitingTo, folks_in, relay_of};
 ghost use Rattle.rcu_part_group.specs.Groups.{AsksFor, GivesTo, GivesToAll, LooksAt, LooksAtAll, LooksOnce, PassesOn, SameGroup, ShownFor, TakesFrom, TakesInAll, TurnsGroup, group_view, members_of, waiting_of};
 
 use crate::folk::{Folk, Members};
@@ -39,6 +39,7 @@ impl<J: Drop> Folk<J> {
 
     // Gives what is done to the member's hand. Answers how many callbacks.
     fn give(&mut self, blimit: u64) -> u64
+        requires loaded { length (relay_of self.old).out ≤ blimit }
         ensures gives { GivesTo blimit result self.old self.new }
         ensures few { result ≤ MOST_CALLBACKS }
     {
@@ -96,7 +97,8 @@ impl<J: Drop> Members<J> {
 
     // Gives what is done to the hands of all members. Answers how many callbacks.
     fn give(&mut self, blimit: u64) -> u64
-        requires { length (folks_in self.old) ≤ MOST_PROCESSORS }
+        requires many { length (folks_in self.old) ≤ MOST_PROCESSORS }
+        requires loaded { AreLoadedUpTo blimit (folks_in self.old) }
         ensures { Sums (GivesTo blimit) result (folks_in self.old) (folks_in self.new) }
     {
         let first = self.first.give(blimit);
@@ -177,6 +179,7 @@ impl<J: Job> Group<J> {
     fn give(&mut self) -> u64
         ensures same { SameGroup self.old.state self.new.state }
         ensures gives { GivesToAll result self.old.state self.new.state }
+        ensures few { result ≤ self.old.state.blimit * length (members_of self.old.state) }
     {
         let state = &mut self.state;
         state.members.give(state.blimit)
@@ -188,6 +191,9 @@ impl<J: Job> Group<J> {
     pub fn turn(&mut self) -> GroupTurn
         ensures same { SameGroup self.old.state self.new.state }
         ensures turn { TurnsGroup result self.old.state self.new.state }
+
+        // At most `blimit` for each member, as what each gave is at most that.
+        ensures few { result.gave ≤ self.old.state.blimit * length (members_of self.old.state) }
 
         // What each member held, and then what was drawn of it, is what was given and then what it holds.
         ensures places { AllZip PassesOn (members_of self.old.state) (members_of self.new.state) }

@@ -13,6 +13,7 @@ loop-preserved g c = let xs = c.args.list.now.items in let x = c.in-Some.callbac
       moved = c.add.ensures.items ∙ ap (λ z. z ++ x ∷ []) c.loop.invariant.moved ∙ append_assoc (batch_items c.args.self.now) (take c.loop.counter xs) (x ∷ []) ∙ ap (λ z. batch_items c.args.self.now ++ z) (sym one.0);
       left = sym one.1;
       room = more;
+      left_room = λ k h. c.add.ensures.room k (c.loop.invariant.left_room (k + 1) (omega (arith, h)));
       capacity = c.pop_front.ensures.capacity ∙ c.loop.invariant.capacity;
     }
 
@@ -24,3 +25,6 @@ returns-clause-left g c = let all : c.loop.counter ≡ c.args.number = omega ari
 
 pub unreachable-requires : goal.unreachable-requires
 unreachable-requires g c = none-left c.loop.counter c.args.number c.args.list.now.items c.loop.list.items c.loop-test.true c.requires.few c.loop.invariant.left c.loop.list.len c.loop.list.ok.0 c.in_default.ensures.cases.0
+
+pub returns-clause-left_room : goal.returns-clause-left_room
+returns-clause-left_room g c = let all : c.loop.counter ≡ c.args.number = omega arith in rw all at c.loop.invariant.left_room

@@ -9,6 +9,7 @@ pub invariant_of-self : goal.invariant_of-self
 invariant_of-self g c = record {
   unmarked = λ e. absurd (no-snoc (batch_items c.args.self.now.held) c.args.callback (sym c.add.ensures.items ∙ e));
   marked = λ p l. absurd (c.hold-due.ensures.some p l);
+  roomy = λ e. absurd (no-snoc (batch_items c.args.self.now.held) c.args.callback (sym c.add.ensures.items ∙ e));
 }
 
 pub returns-clause-due : goal.returns-clause-due

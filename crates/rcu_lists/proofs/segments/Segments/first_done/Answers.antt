@@ -1,4 +1,4 @@
-use Rattle.std.proofs.Common.{◌≡◌, ◌<◌, get_or, ◌∙◌, rules, arith}
+use Rattle.std.proofs.Common.{◌≡◌, ◌<◌, get_or, ◌∙◌, rules}
 use Rattle.rcu_lists.proofs.Counts.{count-done}
 use Rattle.rcu_lists.proofs.Cuts.{first-done}
 use Rattle.rcu_lists.proofs.segments.Segments.first_done.Goals as goal

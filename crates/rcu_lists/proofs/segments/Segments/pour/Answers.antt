@@ -1,12 +1,19 @@
-use Rattle.std.proofs.Common.{arith, List, ◌++◌, ◌∙◌, ap, refl, rules, subst, sym, zero-le}
+use Rattle.std.proofs.Common.{◌≡◌, arith, length, List, ◌++◌, ◌∙◌, ap, refl, rules, subst, sym, zero-le}
+use Rattle.std.proofs.lemmas.List.{length-map}
+use Rattle.std.proofs.lemmas.Bool.{false≢true}
 use Rattle.rcu_jobs.specs.declared.callback.Callback.{Callback}
 use Rattle.rcu_lists.specs.Release.{joined_plain}
 use Rattle.rcu_lists.specs.Labels.{Bare, marked}
 use Rattle.rcu_lists.specs.Bypasses.{bypass_items, BypassRoom, BypassUnchanged}
-use Rattle.rcu_lists.specs.Segments.{SegmentsUnchanged}
+use Rattle.rcu_lists.specs.Segments.{labelled, SegmentsUnchanged}
+use Rattle.rcu_lists.specs.declared.segments.Segments.{Segments}
 use Rattle.rcu_lists.proofs.Cuts.{callbacks-cut}
 use Rattle.rcu_lists.proofs.Outcomes.{on_err_said, on_ok_never}
 use Rattle.rcu_lists.proofs.segments.Segments.pour.Goals as goal
+
+-- as many callbacks as the list has
+long : {J : Type 0} (s : Segments J) → length (labelled s) ≡ length s.list.items
+long s = sym (length-map (labelled s) (λ x. x.callback)) ∙ ap length (callbacks-cut s.wait_number s.ready_number s.done s.wait s.ready s.list.items s.within)
 
 pub returns-clause-left : goal.returns-clause-left
 returns-clause-left g c = ap (marked Bare) c.take_list.ensures.left
@@ -32,7 +39,7 @@ returns-in_err-make_room-clause-refused g c = let s = c.args.self.now in let sam
     let both : SegmentsUnchanged s s × BypassUnchanged c.args.bypass.now c.make_room.new.self = (same, c.make_room.ensures.same) in on_err_said _ _ both
 
 pub take_list-requires : goal.take_list-requires
-take_list-requires g c = (search rules, subst (BypassRoom c.make_room.new.self) (c.len.ensures ∙ c.args.self.now.list.ok.0) c.in_ok-make_room.ensures.found)
+take_list-requires g c = (search rules, (let found = c.in_ok-make_room.ensures.found in let many = c.len.ensures in let all = c.args.self.now.list.ok.0 in omega arith))
 
 pub invariant_of-self : goal.invariant_of-self
 invariant_of-self g c = record {
@@ -49,3 +56,11 @@ returns-in_err-make_room-clause-qhimark g c = c.make_room.ensures.same.qhimark
 
 pub returns-clause-qhimark : goal.returns-clause-qhimark
 returns-clause-qhimark g c = c.take_list.ensures.qhimark ∙ c.make_room.ensures.same.qhimark
+
+pub returns-in_err-make_room-clause-had : goal.returns-in_err-make_room-clause-had
+returns-in_err-make_room-clause-had g c = λ room. let s = c.args.self.now in
+    absurd (false≢true (c.in_err-make_room.ensures.had (subst (BypassRoom c.args.bypass.now) (long s ∙ sym (c.len.ensures ∙ s.list.ok.0)) room)))
+
+pub returns-in_err-make_room-clause-none : goal.returns-in_err-make_room-clause-none
+returns-in_err-make_room-clause-none g c = λ e. let s = c.args.self.now in
+    absurd (false≢true (c.in_err-make_room.ensures.had (subst (BypassRoom c.args.bypass.now) (sym (c.len.ensures ∙ s.list.ok.0 ∙ sym (long s) ∙ ap length e)) c.args.bypass.now.held.fits)))

@@ -1,12 +1,14 @@
 use Rattle.std.proofs.Common.{◌≡◌, ◌≤◌, ◌-◌, ◌++◌, ◌∙◌, min, length, take, drop, ap, refl, sym, subst, arith, rules, length-drop}
 use Rattle.std.specs.Prelude.{All}
 use Rattle.std.proofs.lemmas.List.{length-take-le}
+use Rattle.std.proofs.lemmas.Bool.{false≢true}
 use Rattle.rcu_jobs.specs.declared.callback.Callback.{Callback}
 use Rattle.rcu_numbers.specs.Numbers.{snap_of}
 use Rattle.rcu_lists.specs.Batches.{batch_items}
 use Rattle.rcu_lists.specs.Cut.{cut}
 use Rattle.rcu_lists.specs.Labels.{Done, marked, IsGraced}
 use Rattle.rcu_lists.specs.Segments.{SegmentsUnchanged}
+use Rattle.rcu_lists.specs.declared.batch.TheConstants.{INLINE_PLACES}
 use Rattle.rcu_lists.proofs.Counts.{count-done}
 use Rattle.rcu_lists.proofs.Cuts.{take-front}
 use Rattle.rcu_lists.proofs.Graced.{graced-left, graced-taken}
@@ -74,3 +76,10 @@ returns-clause-room g c = let s = c.args.self.now in let le = s.within in let t 
     let b = c.take_from.new.self in
     let front : batch_items b ≡ take t s.list.items = c.take_from.ensures.moved ∙ ap (λ z. z ++ take t s.list.items) (c.reserve.ensures.items ∙ c.new-batch.ensures.items) in
     room-moved s.list.items c.take_from.new.list.items (batch_items b) t _ _ (omega arith) c.take_from.ensures.left front c.take_from.ensures.capacity
+
+pub returns-in_err-reserve-clause-inline : goal.returns-in_err-reserve-clause-inline
+returns-in_err-reserve-clause-inline g c = λ few. let s = c.args.self.now in let t = c.min-number.result in
+    let least : t ≡ min c.args.max s.done = search rules in
+    let small = subst (λ n. min c.args.max n ≤ INLINE_PLACES) (count-done s.wait_number s.ready_number s.done s.wait s.ready s.list.items s.within) few in
+    let room = c.new-batch.ensures.room in
+    absurd (false≢true (c.in_err-reserve.ensures.had (omega (arith, least, small, room))))

@@ -1,5 +1,15 @@
-use Rattle.rcu_part_group.proofs.GroupTurns.{gives_few}
+use Rattle.std.proofs.Common.{refl, subst, sym}
+use Rattle.rcu_holdings.specs.Members.{relay, front_of}
+use Rattle.rcu_lanes.specs.Ends.{SameFront}
+use Rattle.rcu_part_group.proofs.GroupTurns.{gives_few, gives_within}
 use Rattle.rcu_part_group.proofs.folk.Folk.give.Goals as goal
+
+pub returns-clause-gives : goal.returns-clause-gives
+returns-clause-gives g c = let e = c.give.ensures in let m = c.args.self.now.member in record {
+  same = record { cpu = refl; front = subst (λ r. SameFront (front_of m) r) (sym e.lanes.0) refl; rear = e.lanes.1 };
+  gives = e.gives;
+  few = gives_within c.args.blimit c.give.result (relay m) (relay c.give.new.self) e.gives c.requires.loaded;
+}
 
 pub returns-clause-few : goal.returns-clause-few
 returns-clause-few g c = gives_few c.args.blimit c.give.result c.args.self.now.member c.give.new.self c.give.ensures.gives

@@ -2,12 +2,13 @@ use Rattle.std.specs.Mem.{FitsInMemory}
 use denote.Param.{param}
 use Rattle.rcu_holdings.proofs.Sizes.{in_struct}
 use borrow.Author.Rules.{scaled_Fits}
-use Rattle.std.proofs.Common.{◌≡◌, ◌<◌, List, length, ◌∙◌, ap, sym, subst, arith}
+use Rattle.std.proofs.Common.{◌≡◌, ◌<◌, ◌≤◌, zero, List, get_or, length, ◌∙◌, ap, sym, subst, arith}
 use Rattle.rcu_part_group.specs.Each.{Sums}
+use Rattle.rcu_part_group.specs.GroupLaw.{relay_of}
 use Rattle.rcu_part_group.specs.Groups.{GivesTo}
 use Rattle.rcu_part_group.specs.declared.folk.Folk.{Folk}
 use Rattle.rcu_part_group.specs.contracts.folk.Members as row
-use Rattle.rcu_part_group.proofs.GroupLists.{SumsSoFar, sums_cons, sums_none, sums_next, sums_end, written}
+use Rattle.rcu_part_group.proofs.GroupLists.{SumsSoFar, behind, partly_long, partly_rest, sums_cons, sums_none, sums_next, sums_end, written}
 use Rattle.rcu_part_group.proofs.folk.Members.give.Goals as goal
 
 pub loop-folk-preserved : goal.loop-folk-preserved
@@ -23,14 +24,20 @@ returns g c = let l = c.loop-folk in let s = c.args.self.now in let old = s.othe
     (sums_end (GivesTo c.args.blimit) l.gave l.folk-index old.items l.folk-items (omega (arith, l.auto.folk-items, c.loop-folk-test.false)) l.invariant))
 
 pub give-first-requires : goal.give-first-requires
-give-first-requires g c = let h : FitsInMemory (row.the_row (param 0 g.row.J)) = assumption in in_struct _ _ _ h
+give-first-requires g c = let h : FitsInMemory (row.the_row (param 0 g.row.J)) = assumption in
+    (in_struct _ _ _ h, c.requires.loaded zero c.args.self.now.first (omega arith))
 
 pub loop-folk-init : goal.loop-folk-init
 loop-folk-init g c = let olds = c.args.self.now.others.items in
     subst (λ (ms : List (Folk g.row.J.Denot)). SumsSoFar (GivesTo c.args.blimit) 0 0 olds ms) (sym c.deref_mut-folk-items.ensures.value) (sums_none (GivesTo c.args.blimit) olds)
 
 pub give-gave-requires : goal.give-gave-requires
-give-gave-requires g c = let h : FitsInMemory (row.the_row (param 0 g.row.J)) = assumption in in_struct _ _ _ h
+give-gave-requires g c =
+    let h : FitsInMemory (row.the_row (param 0 g.row.J)) = assumption in
+    let l = c.loop-folk in let i = l.invariant in let s = c.args.self.now in let olds = s.others.items in
+    let low : l.folk-index < length olds = omega (arith, l.auto.folk-items, c.loop-folk-test.true, partly_long (GivesTo c.args.blimit) i.each olds l.folk-items i.elements) in
+    let same : get_or olds l.folk-index c.folk-item.result ≡ get_or l.folk-items l.folk-index c.folk-item.result = sym (partly_rest (GivesTo c.args.blimit) i.each olds l.folk-items l.folk-index c.folk-item.result (omega (arith, i.many)) i.elements) in
+    (in_struct _ _ _ h, subst (λ (m : Folk g.row.J.Denot). length (relay_of m).out ≤ c.args.blimit) same (behind (λ (m : Folk g.row.J.Denot). length (relay_of m).out ≤ c.args.blimit) s.first olds c.requires.loaded l.folk-index c.folk-item.result low))
 
 pub offset_bounds-folk-items-folk-index : goal.offset_bounds-folk-items-folk-index
 offset_bounds-folk-items-folk-index g c = scaled_Fits c.loop-folk.folk-index (length c.deref_mut-folk-items.result.now) _ c.loop-folk-test.true assumption

@@ -5,7 +5,7 @@ use Rattle.rcu_holdings.proofs.Sizes.{in_struct}
 use Rattle.rcu_part_group.specs.contracts.group.Group as row
 use Rattle.rcu_board.specs.Seats.{view}
 use Rattle.rcu_part_group.specs.GroupLaw.{folks_in}
-use Rattle.rcu_part_group.proofs.GroupTurns.{gives_same, lawful_gives}
+use Rattle.rcu_part_group.proofs.GroupTurns.{gives_same, lawful_gives, sums_within}
 use Rattle.rcu_board.proofs.Facts.{same_seat}
 use Rattle.rcu_part_group.proofs.group.Group.give.Goals as goal
 
@@ -26,4 +26,7 @@ returns-clause-same g c = let s = c.args.self.now.state in record {
 
 pub give-requires : goal.give-requires
 give-requires g c = let h : FitsInMemory (row.the_row (param 0 g.row.J) (param 1 g.row.J-Receipt)) = assumption in
-    (in_struct _ _ _ (in_struct _ _ _ h), c.args.self.now.state.lawful.members_are.few)
+    (in_struct _ _ _ (in_struct _ _ _ h), (c.args.self.now.state.lawful.members_are.few, c.args.self.now.state.lawful.loaded))
+
+pub returns-clause-few : goal.returns-clause-few
+returns-clause-few g c = let s = c.args.self.now.state in sums_within s.blimit c.give.result (folks_in s.members) (folks_in c.give.new.self) c.give.ensures

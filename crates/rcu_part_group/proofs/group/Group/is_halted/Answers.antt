@@ -11,7 +11,7 @@ pub invariant_of-state : goal.invariant_of-state
 invariant_of-state g c = let s = c.args.self.now.state in let e = c.halted.ensures in record {
   here = e.same.table ∙ s.here;
   role = e.same.role ∙ s.role;
-  lawful = lawful_later _ halt_word (from_bool c.halted.result) (view s.seat) (view c.halted.new.seat) (folks_in s.members) e.view (e.same.later (arc_value s.board) s.here) s.lawful;
+  lawful = lawful_later _ halt_word (from_bool c.halted.result) (view s.seat) (view c.halted.new.seat) s.blimit (folks_in s.members) e.view (e.same.later (arc_value s.board) s.here) s.lawful;
 }
 
 pub returns-clause-same : goal.returns-clause-same

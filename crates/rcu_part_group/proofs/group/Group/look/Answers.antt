@@ -26,7 +26,7 @@ invariant_of-state g c = let s = c.args.self.now.state in let a = c.watch.ensure
     let later : seen_at v needed_word ≤ seen_at w needed_word = let x = (a.same.later (arc_value s.board) s.here).needed in let y = (b.same.later (arc_value s.board) (a.same.table ∙ s.here)).needed in omega arith in record {
       here = b.same.table ∙ (a.same.table ∙ s.here);
       role = b.same.role ∙ (a.same.role ∙ s.role);
-      lawful = lawful_looks r c.seq-seen.result v w c.look-most.result (folks_in s.members) (folks_in c.look-most.new.self) keeps seen later b.needed c.look-most.ensures s.lawful;
+      lawful = lawful_looks r c.seq-seen.result v w s.blimit c.look-most.result (folks_in s.members) (folks_in c.look-most.new.self) keeps seen later b.needed c.look-most.ensures s.lawful;
     }
 
 pub returns-clause-same : goal.returns-clause-same

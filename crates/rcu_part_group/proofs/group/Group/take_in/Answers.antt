@@ -13,7 +13,7 @@ pub invariant_of-self : goal.invariant_of-self
 invariant_of-self g c = let s = c.args.self.now.state in record {
   here = s.here;
   role = s.role;
-  lawful = lawful_takes (view s.seat) c.take_in.result (folks_in s.members) (folks_in c.take_in.new.self) c.take_in.ensures s.lawful;
+  lawful = lawful_takes (view s.seat) s.blimit c.take_in.result (folks_in s.members) (folks_in c.take_in.new.self) c.take_in.ensures s.lawful;
 }
 
 pub returns-clause-same : goal.returns-clause-same

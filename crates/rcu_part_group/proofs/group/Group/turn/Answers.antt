@@ -3,7 +3,7 @@ use denote.Param.{param}
 use Rattle.rcu_holdings.proofs.Sizes.{in_struct}
 use Rattle.rcu_part_group.specs.contracts.group.Group as row
 use Rattle.rcu_part_group.specs.Groups.{members_of}
-use Rattle.rcu_part_group.proofs.GroupTurns.{same_group_again, takes_places, looks_places, gives_places, places_again}
+use Rattle.rcu_part_group.proofs.GroupTurns.{same_group_again, takes_places, looks_places, gives_places, places_again, within_same}
 use Rattle.std.proofs.Common.{◌+◌, ◌∙◌, ap}
 use Rattle.rcu_board.specs.Views.{tally}
 use Rattle.rcu_board.specs.Words.{board_word}
@@ -50,3 +50,7 @@ returns-clause-needed g c = c.give-gave.new.self.state.lawful.needed
 
 pub returns-clause-fresh : goal.returns-clause-fresh
 returns-clause-fresh g c = ap (λ (v : View). tally v board_word) c.give-gave.ensures.gives.view_is ∙ (c.look.ensures.fresh ∙ ap (λ (v : View). tally v board_word + 1) c.take_in-took.ensures.takes.view_is)
+
+pub returns-clause-few : goal.returns-clause-few
+returns-clause-few g c = let p = c.args.self.now.state in let q = c.take_in-took.new.self.state in let r = c.look.new.self.state in
+    within_same c.give-gave.result p r (same_group_again p q r c.take_in-took.ensures.same c.look.ensures.same) c.give-gave.ensures.few
