@@ -1,11 +1,13 @@
 -- How what a group holds of a member changes.
-use Rattle.std.proofs.Common.{◌≡◌, ℕ, ◌+◌, ◌≤◌, Bool, true, false, List, [], ◌∷◌, ◌++◌, length, refl, sym, ap, ◌∙◌, subst, arith}
+use Rattle.std.proofs.Common.{◌≡◌, inl, inr, ⊎_elim, ℕ, ◌+◌, ◌≤◌, ◌<◌, min, Bool, true, false, List, [], ◌∷◌, ◌++◌, length, refl, sym, ap, ◌∙◌, subst, arith}
 use Rattle.std.proofs.lemmas.List.{map-append, append-nil, append_assoc, length-append}
 use Rattle.std.proofs.lemmas.List.Elements.{All-append, All-nil, All-cons, All-head, All-tail}
 use Rattle.rcu_jobs.specs.declared.callback.Callback.{Callback}
-use Rattle.rcu_lists.specs.Labels.{Done, Bare, Labelled, marked, callbacks_of}
+use Rattle.rcu_lanes.specs.declared.ends.TheConstants.{FIRST_SLOTS}
+use Rattle.rcu_lists.specs.Labels.{Done, Bare, Labelled, marked, callbacks_of, count, is_done}
+use Rattle.rcu_lists.specs.declared.batch.TheConstants.{INLINE_PLACES}
 use Rattle.rcu_holdings.specs.Aims.{AreAimed}
-use Rattle.rcu_holdings.specs.Members.{Relay, joined, Draws, TakesIn}
+use Rattle.rcu_holdings.specs.Members.{Relay, joined, Draws, TakesIn, Loads, Hands, GivesSome}
 use Rattle.rcu_holdings.specs.Safe.{IsSafe, AreFew, AreSafe}
 use Rattle.rcu_holdings.proofs.Aims.{callbacks-append, callbacks-marked, aimed-push}
 use Rattle.rcu_holdings.proofs.Holdings.{few-less}
@@ -123,6 +125,15 @@ module _ {J : Type 0} where
 
   pub taken-within : (m t : ℕ) (o n : Relay J) → TakesIn m t o n → AreFew n.received → t ≤ 1000000
   taken-within m t o n h few = let a = ap length h.received ∙ length-append o.received h.got in let b = h.number in omega (arith, few)
+
+  -- what was loaded is given, while the lane has room
+  hands-some : (gave : ℕ) (o n : Relay J) → Hands gave o n → 0 < length o.out → o.batches < FIRST_SLOTS → 0 < gave
+  hands-some gave o n (inl p) some low = omega (arith, p.0, some)
+  hands-some gave o n (inr p) some low = ⊎_elim (λ e. absurd (omega (arith, some, ap length e))) (λ full. absurd (omega (arith, full, low))) p.2
+
+  pub gives-some : (most gave : ℕ) (o b n : Relay J) → (o.out ≡ [] → min most (count is_done o.list) ≤ INLINE_PLACES → Loads most o b) → Hands gave b n → GivesSome most gave o
+  gives-some most gave o b n loads hands none low few limit done = let l = loads none few in
+      hands-some gave b n hands (omega (arith, l.number, limit, done)) (omega (arith, low, ap (λ (r : Relay J). r.batches) l.others))
 
   -- the two parts of a list
   pub safe-front : (xs ys : List (Callback J)) → AreSafe (xs ++ ys) → AreSafe xs

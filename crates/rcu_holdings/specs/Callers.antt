@@ -1,5 +1,5 @@
 -- What contracts see of the lists of a processor: docs/specification/tables.md, "Places of a callback".
-use Rattle.std.specs.Prelude.{◌≡◌, ℕ, Bool, true, false, ◌&&◌, ◌||◌, not, if◌then◌else◌, List, [], ◌∷◌, ◌++◌, length}
+use Rattle.std.specs.Prelude.{◌≡◌, ◌≤◌, ℕ, Bool, true, false, ◌&&◌, ◌||◌, not, if◌then◌else◌, List, [], ◌∷◌, ◌++◌, length}
 use Rattle.std.proofs.Common.{◌⊎◌}
 use Rattle.rcu_jobs.specs.declared.callback.Callback.{Callback}
 use Rattle.rcu_jobs.specs.declared.turns.Lists.{Lists}
@@ -12,6 +12,7 @@ use Rattle.rcu_lists.specs.Labels.{Bare, Labelled, callbacks_of, lengths_of, num
 use Rattle.rcu_lists.specs.Release.{is_any}
 use Rattle.rcu_lists.specs.Segments.{labelled, advanced_by, SegmentsRoom}
 use Rattle.rcu_lists.specs.declared.batch.Batch.{Batch}
+use Rattle.rcu_lists.specs.declared.batch.TheConstants.{INLINE_PLACES}
 use Rattle.rcu_lists.specs.declared.pace.Kind.{Kind}
 use Rattle.rcu_holdings.specs.Aims.{looked}
 use Rattle.rcu_holdings.specs.Modes.{is_offloaded, is_offloading}
@@ -94,6 +95,8 @@ module _ {J : Type 0} where
   pub record AskedOn (old new : Holding J) : Type 0 where
     pub stays : is_offloaded old.mode ≡ true → new ≡ old
     pub leads : is_offloaded old.mode ≡ false → Pours old new ⊎ (new ≡ record old { mode = Offloading })
+    -- there is room for as many as stand in the bypass list itself, which is empty then
+    pub fits : is_offloaded old.mode ≡ false → length old.own ≤ INLINE_PLACES → Pours old new
 
   -- what is shown
   abbrev pub cpu_lists : ℕ → Holding J → Lists

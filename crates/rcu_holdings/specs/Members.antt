@@ -1,5 +1,5 @@
 -- What contracts see of what a group holds of one member: docs/specification/tables.md, "Places of a callback".
-use Rattle.std.specs.Prelude.{◌≡◌, ℕ, ◌+◌, ◌≤◌, min, List, [], ◌++◌, length}
+use Rattle.std.specs.Prelude.{◌≡◌, ℕ, ◌+◌, ◌≤◌, ◌<◌, min, List, [], ◌++◌, length}
 use Rattle.std.proofs.Common.{◌⊎◌}
 use Rattle.rcu_jobs.specs.declared.callback.Callback.{Callback}
 use Rattle.rcu_jobs.specs.declared.turns.Lists.{Lists}
@@ -12,6 +12,7 @@ use Rattle.rcu_lists.specs.Batches.{batch_items}
 use Rattle.rcu_lists.specs.Labels.{Done, Bare, Labelled, marked, count, is_done, lengths_of, numbers_of}
 use Rattle.rcu_lists.specs.Segments.{labelled, advanced_by}
 use Rattle.rcu_lists.specs.declared.batch.Batch.{Batch}
+use Rattle.rcu_lists.specs.declared.batch.TheConstants.{INLINE_PLACES}
 use Rattle.rcu_holdings.specs.Aims.{looked}
 use Rattle.rcu_holdings.specs.Lanes.{put_calls, drawn_calls}
 use Rattle.rcu_holdings.specs.declared.member.Member.{Member}
@@ -95,7 +96,14 @@ module _ {J : Type 0} where
   pub record Gives (most gave : ℕ) (old new : Relay J) : Type 0 where
     pub between : Relay J
     pub loads : (between ≡ old) ⊎ Loads most old between
+    -- as many as stand in a batch itself need no memory
+    pub fits : old.out ≡ [] → min most (count is_done old.list) ≤ INLINE_PLACES → Loads most old between
     pub hands : Hands gave between new
+
+  -- While the lane has room for its first batches, some of what is done is given, where no batch waits and no memory is
+  -- needed.
+  abbrev pub GivesSome : ℕ → ℕ → Relay J → Type 0
+  GivesSome most gave old = old.out ≡ [] → old.batches < FIRST_SLOTS → min most (count is_done old.list) ≤ INLINE_PLACES → 0 < most → 0 < count is_done old.list → 0 < gave
 
   -- what is shown
   abbrev pub folk_lists : Relay J → Lists

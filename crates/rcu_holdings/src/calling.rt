@@ -1,5 +1,5 @@
 // How a processor takes a new callback on: docs/specification/rules.md, "The calls, step by step", call_rcu.
-ghost use Rattle.std.specs.Prelude.{◌≡◌, ◌<◌, [], ◌∷◌, ◌++◌, length, IsOk, OnOk};
+ghost use Rattle.std.specs.Prelude.{◌≡◌, ◌<◌, true, [], ◌∷◌, ◌++◌, length, IsOk, OnOk};
 ghost use Rattle.rcu_lanes.specs.Ends.{SameRear};
 ghost use Rattle.rcu_holdings.specs.Callers.{holding, rear_of, passed_on, IsReady, Takes};
 ghost use Rattle.rcu_holdings.specs.Modes.{is_offloaded};
@@ -33,6 +33,9 @@ impl<J: Drop> Caller<J> {
         ensures same { holding self.new ≡ holding self.old }
         ensures found { OnOk result (IsReady self.new) }
         ensures had { IsReady self.old → IsOk result }
+
+        // An empty bypass list has room.
+        ensures none { is_offloaded (holding self.old).mode ≡ true → (holding self.old).outgoing.bypass ≡ [] → IsOk result }
     {
         if in_offloaded(self.mode) {
             self.bypass.reserve()

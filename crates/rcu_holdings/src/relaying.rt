@@ -1,10 +1,10 @@
 // What a group does for one member in a turn: docs/specification/rules.md, "The calls, step by step", Group::turn.
-ghost use Rattle.std.specs.Prelude.{◌≡◌, true, false, [], ◌++◌};
+ghost use Rattle.std.specs.Prelude.{◌≡◌, ◌≤◌, true, false, [], ◌++◌, min};
 ghost use Rattle.std.proofs.Common.{◌⊎◌};
 ghost use Rattle.rcu_lanes.specs.Ends.{SameFront, SameRear};
 ghost use Rattle.rcu_lists.specs.Batches.{batch_items};
-ghost use Rattle.rcu_lists.specs.Labels.{callbacks_of};
-ghost use Rattle.rcu_holdings.specs.Members.{Relay, relay, front_of, rear_of, joined, Draws, TakesIn, Loads, Hands, Gives};
+ghost use Rattle.rcu_lists.specs.Labels.{callbacks_of, count, is_done};
+ghost use Rattle.rcu_holdings.specs.Members.{Relay, relay, front_of, rear_of, joined, Draws, TakesIn, Loads, Hands, Gives, GivesSome};
 ghost use Rattle.rcu_holdings.specs.Safe.{AreSafe};
 
 use crate::joining::join;
@@ -12,7 +12,7 @@ use crate::member::{MOST_BATCHES, Member};
 use crate::safe::Safe;
 use rcu_jobs::Callback;
 use rcu_lanes::{Draw, Front, Rear};
-use rcu_lists::Batch;
+use rcu_lists::{Batch, INLINE_PLACES};
 use std::collections::VecDeque;
 
 impl<J: Drop> Member<J> {
@@ -66,11 +66,12 @@ impl<J: Drop> Member<J> {
     }
 
     /// Puts the batch that waits for the done lane; where none does, the first done callbacks, at most `blimit`, as one
-    /// batch. Answers how many callbacks were put.
+    /// batch. Answers how many callbacks were put. Up to sixteen need no memory.
     pub fn give(&mut self, blimit: u64) -> u64
         ensures lanes { (front_of self.new ≡ front_of self.old) × SameRear (rear_of self.old) (rear_of self.new) }
         ensures advanced { (relay self.new).advanced ≡ (relay self.old).advanced }
         ensures gives { Gives blimit result (relay self.old) (relay self.new) }
+        ensures some { GivesSome blimit result (relay self.old) }
     {
         self.load(blimit);
         self.hand_on()
@@ -81,6 +82,7 @@ impl<J: Drop> Member<J> {
         ensures ends { (front_of self.new ≡ front_of self.old) × (rear_of self.new ≡ rear_of self.old) }
         ensures advanced { (relay self.new).advanced ≡ (relay self.old).advanced }
         ensures loads { (relay self.new ≡ relay self.old) ⊎ Loads blimit (relay self.old) (relay self.new) }
+        ensures fits { (relay self.old).out ≡ [] → min blimit (count is_done (relay self.old).list) ≤ INLINE_PLACES → Loads blimit (relay self.old) (relay self.new) }
     {
         if !self.out.is_empty() {
             return;

@@ -1,5 +1,5 @@
 // A bypass list, and the lane that it is released on: docs/specification/rules.md, "Bypass lists".
-ghost use Rattle.std.specs.Prelude.{◌≡◌, ◌||◌, true, false, [], ◌∷◌, ◌++◌};
+ghost use Rattle.std.specs.Prelude.{◌≡◌, ◌≤◌, ◌||◌, length, true, false, [], ◌∷◌, ◌++◌};
 ghost use Rattle.rcu_lanes.specs.Ends.{SameRear};
 ghost use Rattle.rcu_lists.specs.Bypasses.{bypass_items, BypassRoom};
 ghost use Rattle.rcu_lists.specs.Labels.{callbacks_of};
@@ -11,7 +11,7 @@ ghost use Rattle.rcu_holdings.specs.Safe.{AreFew, AreSafe, IsSafe};
 use crate::safe::Safe;
 use rcu_jobs::Callback;
 use rcu_lanes::Rear;
-use rcu_lists::{Batch, Bypass, Kind, Segments};
+use rcu_lists::{Batch, Bypass, INLINE_PLACES, Kind, Segments};
 
 /// Puts the whole list on the lane, as one batch. Where the lane finds no room, the batch becomes the list again.
 pub(crate) fn send<J: Drop>(rear: &mut Rear<Batch<J>, Safe>, bypass: &mut Bypass<J>)
@@ -111,6 +111,8 @@ pub(crate) fn pour_out<J: Drop>(
     ensures lane { SameRear rear.old rear.new }
     ensures moved { result ≡ true → labelled own.new ≡ [] }
     ensures released { result ≡ true → IsReleasedIfAny (poured (callbacks_of (labelled own.old)) (outgoing rear.old bypass.old)) (outgoing rear.new bypass.new) }
+    ensures fits { bypass_items bypass.old ≡ [] → length (labelled own.old) ≤ INLINE_PLACES → result ≡ true }
+    ensures none { labelled own.old ≡ [] → result ≡ true }
     ensures refused { result ≡ false → (labelled own.new ≡ labelled own.old) × (outgoing rear.new bypass.new ≡ outgoing rear.old bypass.old) }
     ensures advanced { advanced_by own.new ≡ advanced_by own.old }
     ensures safe { AreSafe (bypass_items bypass.new) }

@@ -1,4 +1,4 @@
-use Rattle.std.proofs.Common.{◌++◌, sym, subst, ◌≡◌, true, false}
+use Rattle.std.proofs.Common.{◌++◌, arith, sym, subst, ◌≡◌, true, false}
 use Rattle.std.specs.Mem.{FitsInMemory}
 use denote.Param.{param}
 use Rattle.std.proofs.lemmas.List.Elements.{All-append}
@@ -31,3 +31,9 @@ returns-in-Err-clause-moved g c = λ (e : false ≡ true). absurd cc
 
 pub returns-in-Err-clause-released : goal.returns-in-Err-clause-released
 returns-in-Err-clause-released g c = λ (e : false ≡ true). absurd cc
+
+pub returns-in-Err-clause-fits : goal.returns-in-Err-clause-fits
+returns-in-Err-clause-fits g c = λ none few. let room = c.args.bypass.now.roomy none in c.in-Err.ensures.had (omega (arith, room, few))
+
+pub returns-in-Err-clause-none : goal.returns-in-Err-clause-none
+returns-in-Err-clause-none g c = λ none. c.in-Err.ensures.none none

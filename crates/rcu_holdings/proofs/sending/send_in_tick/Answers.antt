@@ -1,4 +1,4 @@
-use Rattle.std.proofs.Common.{◌++◌, ◌≡◌, ◌∙◌, refl, sym, subst, rules}
+use Rattle.std.proofs.Common.{◌++◌, ◌≡◌, ◌∙◌, refl, sym, subst}
 use Rattle.std.specs.Mem.{FitsInMemory}
 use denote.Param.{param}
 use Rattle.rcu_lists.specs.Bypasses.{bypass_items}

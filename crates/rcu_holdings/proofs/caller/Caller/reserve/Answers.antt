@@ -51,5 +51,11 @@ returns-else-in_offloaded-clause-found g c =
 pub returns-else-in_offloaded-clause-had : goal.returns-else-in_offloaded-clause-had
 returns-else-in_offloaded-clause-had g c = λ r. c.reserve-else-in_offloaded.ensures.had (r.1 (sym c.in_offloaded.ensures ∙ c.if-in_offloaded.false))
 
+pub returns-then-in_offloaded-clause-none : goal.returns-then-in_offloaded-clause-none
+returns-then-in_offloaded-clause-none g c = λ _ e. c.reserve.ensures.none e
+
+pub returns-else-in_offloaded-clause-none : goal.returns-else-in_offloaded-clause-none
+returns-else-in_offloaded-clause-none g c = λ on _. absurd (other (is_offloaded c.args.self.now.mode) on (sym c.in_offloaded.ensures ∙ c.if-in_offloaded.false))
+
 pub reserve-requires : goal.reserve-requires
 reserve-requires g c = caller-bypass (param 0 g.row.J) assumption

@@ -1,6 +1,5 @@
 use Rattle.rcu_holdings.specs.Callers.{holding}
 use Rattle.rcu_holdings.proofs.Holdings.{off-passes}
-use Rattle.rcu_holdings.proofs.Releases.{other}
 use Rattle.rcu_holdings.proofs.caller.Caller.switch.Goals as goal
 
 pub returns-else-on-clause-places : goal.returns-else-on-clause-places

@@ -4,7 +4,7 @@ use Rattle.rcu_jobs.specs.declared.turns.Mode.TheVariants.{Offloading, Offloaded
 use Rattle.rcu_lists.specs.Labels.{Labelled, callbacks_of}
 use Rattle.rcu_lists.specs.Segments.{labelled, advanced_by}
 use Rattle.rcu_holdings.specs.Aims.{AreAimed}
-use Rattle.rcu_holdings.specs.Callers.{holding}
+use Rattle.rcu_holdings.specs.Callers.{Pours, holding}
 use Rattle.rcu_holdings.specs.Modes.{is_offloaded}
 use Rattle.rcu_holdings.specs.Outgoing.{Outgoing, outgoing}
 use Rattle.rcu_holdings.specs.Safe.{AreFew, AreSafe}
@@ -49,14 +49,12 @@ returns-then-pour_out-clause-on g c =
     let off : is_offloaded s.mode ≡ false = sym c.in_offloaded.ensures ∙ c.if-in_offloaded.false in
     let h = holding s in
     let n = outgoing c.pour_out.new.rear c.pour_out.new.bypass in
-    record {
-      stays = λ e. absurd (other (is_offloaded s.mode) e off);
-      leads = λ _. inl (record {
-        outgoing = c.pour_out.ensures.released c.if-pour_out.true;
-        others = ap (λ k. record h { mode = Offloaded; own = labelled c.pour_out.new.own; advanced = k; outgoing = n }) c.pour_out.ensures.advanced
-            ∙ ap (λ (ws : List (Labelled g.row.J.Denot)). record h { mode = Offloaded; own = ws; outgoing = n }) (c.pour_out.ensures.moved c.if-pour_out.true);
-      });
-    }
+    let pours : Pours h (record h { mode = Offloaded; own = labelled c.pour_out.new.own; advanced = advanced_by c.pour_out.new.own; outgoing = n }) = record {
+      outgoing = c.pour_out.ensures.released c.if-pour_out.true;
+      others = ap (λ k. record h { mode = Offloaded; own = labelled c.pour_out.new.own; advanced = k; outgoing = n }) c.pour_out.ensures.advanced
+          ∙ ap (λ (ws : List (Labelled g.row.J.Denot)). record h { mode = Offloaded; own = ws; outgoing = n }) (c.pour_out.ensures.moved c.if-pour_out.true);
+    } in
+    record { stays = λ e. absurd (other (is_offloaded s.mode) e off); leads = λ _. inl pours; fits = λ _ _. pours }
 
 pub returns-else-pour_out-clause-on : goal.returns-else-pour_out-clause-on
 returns-else-pour_out-clause-on g c =
@@ -69,6 +67,7 @@ returns-else-pour_out-clause-on g c =
       leads = λ _. inr (ap (λ k. record h { mode = Offloading; own = labelled c.pour_out.new.own; advanced = k; outgoing = outgoing c.pour_out.new.rear c.pour_out.new.bypass }) c.pour_out.ensures.advanced
           ∙ (ap (λ (ws : List (Labelled g.row.J.Denot)). record h { mode = Offloading; own = ws; outgoing = outgoing c.pour_out.new.rear c.pour_out.new.bypass }) e.0
           ∙ ap (λ (x : Outgoing g.row.J.Denot). record h { mode = Offloading; outgoing = x }) e.1));
+      fits = λ _ few. absurd (false≢true (sym c.if-pour_out.false ∙ c.pour_out.ensures.fits (s.alone off) few));
     }
 
 pub returns-then-pour_out-clause-places : goal.returns-then-pour_out-clause-places

@@ -1,4 +1,4 @@
-use Rattle.std.proofs.Common.{ap, ◌∙◌, subst, sym}
+use Rattle.std.proofs.Common.{ap, ◌∙◌}
 use Rattle.std.specs.List.{flat_map}
 use Rattle.rcu_lanes.specs.Ends.{items_drawn}
 use Rattle.rcu_lists.specs.Batches.{batch_items}

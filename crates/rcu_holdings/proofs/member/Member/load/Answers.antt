@@ -1,12 +1,15 @@
 use Rattle.std.proofs.Common.{◌++◌, inr, ap, sym, ◌∙◌, List, subst}
+use Rattle.std.proofs.lemmas.Bool.{false≢true}
 use Rattle.rcu_lists.specs.Batches.{batch_items}
 use Rattle.rcu_lists.specs.Labels.{Labelled, callbacks_of}
+use Rattle.rcu_lists.specs.Release.{is_any}
 use Rattle.rcu_lists.specs.Segments.{labelled, advanced_by}
 use Rattle.rcu_holdings.specs.Aims.{AreAimed}
 use Rattle.rcu_holdings.specs.Lanes.{put_calls, drawn_calls}
 use Rattle.rcu_holdings.specs.Members.{relay}
 use Rattle.rcu_holdings.specs.Safe.{AreSafe}
 use Rattle.rcu_holdings.proofs.Aims.{aimed-left}
+use Rattle.rcu_holdings.proofs.Releases.{other, some-in}
 use Rattle.rcu_holdings.proofs.Relays.{callbacks-left, made-out, safe-front, safe-back}
 use Rattle.rcu_holdings.proofs.Sizes.{in_places, member-batch}
 use denote.Param.{param}
@@ -41,6 +44,14 @@ invariant_of-self-in-Err g c =
       aimed = subst (λ n. AreAimed n ys) (sym c.take_batch.ensures.advanced) (subst (AreAimed (advanced_by s.list)) (sym e) s.aimed);
     }
 
+pub returns-in-Ok-clause-fits : goal.returns-in-Ok-clause-fits
+returns-in-Ok-clause-fits g c = λ _ _. let r = relay c.args.self.now in record {
+  none_waits = c.is_empty.ensures.0 c.if-not-is_empty.false;
+  front = c.in-Ok.ensures.taken;
+  number = c.in-Ok.ensures.number;
+  others = ap (λ k. record r { list = labelled c.take_batch.new.self; advanced = k; out = batch_items c.in-Ok.batch }) c.take_batch.ensures.advanced;
+}
+
 pub returns-in-Ok-clause-loads : goal.returns-in-Ok-clause-loads
 returns-in-Ok-clause-loads g c =
     let r = relay c.args.self.now in
@@ -50,6 +61,13 @@ returns-in-Ok-clause-loads g c =
       number = c.in-Ok.ensures.number;
       others = ap (λ k. record r { list = labelled c.take_batch.new.self; advanced = k; out = batch_items c.in-Ok.batch }) c.take_batch.ensures.advanced;
     })
+
+pub returns-then-not-is_empty-clause-fits : goal.returns-then-not-is_empty-clause-fits
+returns-then-not-is_empty-clause-fits g c = λ none _. let xs = batch_items c.args.self.now.out in
+    absurd (other (is_any xs) (some-in c.is_empty.result xs c.is_empty.ensures c.if-not-is_empty.true) (ap is_any none))
+
+pub returns-in-Err-clause-fits : goal.returns-in-Err-clause-fits
+returns-in-Err-clause-fits g c = λ _ few. absurd (false≢true (c.in-Err.ensures.inline few))
 
 pub is_empty-requires : goal.is_empty-requires
 is_empty-requires g c = member-batch (param 0 g.row.J) assumption
