@@ -13,3 +13,4 @@ pub mod CallPieces
 pub mod Claiming
 pub mod BeginTicks
 pub mod InOneTick
+pub mod Accepted

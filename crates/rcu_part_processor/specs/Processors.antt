@@ -1,7 +1,7 @@
 -- What contracts see of a processor's part.
 use Rattle.std.specs.Prelude.{◌≡◌, ℕ, List, ◌++◌}
 use Rattle.std.specs.Arc.{arc_value}
-use Rattle.rcu_board.specs.Seats.{view}
+use Rattle.rcu_board.specs.Seats.{accepted_of, view}
 use Rattle.rcu_board.specs.declared.board.Board.{Board}
 use Rattle.rcu_board.specs.declared.board.Seat.{Seat}
 use Rattle.rcu_board.specs.declared.view.View.{View}
@@ -41,6 +41,10 @@ module _ {J R : Type 0} where
   -- the records that there were stand before all others
   abbrev pub AddsRecords : ProcessorState J R → ProcessorState J R → Type 0
   AddsRecords p q = (more : List (Record R)) × (records_of q ≡ records_of p ++ more)
+
+  -- what was accepted stays, each with its key and its stamp
+  abbrev pub AcceptedStays : ProcessorState J R → ProcessorState J R → Type 0
+  AcceptedStays p q = accepted_of (view_of q) ≡ accepted_of (view_of p)
 
   -- What a processor knows of jobs: each callback that it put on its lane or holds has its job's key, and each receipt is as
   -- the relation wants it for its record's key.

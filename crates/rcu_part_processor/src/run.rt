@@ -6,7 +6,7 @@ ghost use Rattle.rcu_board.specs.Plays.{touched};
 ghost use Rattle.rcu_board.specs.Seats.{SawHalt};
 ghost use Rattle.rcu_board.specs.Words.{halt_word};
 ghost use Rattle.rcu_part_processor.specs.Calls.{KeepsAll};
-ghost use Rattle.rcu_part_processor.specs.Processors.{SameProcessor, AddsRecords, IsSound, view_of};
+ghost use Rattle.rcu_part_processor.specs.Processors.{SameProcessor, AcceptedStays, AddsRecords, IsSound, view_of};
 
 use crate::processor::Processor;
 use rcu_board::halted;
@@ -32,6 +32,7 @@ impl<J: Job> Processor<J> {
         ensures same { SameProcessor self.old.state self.new.state }
         ensures halted { IfNone result (SawHalt (view_of self.new.state)) }
         ensures count { self.new.state.accepted ≡ self.old.state.accepted }
+        ensures accepted { AcceptedStays self.old.state self.new.state }
         ensures records { AddsRecords self.old.state self.new.state }
         ensures sound { IsSound J.key_of J.gives self.old.state → IsSound J.key_of J.gives self.new.state }
     {
@@ -49,6 +50,7 @@ impl<J: Job> Processor<J> {
         ensures same { SameProcessor self.state result.state }
         ensures halted { SawHalt (view_of result.state) }
         ensures count { result.state.accepted ≡ self.state.accepted }
+        ensures accepted { AcceptedStays self.state result.state }
         ensures records { AddsRecords self.state result.state }
         ensures sound { IsSound J.key_of J.gives self.state → IsSound J.key_of J.gives result.state }
     {

@@ -10,7 +10,8 @@ loop-preserved g c = let i = c.loop.invariant in let e = c.turn_unless_halted.en
   next = tt;
   finite = tt;
   same = same_processor_again c.args.self.state c.loop.processor.state c.turn_unless_halted.new.self.state i.same e.same;
-  accepted = e.count ∙ i.accepted;
+  count = e.count ∙ i.count;
+  accepted = e.accepted ∙ i.accepted;
   records = records_again c.args.self.state c.loop.processor.state c.turn_unless_halted.new.self.state i.records e.records;
   sound = λ sound. e.sound (i.sound sound);
 }
@@ -19,13 +20,16 @@ pub turn_unless_halted-requires : goal.turn_unless_halted-requires
 turn_unless_halted-requires g c = assumption
 
 pub loop-init : goal.loop-init
-loop-init g c = record { next = tt; finite = tt; same = same_processor c.args.self.state; accepted = refl; records = records_kept c.args.self.state c.args.self.state refl; sound = λ sound. sound }
+loop-init g c = record { next = tt; finite = tt; same = same_processor c.args.self.state; count = refl; accepted = refl; records = records_kept c.args.self.state c.args.self.state refl; sound = λ sound. sound }
 
 pub returns-in-None-turn_unless_halted-clause-same : goal.returns-in-None-turn_unless_halted-clause-same
 returns-in-None-turn_unless_halted-clause-same g c = same_processor_again c.args.self.state c.loop.processor.state c.turn_unless_halted.new.self.state c.loop.invariant.same c.turn_unless_halted.ensures.same
 
 pub returns-in-None-turn_unless_halted-clause-count : goal.returns-in-None-turn_unless_halted-clause-count
-returns-in-None-turn_unless_halted-clause-count g c = c.turn_unless_halted.ensures.count ∙ c.loop.invariant.accepted
+returns-in-None-turn_unless_halted-clause-count g c = c.turn_unless_halted.ensures.count ∙ c.loop.invariant.count
+
+pub returns-in-None-turn_unless_halted-clause-accepted : goal.returns-in-None-turn_unless_halted-clause-accepted
+returns-in-None-turn_unless_halted-clause-accepted g c = c.turn_unless_halted.ensures.accepted ∙ c.loop.invariant.accepted
 
 pub returns-in-None-turn_unless_halted-clause-halted : goal.returns-in-None-turn_unless_halted-clause-halted
 returns-in-None-turn_unless_halted-clause-halted g c = c.in-None-turn_unless_halted.ensures.halted

@@ -1,6 +1,8 @@
-use Rattle.std.proofs.Common.{◌∙◌}
+use Rattle.std.proofs.Common.{◌∙◌, ap}
 use Rattle.std.specs.Arc.{arc_value}
 use Rattle.rcu_board.proofs.Facts.{saw-halt}
+use Rattle.rcu_board.specs.Seats.{accepted_of}
+use Rattle.rcu_part_processor.proofs.Accepted.{accepted_told, accepted_ticked}
 use Rattle.rcu_part_processor.proofs.TickRuns.{records_again, records_kept, records_ticked, same_processor_again}
 use Rattle.rcu_part_processor.proofs.processor.Processor.turn_unless_halted.Goals as goal
 
@@ -55,3 +57,16 @@ returns-then-counted-clause-records g c = let p = c.args.self.now.state in let q
 pub returns-else-counted-clause-records : goal.returns-else-counted-clause-records
 returns-else-counted-clause-records g c = let p = c.args.self.now.state in let q = c.quiescent.new.self.state in let r = c.tick-ticked.new.self.state in
     records_again p q r (records_kept p q (c.quiescent.ensures.keeps.records ∙ c.is_halted.ensures.keeps.records)) (records_ticked c.args.moment c.tick-ticked.result q r c.tick-ticked.ensures.ticks)
+
+pub returns-then-is_halted-clause-accepted : goal.returns-then-is_halted-clause-accepted
+returns-then-is_halted-clause-accepted g c = ap accepted_of c.is_halted.ensures.view
+
+pub returns-then-counted-clause-accepted : goal.returns-then-counted-clause-accepted
+returns-then-counted-clause-accepted g c = let q = c.quiescent.new.self.state in
+    accepted_ticked c.args.moment c.tick-ticked.result q c.tick-ticked.new.self.state c.tick-ticked.ensures.ticks
+    ∙ (accepted_told c.quiescent.result c.is_halted.new.self.state q c.quiescent.ensures.reports ∙ ap accepted_of c.is_halted.ensures.view)
+
+pub returns-else-counted-clause-accepted : goal.returns-else-counted-clause-accepted
+returns-else-counted-clause-accepted g c = let q = c.quiescent.new.self.state in
+    accepted_ticked c.args.moment c.tick-ticked.result q c.tick-ticked.new.self.state c.tick-ticked.ensures.ticks
+    ∙ (accepted_told c.quiescent.result c.is_halted.new.self.state q c.quiescent.ensures.reports ∙ ap accepted_of c.is_halted.ensures.view)
