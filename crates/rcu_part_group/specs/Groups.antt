@@ -11,7 +11,7 @@ use Rattle.rcu_board.specs.declared.board.Seat.{Seat}
 use Rattle.rcu_board.specs.declared.view.View.{View}
 use Rattle.rcu_control.specs.Views.{SamePart}
 use Rattle.rcu_holdings.specs.Aims.{wanted}
-use Rattle.rcu_holdings.specs.Members.{front_of, rear_of, TakesIn, after_look, Gives, folk_lists}
+use Rattle.rcu_holdings.specs.Members.{front_of, rear_of, TakesIn, after_look, Gives, GivesSome, folk_lists}
 use Rattle.rcu_holdings.specs.declared.member.TheConstants.{MOST_BATCHES}
 use Rattle.rcu_jobs.specs.declared.callback.Callback.{Callback}
 use Rattle.rcu_jobs.specs.declared.turns.GroupTurn.{GroupTurn}
@@ -51,11 +51,13 @@ module _ {J : Type 0} where
     pub members : Each (LooksAt seen) wants olds news
     pub greatest : IsGreatest most wants
 
-  -- so many of its done callbacks, at most `blimit`, were put on its done lane
+  -- so many of its done callbacks, at most `blimit`, were put on its done lane; some where up to sixteen are to be put, no
+  -- batch waits, and the lane has room for its first batches
   pub record GivesTo (blimit gave : ℕ) (m n : Folk J) : Type 0 where
     pub same : SameFolk m n
     pub gives : Gives blimit gave (relay_of m) (relay_of n)
     pub few : gave ≤ blimit
+    pub some : GivesSome blimit gave (relay_of m)
 
   -- how many of its callbacks wait in batches, drawn or to be put
   abbrev pub waiting_of : Folk J → ℕ

@@ -9,6 +9,7 @@ returns-clause-gives g c = let e = c.give.ensures in let m = c.args.self.now.mem
   same = record { cpu = refl; front = subst (λ r. SameFront (front_of m) r) (sym e.lanes.0) refl; rear = e.lanes.1 };
   gives = e.gives;
   few = gives_within c.args.blimit c.give.result (relay m) (relay c.give.new.self) e.gives c.requires.loaded;
+  some = e.some;
 }
 
 pub returns-clause-few : goal.returns-clause-few
