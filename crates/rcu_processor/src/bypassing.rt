@@ -1,6 +1,6 @@
 //! Bypass lists, in the words of the law.
 
-ghost use Rattle.std.specs.Prelude.{◌≡◌, ◌++◌, ◌∷◌, [], ◌+◌, ◌≤◌, ◌||◌, length, map, not, Some, None, OnOk, OnErr, Option};
+ghost use Rattle.std.specs.Prelude.{◌≡◌, ◌++◌, ◌∷◌, [], ◌+◌, ◌≤◌, ◌||◌, length, map, not, Some, None, IsOk, OnOk, OnErr, Option};
 ghost use Rattle.std.specs.VecDeque.{deque_len, deque_capacity};
 ghost use Rattle.rcu_law.specs.LabelledLists.{call_of};
 ghost use Rattle.rcu_law.specs.Lists.{is_nil, is_none};
@@ -71,7 +71,7 @@ pub(crate) fn release<J: Job>(
     }
 }
 
-/// Pours a list of segments into a bypass list. On an error nothing has moved.
+/// Pours a list of segments into a bypass list. On an error nothing has moved. An empty list is always poured.
 pub(crate) fn pour_all<J: Job>(
     list: &mut Segments<J>,
     bypass: &mut Bypass<J>,
@@ -80,6 +80,7 @@ pub(crate) fn pour_all<J: Job>(
     ensures moved { OnOk result (bypassed J.key_of bypass.new ≡ bypassed J.key_of bypass.old ++ map call_of (waiting J.key_of list.old)) }
     ensures pace { OnOk result (pace bypass.new ≡ record (pace bypass.old) { plain = not (is_nil (waiting J.key_of list.old)) || (pace bypass.old).plain }) }
     ensures qhimark { bypass_qhimark bypass.new ≡ bypass_qhimark bypass.old }
+    ensures none { waiting J.key_of list.old ≡ [] → IsOk result }
     ensures err { OnErr result ((waiting J.key_of list.new ≡ waiting J.key_of list.old) × (bypassed J.key_of bypass.new ≡ bypassed J.key_of bypass.old) × (pace bypass.new ≡ pace bypass.old)) }
 {
     list.pour(bypass)?;

@@ -1,6 +1,6 @@
 //! The mode of a processor, what is asked of it, and whether it was urged.
 
-ghost use Rattle.std.specs.Prelude.{◌≡◌, ℕ, ◌/◌, true, false, not, nat_le, ◌&&◌, ◌||◌, if◌then◌else◌, OnOk, OnErr};
+ghost use Rattle.std.specs.Prelude.{◌≡◌, ℕ, ◌/◌, true, false, not, nat_le, ◌&&◌, ◌||◌, if◌then◌else◌, [], IsOk, OnOk, OnErr};
 ghost use Rattle.rcu_law.specs.declared.modes.Mode.TheVariants.{Local};
 ghost use Rattle.rcu_law.specs.States.{is_offloaded, is_deoffloading};
 ghost use Rattle.rcu_law.specs.Steps.{pours, leaves, heeds, settles};
@@ -120,6 +120,7 @@ impl<J: Job> Processor<J, J::Receipt> {
     fn pour(&mut self) -> Result<(), AllocError>
         ensures ok { OnOk result (seen J.key_of self.new ≡ pours (seen J.key_of self.old)) }
         ensures err { OnErr result (seen J.key_of self.new ≡ seen J.key_of self.old) }
+        ensures none { (seen J.key_of self.old).own ≡ [] → IsOk result }
         ensures given { (mark : ℕ) → AreGiven J.gives mark self.old → AreGiven J.gives mark self.new }
     {
         pour_all(&mut self.own, &mut self.bypass)?;
@@ -140,6 +141,7 @@ impl<J: Job> Processor<J, J::Receipt> {
         requires mode { is_offloaded (seen J.key_of self.old).mode ≡ false }
         requires asked { (seen J.key_of self.old).asked ≡ true }
         ensures heeds { seen J.key_of self.new ≡ heeds result (seen J.key_of self.old) }
+        ensures none { (seen J.key_of self.old).own ≡ [] → result ≡ true }
         ensures given { (mark : ℕ) → AreGiven J.gives mark self.old → AreGiven J.gives mark self.new }
     {
         match self.pour() {
@@ -151,9 +153,10 @@ impl<J: Job> Processor<J, J::Receipt> {
         }
     }
 
-    /// Heeds what is asked, and says whether there was room to pour.
+    /// Heeds what is asked, and says whether there was room to pour. An empty own list wants none.
     pub fn heed(&mut self) -> bool
         ensures heeds { seen J.key_of self.new ≡ heeds result (seen J.key_of self.old) }
+        ensures none { (seen J.key_of self.old).own ≡ [] → result ≡ true }
         ensures given { (mark : ℕ) → AreGiven J.gives mark self.old → AreGiven J.gives mark self.new }
     {
         if !self.is_switching() {

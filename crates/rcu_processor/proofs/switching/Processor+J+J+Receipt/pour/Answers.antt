@@ -3,6 +3,7 @@ use Rattle.rcu_processor.specs.Views.{seen}
 use Rattle.rcu_processor.specs.Waits.{waiting}
 use Rattle.rcu_processor.proofs.Heeding.{pours_as}
 use Rattle.std.proofs.Common.{◌∙◌}
+use Rattle.std.proofs.lemmas.Bool.{false≢true}
 use Rattle.rcu_processor.proofs.Sizes.{bypass_fits}
 use Rattle.rcu_lists.proofs.Outcomes.{on_ok_never, on_err_said}
 use Rattle.rcu_processor.proofs.Gives.{none_poured}
@@ -27,3 +28,6 @@ returns-in_err-pour_all-clause-given g c = λ mark a. (a.0, c.pour_all.ensures.q
 
 pub returns-clause-given : goal.returns-clause-given
 returns-clause-given g c = λ mark a. (a.0, c.pour_all.ensures.qhimark ∙ a.1)
+
+pub returns-in_err-pour_all-clause-none : goal.returns-in_err-pour_all-clause-none
+returns-in_err-pour_all-clause-none g c = λ e. absurd (false≢true (c.in_err-pour_all.ensures.none e))

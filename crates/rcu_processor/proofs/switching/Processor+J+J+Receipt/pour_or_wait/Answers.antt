@@ -13,3 +13,6 @@ returns-in-Err-clause-heeds g c = ap {B = Cpu} (λ s. record s { mode = Offloadi
 
 pub pour-requires-after_bounds : goal.pour-requires-after_bounds
 pour-requires-after_bounds g c κs within = assumption
+
+pub returns-in-Err-clause-none : goal.returns-in-Err-clause-none
+returns-in-Err-clause-none g c = λ e. c.in-Err.ensures.none e
