@@ -47,7 +47,7 @@ pub fn run<R: Threads + Wait + Clock + Copy + Send + 'static>(
     let parts = open(alloc, shape)?;
     let jobs = vec![in alloc; job]?;
     match run_in_threads(rt, alloc, parts, jobs) {
-        Ok(closed) => Ok(closed.ran.first().map_or(0, |ran| ran.len())),
+        Ok(ended) => Ok(ended.closed.ran.first().map_or(0, |ran| ran.len())),
         Err(_) => Ok(0),
     }
 }

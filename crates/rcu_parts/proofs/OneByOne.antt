@@ -112,7 +112,7 @@ module _ {J R : Type 0} where
         → rs ≡ room ∷ rs' → hs' ≡ hands_after p hs → AllZip HasMember (offloadable_in rest) ms' → AllZip HasHand ms' hs' → IsReady key_of gives (suc k) rest ms' hs' rs' y
     unfolding AreProcessorsFrom
     next_ready k p rest ms ms' hs hs' rs rs' room x y i g split after members running = record {
-      at = g.same ∙ (i.at ∙ ap (λ b. b.table.shared.table_id) (sym g.board));
+      at = g.same ∙ (i.at ∙ ap (λ b. b.words.table.shared.table_id) (sym g.board));
       rests = g.rests;
       processors = subst (λ b. AreProcessorsFrom (suc k) b rest) (sym g.board) i.processors.2;
       hands_at = subst (λ b. All (λ (h : Hand J R). hand_board h.state ≡ b) hs') (sym g.board) (subst (All (λ (h : Hand J R). hand_board h.state ≡ board_at x)) (sym after) (all_after (λ h. hand_board h.state ≡ board_at x) p hs i.hands_at));

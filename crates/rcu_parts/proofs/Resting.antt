@@ -25,6 +25,7 @@ use Rattle.rcu_part_processor.specs.Lawful.{IsLawful}
 use Rattle.rcu_part_steps.specs.Places.{numbered_callback, numbered_callbacks}
 use Rattle.rcu_part_processor.specs.Processors.{IsSound, lists_of, records_of, view_of}
 use Rattle.rcu_parts.specs.Rooms.{FitsCpu}
+use Rattle.rcu_board.proofs.Facts.{seen-long}
 use Rattle.rcu_part_hand.specs.declared.hand.Hand.{Hand}
 use Rattle.rcu_part_processor.specs.declared.processor.Processor.{Processor}
 
@@ -34,7 +35,7 @@ still_rests v w all e h k = ap (λ (u : View). u.running) e ∙ (ap (λ l. l ++ 
 
 -- a seat's view has a sight of each word of its board
 pub is_long : (b : Board) (s : Seat) → AtBoard b s → length (view s).seen ≡ words_of b.processors
-is_long b s at = s.of_role.can_step.seen_long ∙ (ap (λ t. t.words) at ∙ b.sized)
+is_long b s at = seen-long b s at
 
 pub is_long_at : (b c : Board) (s : Seat) → c ≡ b → AtBoard c s → length (view s).seen ≡ words_of b.processors
 is_long_at b c s same at = subst (λ d. length (view s).seen ≡ words_of d.processors) same (is_long c s at)

@@ -1,7 +1,8 @@
 -- What a run leaves to `close`, and what `close` finds: docs/specification/promises.md, "Headline on the running parts", close.
-use Rattle.std.proofs.Common.{◌≡◌, ℕ, ◌*◌, ◌/◌, ◌≤◌, List, [], ◌∷◌, ◌++◌, map, drop, length, get_or, ap, sym, ◌∙◌, subst, refl, arith}
-use Rattle.std.specs.Prelude.{All}
-use Rattle.std.proofs.lemmas.List.{length-drop, length-map}
+use Rattle.std.proofs.Common.{◌≡◌, ℕ, suc, ◌+◌, ◌*◌, ◌/◌, ◌≤◌, List, [], ◌∷◌, ◌++◌, map, take, drop, length, get_or, ap, sym, ◌∙◌, subst, refl, arith}
+use Rattle.std.specs.Prelude.{All, Result}
+use Rattle.std.proofs.lemmas.List.{length-drop, length-map, take_all}
+use Rattle.std.proofs.lemmas.Simd.{map-map}
 use Rattle.rcu_board.specs.Seats.{accepted_of}
 use Rattle.rcu_board.specs.Views.{seen_at}
 use Rattle.rcu_board.specs.Words.{turns_word}
@@ -10,7 +11,11 @@ use Rattle.rcu_control.specs.Parts.{control_view}
 use Rattle.rcu_gathering.proofs.Lists.{all_cons, all_head, all_map, all_mapped, all_none, all_tail}
 use Rattle.rcu_endings.specs.Ends.{keys_of}
 use Rattle.rcu_gathering.specs.Closing.{ClosesAs, CpuEnd, processors_of, seats_of}
-use Rattle.rcu_places.specs.Places.{Accepted}
+use Rattle.rcu_places.specs.Places.{Accepted, Numbered, numbered}
+use Rattle.rcu_records.specs.Records.{numbered_record}
+use Rattle.rcu_jobs.specs.declared.answers.Refused.{Refused}
+use Rattle.rcu_jobs.specs.declared.answers.Ticket.{Ticket}
+use Rattle.rcu_jobs.specs.declared.callback.Record.{Record}
 use Rattle.rcu_gathering.specs.Parts.{CpuPart, accepted_entry, accepted_list}
 use Rattle.rcu_jobs.specs.declared.answers.Closed.{Closed}
 use Rattle.rcu_parts.specs.AtClose.{ClosesWith, cpu_part, cpu_parts, hand_for, hands_after, other_views}
@@ -21,7 +26,9 @@ use Rattle.rcu_parts.specs.SameParts.{AreSameParts}
 use Rattle.rcu_part_hand.specs.declared.hand.Hand.{Hand}
 use Rattle.rcu_part_processor.specs.declared.processor.Processor.{Processor}
 use Rattle.rcu_parts.specs.Drained.{HasNoneBack}
-use Rattle.rcu_threads.specs.Ends.{AreUnused}
+use Rattle.rcu_threads.specs.Calls.{keys_in}
+use Rattle.rcu_threads.specs.Dealing.{HaveAllRun}
+use Rattle.rcu_threads.specs.Ends.{AreUnused, keys_ran}
 use Rattle.rcu_threads.specs.Parts.{HandStays}
 use Rattle.rcu_threads.specs.Runs.{HasRun, HaveRun}
 use Rattle.rcu_threads.proofs.Zips.{zip_all, zip_imp}
@@ -29,6 +36,14 @@ use Rattle.rcu_threads.proofs.Zips.{zip_all, zip_imp}
 no_longer : {X : Type 0} (l : List X) → length l ≤ 0 → l ≡ []
 no_longer [] short = refl
 no_longer (x ∷ xs) short = absurd (omega (arith, short))
+
+length-numbered : (k : ℕ) (xs : List Accepted) → length (numbered k xs) ≡ length xs
+length-numbered k [] = refl
+length-numbered k (x ∷ xs) = ap suc (length-numbered (k + 1) xs)
+
+keys_of_numbered : (k : ℕ) (xs : List Accepted) → map (λ (n : Numbered). n.key) (numbered k xs) ≡ keys_of xs
+keys_of_numbered k [] = refl
+keys_of_numbered k (x ∷ xs) = ap (λ l. x.key ∷ l) (keys_of_numbered (k + 1) xs)
 
 module _ {J R : Type 0} (key_of : J → ℕ) (gives : ℕ → R → Type 0) where
   -- the parts are the same parts
@@ -91,3 +106,45 @@ module _ {J R : Type 0} (key_of : J → ℕ) (gives : ℕ → R → Type 0) wher
       let None = λ (l : List J). l ≡ [] in
       let lists : All None (map (λ (e : CpuEnd J R). e.back) c.ends) = all_mapped None (λ (e : CpuEnd J R). e.back) c.ends each in
       all_map None (λ b. b.items) closed.back.items (subst (All None) (sym c.back) lists)
+
+  -- of a processor all of whose callbacks have run, what ran is what it accepted
+  ran_keys : (v : View) (views processors : List View) (p : Processor J R) (c : CpuPart J R) (e : CpuEnd J R) → c.cpu ≡ p.state.cpu → c.view ≡ view_of p.state → e.part ≡ c → ClosesAs key_of gives (v ∷ views) processors e → AllRan v p → map (λ (r : Record R). r.key) e.ran ≡ keys_in p
+  ran_keys v views processors p c e cpu at part h ran =
+      let view : e.part.view ≡ view_of p.state = ap (λ (x : CpuPart J R). x.view) part ∙ at in
+      let accepted = accepted_list e.part.view in
+      let none = none_back v views processors p c e cpu at part h ran in
+      let left = length-drop (length e.ran) (keys_of accepted) in
+      let keys = length-map accepted (λ (a : Accepted). a.key) in
+      let back = ap (λ (l : List ℕ). length l) (sym (ap (map key_of) none) ∙ h.end.back_is) in
+      let numbers = length-numbered 0 accepted in
+      let all : take (length e.ran) (numbered 0 accepted) ≡ numbered 0 accepted = take_all (length e.ran) (numbered 0 accepted) (omega (arith, left, keys, back, numbers)) in
+      sym (map-map (λ (n : Numbered). n.key) numbered_record e.ran) ∙ (ap (map (λ (n : Numbered). n.key)) (h.end.ran_is ∙ all) ∙ (keys_of_numbered 0 accepted ∙ ap (λ (w : View). keys_of (accepted_list w)) view))
+
+  ran_keys_each : (v : View) (views processors : List View) (es : List (CpuEnd J R)) (ps : List (Processor J R)) (hs : List (Hand J R)) → map (λ e. e.part) es ≡ cpu_parts ps hs → All (ClosesAs key_of gives (v ∷ views) processors) es → All (AllRan v) ps
+      → map (λ e. map (λ (r : Record R). r.key) e.ran) es ≡ map (λ p. keys_in p) ps
+  ran_keys_each v views processors [] [] hs same h ran = refl
+  ran_keys_each v views processors [] (p ∷ ps) hs same h ran = absurd (let long = ap (λ (l : List (CpuPart J R)). length l) same in omega (arith, long))
+  ran_keys_each v views processors (e ∷ es) [] hs same h ran = absurd (let long = ap (λ (l : List (CpuPart J R)). length l) same in omega (arith, long))
+  ran_keys_each v views processors (e ∷ es) (p ∷ ps) hs same h ran =
+      let first = ap (λ (l : List (CpuPart J R)). get_or l 0 e.part) same in
+      let rest = ap (λ (l : List (CpuPart J R)). drop 1 l) same in
+      let Closed = ClosesAs key_of gives (v ∷ views) processors in
+      let own = ran_keys v views processors p (cpu_part p (hand_for p hs)) e refl refl first (all_head Closed e es h) (all_head (AllRan v) p ps ran) in
+      ap (λ l. l ∷ map (λ (x : CpuEnd J R). map (λ (r : Record R). r.key) x.ran) es) own
+      ∙ ap (λ l. keys_in p ∷ l) (ran_keys_each v views processors es ps (hands_after p hs) rest (all_tail Closed e es h) (all_tail (AllRan v) p ps ran))
+
+  -- where nothing had been accepted before, what ran on each processor is what it accepted
+  pub all_ran_keys : (old new : Parts J R) (closed : Closed J R) → HaveRun key_of gives old new → AreUnused old → ClosesWith key_of gives new closed → keys_ran closed ≡ map (λ p. keys_in p) (processors_in new)
+  all_ran_keys old new closed h unused c =
+      let v = control_view new.control in
+      let ran = zip_all (λ (p : Processor J R). p.state.accepted ≡ 0) (HasRun key_of gives v) (AllRan v) (all_ran v) (processors_in old) (processors_in new) h.processors unused in
+      let views = other_views new ++ seats_of c.ends in
+      let keys = map (λ (r : Record R). r.key) in
+      sym (map-map keys (λ x. x.items) closed.ran.items)
+      ∙ (ap (map keys) c.ran ∙ (map-map keys (λ (e : CpuEnd J R). e.ran) c.ends
+      ∙ ran_keys_each v views (processors_of c.ends) c.ends (processors_in new) (hands_in new) c.parts_are c.closes ran))
+
+  -- so each job that was handed in has run or was refused
+  pub all_have_run : (old new : Parts J R) (closed : Closed J R) (jobs : List J) (answers : List (List (Result Ticket (Refused J)))) → HaveRun key_of gives old new → AreUnused old → ClosesWith key_of gives new closed
+      → HaveAllRun key_of jobs answers (map (λ p. keys_in p) (processors_in new)) → HaveAllRun key_of jobs answers (keys_ran closed)
+  all_have_run old new closed jobs answers h unused c all = subst (HaveAllRun key_of jobs answers) (sym (all_ran_keys old new closed h unused c)) all

@@ -2,3 +2,5 @@ pub mod Zips
 pub mod Kept
 pub mod Tickets
 pub mod Ending
+pub mod Answering
+pub mod Dealt

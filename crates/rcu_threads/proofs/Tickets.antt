@@ -18,8 +18,7 @@ use Rattle.rcu_jobs.specs.declared.answers.Ticket.{Ticket}
 use Rattle.rcu_part_processor.specs.Processors.{IsSound, SameProcessor}
 use Rattle.rcu_part_processor.specs.declared.processor.Processor.{Processor}
 use Rattle.rcu_part_processor.proofs.TickRuns.{same_processor, same_processor_again}
-use Rattle.rcu_parts.proofs.Zips.{zip_push}
-use Rattle.rcu_threads.proofs.Zips.{zip_chain, zip_imp}
+use Rattle.rcu_threads.proofs.Zips.{zip_chain, zip_imp, zip_pushed}
 use Rattle.rcu_threads.specs.Calls.{AreTickets, HasCalled, ticket}
 use Rattle.rcu_threads.specs.Parts.{DriverStays, GivesBack, ProcessorStays}
 use Rattle.rcu_threads.specs.Runs.{AreOver, HasRun}
@@ -86,7 +85,7 @@ module _ {J R : Type 0} (key_of : J → ℕ) (gives : ℕ → R → Type 0) wher
   }
 
   -- what one processor's tickets say is said by all tickets
-  called_later : (ts own us : List Ticket) (p q : Processor J R) → us ≡ ts ++ own → HasCalled key_of gives own p q → HasCalled key_of gives us p q
+  pub called_later : (ts own us : List Ticket) (p q : Processor J R) → us ≡ ts ++ own → HasCalled key_of gives own p q → HasCalled key_of gives us p q
   called_later ts own us p q e h = record {
     same = h.same;
     count = h.count;
@@ -95,11 +94,12 @@ module _ {J R : Type 0} (key_of : J → ℕ) (gives : ℕ → R → Type 0) wher
   }
 
   -- one more processor has called
-  pub joined_more : {H : Type 0} (of : H → Processor J R) (done : List H) (h : H) (qs rs : List (Processor J R)) (q : Processor J R) (ts own us : List Ticket) → us ≡ ts ++ own → rs ≡ qs ++ q ∷ [] → HasCalled key_of gives own (of h) q
-      → AllZip (λ t p. HasCalled key_of gives ts (of t) p) done qs → AllZip (λ t p. HasCalled key_of gives us (of t) p) (done ++ h ∷ []) rs
-  joined_more of done h qs rs q ts own us e pushed called before =
-      subst (AllZip (λ t p. HasCalled key_of gives us (of t) p) (done ++ h ∷ [])) (sym pushed)
-      (zip_push (λ t p. HasCalled key_of gives us (of t) p) done qs h q (zip_imp (λ t p. HasCalled key_of gives ts (of t) p) (λ t p. HasCalled key_of gives us (of t) p) (λ t p a. called_more ts own us (of t) p e a) done qs before) (called_later ts own us (of h) q e called))
+  pub joined_more : {H C : Type 0} (of : H → Processor J R) (to : C → Processor J R) (done : List H) (h : H) (qs rs : List C) (q : C) (ts own us : List Ticket) → us ≡ ts ++ own → rs ≡ qs ++ q ∷ [] → HasCalled key_of gives own (of h) (to q)
+      → AllZip (λ t c. HasCalled key_of gives ts (of t) (to c)) done qs → AllZip (λ t c. HasCalled key_of gives us (of t) (to c)) (done ++ h ∷ []) rs
+  joined_more of to done h qs rs q ts own us e pushed called before =
+      zip_pushed (λ t c. HasCalled key_of gives us (of t) (to c)) done qs rs h q pushed
+      (zip_imp (λ t c. HasCalled key_of gives ts (of t) (to c)) (λ t c. HasCalled key_of gives us (of t) (to c)) (λ t c a. called_more ts own us (of t) (to c) e a) done qs before)
+      (called_later ts own us (of h) (to q) e called)
 
   -- Each processor called, and then ran until the callbacks of all tickets had run; then the halt word was set.
   pub all_run : (v w : View) (x : ℕ) (ts : List Ticket) (ps qs rs : List (Processor J R)) → w ≡ touched halt_word x v → AreOver v ts → AllZip (HasCalled key_of gives ts) ps qs → AllZip (ProcessorStays key_of gives) qs rs → AllZip (HasRun key_of gives w) ps rs

@@ -1,5 +1,5 @@
 -- Lists place by place: what was started, what threads gave back, and what came of it.
-use Rattle.std.proofs.Common.{◌≡◌, ℕ, ◌+◌, ◌<◌, ◌≤◌, List, [], ◌∷◌, ◌++◌, length, append_assoc, ap, sym, ◌∙◌, subst, arith}
+use Rattle.std.proofs.Common.{◌≡◌, ℕ, ◌+◌, ◌<◌, ◌≤◌, List, [], ◌∷◌, ◌++◌, map, length, append_assoc, ap, sym, ◌∙◌, subst, arith}
 use Rattle.std.specs.Prelude.{All, IfOk, IfSome, Ok, Err, Option, Result}
 use Rattle.std.specs.Result.{result_ok}
 use Rattle.std.specs.List.{AllZip}
@@ -24,12 +24,22 @@ module _ {A B : Type 0} where
   zip_imp P Q f (x ∷ xs) [] p = absurd p
   zip_imp P Q f (x ∷ xs) (y ∷ ys) p = (f x y p.0, zip_imp P Q f xs ys p.1)
 
+  pub zip_pushed : (P : A → B → Type 0) → (xs : List A) (ys zs : List B) (x : A) (y : B) → zs ≡ ys ++ y ∷ [] → AllZip P xs ys → P x y → AllZip P (xs ++ x ∷ []) zs
+  zip_pushed P xs ys zs x y pushed p q = subst (AllZip P (xs ++ x ∷ [])) (sym pushed) (zip_push P xs ys x y p q)
+
   -- what is said of each of the first is said of each of the second
   pub zip_all : (P : A → Type 0) (Q : A → B → Type 0) (S : B → Type 0) → ((x : A) (y : B) → Q x y → P x → S y) → (xs : List A) (ys : List B) → AllZip Q xs ys → All P xs → All S ys
   zip_all P Q S f [] [] q p = all_none S
   zip_all P Q S f [] (y ∷ ys) q p = absurd q
   zip_all P Q S f (x ∷ xs) [] q p = absurd q
   zip_all P Q S f (x ∷ xs) (y ∷ ys) q p = all_cons S y ys (f x y q.0 (all_head P x xs p)) (zip_all P Q S f xs ys q.1 (all_tail P x xs p))
+
+-- of what was taken from each
+pub zip_mapped : {A B C D : Type 0} (f : A → C) (g : B → D) (P : C → D → Type 0) → (xs : List A) (ys : List B) → AllZip (λ x y. P (f x) (g y)) xs ys → AllZip P (map f xs) (map g ys)
+zip_mapped f g P [] [] p = tt
+zip_mapped f g P [] (y ∷ ys) p = absurd p
+zip_mapped f g P (x ∷ xs) [] p = absurd p
+zip_mapped f g P (x ∷ xs) (y ∷ ys) p = (p.0, zip_mapped f g P xs ys p.1)
 
 module _ {A H B : Type 0} (of : H → A) where
   -- Each thread has its part, and keeps what it promised of it.

@@ -1,5 +1,5 @@
 -- How a run in threads ends: docs/specification/promises.md, "Headline on the running parts", close, and program.md, "threads".
-use Rattle.std.specs.Prelude.{◌≡◌, ℕ, All}
+use Rattle.std.specs.Prelude.{◌≡◌, ℕ, List, map, All}
 use Rattle.rcu_jobs.specs.declared.answers.Closed.{Closed}
 use Rattle.rcu_parts.specs.AtClose.{ClosesWith}
 use Rattle.rcu_parts.specs.OneOpen.{Parts, processors_in}
@@ -11,6 +11,10 @@ module _ {J R : Type 0} where
     pub ended : Parts J R
     pub same : AreSameParts parts ended
     pub closes : ClosesWith key_of gives ended closed
+
+  -- the keys of what ran on each processor, in order
+  abbrev pub keys_ran : Closed J R → List (List ℕ)
+  keys_ran closed = map (λ records. map (λ record'. record'.key) records.items) closed.ran.items
 
   -- nothing was accepted yet
   abbrev pub AreUnused : Parts J R → Type 0

@@ -5,7 +5,7 @@ use Rattle.rcu_control.specs.Views.{SamePart}
 use Rattle.rcu_control.specs.declared.driver.Driver.{Driver}
 use Rattle.rcu_part_group.specs.Groups.{SameGroup}
 use Rattle.rcu_part_hand.specs.Hands.{IsSoundHand, SameHand}
-use Rattle.rcu_part_processor.specs.Processors.{IsSound, SameProcessor}
+use Rattle.rcu_part_processor.specs.Processors.{AcceptedStays, IsSound, SameProcessor}
 use Rattle.rcu_part_group.specs.declared.group.Group.{Group}
 use Rattle.rcu_part_hand.specs.declared.hand.Hand.{Hand}
 use Rattle.rcu_part_processor.specs.declared.processor.Processor.{Processor}
@@ -33,4 +33,5 @@ module _ {J R : Type 0} where
   pub record ProcessorStays (key_of : J → ℕ) (gives : ℕ → R → Type 0) (p q : Processor J R) : Type 0 where
     pub same : SameProcessor p.state q.state
     pub count : q.state.accepted ≡ p.state.accepted
+    pub accepted : AcceptedStays p.state q.state
     pub sound : IsSound key_of gives p.state → IsSound key_of gives q.state

@@ -1,75 +1,82 @@
 //! How jobs are dealt to processors.
 
-ghost use Rattle.std.specs.Prelude.{◌≡◌, ◌≤◌, [], length, IfOk, vec_len, vec_capacity};
+ghost use Rattle.std.specs.Prelude.{◌≡◌, ◌<◌, ◌≤◌, [], ◌∷◌, ◌++◌, map, IfOk, OnOk, vec_len, vec_capacity};
+ghost use Rattle.rcu_threads.specs.Dealing.{AreDealt};
 
-use rcu_jobs::Ticket;
+use crate::ended::Answer;
 use std::alloc::{AllocError, Global};
-use std::collections::VecDeque;
 
-/// The jobs of a processor, in the order of its calls, and room for their tickets.
+/// A processor that is to call, its jobs in the order of its calls, and room for what these answer.
 #[derive(Drop)]
-pub(crate) struct Load<J> {
+pub(crate) struct Caller<P, J> {
+    pub(crate) processor: P,
     pub(crate) jobs: Vec<J>,
-    pub(crate) tickets: Vec<Ticket>,
-    ghost empty: { tickets.items ≡ [] },
-    ghost room: { vec_len jobs ≤ vec_capacity tickets },
+    pub(crate) answers: Vec<Answer<J>>,
+    ghost empty: { answers.items ≡ [] },
+    ghost room: { vec_len jobs ≤ vec_capacity answers },
 }
 
-impl<J: Drop> Load<J> {
-    /// These jobs.
+impl<P, J> Caller<P, J> {
+    /// This processor with no jobs.
+    fn new(alloc: Global, processor: P) -> Caller<P, J>
+        ensures processor { result.processor ≡ processor }
+        ensures jobs { result.jobs.items ≡ [] }
+    {
+        Caller {
+            processor,
+            jobs: Vec::new(alloc),
+            answers: Vec::new(alloc),
+        }
+    }
+}
+
+impl<P, J: Drop> Caller<P, J> {
+    /// Gives it one more job, and finds room for its answer.
     ///
     /// # Errors
     ///
-    /// Want of memory for the tickets.
-    fn new(alloc: Global, jobs: Vec<J>) -> Result<Load<J>, AllocError>
-        ensures { IfOk result (λ load. load.jobs ≡ jobs) }
+    /// Want of memory.
+    fn add(&mut self, job: J) -> Result<(), AllocError>
+        ensures processor { self.new.processor ≡ self.old.processor }
+        ensures jobs { OnOk result (self.new.jobs.items ≡ self.old.jobs.items ++ job ∷ []) }
     {
-        let tickets = Vec::with_capacity(alloc, jobs.len())?;
-        Ok(Load { jobs, tickets })
+        self.answers.reserve(self.jobs.len().saturating_add(1))?;
+        self.jobs.push(job)?;
+        Ok(())
     }
 }
 
-/// As many lists with nothing in them.
-fn empty_shares<J: Drop>(alloc: Global, many: usize) -> Result<Vec<Vec<J>>, AllocError>
-    ensures { IfOk result (λ shares. vec_len shares ≡ many) }
+/// These processors, with no jobs.
+fn callers_of<P: Drop, J: Drop>(
+    alloc: Global,
+    processors: Vec<P>,
+) -> Result<Vec<Caller<P, J>>, AllocError>
+    ensures processors { IfOk result (λ callers. map (λ caller. caller.processor) callers.items ≡ processors.items) }
+    ensures dealt { IfOk result (λ callers. AreDealt [] (map (λ caller. caller.jobs.items) callers.items)) }
 {
-    let mut shares = Vec::new(alloc);
-    for _ in 0..many {
-        shares.push(Vec::new(alloc))?;
+    let mut callers = Vec::new(alloc);
+    for processor in processors {
+        callers.push(Caller::new(alloc, processor))?;
     }
-    Ok(shares)
+    Ok(callers)
 }
 
-/// Deals the jobs to so many processors in rounds: in each round, the next job to each processor in turn.
-fn deal_shares<J: Drop>(alloc: Global, jobs: Vec<J>, many: usize) -> Result<Vec<Vec<J>>, AllocError>
-    ensures { IfOk result (λ shares. vec_len shares ≡ many) }
+/// Deals the jobs to the processors in rounds: in each round, the next job to each processor in turn.
+pub(crate) fn deal<P: Drop, J: Drop>(
+    alloc: Global,
+    processors: Vec<P>,
+    jobs: Vec<J>,
+) -> Result<Vec<Caller<P, J>>, AllocError>
+    requires { 0 < vec_len processors }
+    ensures processors { IfOk result (λ callers. map (λ caller. caller.processor) callers.items ≡ processors.items) }
+    ensures dealt { IfOk result (λ callers. AreDealt jobs.items (map (λ caller. caller.jobs.items) callers.items)) }
 {
-    let mut shares = empty_shares(alloc, many)?;
+    let many = processors.len();
+    let mut callers = callers_of(alloc, processors)?;
     let mut next = 0;
     for job in jobs {
-        if next == many {
-            next = 0;
-        }
-        if let Some(share) = shares.get_mut(next) {
-            share.push(job)?;
-            next += 1;
-        }
+        callers[next].add(job)?;
+        next = (next + 1) % many;
     }
-    Ok(shares)
-}
-
-/// Deals the jobs to so many processors in rounds, and finds room for the tickets.
-pub(crate) fn deal<J: Drop>(
-    alloc: Global,
-    jobs: Vec<J>,
-    many: usize,
-) -> Result<VecDeque<Load<J>>, AllocError>
-    ensures { IfOk result (λ loads. length loads.items ≡ many) }
-{
-    let shares = deal_shares(alloc, jobs, many)?;
-    let mut loads = VecDeque::new(alloc);
-    for share in shares {
-        loads.push_back(Load::new(alloc, share)?)?;
-    }
-    Ok(loads)
+    Ok(callers)
 }

@@ -7,12 +7,14 @@
 mod calling;
 mod crew;
 mod dealing;
+mod ended;
 mod fault;
 mod promises;
 mod running;
 mod starting;
 
 pub use crew::{Crew, join_all};
+pub use ended::{Answer, Ended};
 pub use fault::ThreadsFault;
 pub use promises::{RunningDriver, RunningGroup, RunningHand, Stays};
 pub use running::{join_driver, run_in_threads};

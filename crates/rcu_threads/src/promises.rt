@@ -1,6 +1,7 @@
 //! What a thread promises of the part that it gives back.
 
 use crate::calling::Called;
+use crate::dealing::Caller;
 use rcu_control::Driver;
 use rcu_jobs::Job;
 use rcu_parts::{Group, Hand, Processor};
@@ -35,15 +36,14 @@ impl<J: Job<Receipt = u64>> Promise<Processor<J>> for Stays<Processor<J>> {
     ghost kept_by = { λ p q. ProcessorStays J.key_of J.gives p.0.value q };
 }
 
-/// The promise of a thread in which a processor calls: what comes back is the same processor, with a ticket for each job
-/// that it accepted.
+/// The promise of a thread in which a processor calls: what comes back is the same processor, with what each call answered.
 #[derive(Drop)]
 pub(crate) struct Calls<P>(pub(crate) Snapshot<P>);
 
-impl<J: Job<Receipt = u64>> Promise<Called<Processor<J>>> for Calls<Processor<J>> {
-    ghost use Rattle.rcu_threads.specs.Calls.{HasCalled};
+impl<J: Job<Receipt = u64>> Promise<Called<Processor<J>, J>> for Calls<Caller<Processor<J>, J>> {
+    ghost use Rattle.rcu_threads.specs.Calls.{HasAnswered};
 
-    ghost kept_by = { λ p c. HasCalled J.key_of J.gives c.tickets.items p.0.value c.processor };
+    ghost kept_by = { λ p c. HasAnswered J.key_of J.gives p.0.value.jobs.items c.answers.items p.0.value.processor c.processor };
 }
 
 /// A thread that runs the driver.
@@ -59,4 +59,7 @@ pub type RunningHand<J> = PromisedHandle<Hand<J>, Stays<Hand<J>>>;
 pub(crate) type RunningProcessor<J> = PromisedHandle<Processor<J>, Stays<Processor<J>>>;
 
 /// A thread in which a processor calls.
-pub(crate) type Calling<J> = PromisedHandle<Called<Processor<J>>, Calls<Processor<J>>>;
+pub(crate) type Calling<J> = PromisedHandle<
+    Called<Processor<J>, J>,
+    Calls<Caller<Processor<J>, J>>,
+>;

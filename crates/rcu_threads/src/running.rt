@@ -1,26 +1,28 @@
 //! The run of all parts of one open, from the first call to the end.
 
-ghost use Rattle.std.specs.Prelude.{◌≡◌, length, IfOk};
+ghost use Rattle.std.specs.Prelude.{◌≡◌, ◌<◌, map, length, All, IfOk, vec_len};
 ghost use Rattle.std.specs.List.{AllZip};
 ghost use Rattle.rcu_control.specs.Parts.{control_board, control_seat, control_view};
 ghost use Rattle.rcu_control.specs.Views.{SamePart};
 ghost use Rattle.rcu_parts.specs.OneOpen.{AreOfOneOpen, AreSoundParts};
 ghost use Rattle.rcu_parts.specs.Drained.{HasNoneBack};
-ghost use Rattle.rcu_threads.specs.Ends.{AreUnused, ClosesSame};
+ghost use Rattle.rcu_threads.specs.Calls.{HaveAnswered, keys_in};
+ghost use Rattle.rcu_threads.specs.Dealing.{AreDealt, HaveAllRun};
+ghost use Rattle.rcu_threads.specs.Ends.{AreUnused, ClosesSame, keys_ran};
 ghost use Rattle.rcu_threads.specs.Runs.{AreOver, HasRun, HaveRun};
 ghost use Rattle.rcu_threads.specs.Parts.{GivesBack};
 
-use crate::calling::{AllCalled, join_callers, start_callers};
+use crate::calling::{AllCalled, Answered, join_callers, split, start_callers};
 use crate::crew::{Crew, join_all};
-use crate::dealing::{Load, deal};
+use crate::dealing::{Caller, deal};
+use crate::ended::{Answer, Ended};
 use crate::fault::ThreadsFault;
 use crate::promises::RunningDriver;
 use crate::starting::{start_driver, start_groups, start_hands, start_processors};
 use rcu_control::{Control, Driver};
-use rcu_jobs::{Closed, Job, Ticket};
+use rcu_jobs::{Job, Ticket};
 use rcu_parts::{AllParts, Parts, Processor, close, same_parts};
 use std::alloc::Global;
-use std::collections::VecDeque;
 use std::rt::Clock;
 use std::sync::Wait;
 use std::thread::Threads;
@@ -81,29 +83,35 @@ fn run_processors<
     alloc: Global,
     control: &mut Control,
     are_running: bool,
-    processors: Vec<Processor<J>>,
-    loads: VecDeque<Load<J>>,
+    callers: Vec<Caller<Processor<J>, J>>,
     room: Vec<Ticket>,
-) -> Result<Vec<Processor<J>>, ThreadsFault>
-    requires { length loads.items ≡ length processors.items }
+) -> Result<Answered<Processor<J>, J>, ThreadsFault>
     ensures same { SamePart (control_board control.old) (control_board control.new) (control_seat control.old) (control_seat control.new) }
-    ensures ran { IfOk result (λ ended. AllZip (HasRun J.key_of J.gives (control_view control.new)) processors.items ended.items) }
+    ensures ran { IfOk result (λ ended. AllZip (HasRun J.key_of J.gives (control_view control.new)) (map (λ c. c.processor) callers.items) ended.processors.items) }
+    ensures answered { All (λ c. c.processor.state.accepted ≡ 0) callers.items → IfOk result (λ ended. HaveAnswered J.key_of (map (λ c. c.jobs.items) callers.items) (map (λ own. own.items) ended.answers.items) ended.processors.items) }
 {
     if !are_running {
         return Err(ThreadsFault::CannotRun);
     }
-    let callers = start_callers(rt, alloc, processors, loads);
-    let called = join_callers(rt, alloc, callers, room)?;
-    let AllCalled {
+    let callers = start_callers(rt, alloc, callers);
+    let all = join_callers(rt, alloc, callers, room)?;
+    let AllCalled { called, tickets } = all;
+    let Ok(answered) = split(alloc, called) else {
+        return Err(ThreadsFault::Memory);
+    };
+    let Answered {
         processors,
-        tickets,
-    } = called;
+        answers,
+    } = answered;
     let crew = start_processors(rt, alloc, processors);
     let passed = pass_barrier(rt, control, &crew, tickets.as_slice());
     control.finish();
-    let ended = join_all(rt, crew)?;
+    let processors = join_all(rt, crew)?;
     passed?;
-    Ok(ended)
+    Ok(Answered {
+        processors,
+        answers,
+    })
 }
 
 /// Runs all parts, with these jobs for the processors in turn, until a barrier with all tickets has passed.
@@ -116,13 +124,12 @@ fn run_parts<J: Job<Receipt = u64> + 'static, R: Threads + Wait + Clock + Copy +
     alloc: Global,
     parts: Parts<J>,
     jobs: Vec<J>,
-) -> Result<Parts<J>, ThreadsFault>
-    ensures { IfOk result (λ ended. HaveRun J.key_of J.gives parts ended) }
+) -> Result<(Parts<J>, Vec<Vec<Answer<J>>>), ThreadsFault>
+    requires { 0 < vec_len parts.processors }
+    ensures ran { IfOk result (λ ended. HaveRun J.key_of J.gives parts ended.0) }
+    ensures answered { AreUnused parts → IfOk result (λ ended. HaveAllRun J.key_of jobs.items (map (λ own. own.items) ended.1.items) (map (λ p. keys_in p) ended.0.processors.items)) }
 {
     let Ok(room) = Vec::with_capacity(alloc, jobs.len()) else {
-        return Err(ThreadsFault::Memory);
-    };
-    let Ok(loads) = deal(alloc, jobs, parts.processors.len()) else {
         return Err(ThreadsFault::Memory);
     };
     let AllParts {
@@ -132,53 +139,59 @@ fn run_parts<J: Job<Receipt = u64> + 'static, R: Threads + Wait + Clock + Copy +
         hands,
         mut control,
     } = parts;
+    let Ok(callers) = deal(alloc, processors, jobs) else {
+        return Err(ThreadsFault::Memory);
+    };
     let driver = start_driver(rt, driver);
     let groups = start_groups(rt, alloc, groups);
     let hands = start_hands(rt, alloc, hands);
     let are_running = driver.is_some() && groups.is_whole() && hands.is_whole();
-    let processors = run_processors(
-        rt,
-        alloc,
-        &mut control,
-        are_running,
-        processors,
-        loads,
-        room,
-    );
+    let answered = run_processors(rt, alloc, &mut control, are_running, callers, room);
     control.finish();
     let driver = join_driver(rt, driver);
     let groups = join_all(rt, groups);
     let hands = join_all(rt, hands);
-    Ok(AllParts {
-        driver: driver?,
-        groups: groups?,
-        hands: hands?,
-        processors: processors?,
+    let (driver, groups, hands) = (driver?, groups?, hands?);
+    let Answered {
+        processors,
+        answers,
+    } = answered?;
+    let parts = AllParts {
+        driver,
+        groups,
+        hands,
+        processors,
         control,
-    })
+    };
+    Ok((parts, answers))
 }
 
 /// Runs all parts of an open, each in a thread of its own (docs/specification/program.md, "threads"). The jobs are dealt to
 /// the processors in rounds, and in each round to processor 0, 1, ..; each processor calls with its jobs, and then reports
-/// and ticks until a barrier with all tickets has passed. Then all threads are joined, and the runtime is closed. A refused
-/// job is dropped.
+/// and ticks until a barrier with all tickets has passed. Then all threads are joined, and the runtime is closed. What each
+/// call answered comes back too, so no job is lost: it has run, or was refused and is in its answer.
 ///
 /// # Errors
 ///
-/// Want of memory; or a thread can't be made, or the barrier is refused. All threads that were started have ended.
+/// Want of memory; or a thread can't be made, or the barrier is refused, or there is no processor. All threads that were
+/// started have ended.
 pub fn run_in_threads<
     J: Job<Receipt = u64> + 'static,
     R: Threads + Wait + Clock + Copy + Send + 'static,
->(rt: &R, alloc: Global, parts: Parts<J>, jobs: Vec<J>) -> Result<Closed<J>, ThreadsFault>
+>(rt: &R, alloc: Global, parts: Parts<J>, jobs: Vec<J>) -> Result<Ended<J>, ThreadsFault>
     requires parts { AreOfOneOpen parts }
     requires sound { AreSoundParts J.key_of J.gives parts }
-    ensures closes { IfOk result (λ closed. ClosesSame J.key_of J.gives parts closed) }
-    ensures ran { AreUnused parts → IfOk result (λ closed. HasNoneBack closed) }
+    ensures closes { IfOk result (λ ended. ClosesSame J.key_of J.gives parts ended.closed) }
+    ensures ran { AreUnused parts → IfOk result (λ ended. HasNoneBack ended.closed) }
+    ensures all { AreUnused parts → IfOk result (λ ended. HaveAllRun J.key_of jobs.items (map (λ own. own.items) ended.answers.items) (keys_ran ended.closed)) }
 {
-    let ended = run_parts(rt, alloc, parts, jobs)?;
+    if parts.processors.is_empty() {
+        return Err(ThreadsFault::CannotRun);
+    }
+    let (ended, answers) = run_parts(rt, alloc, parts, jobs)?;
     same_parts::<J>();
     let Ok(closed) = close(alloc, ended) else {
         return Err(ThreadsFault::Memory);
     };
-    Ok(closed)
+    Ok(Ended { closed, answers })
 }

@@ -1,7 +1,7 @@
-use rcu_jobs::{BoxedJob, Closed};
+use rcu_jobs::{BoxedJob, Closed, Job, Refused};
 use rcu_numbers::Shape;
 use rcu_parts::open;
-use rcu_threads::run_in_threads;
+use rcu_threads::{Ended, run_in_threads};
 use std::alloc::{AllocError, Global};
 use std::rt::Clock;
 use std::sync::atomic::{AtomicU64, Ordering};
@@ -32,10 +32,10 @@ fn run<R: Threads + Wait + Clock + Copy + Send + 'static>(
     alloc: Global,
     shape: Option<Shape>,
     jobs: Vec<Work>,
-) -> Result<Closed<Work>, Fail> {
+) -> Result<Ended<Work>, Fail> {
     let parts = open(alloc, shape.ok_or("no shape")?)?;
     match run_in_threads(rt, alloc, parts, jobs) {
-        Ok(closed) => Ok(closed),
+        Ok(ended) => Ok(ended),
         Err(_) => Err("not run".into()),
     }
 }
@@ -63,9 +63,9 @@ fn ran_its_own(closed: &Closed<Work>, p: usize, many: u64, rounds: usize) -> boo
 fn four_processors_in_threads(rt: HostRuntime) -> Result<(), Fail> {
     let alloc = rt.alloc();
     let shape = Shape::new(4, 0b1110, 2, 10, 10000, 1000);
-    let closed = run(&rt, alloc, shape, jobs(alloc, 8)?)?;
+    let ended = run(&rt, alloc, shape, jobs(alloc, 8)?)?;
     for p in 0..4 {
-        assert!(rt; ran_its_own(&closed, p, 4, 2));
+        assert!(rt; ran_its_own(&ended.closed, p, 4, 2));
     }
     Ok(())
 }
@@ -74,9 +74,9 @@ fn four_processors_in_threads(rt: HostRuntime) -> Result<(), Fail> {
 fn thirty_two_processors_in_threads(rt: HostRuntime) -> Result<(), Fail> {
     let alloc = rt.alloc();
     let shape = Shape::new(32, u32::MAX, 6, 10, 10000, 1000);
-    let closed = run(&rt, alloc, shape, jobs(alloc, 32)?)?;
+    let ended = run(&rt, alloc, shape, jobs(alloc, 32)?)?;
     for p in 0..32 {
-        assert!(rt; ran_its_own(&closed, p, 32, 1));
+        assert!(rt; ran_its_own(&ended.closed, p, 32, 1));
     }
     Ok(())
 }
@@ -85,19 +85,49 @@ fn thirty_two_processors_in_threads(rt: HostRuntime) -> Result<(), Fail> {
 fn more_jobs_than_rounds(rt: HostRuntime) -> Result<(), Fail> {
     let alloc = rt.alloc();
     let shape = Shape::new(2, 0b01, 1, 10, 10000, 1000);
-    let closed = run(&rt, alloc, shape, jobs(alloc, 5)?)?;
-    assert!(rt; ran_its_own(&closed, 0, 2, 3));
-    assert!(rt; ran_its_own(&closed, 1, 2, 2));
+    let ended = run(&rt, alloc, shape, jobs(alloc, 5)?)?;
+    assert!(rt; ran_its_own(&ended.closed, 0, 2, 3));
+    assert!(rt; ran_its_own(&ended.closed, 1, 2, 2));
     Ok(())
 }
 
+/// Whether the answers of processor `p`, whose limit is 2, are tickets of the numbers 0 and 1, and then the jobs with the keys
+/// from `key` on, by `many` from one to the next, each refused at the limit.
+fn refused_its_last(ended: &Ended<Work>, p: u64, key: u64, many: u64) -> bool {
+    let Some(answers) = ended.answers.get(p as usize) else {
+        return false;
+    };
+    let mut number: u64 = 0;
+    let mut next = key;
+    for answer in answers.iter() {
+        match answer {
+            Ok(ticket) => {
+                if ticket.cpu != p || ticket.number != number {
+                    return false;
+                }
+                number = number.saturating_add(1);
+            }
+            Err(Refused::Limit(job)) => {
+                if job.key() != next {
+                    return false;
+                }
+                next = next.saturating_add(many);
+            }
+            Err(_) => return false,
+        }
+    }
+    number == 2 && answers.len() == 4
+}
+
 #[test]
-fn refused_jobs_are_dropped(rt: HostRuntime) -> Result<(), Fail> {
+fn refused_jobs_come_back(rt: HostRuntime) -> Result<(), Fail> {
     let alloc = rt.alloc();
     let shape = Shape::new(2, 0b10, 1, 10, 10000, 2);
-    let closed = run(&rt, alloc, shape, jobs(alloc, 8)?)?;
-    assert!(rt; ran_its_own(&closed, 0, 2, 2));
-    assert!(rt; ran_its_own(&closed, 1, 2, 2));
+    let ended = run(&rt, alloc, shape, jobs(alloc, 8)?)?;
+    assert!(rt; ran_its_own(&ended.closed, 0, 2, 2));
+    assert!(rt; ran_its_own(&ended.closed, 1, 2, 2));
+    assert!(rt; refused_its_last(&ended, 0, 4, 2));
+    assert!(rt; refused_its_last(&ended, 1, 5, 2));
     Ok(())
 }
 
@@ -105,9 +135,9 @@ fn refused_jobs_are_dropped(rt: HostRuntime) -> Result<(), Fail> {
 fn no_jobs(rt: HostRuntime) -> Result<(), Fail> {
     let alloc = rt.alloc();
     let shape = Shape::new(3, 0b010, 2, 10, 10000, 1000);
-    let closed = run(&rt, alloc, shape, jobs(alloc, 0)?)?;
+    let ended = run(&rt, alloc, shape, jobs(alloc, 0)?)?;
     for p in 0..3 {
-        assert!(rt; ran_its_own(&closed, p, 3, 0));
+        assert!(rt; ran_its_own(&ended.closed, p, 3, 0));
     }
     Ok(())
 }
@@ -143,8 +173,8 @@ fn two_jobs_meet(rt: HostRuntime) -> Result<(), Fail> {
     let mut jobs = Vec::new(alloc);
     jobs.push(meeting(alloc, 0, Arc::try_clone(&first)?, Arc::try_clone(&second)?)?)?;
     jobs.push(meeting(alloc, 1, second, first)?)?;
-    let closed = run(&rt, alloc, shape, jobs)?;
-    for ran in closed.ran.iter() {
+    let ended = run(&rt, alloc, shape, jobs)?;
+    for ran in ended.closed.ran.iter() {
         assert_eq!(rt; ran.len(), 1);
         for record in ran.iter() {
             assert_eq!(rt; record.receipt, 1);

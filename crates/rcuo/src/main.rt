@@ -7,6 +7,8 @@ ghost use Rattle.std.specs.Prelude.{◌≡◌};
 mod plan;
 #[cfg(test)]
 mod tests;
+#[cfg(test)]
+mod tests_threads;
 mod threading;
 mod versions;
 

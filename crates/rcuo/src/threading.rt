@@ -19,7 +19,8 @@ use std::sync::Wait;
 use std::thread::Threads;
 
 /// Gives each processor `calls` jobs, in rounds, and runs all parts in threads of their own until a barrier has passed that
-/// was opened with all tickets. Then it closes the runtime and prints the totals, without the reports.
+/// was opened with all tickets. Then it closes the runtime and prints the totals, without the reports. Each job has run, or was
+/// refused, and is dropped then.
 ///
 /// # Errors
 ///
@@ -38,7 +39,7 @@ pub fn threads<R: Threads + Wait + Clock + Copy + Send + 'static, W: Write>(
 {
     let parts = open(alloc, plan.setup.shape)?;
     match run_in_threads(rt, alloc, parts, jobs) {
-        Ok(closed) => print_totals(alloc, &closed, writer),
+        Ok(ended) => print_totals(alloc, &ended.closed, writer),
         Err(ThreadsFault::Memory) => Err(Fault::memory()),
         Err(ThreadsFault::CannotRun) => Err(Fault::CannotRun),
     }

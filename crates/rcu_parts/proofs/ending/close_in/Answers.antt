@@ -20,14 +20,14 @@ gather_groups-members-requires-after_bounds g c κs within =
     let k = c.args.parts.control in
     let d = c.args.parts.driver in
     let b : c.deref-2.result.now ≡ control_board k = c.deref-2.ensures ∙ c.into_parts-board.ensures.0 in
-    let at : c.merge.new.all.seat.table_id ≡ (control_board k).table.shared.table_id = c.merge.ensures.same ∙ (c.new-all.ensures.board ∙ (ap (λ s. s.seat.table_id) c.into_parts-board.ensures.1 ∙ k.here)) in
+    let at : c.merge.new.all.seat.table_id ≡ (control_board k).words.table.shared.table_id = c.merge.ensures.same ∙ (c.new-all.ensures.board ∙ (ap (λ s. s.seat.table_id) c.into_parts-board.ensures.1 ∙ k.here)) in
     let two = two_views k d c.merge.new.all c.new-all.result c.into_parts-board.result.1 c.into_seat.result c.new-all.ensures.view c.into_parts-board.ensures.1 c.into_seat.ensures c.merge.ensures.view in
     let rests : (control_view k).running ++ (driver_view d).running ≡ [] = ap (λ l. l ++ (driver_view d).running) k.bare.running ∙ d.bare.running in (
       h,
       (
         in_struct _ _ _ (in_struct _ _ _ (in_struct _ _ _ h)),
         (
-          at ∙ ap (λ t. t.table.shared.table_id) (sym b),
+          at ∙ ap (λ t. t.words.table.shared.table_id) (sym b),
           (
             ap (λ w. w.running) two ∙ rests,
             (
@@ -46,7 +46,7 @@ end_each-requires-clause-ready g c κs within =
     let q : FitsInMemory (hand_row.the_row (param 0 g.row.J) (param 1 g.row.J-Receipt)) = assumption in
     let k = c.args.parts.control in
     let t = c.gather_groups-members.ensures in
-    let at : c.gather_groups-members.new.all.seat.table_id ≡ (control_board k).table.shared.table_id
+    let at : c.gather_groups-members.new.all.seat.table_id ≡ (control_board k).words.table.shared.table_id
     = t.same ∙ (c.merge.ensures.same ∙ (c.new-all.ensures.board ∙ (ap (λ s. s.seat.table_id) c.into_parts-board.ensures.1 ∙ k.here))) in (
       p,
       (
@@ -55,7 +55,7 @@ end_each-requires-clause-ready g c κs within =
           q,
           first_ready g.J.Job.key_of g.J.Job.gives c.args.parts c.args.room c.from.result.items c.from-2.result.items c.from-3.result.items
               (record { board = c.into_parts-board.result.0; all = c.gather_groups-members.new.all; ran = c.args.room.ran; back = c.args.room.back })
-              c.requires.parts c.requires.sound c.requires.room c.into_parts-board.ensures.0 (at ∙ ap (λ b. b.table.shared.table_id) (sym c.into_parts-board.ensures.0)) t.rests
+              c.requires.parts c.requires.sound c.requires.room c.into_parts-board.ensures.0 (at ∙ ap (λ b. b.words.table.shared.table_id) (sym c.into_parts-board.ensures.0)) t.rests
               (c.from.ensures.0 ∙ t.members) c.from-2.ensures.0 c.from-3.ensures.0 refl refl,
         ),
       ),
@@ -89,10 +89,10 @@ returns g c =
     c.load_last-reports.ensures refl refl c.closing.ensures.closes c.closing.ensures.reports
 
 pub merge-requires-clause-all : goal.merge-requires-clause-all
-merge-requires-clause-all g c = let k = c.args.parts.control in c.new-all.ensures.board ∙ (ap (λ s. s.seat.table_id) c.into_parts-board.ensures.1 ∙ (k.here ∙ ap (λ t. t.table.shared.table_id) (sym (c.deref.ensures ∙ c.into_parts-board.ensures.0))))
+merge-requires-clause-all g c = let k = c.args.parts.control in c.new-all.ensures.board ∙ (ap (λ s. s.seat.table_id) c.into_parts-board.ensures.1 ∙ (k.here ∙ ap (λ t. t.words.table.shared.table_id) (sym (c.deref.ensures ∙ c.into_parts-board.ensures.0))))
 
 pub merge-requires-clause-board : goal.merge-requires-clause-board
-merge-requires-clause-board g c = ap (λ s. s.seat.table_id) c.into_seat.ensures ∙ (c.args.parts.driver.here ∙ ap (λ t. t.table.shared.table_id) (c.requires.parts.driver ∙ sym (c.deref.ensures ∙ c.into_parts-board.ensures.0)))
+merge-requires-clause-board g c = ap (λ s. s.seat.table_id) c.into_seat.ensures ∙ (c.args.parts.driver.here ∙ ap (λ t. t.words.table.shared.table_id) (c.requires.parts.driver ∙ sym (c.deref.ensures ∙ c.into_parts-board.ensures.0)))
 
 pub merge-requires-clause-rests : goal.merge-requires-clause-rests
 merge-requires-clause-rests g c = ap (λ w. w.running) (c.new-all.ensures.view ∙ ap view c.into_parts-board.ensures.1) ∙ c.args.parts.control.bare.running
@@ -113,7 +113,7 @@ pub end_each-requires-send-J-Receipt : goal.end_each-requires-send-J-Receipt
 end_each-requires-send-J-Receipt g c κs within = c.type_bounds.send-J-Receipt
 
 pub load_last-reports-requires-clause-at : goal.load_last-reports-requires-clause-at
-load_last-reports-requires-clause-at g c = c.end_each.ensures.at ∙ ap (λ t. t.table.shared.table_id) (sym c.deref-3.ensures)
+load_last-reports-requires-clause-at g c = c.end_each.ensures.at ∙ ap (λ t. t.words.table.shared.table_id) (sym c.deref-3.ensures)
 
 pub load_last-reports-requires-clause-none : goal.load_last-reports-requires-clause-none
 load_last-reports-requires-clause-none g c = c.requires.room.no_reports

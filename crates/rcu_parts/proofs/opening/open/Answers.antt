@@ -68,7 +68,7 @@ open_groups-requires-after_bounds g c κs within = let shape = c.args.shape in l
     (folk_fits g start, (group_fits g start, (groups_of_board shape b s new many mask, (c.in_ok-folks.ensures.cpus, c.in_ok-folks.ensures.empty))))
 
 pub new-requires-2-clause-here : goal.new-requires-2-clause-here
-new-requires-2-clause-here g c = c.in_ok-board.ensures.seats.control.board ∙ ap (λ (x : Board). x.table.shared.table_id) (sym c.in_ok-board-2.ensures.ok)
+new-requires-2-clause-here g c = c.in_ok-board.ensures.seats.control.board ∙ ap (λ (x : Board). x.words.table.shared.table_id) (sym c.in_ok-board-2.ensures.ok)
 
 pub new-requires-2-clause-role : goal.new-requires-2-clause-role
 new-requires-2-clause-role g c = c.in_ok-board.ensures.seats.control.who

@@ -1,9 +1,6 @@
-use Rattle.std.proofs.Common.{◌≡◌, [], ◌∷◌, ◌++◌}
+use Rattle.std.proofs.Common.{◌≡◌, ◌++◌, take}
+use Rattle.rcu_threads.specs.Dealing.{tickets_in}
 use Rattle.rcu_threads.proofs.calling.keep.Given as goal
 
-abbrev pub invariant-loop-ticket : goal.invariant-loop-ticket
-invariant-loop-ticket g l = record {
-  order : l.yielded ++ l.ticket-iterator.rest.items ≡ l.fn.called.tickets.items;
-  tickets : l.tickets.items ≡ l.fn.tickets.items ++ l.yielded;
-  processors : l.processors.items ≡ l.fn.processors.items ++ l.fn.called.processor ∷ [];
-}
+abbrev pub invariant-loop-answer : goal.invariant-loop-answer
+invariant-loop-answer g l = l.tickets.items ≡ l.fn.tickets.items ++ tickets_in (take l.answer-index l.fn.one.answers.items)

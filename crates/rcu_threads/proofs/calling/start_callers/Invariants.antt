@@ -2,10 +2,9 @@ use Rattle.std.proofs.Common.{◌≡◌, ◌+◌, ◌≤◌, ◌++◌, length, v
 use Rattle.std.specs.List.{AllZip}
 use Rattle.rcu_threads.proofs.calling.start_callers.Given as goal
 
-abbrev pub invariant-loop-processor : goal.invariant-loop-processor
-invariant-loop-processor g l = record {
-  order : l.yielded ++ l.processor-iterator.rest.items ≡ l.fn.processors.items;
-  many : length l.loads.items ≡ length l.processor-iterator.rest.items;
-  room : vec_len l.threads + length l.processor-iterator.rest.items ≤ vec_capacity l.threads;
-  started : AllZip (λ processor thread. thread.promise.0.value ≡ processor) l.yielded l.threads.items;
+abbrev pub invariant-loop-caller : goal.invariant-loop-caller
+invariant-loop-caller g l = record {
+  order : l.yielded ++ l.caller-iterator.rest.items ≡ l.fn.callers.items;
+  room : vec_len l.threads + length l.caller-iterator.rest.items ≤ vec_capacity l.threads;
+  started : AllZip (λ caller thread. thread.promise.0.value ≡ caller) l.yielded l.threads.items;
 }

@@ -1,5 +1,6 @@
-use Rattle.std.proofs.Common.{rules}
-use Rattle.rcu_threads.proofs.Ending.{all_same, all_sound, none_handed_back}
+use Rattle.std.proofs.Common.{◌<◌, ◌∙◌, sym, map, vec_len, rules}
+use Rattle.rcu_threads.proofs.Dealt.{some_of}
+use Rattle.rcu_threads.proofs.Ending.{all_have_run, all_same, all_sound, none_handed_back}
 use Rattle.rcu_threads.proofs.running.run_in_threads.Goals as goal
 
 pub run_parts-requires-send-J : goal.run_parts-requires-send-J
@@ -15,23 +16,17 @@ pub close-requires-send-J-Receipt : goal.close-requires-send-J-Receipt
 close-requires-send-J-Receipt g c κs within = search rules
 
 pub run_parts-requires-after_bounds : goal.run_parts-requires-after_bounds
-run_parts-requires-after_bounds g c κs within = assumption
+run_parts-requires-after_bounds g c κs within = let some : 0 < vec_len c.args.parts.processors = some_of (vec_len c.args.parts.processors) (sym c.is_empty.ensures ∙ c.if-is_empty.false) in (assumption, (assumption, (assumption, some)))
 
 pub close-requires-after_bounds : goal.close-requires-after_bounds
-close-requires-after_bounds g c κs within = let key_of = g.J.Job.key_of in let gives = g.J.Job.gives in let old = c.args.parts in let new = c.in_ok-ended.ended in let ran = c.in_ok-ended.ensures in
+close-requires-after_bounds g c κs within = let key_of = g.J.Job.key_of in let gives = g.J.Job.gives in let old = c.args.parts in let new = c.in_ok-ended.ended in let ran = c.in_ok-ended.ensures.ran in
     (assumption, (assumption, (assumption, (c.same_parts.ensures.one old new (all_same key_of gives old new ran) c.requires.parts, all_sound key_of gives old new ran c.requires.sound))))
 
 pub returns-clause-closes : goal.returns-clause-closes
-returns-clause-closes g c = record { ended = c.in_ok-ended.ended; same = all_same g.J.Job.key_of g.J.Job.gives c.args.parts c.in_ok-ended.ended c.in_ok-ended.ensures; closes = c.in-Ok.ensures.closes }
+returns-clause-closes g c = record { ended = c.in_ok-ended.ended; same = all_same g.J.Job.key_of g.J.Job.gives c.args.parts c.in_ok-ended.ended c.in_ok-ended.ensures.ran; closes = c.in-Ok.ensures.closes }
 
 pub returns-clause-ran : goal.returns-clause-ran
-returns-clause-ran g c = λ unused. none_handed_back g.J.Job.key_of g.J.Job.gives c.args.parts c.in_ok-ended.ended c.in-Ok.closed c.in_ok-ended.ensures unused c.in-Ok.ensures.closes
+returns-clause-ran g c = λ unused. none_handed_back g.J.Job.key_of g.J.Job.gives c.args.parts c.in_ok-ended.ended c.in-Ok.closed c.in_ok-ended.ensures.ran unused c.in-Ok.ensures.closes
 
-pub drop-requires-room-T-Destruct : goal.drop-requires-room-T-Destruct
-drop-requires-room-T-Destruct g c κs within = assumption
-
-pub drop-requires-in_default-3-room-T-Destruct : goal.drop-requires-in_default-3-room-T-Destruct
-drop-requires-in_default-3-room-T-Destruct g c κs within = assumption
-
-pub drop-requires-in_default-4-room-T-Destruct : goal.drop-requires-in_default-4-room-T-Destruct
-drop-requires-in_default-4-room-T-Destruct g c κs within = assumption
+pub returns-clause-all : goal.returns-clause-all
+returns-clause-all g c = λ unused. all_have_run g.J.Job.key_of g.J.Job.gives c.args.parts c.in_ok-ended.ended c.in-Ok.closed c.args.jobs.items (map (λ own. own.items) c.in_ok-ended.answers.items) c.in_ok-ended.ensures.ran unused c.in-Ok.ensures.closes (c.in_ok-ended.ensures.answered unused)

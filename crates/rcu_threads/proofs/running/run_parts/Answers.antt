@@ -1,7 +1,13 @@
-use Rattle.std.proofs.Common.{◌≡◌, length, rules}
+use Rattle.std.proofs.Common.{◌≡◌, ℕ, ◌<◌, length, map, ap, sym, subst, rules, arith}
+use Rattle.std.specs.Prelude.{All}
+use Rattle.std.specs.List.{AllZip}
+use Rattle.std.proofs.lemmas.List.{length-map}
+use Rattle.rcu_gathering.proofs.Lists.{all_map}
+use Rattle.rcu_part_processor.specs.declared.processor.Processor.{Processor}
 use Rattle.rcu_control.proofs.Stepping.{same_again}
 use Rattle.rcu_control.specs.Parts.{control_view}
 use Rattle.rcu_threads.specs.Parts.{GroupStays, HandStays}
+use Rattle.rcu_threads.specs.Runs.{HasRun}
 use Rattle.rcu_threads.proofs.Tickets.{all_halted, driver_kept}
 use Rattle.rcu_threads.proofs.Zips.{zip_kept}
 use Rattle.rcu_threads.proofs.running.run_parts.Goals as goal
@@ -18,11 +24,11 @@ start_hands-hands-requires-send-J g c κs within = assumption
 pub start_hands-hands-requires-send-R : goal.start_hands-hands-requires-send-R
 start_hands-hands-requires-send-R g c κs within = assumption
 
-pub run_processors-processors-requires-send-J : goal.run_processors-processors-requires-send-J
-run_processors-processors-requires-send-J g c κs within = assumption
+pub run_processors-answered-requires-send-J : goal.run_processors-answered-requires-send-J
+run_processors-answered-requires-send-J g c κs within = assumption
 
-pub run_processors-processors-requires-send-R : goal.run_processors-processors-requires-send-R
-run_processors-processors-requires-send-R g c κs within = assumption
+pub run_processors-answered-requires-send-R : goal.run_processors-answered-requires-send-R
+run_processors-answered-requires-send-R g c κs within = assumption
 
 pub start_groups-groups-requires-after_bounds : goal.start_groups-groups-requires-after_bounds
 start_groups-groups-requires-after_bounds g c κs within = assumption
@@ -30,17 +36,34 @@ start_groups-groups-requires-after_bounds g c κs within = assumption
 pub start_hands-hands-requires-after_bounds : goal.start_hands-hands-requires-after_bounds
 start_hands-hands-requires-after_bounds g c κs within = assumption
 
-pub run_processors-processors-requires-after_bounds : goal.run_processors-processors-requires-after_bounds
-run_processors-processors-requires-after_bounds g c κs within = let many : length c.in-Ok-deal.loads.items ≡ length c.args.parts.processors.items = search rules in (assumption, many)
+pub run_processors-answered-requires-after_bounds : goal.run_processors-answered-requires-after_bounds
+run_processors-answered-requires-after_bounds g c κs within = assumption
 
-pub returns : goal.returns
-returns g c = let key_of = g.J.Job.key_of in let gives = g.J.Job.gives in let parts = c.args.parts in record {
-  control = same_again _ _ _ _ _ _ c.run_processors-processors.ensures.same c.finish.ensures.same;
-  driver = driver_kept (λ t. t.promise.0.value) c.start_driver-driver.result parts.driver c.in_ok-driver.field-0 c.start_driver-driver.ensures c.in_ok-driver.ensures;
-  groups = zip_kept (λ t. t.promise.0.value) (λ t q. GroupStays t.promise.0.value q) GroupStays (λ t q kept. kept) parts.groups.items c.start_groups-groups.result.threads.items c.in_ok-groups.field-0.items (c.start_groups-groups.ensures c.in_ok-groups.ensures.whole) c.in_ok-groups.ensures.kept;
-  hands = zip_kept (λ t. t.promise.0.value) (λ t q. HandStays key_of gives t.promise.0.value q) (HandStays key_of gives) (λ t q kept. kept) parts.hands.items c.start_hands-hands.result.threads.items c.in_ok-hands.field-0.items (c.start_hands-hands.ensures c.in_ok-hands.ensures.whole) c.in_ok-hands.ensures.kept;
-  processors = all_halted key_of gives (control_view c.run_processors-processors.new.control) (control_view c.finish.new.self) 1 parts.processors.items c.in_ok-processors.field-0.items c.finish.ensures.halts c.in_ok-processors.ensures.ran;
-}
+pub returns-clause-ran : goal.returns-clause-ran
+returns-clause-ran g c = let key_of = g.J.Job.key_of in let gives = g.J.Job.gives in let parts = c.args.parts in let rs = c.in_ok-processors.field-0.processors.items in
+    let v = control_view c.run_processors-answered.new.control in
+    let ran = subst (λ ps. AllZip (HasRun key_of gives v) ps rs) c.in-Ok-deal.ensures.processors c.in_ok-processors.ensures.ran in record {
+      control = same_again _ _ _ _ _ _ c.run_processors-answered.ensures.same c.finish.ensures.same;
+      driver = driver_kept (λ t. t.promise.0.value) c.start_driver-driver.result parts.driver c.in_ok-driver.driver c.start_driver-driver.ensures c.in_ok-driver.ensures;
+      groups = zip_kept (λ t. t.promise.0.value) (λ t q. GroupStays t.promise.0.value q) GroupStays (λ t q kept. kept) parts.groups.items c.start_groups-groups.result.threads.items c.in_ok-groups.groups.items (c.start_groups-groups.ensures c.in_ok-groups.ensures.whole) c.in_ok-groups.ensures.kept;
+      hands = zip_kept (λ t. t.promise.0.value) (λ t q. HandStays key_of gives t.promise.0.value q) (HandStays key_of gives) (λ t q kept. kept) parts.hands.items c.start_hands-hands.result.threads.items c.in_ok-hands.hands.items (c.start_hands-hands.ensures c.in_ok-hands.ensures.whole) c.in_ok-hands.ensures.kept;
+      processors = all_halted key_of gives v (control_view c.finish.new.self) 1 parts.processors.items rs c.finish.ensures.halts ran;
+    }
+
+pub returns-clause-answered : goal.returns-clause-answered
+returns-clause-answered g c = λ unused. let callers = c.in-Ok-deal.callers.items in let ps = c.args.parts.processors.items in
+    let Unused : Processor g.row.J.Denot ℕ → Type 0 = λ p. p.state.accepted ≡ 0 in
+    let none = all_map Unused (λ y. y.processor) callers (subst (λ l. All Unused l) (sym c.in-Ok-deal.ensures.processors) unused) in
+    let answered = c.in_ok-processors.ensures.answered none in
+    let some : 0 < length ps = subst (λ n. 0 < n) c.args.parts.processors.ok.0 c.requires in
+    let many = ap (λ l. length l) c.in-Ok-deal.ensures.processors in
+    let jobs = length-map callers (λ y. y.jobs.items) in let parts = length-map callers (λ y. y.processor) in record {
+      shares = map (λ y. y.jobs.items) callers;
+      some = omega (arith, some, many, jobs, parts);
+      dealt = c.in-Ok-deal.ensures.dealt;
+      answered = answered.answered;
+      accepted = answered.keys;
+    }
 
 pub drop-parts-requires-room-T-Destruct : goal.drop-parts-requires-room-T-Destruct
 drop-parts-requires-room-T-Destruct g c κs within = assumption
@@ -50,15 +73,6 @@ drop-parts-requires-in_default-3-room-T-Destruct g c κs within = assumption
 
 pub drop-parts-requires-in_default-4-room-T-Destruct : goal.drop-parts-requires-in_default-4-room-T-Destruct
 drop-parts-requires-in_default-4-room-T-Destruct g c κs within = assumption
-
-pub drop-parts-requires-in_default-deal-room-T-Destruct : goal.drop-parts-requires-in_default-deal-room-T-Destruct
-drop-parts-requires-in_default-deal-room-T-Destruct g c κs within = assumption
-
-pub drop-parts-requires-in_default-deal-4-room-T-Destruct : goal.drop-parts-requires-in_default-deal-4-room-T-Destruct
-drop-parts-requires-in_default-deal-4-room-T-Destruct g c κs within = assumption
-
-pub drop-parts-requires-in_default-deal-5-room-T-Destruct : goal.drop-parts-requires-in_default-deal-5-room-T-Destruct
-drop-parts-requires-in_default-deal-5-room-T-Destruct g c κs within = assumption
 
 pub join_all-groups-requires-room-P-Promise : goal.join_all-groups-requires-room-P-Promise
 join_all-groups-requires-room-P-Promise g c κs within = assumption
@@ -78,23 +92,8 @@ drop-hands-requires-room-T-Destruct g c κs within = assumption
 pub drop-groups-requires-room-T-Destruct : goal.drop-groups-requires-room-T-Destruct
 drop-groups-requires-room-T-Destruct g c κs within = assumption
 
-pub drop-processors-requires-room-T-Destruct : goal.drop-processors-requires-room-T-Destruct
-drop-processors-requires-room-T-Destruct g c κs within = assumption
-
 pub drop-hands-requires-in_err-groups-room-T-Destruct : goal.drop-hands-requires-in_err-groups-room-T-Destruct
 drop-hands-requires-in_err-groups-room-T-Destruct g c κs within = assumption
 
-pub drop-processors-requires-in_err-groups-room-T-Destruct : goal.drop-processors-requires-in_err-groups-room-T-Destruct
-drop-processors-requires-in_err-groups-room-T-Destruct g c κs within = assumption
-
 pub drop-branch-requires-in_err-hands-room-T-Destruct : goal.drop-branch-requires-in_err-hands-room-T-Destruct
 drop-branch-requires-in_err-hands-room-T-Destruct g c κs within = assumption
-
-pub drop-processors-requires-in_err-hands-room-T-Destruct : goal.drop-processors-requires-in_err-hands-room-T-Destruct
-drop-processors-requires-in_err-hands-room-T-Destruct g c κs within = assumption
-
-pub drop-branch-requires-in_err-processors-room-T-Destruct : goal.drop-branch-requires-in_err-processors-room-T-Destruct
-drop-branch-requires-in_err-processors-room-T-Destruct g c κs within = assumption
-
-pub drop-branch-requires-in_err-processors-2-room-T-Destruct : goal.drop-branch-requires-in_err-processors-2-room-T-Destruct
-drop-branch-requires-in_err-processors-2-room-T-Destruct g c κs within = assumption

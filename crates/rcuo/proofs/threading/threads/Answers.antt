@@ -1,4 +1,4 @@
-use Rattle.std.proofs.Common.{◌≡◌, refl, false}
+use Rattle.std.proofs.Common.{◌≡◌, map, refl, false}
 use Rattle.std.proofs.lemmas.Result.{on_ok_weaker}
 use Rattle.std.specs.List.{range_with_len}
 use Rattle.rcu_jobs.specs.Promised.{Promised}
@@ -15,7 +15,7 @@ pub returns-in-Ok : goal.returns-in-Ok
 returns-in-Ok g c =
     let setup = c.args.plan.now.setup in
     let start = c.in_ok-parts.parts in
-    let closed = c.in-Ok.closed in
+    let closed = c.in-Ok.ended.closed in
     let opened = c.in_ok-parts.ensures.opened in
     -- parts that were just opened have accepted nothing
     let unused : AreUnused start =
@@ -28,6 +28,8 @@ returns-in-Ok g c =
       closed = closed;
       closes = c.in-Ok.ensures.closes;
       none_back = c.in-Ok.ensures.ran unused;
+      answers = map (λ own. own.items) c.in-Ok.ended.answers.items;
+      all = c.in-Ok.ensures.all unused;
       whole = refl;
     } in
     record {

@@ -126,7 +126,7 @@ pub into_state-hands_seat-requires-send-J-Receipt : goal.into_state-hands_seat-r
 into_state-hands_seat-requires-send-J-Receipt g c κs within = c.type_bounds.send-J-Receipt
 
 pub take_in-requires-2-clause-at : goal.take_in-requires-2-clause-at
-take_in-requires-2-clause-at g c κs within = c.take_in.ensures.same ∙ (c.requires.may.at ∙ ap (λ b. b.table.shared.table_id) (sym (ap board_at c.take_in.ensures.others)))
+take_in-requires-2-clause-at g c κs within = c.take_in.ensures.same ∙ (c.requires.may.at ∙ ap (λ b. b.words.table.shared.table_id) (sym (ap board_at c.take_in.ensures.others)))
 
 pub take_in-requires-2-clause-rests : goal.take_in-requires-2-clause-rests
 take_in-requires-2-clause-rests g c κs within = still_rests (all_view c.args.self.now) (view c.into_state-seat.result.seat) (all_view c.take_in.new.self) c.take_in.ensures.view c.requires.may.rests
