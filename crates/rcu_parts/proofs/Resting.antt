@@ -34,11 +34,8 @@ pub still_rests : (v w all : View) → all ≡ joined v w → v.running ≡ [] �
 still_rests v w all e h k = ap (λ (u : View). u.running) e ∙ (ap (λ l. l ++ w.running) h ∙ k)
 
 -- a seat's view has a sight of each word of its board
-pub is_long : (b : Board) (s : Seat) → AtBoard b s → length (view s).seen ≡ words_of b.processors
-is_long b s at = seen-long b s at
-
 pub is_long_at : (b c : Board) (s : Seat) → c ≡ b → AtBoard c s → length (view s).seen ≡ words_of b.processors
-is_long_at b c s same at = subst (λ d. length (view s).seen ≡ words_of d.processors) same (is_long c s at)
+is_long_at b c s same at = subst (λ d. length (view s).seen ≡ words_of d.processors) same (seen-long c s at)
 
 pub one_long : (b c : Board) (s : Seat) → c ≡ b → AtBoard c s → AreLong b.processors (view s ∷ [])
 one_long b c s same at = all_cons (λ w. length w.seen ≡ words_of b.processors) (view s) [] (is_long_at b c s same at) (all_none (λ w. length w.seen ≡ words_of b.processors))
