@@ -3,6 +3,7 @@
 //! its job type and its calls, and nothing else.
 #![tactic(auto)]
 
+mod apart;
 mod calling;
 mod closing;
 mod fault;

@@ -53,6 +53,15 @@ impl<A: Wholeness> Whole<A> {
         let Whole { parts, limit: _ } = self;
         parts
     }
+
+    /// The parts, of which all was kept, and how many callbacks each processor accepts in its life.
+    pub(crate) fn into_fields(self) -> (A, u64)
+        ensures parts { result.0 ≡ self }
+        ensures whole { A.is_whole result.1 result.0 }
+    {
+        let Whole { parts, limit } = self;
+        (parts, limit)
+    }
 }
 
 impl<A: Wholeness> Drop for Whole<A> {
