@@ -41,8 +41,8 @@ module _ {J R : Type 0} where
     more_accepted (Ok t) a = let h = a.ok.count in omega (arith, h)
     more_accepted (Err x) a = let h = a.err.count in omega (arith, h)
 
-    pub accepted_continues : (r : Result Ticket (Refused J)) → Answers moment kind key job r p q → Continues old (with_processor parts k q)
-    accepted_continues r a = called_continues old parts seen k n p q there many is a.same (more_accepted r a)
+    pub accepted_continues : (r : Result Ticket (Refused J)) → Answers moment kind key job r p q → AreOfOneOpen parts → Continues old (with_processor parts k q)
+    accepted_continues r a one = called_continues old parts seen k n p q there many is a.same (more_accepted r a) one
 
     pub accepted_one : (r : Result Ticket (Refused J)) → Answers moment kind key job r p q → IfOk (given_back r) (λ _. accepted_in (with_processor parts k q) ≡ accepted_in old + 1)
     accepted_one (Ok t) a = let h = a.ok.count in omega (arith, h, called_accepted old parts seen k n p q there many is)

@@ -5,3 +5,4 @@ pub mod Accepted
 pub mod AllTurns
 pub mod Firsts
 pub mod Seen
+pub mod Drains

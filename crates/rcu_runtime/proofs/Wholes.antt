@@ -20,6 +20,7 @@ use Rattle.rcu_part_processor.proofs.TickRuns.{same_processor, same_processor_ag
 use Rattle.rcu_part_processor.specs.Processors.{IsSound, SameProcessor}
 use Rattle.rcu_part_processor.specs.declared.processor.Processor.{Processor}
 use Rattle.rcu_part_processor.specs.declared.processor.ProcessorState.{ProcessorState}
+use Rattle.rcu_parts.proofs.Draining.{stays_drained}
 use Rattle.rcu_parts.proofs.StaySame.{stay_same}
 use Rattle.rcu_parts.specs.OneOpen.{AreOfOneOpen, AreProcessorsFrom, AreSoundParts, Parts, groups_in, hands_in, parts_board, processors_in}
 use Rattle.rcu_parts.specs.SameParts.{AreSameParts}
@@ -80,6 +81,7 @@ module _ {J R : Type 0} where
       hands = hands_itself (hands_in parts);
     };
     accepted = omega arith;
+    drained = λ d. d;
   }
 
   pub continues_again : (old between new : Parts J R) → Continues old between → Continues between new → Continues old new
@@ -92,7 +94,12 @@ module _ {J R : Type 0} where
       hands = zip_again SameOfHand (λ p q r. same_hand_again p.state q.state r.state) (hands_in old) (hands_in between) (hands_in new) a.same.hands b.same.hands;
     };
     accepted = omega (arith, a.accepted, b.accepted);
+    drained = λ d. b.drained (a.drained d);
   }
+
+  -- the same parts, which have accepted no less
+  continues_same : (old new : Parts J R) → AreOfOneOpen old → AreSameParts old new → accepted_in old ≤ accepted_in new → Continues old new
+  continues_same old new one same more = record { same = same; accepted = more; drained = λ d. (d.0, stays_drained d.0 old new same one d.1) }
 
   continues_along : (old new : Parts J R) → new ≡ old → Continues old new
   continues_along old new e = subst (Continues old) (sym e) (continues_itself old)
@@ -146,8 +153,8 @@ module _ {J R : Type 0} where
         let here = ap (λ (x : Processor J R). x.state.accepted) c.is in
         omega (arith, new_is, sum, here)
 
-    pub continues_changed : SameProcessor p.state q.state → p.state.accepted ≤ q.state.accepted → Continues old new
-    continues_changed same more = record { same = same_changed same; accepted = omega (arith, accepted_changed, more) }
+    pub continues_changed : SameProcessor p.state q.state → p.state.accepted ≤ q.state.accepted → AreOfOneOpen old → Continues old new
+    continues_changed same more one = continues_same old new one (same_changed same) (omega (arith, accepted_changed, more))
 
     pub whole_changed : (key_of : J → ℕ) (gives : ℕ → R → Type 0) (limit : ℕ) → SameProcessor p.state q.state → (IsSound key_of gives p.state → IsSound key_of gives q.state)
         → IsWhole key_of gives limit old → IsWhole key_of gives limit new
@@ -186,8 +193,8 @@ module _ {J R : Type 0} where
         → IsWhole key_of gives limit parts → IsWhole key_of gives limit (with_processor parts k q)
     called_whole key_of gives limit same sound whole = whole_changed k p q parts (with_processor parts k q) changes key_of gives limit same sound whole
 
-    pub called_continues : SameProcessor p.state q.state → p.state.accepted ≤ q.state.accepted → Continues old (with_processor parts k q)
-    called_continues same more = subst (λ (x : Parts J R). Continues x (with_processor parts k q)) seen (continues_changed k p q parts (with_processor parts k q) changes same more)
+    pub called_continues : SameProcessor p.state q.state → p.state.accepted ≤ q.state.accepted → AreOfOneOpen parts → Continues old (with_processor parts k q)
+    called_continues same more one = subst (λ (x : Parts J R). Continues x (with_processor parts k q)) seen (continues_changed k p q parts (with_processor parts k q) changes same more one)
 
     pub called_on : (Does : ProcessorState J R → ProcessorState J R → Type 0) → AreOfOneOpen parts → Does p.state q.state → OnProcessor k Does old (with_processor parts k q)
     called_on Does one does = subst (λ (x : Parts J R). OnProcessor k Does x (with_processor parts k q)) seen (on_processor k p q parts (with_processor parts k q) changes Does one does)
@@ -212,8 +219,8 @@ module _ {J R : Type 0} where
   pub steered_whole : (key_of : J → ℕ) (gives : ℕ → R → Type 0) (limit : ℕ) (parts : Parts J R) (d : Control) → SameControl parts.control d → IsWhole key_of gives limit parts → IsWhole key_of gives limit (with_control parts d)
   steered_whole key_of gives limit parts d same whole = whole_kept key_of gives limit parts (with_control parts d) (steered_same parts d same) (λ s. record { processors = s.processors; hands = s.hands }) whole
 
-  pub steered_continues : (old parts : Parts J R) (d : Control) → parts ≡ old → SameControl parts.control d → Continues old (with_control parts d)
-  steered_continues old parts d seen same = subst (λ (x : Parts J R). Continues x (with_control parts d)) seen (record { same = steered_same parts d same; accepted = omega arith })
+  pub steered_continues : (old parts : Parts J R) (d : Control) → parts ≡ old → SameControl parts.control d → AreOfOneOpen parts → Continues old (with_control parts d)
+  steered_continues old parts d seen same one = subst (λ (x : Parts J R). Continues x (with_control parts d)) seen (continues_same parts (with_control parts d) one (steered_same parts d same) (omega arith))
 
   pub steered_on : (Does : Control → Control → Type 0) (old parts : Parts J R) (d : Control) → parts ≡ old → Does parts.control d → OnControl Does old (with_control parts d)
   steered_on Does old parts d seen does = subst (λ (x : Parts J R). OnControl Does x (with_control parts d)) seen (record { does = does; processors = refl; groups = refl; hands = refl; driver = refl })
@@ -278,8 +285,8 @@ module _ {J R : Type 0} where
     pub turned_count : (old parts new : Parts J R) → parts ≡ old → Turned parts new → accepted_in new ≡ accepted_in old
     turned_count old parts new seen t = counts_stay (processors_in parts) (processors_in new) t.processors ∙ ap (λ (x : Parts J R). accepted_in x) seen
 
-    pub turned_continues : (old parts new : Parts J R) → parts ≡ old → Turned parts new → Continues old new
-    turned_continues old parts new seen t = subst (λ (x : Parts J R). Continues x new) seen (record { same = turned_same parts new t; accepted = let count = turned_count parts parts new refl t in omega (arith, count) })
+    pub turned_continues : (old parts new : Parts J R) → parts ≡ old → Turned parts new → AreOfOneOpen parts → Continues old new
+    turned_continues old parts new seen t one = subst (λ (x : Parts J R). Continues x new) seen (continues_same parts new one (turned_same parts new t) (let count = turned_count parts parts new refl t in omega (arith, count)))
 
 -- ---- what stands for lists of turns
 

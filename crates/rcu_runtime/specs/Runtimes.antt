@@ -1,6 +1,10 @@
 -- What is said of a whole runtime, in the words of its parts: docs/embedding.md.
-use Rattle.std.specs.Prelude.{◌≡◌, ℕ, ◌≤◌, sum_by, All}
-use Rattle.rcu_parts.specs.OneOpen.{AreOfOneOpen, AreSoundParts, Parts, processors_in}
+use Rattle.std.specs.Prelude.{◌≡◌, ℕ, ◌<◌, ◌≤◌, sum_by, All}
+use Rattle.rcu_control.specs.Parts.{control_view}
+use Rattle.rcu_jobs.specs.declared.Counts.{Counts}
+use Rattle.rcu_parts.specs.Drained as at_close
+use Rattle.rcu_parts.specs.Drained.{IsCountedFor}
+use Rattle.rcu_parts.specs.OneOpen.{AreOfOneOpen, AreSoundParts, Parts, parts_board, processors_in}
 use Rattle.rcu_parts.specs.SameParts.{AreSameParts}
 
 module _ {J R : Type 0} where
@@ -8,10 +12,22 @@ module _ {J R : Type 0} where
   abbrev pub accepted_in : Parts J R → ℕ
   accepted_in parts = sum_by (λ p. p.state.accepted) (processors_in parts)
 
-  -- The same runtime, later: each part is the same part of the same open, and nothing that was accepted is forgotten.
+  -- It accepts nothing more, and all that it accepted has run: every processor was shut, and then a barrier passed that counts
+  -- all that they had accepted.
+  abbrev pub IsDrained : Parts J R → Type 0
+  IsDrained parts = (counts : Counts) × at_close.IsDrained counts parts
+
+  -- Control saw every processor shut, with no more accepted than a barrier of these counts waits for.
+  pub record IsShutFor (counts : Counts) (parts : Parts J R) : Type 0 where
+    pub many : counts.n ≡ (parts_board parts).processors
+    pub counted : (p : ℕ) → p < counts.n → IsCountedFor p counts (control_view parts.control)
+
+  -- The same runtime, later: each part is the same part of the same open, nothing that was accepted is forgotten, and once it is
+  -- drained it stays so.
   pub record Continues (old new : Parts J R) : Type 0 where
     pub same : AreSameParts old new
     pub accepted : accepted_in old ≤ accepted_in new
+    pub drained : IsDrained old → IsDrained new
 
   -- What `close` asks: the parts are those of one open, and know of their jobs what they should.
   pub record CanClose (key_of : J → ℕ) (gives : ℕ → R → Type 0) (parts : Parts J R) : Type 0 where

@@ -2,8 +2,9 @@
 
 ghost use Rattle.std.specs.Prelude.{◌≡◌, ◌+◌, IfErr, IfOk};
 ghost use Rattle.rcu_parts.specs.AtClose.{ClosesWith};
+ghost use Rattle.rcu_parts.specs.Drained.{HasNoneBack};
 ghost use Rattle.rcu_runtime.specs.Ends.{HaveReceipts, back_in, ran_in};
-ghost use Rattle.rcu_runtime.specs.Runtimes.{accepted_in};
+ghost use Rattle.rcu_runtime.specs.Runtimes.{IsDrained, accepted_in};
 
 use crate::whole::{Whole, Wholeness};
 use rcu_jobs::{Closed, Job};
@@ -35,6 +36,7 @@ impl<J: Job> Whole<AllParts<Processor<J>, Group<J>, Hand<J>>> {
         ensures closes { IfOk result (λ closed. ClosesWith J.key_of J.gives self closed) }
         ensures none_lost { IfOk result (λ closed. ran_in closed + back_in closed ≡ accepted_in self) }
         ensures receipts { IfOk result (λ closed. HaveReceipts J.gives closed) }
+        ensures drained { IsDrained self → IfOk result (λ closed. HasNoneBack closed) }
         ensures left { IfErr result (λ closing. closing.parts ≡ self) }
     {
         match rcu_parts::close(alloc, self.into_parts()) {
@@ -57,6 +59,7 @@ impl<J: Job> Whole<AllClosing<Processor<J>, Group<J>, Hand<J>>> {
         ensures closes { IfOk result (λ closed. ClosesWith J.key_of J.gives self.parts closed) }
         ensures none_lost { IfOk result (λ closed. ran_in closed + back_in closed ≡ accepted_in self.parts) }
         ensures receipts { IfOk result (λ closed. HaveReceipts J.gives closed) }
+        ensures drained { IsDrained self.parts → IfOk result (λ closed. HasNoneBack closed) }
         ensures left { IfErr result (λ closing. closing.parts ≡ self.parts) }
     {
         match self.into_parts().again(alloc) {

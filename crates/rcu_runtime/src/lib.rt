@@ -6,6 +6,7 @@
 mod apart;
 mod calling;
 mod closing;
+mod draining;
 mod fault;
 mod laws;
 mod opening;

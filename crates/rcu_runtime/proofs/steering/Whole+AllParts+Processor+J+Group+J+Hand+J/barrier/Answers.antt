@@ -6,7 +6,7 @@ pub invariant_of-self : goal.invariant_of-self
 invariant_of-self g c = steered_whole g.J.Job.key_of g.J.Job.gives c.self.inside.limit c.self.inside.parts c.barrier.new.self c.barrier.ensures.same c.self.invariant
 
 pub returns-clause-continues : goal.returns-clause-continues
-returns-clause-continues g c = steered_continues c.args.self.now c.self.inside.parts c.barrier.new.self c.self.view_is c.barrier.ensures.same
+returns-clause-continues g c = steered_continues c.args.self.now c.self.inside.parts c.barrier.new.self c.self.view_is c.barrier.ensures.same c.self.invariant.close.one
 
 pub returns-clause-opens : goal.returns-clause-opens
 returns-clause-opens g c = steered_on (Opens c.args.tickets.now c.barrier.result) c.args.self.now c.self.inside.parts c.barrier.new.self c.self.view_is c.barrier.ensures.opens

@@ -9,7 +9,7 @@ pub invariant_of-self : goal.invariant_of-self
 invariant_of-self g c = steered_whole g.J.Job.key_of g.J.Job.gives c.self.inside.limit c.self.inside.parts c.poll.new.by c.poll.ensures.same c.self.invariant
 
 pub returns-clause-continues : goal.returns-clause-continues
-returns-clause-continues g c = steered_continues c.args.self.now c.self.inside.parts c.poll.new.by c.self.view_is c.poll.ensures.same
+returns-clause-continues g c = steered_continues c.args.self.now c.self.inside.parts c.poll.new.by c.self.view_is c.poll.ensures.same c.self.invariant.close.one
 
 pub returns-clause-ok : goal.returns-clause-ok
 returns-clause-ok g c = steered_on (Polls c.args.barrier.now.counts c.poll.result) c.args.self.now c.self.inside.parts c.poll.new.by c.self.view_is c.poll.ensures.polls

@@ -7,7 +7,7 @@ pub invariant_of-self : goal.invariant_of-self
 invariant_of-self g c = turned_whole g.J.Job.key_of g.J.Job.gives c.self.inside.limit c.self.inside.parts _ (all_turned g.J.Job.key_of g.J.Job.gives c.self.inside.parts _ c.args.moment c.turn_each_processor.ensures c.turn_each_group.ensures c.turn_each_hand.ensures c.turn.ensures.same refl) c.self.invariant
 
 pub returns-clause-continues : goal.returns-clause-continues
-returns-clause-continues g c = turned_continues g.J.Job.key_of g.J.Job.gives c.args.self.now c.self.inside.parts _ c.self.view_is (all_turned g.J.Job.key_of g.J.Job.gives c.self.inside.parts _ c.args.moment c.turn_each_processor.ensures c.turn_each_group.ensures c.turn_each_hand.ensures c.turn.ensures.same refl)
+returns-clause-continues g c = turned_continues g.J.Job.key_of g.J.Job.gives c.args.self.now c.self.inside.parts _ c.self.view_is (all_turned g.J.Job.key_of g.J.Job.gives c.self.inside.parts _ c.args.moment c.turn_each_processor.ensures c.turn_each_group.ensures c.turn_each_hand.ensures c.turn.ensures.same refl) c.self.invariant.close.one
 
 pub returns-clause-turns : goal.returns-clause-turns
 returns-clause-turns g c = turns_all g.J.Job.key_of g.J.Job.gives c.args.self.now c.self.inside.parts _ c.self.view_is c.args.moment c.turn.result c.turn_each_processor.ensures c.turn_each_group.ensures c.turn_each_hand.ensures c.turn.ensures.turn refl

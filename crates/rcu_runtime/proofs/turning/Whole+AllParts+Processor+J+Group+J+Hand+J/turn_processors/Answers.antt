@@ -7,7 +7,7 @@ pub invariant_of-self : goal.invariant_of-self
 invariant_of-self g c = turned_whole g.J.Job.key_of g.J.Job.gives c.self.inside.limit c.self.inside.parts _ (record { processors = cpus_stay g.J.Job.key_of g.J.Job.gives c.args.moment _ _ c.turn_each_processor.ensures; groups = groups_itself c.self.inside.parts.groups.items; hands = all_hands_itself g.J.Job.key_of g.J.Job.gives c.self.inside.parts.hands.items; driver = driver_itself c.self.inside.parts.driver; control = refl }) c.self.invariant
 
 pub returns-clause-continues : goal.returns-clause-continues
-returns-clause-continues g c = turned_continues g.J.Job.key_of g.J.Job.gives c.args.self.now c.self.inside.parts _ c.self.view_is (record { processors = cpus_stay g.J.Job.key_of g.J.Job.gives c.args.moment _ _ c.turn_each_processor.ensures; groups = groups_itself c.self.inside.parts.groups.items; hands = all_hands_itself g.J.Job.key_of g.J.Job.gives c.self.inside.parts.hands.items; driver = driver_itself c.self.inside.parts.driver; control = refl })
+returns-clause-continues g c = turned_continues g.J.Job.key_of g.J.Job.gives c.args.self.now c.self.inside.parts _ c.self.view_is (record { processors = cpus_stay g.J.Job.key_of g.J.Job.gives c.args.moment _ _ c.turn_each_processor.ensures; groups = groups_itself c.self.inside.parts.groups.items; hands = all_hands_itself g.J.Job.key_of g.J.Job.gives c.self.inside.parts.hands.items; driver = driver_itself c.self.inside.parts.driver; control = refl }) c.self.invariant.close.one
 
 pub returns-clause-turns : goal.returns-clause-turns
 returns-clause-turns g c = turns_processors g.J.Job.key_of g.J.Job.gives c.args.self.now c.self.inside.parts _ c.self.view_is c.args.moment c.turn_each_processor.ensures refl refl refl refl
