@@ -32,13 +32,17 @@ fn follow_all(closed: &Closed<Numbered>, first: u64) -> Result<u64, Fault> {
     Ok(next)
 }
 
+/// How many runtimes there are, one after another.
+const RUNTIMES: u64 = 3;
+
 /// One runtime: it is opened, first gets the jobs that came back from the one before, then new ones up to its limit, and is
-/// closed.
+/// closed; the last one runs all that it accepted before.
 fn run_one(
     rt: &impl Print,
     alloc: Global,
     back: Vec<Numbered>,
     next: u64,
+    is_last: bool,
 ) -> Result<(Closed<Numbered>, u64), Fault> {
     let mut relay = Relay::open(alloc, next)?;
     for job in back {
@@ -47,7 +51,12 @@ fn run_one(
     relay.call_on()?;
     let next = relay.next;
     println!(rt; "accepted {}", relay.accepted)?;
-    Ok((relay.close(alloc)?, next))
+    let closed = if is_last {
+        relay.drain(alloc)?
+    } else {
+        relay.close(alloc)?
+    };
+    Ok((closed, next))
 }
 
 /// Three runtimes, one after another.
@@ -55,8 +64,8 @@ fn run(rt: &impl Print, alloc: Global) -> Result<(), Fault> {
     let mut back = Vec::new(alloc);
     let mut next = 0;
     let mut ran = 0;
-    for _ in 0..3 {
-        let (mut closed, after) = run_one(rt, alloc, back, next)?;
+    for round in 1..=RUNTIMES {
+        let (mut closed, after) = run_one(rt, alloc, back, next, round == RUNTIMES)?;
         next = after;
         ran = follow_all(&closed, ran)?;
         back = match closed.back.pop() {

@@ -2,7 +2,8 @@
 
 ghost use Rattle.std.specs.Prelude.{◌≡◌, ◌+◌, IfOk};
 ghost use Rattle.rcu_runtime.specs.Ends.{back_in, ran_in};
-ghost use Rattle.rcu_runtime.specs.Runtimes.{accepted_in};
+ghost use Rattle.rcu_parts.specs.Drained.{HasNoneBack};
+ghost use Rattle.rcu_runtime.specs.Runtimes.{IsDrained, accepted_in};
 
 use crate::numbered::Numbered;
 use rcu_runtime::{Closed, Runtime, Shape, open};
@@ -15,6 +16,9 @@ pub const CALLS: u64 = 2_500_000;
 
 /// How many calls come between two turns.
 const EVERY: u64 = 1000;
+
+/// How many turns the last runtime gets to run what is left.
+const LAST_TURNS: u64 = 100;
 
 /// Why a run ended early.
 #[derive(Debug, Drop, Error)]
@@ -29,6 +33,8 @@ pub enum Fault {
     NotAccepted(u64),
     #[error("job {0} ran out of order")]
     OutOfOrder(u64),
+    #[error("not all jobs ran in the last turns")]
+    NotDrained,
 }
 
 /// A runtime of one processor, the number of the next new job, and how many callbacks it accepted.
@@ -103,11 +109,28 @@ impl Relay {
     ///
     /// Want of memory.
     pub fn close(self, alloc: Global) -> Result<Closed<Numbered>, Fault>
-        ensures { IfOk result (λ closed. ran_in closed + back_in closed ≡ self.accepted) }
+        ensures none_lost { IfOk result (λ closed. ran_in closed + back_in closed ≡ self.accepted) }
+        ensures drained { IsDrained self.runtime → IfOk result (λ closed. HasNoneBack closed) }
     {
         match self.runtime.close(alloc) {
             Ok(closed) => Ok(closed),
             Err(_) => Err(Fault::Memory(AllocError)),
         }
+    }
+
+    /// Ends acceptance, has all callbacks run, and closes the runtime: no job comes back.
+    ///
+    /// # Errors
+    ///
+    /// Not all ran in so many turns; or want of memory.
+    pub fn drain(self, alloc: Global) -> Result<Closed<Numbered>, Fault>
+        ensures none_lost { IfOk result (λ closed. ran_in closed + back_in closed ≡ self.accepted) }
+        ensures none_back { IfOk result (λ closed. HasNoneBack closed) }
+    {
+        let mut relay = self;
+        if !relay.runtime.drain(0, LAST_TURNS) {
+            return Err(Fault::NotDrained);
+        }
+        relay.close(alloc)
     }
 }
