@@ -13,4 +13,4 @@ returns-clause-shut g c = still_shut c.args.barrier.now.counts c.args.self.now c
 pub returns-clause-drained : goal.returns-clause-drained
 returns-clause-drained g c _ = let counts = c.args.barrier.now.counts in
     drained_by counts c.in-Ok-Some.field-0-0 c.args.self.now c.poll.new.self c.requires
-        (subst (λ (o : Option Passed). OnControl (Polls counts o) c.args.self.now c.poll.new.self) c.in-Ok-Some.field-0-is c.in-Ok-Some.ensures.ok) c.poll.ensures.continues.same
+    (subst (λ (o : Option Passed). OnControl (Polls counts o) c.args.self.now c.poll.new.self) c.in-Ok-Some.field-0-is c.in-Ok-Some.ensures.ok) c.poll.ensures.continues.same
