@@ -72,6 +72,26 @@ fn turn_and_poll(
     Ok(runtime.poll(barrier)?.is_some())
 }
 
+/// At most three turns of all parts, until the barrier has passed.
+fn turn_until_passed(
+    rt: &impl Print,
+    runtime: &mut Runtime<RetiredTable>,
+    barrier: &Barrier,
+) -> Result<(), Fault>
+    ensures { accepted_in runtime.new ≡ accepted_in runtime.old }
+{
+    if turn_and_poll(rt, runtime, barrier, 4)? {
+        return Ok(());
+    }
+    if turn_and_poll(rt, runtime, barrier, 5)? {
+        return Ok(());
+    }
+    if turn_and_poll(rt, runtime, barrier, 6)? {
+        return Ok(());
+    }
+    Err(Fault::NotPassed)
+}
+
 /// Each processor retires a version. Then all parts turn until a barrier with both tickets has passed.
 fn retire_and_wait(
     rt: &impl Print,
@@ -87,12 +107,7 @@ fn retire_and_wait(
     let Ok(barrier) = runtime.barrier(&[first, second]) else {
         return Err(Fault::NotPassed);
     };
-    let passed = turn_and_poll(rt, runtime, &barrier, 4)?
-        || turn_and_poll(rt, runtime, &barrier, 5)?
-        || turn_and_poll(rt, runtime, &barrier, 6)?;
-    if !passed {
-        return Err(Fault::NotPassed);
-    }
+    turn_until_passed(rt, runtime, &barrier)?;
     println!(rt; "the barrier has passed")?;
     Ok(())
 }
