@@ -67,6 +67,9 @@ fn two_jobs_meet(rt: HostRuntime) -> Result<(), Fail> {
         )?,
         meeting(alloc, second, first, Arc::try_clone(&second_met)?)?,
     ]?;
+    if jobs.len() as u64 != plan.setup.calls * plan.setup.shape.processors {
+        return Err("not a call for each job".into());
+    }
     let mut text = Vec::new(alloc);
     let Ok(()) = threads(&rt, alloc, &plan, jobs, &mut text) else {
         return Err("not run".into());
