@@ -1,7 +1,7 @@
 -- Reports and ticks leave what was accepted as it is.
 use Rattle.std.proofs.Common.{◌≡◌, ℕ, Bool, true, false, Option, Some, None, List, [], ◌∷◌, ap, ◌∙◌, refl}
 use Rattle.rcu_board.proofs.Facts.{accepted-kept}
-use Rattle.rcu_board.specs.Plays.{looked, reported}
+use Rattle.rcu_board.specs.Plays.{looked}
 use Rattle.rcu_board.specs.Seats.{accepted_of, first_accepted}
 use Rattle.rcu_board.specs.Words.{bits_of}
 use Rattle.rcu_board.specs.declared.view.View.{View}
@@ -12,7 +12,7 @@ use Rattle.rcu_holdings.specs.Modes.{is_deoffloading}
 use Rattle.rcu_jobs.specs.declared.Ticked.{Ticked}
 use Rattle.rcu_part_steps.specs.Reports.{Reports}
 use Rattle.rcu_part_processor.specs.Processors.{AcceptedStays, lists_of, view_of}
-use Rattle.rcu_part_processor.specs.Ticks.{Asks, CatchesUp, Heeds, RanDone, Settles, TicksBy}
+use Rattle.rcu_part_processor.specs.Ticks.{Asks, CatchesUp, Settles, TicksBy}
 use Rattle.rcu_part_processor.specs.declared.processor.ProcessorState.{ProcessorState}
 
 reported_own : (r : ℕ) (os : List Own) → first_accepted (map (report_own r) os) ≡ first_accepted os

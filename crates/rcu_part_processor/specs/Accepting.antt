@@ -1,12 +1,13 @@
 -- How a job is accepted, whether a claim of the processor runs or not: docs/specification/rules.md, "The calls, step by step".
-use Rattle.std.specs.Prelude.{◌≡◌, ℕ, ◌+◌, ◌*◌, List, []}
+use Rattle.std.specs.Prelude.{◌≡◌, ◌≢◌, ℕ, ◌+◌, ◌*◌, true, List, []}
 use Rattle.rcu_numbers.specs.Words.{Board}
 use Rattle.rcu_board.specs.Plays.{touched, looked, accepted}
 use Rattle.rcu_board.specs.Seats.{view}
 use Rattle.rcu_board.specs.Words.{accepts_word, bits_of}
 use Rattle.rcu_board.specs.declared.board.Seat.{Seat}
 use Rattle.rcu_board.specs.declared.view.View.{View}
-use Rattle.rcu_holdings.specs.Callers.{Holding, Takes, holding}
+use Rattle.rcu_holdings.specs.Callers.{IsReady, Takes, holding}
+use Rattle.rcu_holdings.specs.Modes.{is_offloaded}
 use Rattle.rcu_holdings.specs.declared.caller.Caller.{Caller}
 use Rattle.rcu_jobs.specs.declared.answers.Refused.{Refused}
 use Rattle.rcu_jobs.specs.declared.answers.Refused.TheVariants.{Limit, Memory, Closed}
@@ -25,12 +26,17 @@ pub record Accepting (J R : Type 0) : Type 0 where
   pub limit : ℕ
   pub accepted : ℕ
   pub view : View
-  pub lists : Holding J
+  pub lists : Caller J
   pub records : List (Record R)
 
 -- the pieces of a processor that a call is given, without its records
 abbrev pub pieces : {J : Type 0} → ℕ → ℕ → ℕ → Seat → Caller J → Accepting J (Unit {0})
-pieces cpu limit count seat lists = record { cpu = cpu; limit = limit; accepted = count; view = view seat; lists = holding lists; records = [] }
+pieces cpu limit count seat lists = record { cpu = cpu; limit = limit; accepted = count; view = view seat; lists = lists; records = [] }
+
+-- One more callback wants memory: the list that it goes to in this mode has no room, which an empty bypass list always has.
+pub record WantsMemory {J : Type 0} (lists : Caller J) : Type 0 where
+  pub full : IsReady lists → ⊥
+  pub some : is_offloaded (holding lists).mode ≡ true → (holding lists).outgoing.bypass ≢ []
 
 module _ {J R : Type 0} where
   -- The job was accepted under the old count: the accepting exchange was won, then a look gave the stamp, and the callback was placed.
@@ -40,19 +46,19 @@ module _ {J R : Type 0} where
     pub number : t.number ≡ p.accepted
     pub count : q.accepted ≡ p.accepted + 1
     pub steps : q.view ≡ looked (bits_of word) (accepted (accepts_word p.cpu) (2 * p.accepted + 2) key p.view)
-    pub takes : Takes moment kind (callback p.cpu p.accepted key word.seq job) p.lists q.lists
+    pub takes : Takes moment kind (callback p.cpu p.accepted key word.seq job) (holding p.lists) (holding q.lists)
     pub records : q.records ≡ p.records
 
   -- nothing was accepted, and lists and counts are as before
   pub record AcceptsNone (p q : Accepting J R) : Type 0 where
     pub count : q.accepted ≡ p.accepted
-    pub lists : q.lists ≡ p.lists
+    pub lists : holding q.lists ≡ holding p.lists
     pub records : q.records ≡ p.records
 
-  -- Why the job was refused: at the limit; for want of memory; or since the exchange found that the processor was shut.
+  -- Why the job was refused: at the limit; for want of memory, where one more callback wants any; or since the exchange found that the processor was shut.
   abbrev pub Refuses : J → Refused J → Accepting J R → Accepting J R → Type 0
   Refuses job (Limit back) p q = (back ≡ job) × (p.accepted ≡ p.limit) × (q.view ≡ p.view)
-  Refuses job (Memory back) p q = (back ≡ job) × (q.view ≡ p.view)
+  Refuses job (Memory back) p q = (back ≡ job) × (q.view ≡ p.view) × WantsMemory p.lists
   Refuses job (Closed back) p q = (back ≡ job) × (q.view ≡ touched (accepts_word p.cpu) (2 * p.accepted + 1) p.view)
 
 -- refusal 4

@@ -4,12 +4,12 @@ use Rattle.rcu_jobs.specs.declared.answers.Refused.{Refused}
 use Rattle.rcu_jobs.specs.declared.answers.Ticket.{Ticket}
 use Rattle.rcu_lists.specs.declared.pace.Kind.{Kind}
 use Rattle.rcu_part_processor.specs.Accepting.{Accepting, Accepts, AcceptsNone, Refuses}
-use Rattle.rcu_part_processor.specs.Processors.{view_of, lists_of, records_of}
+use Rattle.rcu_part_processor.specs.Processors.{view_of, records_of}
 use Rattle.rcu_part_processor.specs.declared.processor.ProcessorState.{ProcessorState}
 
 module _ {J R : Type 0} where
   abbrev pub accepting : ProcessorState J R → Accepting J R
-  accepting p = record { cpu = p.cpu; limit = p.limit; accepted = p.accepted; view = view_of p; lists = lists_of p; records = records_of p }
+  accepting p = record { cpu = p.cpu; limit = p.limit; accepted = p.accepted; view = view_of p; lists = p.lists; records = records_of p }
 
   -- the job was accepted under the old count
   abbrev pub IsAccepted : ℕ → Kind → ℕ → J → Ticket → ProcessorState J R → ProcessorState J R → Type 0

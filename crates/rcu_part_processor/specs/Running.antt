@@ -71,7 +71,7 @@ module _ {J R : Type 0} where
   SameFinished p q = IsSamePart (running_identity p) (identity q)
 
   abbrev pub running_accepting : RunningProcessorState J R → Accepting J R
-  running_accepting p = record { cpu = p.cpu; limit = p.limit; accepted = p.accepted; view = running_view p; lists = running_lists p; records = running_records p }
+  running_accepting p = record { cpu = p.cpu; limit = p.limit; accepted = p.accepted; view = running_view p; lists = p.lists; records = running_records p }
 
   -- the job was accepted under the old count
   abbrev pub IsAccepted : ℕ → Kind → ℕ → J → Ticket → RunningProcessorState J R → RunningProcessorState J R → Type 0

@@ -1,4 +1,4 @@
-use Rattle.std.proofs.Common.{◌≡◌, ℕ, ◌+◌, ◌*◌, ◌≤◌, [], ◌∷◌, ◌++◌, length, ◌∙◌, ap, sym, subst, refl, arith}
+use Rattle.std.proofs.Common.{◌≡◌, true, false, ℕ, ◌+◌, ◌*◌, ◌≤◌, [], ◌∷◌, ◌++◌, length, ◌∙◌, ap, sym, subst, refl, arith}
 use Rattle.rcu_board.specs.Plays.{looked, accepted}
 use Rattle.rcu_board.specs.Seats.{view}
 use Rattle.rcu_board.specs.Words.{accepts_word, bits_of}
@@ -82,6 +82,13 @@ returns-in_default-clause-lane g c = same_lane c.args.lists.now c.reserve.new.se
 
 pub returns-in_default-clause-err : goal.returns-in_default-clause-err
 returns-in_default-clause-err g c = record { count = refl; lists = c.in_default.ensures.same; records = refl }
+
+pub returns-in_default-clause-refused : goal.returns-in_default-clause-refused
+returns-in_default-clause-refused g c = let e = c.in_default.ensures in (
+  refl,
+  refl,
+  record { full = λ ready. (let z : false ≡ true = e.had ready in cc); some = λ offloaded none. (let z : false ≡ true = e.none offloaded none in cc) },
+)
 
 pub returns-in_default-clause-full : goal.returns-in_default-clause-full
 returns-in_default-clause-full g c = λ full. absurd (below_isnt c.args.accepted.now c.args.request.limit c.if-number-limit.false full)

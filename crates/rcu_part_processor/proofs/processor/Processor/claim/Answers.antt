@@ -1,4 +1,4 @@
-use Rattle.std.proofs.Common.{◌≡◌, ℕ, ◌≤◌, ◌<◌, ◌++◌, ◌∙◌, ap, sym, subst, refl, arith}
+use Rattle.std.proofs.Common.{◌≡◌, ℕ, ◌≤◌, ◌++◌, ◌∙◌, ap, sym, subst, refl, arith}
 use Rattle.std.specs.Arc.{arc_value}
 use Rattle.std.specs.Mem.{FitsInMemory}
 use Rattle.std.specs.Prelude.{IsTrue}
@@ -6,9 +6,6 @@ use Rattle.std.proofs.lemmas.List.Elements.{All-rest}
 use denote.Param.{param}
 use Rattle.rcu_board.specs.Roles.{MayClaim, cpu_of_role}
 use Rattle.rcu_board.specs.Seats.{NeverFalls, view}
-use Rattle.rcu_board.specs.Views.{seen_at}
-use Rattle.rcu_board.specs.Words.{turns_word}
-use Rattle.rcu_board.specs.declared.board.Board.{Board}
 use Rattle.rcu_holdings.specs.Aims.{AreUpTo, is_up_to}
 use Rattle.rcu_holdings.specs.Callers.{Holding, held_in, holding, put_by}
 use Rattle.rcu_holdings.proofs.Sizes.{in_struct}

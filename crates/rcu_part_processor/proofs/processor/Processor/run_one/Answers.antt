@@ -1,4 +1,4 @@
-use Rattle.std.proofs.Common.{◌≡◌, ℕ, ◌<◌, ◌≤◌, List, [], ◌∷◌, ◌++◌, ◌∙◌, ap, sym, subst, refl, arith}
+use Rattle.std.proofs.Common.{◌≡◌, ℕ, ◌≤◌, List, [], ◌∷◌, ◌++◌, ◌∙◌, ap, sym, subst, refl, arith}
 use Rattle.std.specs.Mem.{FitsInMemory}
 use Rattle.std.specs.Prelude.{IsTrue}
 use Rattle.std.proofs.lemmas.List.Elements.{All-rest}
@@ -7,7 +7,6 @@ use Rattle.rcu_board.specs.Roles.{cpu_of_role, MayClaim}
 use Rattle.rcu_board.specs.Seats.{NeverFalls, view}
 use Rattle.rcu_board.specs.Views.{seen_at, sight}
 use Rattle.rcu_board.specs.Words.{turns_word}
-use Rattle.rcu_board.specs.declared.board.Board.{Board}
 use Rattle.rcu_board.specs.declared.view.Claim.{Claim}
 use Rattle.rcu_board.proofs.Facts.{never_falls_again, same_seat, same_seat_again}
 use Rattle.std.specs.Arc.{arc_value}
