@@ -1,5 +1,5 @@
 -- What turns of a runtime's parts do, in the words of each part's own turn: docs/embedding.md, "Turns".
-use Rattle.std.specs.Prelude.{◌≡◌, ℕ, ◌+◌, ◌≤◌, Option}
+use Rattle.std.specs.Prelude.{◌≡◌, ℕ, ◌+◌, ◌*◌, ◌≤◌, Option, [], length}
 use Rattle.std.specs.List.{AllZip}
 use Rattle.rcu_board.specs.Views.{tally}
 use Rattle.rcu_board.specs.Words.{board_word}
@@ -9,14 +9,16 @@ use Rattle.rcu_control.specs.declared.driver.Driver.{Driver}
 use Rattle.rcu_jobs.specs.declared.turns.DriverTurn.{DriverTurn}
 use Rattle.rcu_jobs.specs.declared.turns.GroupTurn.{GroupTurn}
 use Rattle.rcu_jobs.specs.declared.turns.HandTurn.{HandTurn}
+use Rattle.rcu_jobs.specs.declared.Stop.TheVariants.{Again}
 use Rattle.rcu_jobs.specs.declared.turns.Ticked.{Ticked}
-use Rattle.rcu_part_group.specs.Groups.{TurnsGroup}
+use Rattle.rcu_part_group.specs.Groups.{TurnsGroup, group_view, members_of}
 use Rattle.rcu_part_group.specs.declared.group.Group.{Group}
-use Rattle.rcu_part_hand.specs.Hands.{TurnsBy, hand_view}
+use Rattle.rcu_part_hand.specs.Hands.{TurnsBy, hand_held, hand_view}
 use Rattle.rcu_part_hand.specs.declared.hand.Hand.{Hand}
 use Rattle.rcu_part_processor.specs.Ticks.{IsFresh, IsLocalOnceRun, RunsNoneOffloaded, TicksBy}
 use Rattle.rcu_part_processor.specs.declared.processor.Processor.{Processor}
 use Rattle.rcu_part_processor.specs.declared.processor.ProcessorState.{ProcessorState}
+use Rattle.rcu_part_steps.specs.Stops.{StopsInTime}
 use Rattle.rcu_parts.specs.OneOpen.{Parts, groups_in, hands_in, processors_in}
 use Rattle.rcu_runtime.specs.Calls.{ReportsOnce}
 
@@ -29,6 +31,7 @@ module _ {J R : Type 0} where
   pub record Ticks (moment : ℕ) (ticked : Ticked) (p q : ProcessorState J R) : Type 0 where
     pub ticks : TicksBy moment ticked p q
     pub few : ticked.ran ≤ p.blimit
+    pub first : StopsInTime ticked.stop ticked.ran p.blimit
     pub fresh : IsFresh p q
     pub local : IsLocalOnceRun p q
     pub none : RunsNoneOffloaded ticked.ran p q
@@ -45,11 +48,17 @@ module _ {J R : Type 0} where
   pub record GroupTurns (g h : Group J R) : Type 0 where
     pub answer : GroupTurn
     pub turns : TurnsGroup answer g.state h.state
+    -- at most `blimit` for each member
+    pub few : answer.gave ≤ g.state.blimit * length (members_of g.state)
+    pub fresh : tally (group_view h.state) board_word ≡ tally (group_view g.state) board_word + 1
 
   -- a turn of a hand
   pub record HandTurns (h i : Hand J R) : Type 0 where
     pub answer : HandTurn
     pub turns : TurnsBy answer h.state i.state
+    pub few : answer.ran ≤ h.state.blimit
+    pub first : StopsInTime answer.stop answer.ran h.state.blimit
+    pub again : answer.stop ≡ Again → (hand_held h.state ≡ []) × (answer.ran ≡ 0)
     pub fresh : tally (hand_view i.state) board_word ≡ tally (hand_view h.state) board_word + 1
 
   -- Each processor reported and ticked, and all other parts are as they were.

@@ -9,7 +9,7 @@ loop-group-init g c = c.deref_mut-group-items.ensures.value
 
 pub loop-group-preserved : goal.loop-group-preserved
 loop-group-preserved g c = let l = c.loop-group in
-    firsts_more PassesGroup l.group-index c.args.groups.now.items l.group-items c.group-item.result c.turn.new.self (omega (arith, l.auto.group-items, c.loop-group-test.true)) (record { same = c.turn.ensures.same; turns = record { answer = c.turn.result; turns = c.turn.ensures.turn } }) l.invariant
+    firsts_more PassesGroup l.group-index c.args.groups.now.items l.group-items c.group-item.result c.turn.new.self (omega (arith, l.auto.group-items, c.loop-group-test.true)) (record { same = c.turn.ensures.same; turns = record { answer = c.turn.result; turns = c.turn.ensures.turn; few = c.turn.ensures.few; fresh = c.turn.ensures.fresh } }) l.invariant
 
 pub returns : goal.returns
 returns g c = let l = c.loop-group in let old = c.args.groups.now in

@@ -9,7 +9,7 @@ loop-hand-init g c = c.deref_mut-hand-items.ensures.value
 
 pub loop-hand-preserved : goal.loop-hand-preserved
 loop-hand-preserved g c = let l = c.loop-hand in
-    firsts_more (PassesHand g.J.Job.key_of g.J.Job.gives) l.hand-index c.args.hands.now.items l.hand-items c.hand-item.result c.turn.new.self (omega (arith, l.auto.hand-items, c.loop-hand-test.true)) (record { same = c.turn.ensures.same; sound = c.turn.ensures.sound; turns = record { answer = c.turn.result; turns = c.turn.ensures.turn; fresh = c.turn.ensures.fresh } }) l.invariant
+    firsts_more (PassesHand g.J.Job.key_of g.J.Job.gives) l.hand-index c.args.hands.now.items l.hand-items c.hand-item.result c.turn.new.self (omega (arith, l.auto.hand-items, c.loop-hand-test.true)) (record { same = c.turn.ensures.same; sound = c.turn.ensures.sound; turns = record { answer = c.turn.result; turns = c.turn.ensures.turn; few = c.turn.ensures.few; first = c.turn.ensures.first; again = c.turn.ensures.again; fresh = c.turn.ensures.fresh } }) l.invariant
 
 pub returns : goal.returns
 returns g c = let l = c.loop-hand in let old = c.args.hands.now in

@@ -10,7 +10,7 @@ loop-processor-init g c = c.deref_mut-processor-items.ensures.value
 
 pub loop-processor-preserved : goal.loop-processor-preserved
 loop-processor-preserved g c = let l = c.loop-processor in
-    firsts_more (PassesTick g.J.Job.key_of g.J.Job.gives c.args.moment) l.processor-index c.args.processors.now.items l.processor-items c.processor-item.result c.tick.new.self (omega (arith, l.auto.processor-items, c.loop-processor-test.true)) (ticked g.J.Job.key_of g.J.Job.gives c.args.moment (get_or l.processor-items l.processor-index c.processor-item.result) c.quiescent.new.self c.tick.new.self c.quiescent.result c.tick.result c.quiescent.ensures.same c.quiescent.ensures.sound (record { reports = c.quiescent.ensures.reports; keeps = c.quiescent.ensures.keeps }) c.tick.ensures.same c.tick.ensures.sound c.tick.ensures.count (record { ticks = c.tick.ensures.ticks; few = c.tick.ensures.few; fresh = c.tick.ensures.fresh; local = c.tick.ensures.local; none = c.tick.ensures.none })) l.invariant
+    firsts_more (PassesTick g.J.Job.key_of g.J.Job.gives c.args.moment) l.processor-index c.args.processors.now.items l.processor-items c.processor-item.result c.tick.new.self (omega (arith, l.auto.processor-items, c.loop-processor-test.true)) (ticked g.J.Job.key_of g.J.Job.gives c.args.moment (get_or l.processor-items l.processor-index c.processor-item.result) c.quiescent.new.self c.tick.new.self c.quiescent.result c.tick.result c.quiescent.ensures.same c.quiescent.ensures.sound (record { reports = c.quiescent.ensures.reports; keeps = c.quiescent.ensures.keeps }) c.tick.ensures.same c.tick.ensures.sound c.tick.ensures.count (record { ticks = c.tick.ensures.ticks; few = c.tick.ensures.few; first = c.tick.ensures.first; fresh = c.tick.ensures.fresh; local = c.tick.ensures.local; none = c.tick.ensures.none })) l.invariant
 
 pub returns : goal.returns
 returns g c = let l = c.loop-processor in let old = c.args.processors.now in

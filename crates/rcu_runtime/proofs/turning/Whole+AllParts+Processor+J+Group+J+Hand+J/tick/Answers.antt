@@ -13,7 +13,7 @@ pub returns-clause-continues : goal.returns-clause-continues
 returns-clause-continues g c = called_continues c.args.self.now c.self.inside.parts c.self.view_is c.args.p c.processors.result c.index_mut.result.now c.tick.new.self c.if-p-processors.false c.processors.ensures c.index_mut.ensures.value c.tick.ensures.same (let h = c.tick.ensures.count in omega (arith, h)) c.self.invariant.close.one
 
 pub returns-clause-ok : goal.returns-clause-ok
-returns-clause-ok g c = called_on c.args.self.now c.self.inside.parts c.self.view_is c.args.p c.processors.result c.index_mut.result.now c.tick.new.self c.if-p-processors.false c.processors.ensures c.index_mut.ensures.value (Ticks c.args.moment c.tick.result) c.self.invariant.close.one (record { ticks = c.tick.ensures.ticks; few = c.tick.ensures.few; fresh = c.tick.ensures.fresh; local = c.tick.ensures.local; none = c.tick.ensures.none })
+returns-clause-ok g c = called_on c.args.self.now c.self.inside.parts c.self.view_is c.args.p c.processors.result c.index_mut.result.now c.tick.new.self c.if-p-processors.false c.processors.ensures c.index_mut.ensures.value (Ticks c.args.moment c.tick.result) c.self.invariant.close.one (record { ticks = c.tick.ensures.ticks; few = c.tick.ensures.few; first = c.tick.ensures.first; fresh = c.tick.ensures.fresh; local = c.tick.ensures.local; none = c.tick.ensures.none })
 
 pub returns-clause-none : goal.returns-clause-none
 returns-clause-none g c = called_count c.args.self.now c.self.inside.parts c.self.view_is c.args.p c.processors.result c.index_mut.result.now c.tick.new.self c.if-p-processors.false c.processors.ensures c.index_mut.ensures.value c.tick.ensures.count
