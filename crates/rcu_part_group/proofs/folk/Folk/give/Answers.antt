@@ -1,8 +1,15 @@
 use Rattle.std.proofs.Common.{refl, subst, sym}
+use Rattle.std.specs.Mem.{FitsInMemory}
+use denote.Param.{param}
+use Rattle.rcu_holdings.proofs.Sizes.{in_struct}
 use Rattle.rcu_holdings.specs.Members.{relay, front_of}
 use Rattle.rcu_lanes.specs.Ends.{SameFront}
 use Rattle.rcu_part_group.proofs.GroupTurns.{gives_few, gives_within}
+use Rattle.rcu_part_group.specs.contracts.folk.Folk as row
 use Rattle.rcu_part_group.proofs.folk.Folk.give.Goals as goal
+
+pub give-requires : goal.give-requires
+give-requires g c = let h : FitsInMemory (row.the_row (param 0 g.row.J)) = assumption in in_struct _ _ _ h
 
 pub returns-clause-gives : goal.returns-clause-gives
 returns-clause-gives g c = let e = c.give.ensures in let m = c.args.self.now.member in record {

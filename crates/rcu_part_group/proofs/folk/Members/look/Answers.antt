@@ -1,5 +1,6 @@
 use Rattle.std.proofs.Common.{◌≡◌, ◌<◌, ◌≤◌, ℕ, zero, ◌+◌, [], ◌∷◌, ◌++◌, List, length, length-append, get_or, set, refl, ◌∙◌, ap, sym, subst, arith}
 use Rattle.std.specs.Mem.{FitsInMemory}
+use borrow.Author.Rules.{scaled_Fits}
 use denote.Param.{param}
 use Rattle.rcu_holdings.proofs.Sizes.{in_struct}
 use Rattle.rcu_part_group.specs.Each.{Each}
@@ -45,3 +46,6 @@ returns g c = let l = c.loop-folk in let s = c.args.self.now in let old = s.othe
       members = (c.look-first.ensures, subst (λ (news : List (Folk g.row.J.Denot)). Each (LooksAt c.args.seen) i.wants old.items news) (sym (written l.folk-items old.items old.len same old.ok.0)) done);
       greatest = i.greatest;
     }
+
+pub offset_bounds-folk-items-folk-index : goal.offset_bounds-folk-items-folk-index
+offset_bounds-folk-items-folk-index g c = scaled_Fits c.loop-folk.folk-index (length c.deref_mut-folk-items.result.now) _ c.loop-folk-test.true assumption

@@ -1,10 +1,13 @@
-use Rattle.std.proofs.Common.{◌∙◌, refl}
+use Rattle.std.proofs.Common.{◌∙◌, refl, subst, sym}
 use Rattle.std.specs.Arc.{arc_value}
 use Rattle.std.specs.Int.{from_bool}
 use Rattle.rcu_board.specs.Seats.{view}
 use Rattle.rcu_board.specs.Words.{halt_word}
 use Rattle.rcu_part_group.specs.GroupLaw.{folks_in}
 use Rattle.rcu_part_group.proofs.GroupTurns.{folks_same, lawful_later}
+use Rattle.rcu_board.specs.Roles.{MayHalt}
+use Rattle.rcu_board.specs.Seats.{AtBoard}
+use Rattle.rcu_board.specs.declared.board.Board.{Board}
 use Rattle.rcu_part_group.proofs.group.Group.is_halted.Goals as goal
 
 pub invariant_of-state : goal.invariant_of-state
@@ -21,3 +24,9 @@ returns-clause-same g c = let s = c.args.self.now.state in record {
   blimit = refl;
   members = folks_same (folks_in s.members);
 }
+
+pub halted-requires-clause-board : goal.halted-requires-clause-board
+halted-requires-clause-board g c = let s = c.args.self.now.state in subst (λ (b : Board). AtBoard b s.seat) (sym c.deref.ensures) s.here
+
+pub halted-requires-clause-who : goal.halted-requires-clause-who
+halted-requires-clause-who g c = subst MayHalt (sym c.args.self.now.state.role) tt

@@ -1,10 +1,10 @@
-use Rattle.std.proofs.Common.{◌≡◌, ℕ, ◌∙◌, ap, refl, subst}
+use Rattle.std.proofs.Common.{◌≡◌, ℕ, ◌∙◌, ap, refl, subst, sym}
 use Rattle.rcu_board.specs.Views.{sight}
 use Rattle.rcu_board.specs.declared.view.View.{View}
 use Rattle.rcu_part_steps.specs.declared.begins.ClaimedCallback.{ClaimedCallback}
 use Rattle.rcu_part_steps.proofs.Beginning.{runs_map, stops_both, stops_map}
 use Rattle.rcu_part_steps.proofs.Turning.{steps_none}
-use Rattle.rcu_part_hand.specs.Begins.{BeginsHand, ClaimsFirst, SameBegun, StopsHand}
+use Rattle.rcu_part_hand.specs.Begins.{BeginsHand, ClaimsFirst, IsNext, SameBegun, StopsHand}
 use Rattle.rcu_part_hand.specs.Hands.{Ran, SameHand, StopsAt}
 use Rattle.rcu_part_hand.proofs.HandBegins.{loads_kept, never_limit, same_begun_after}
 use Rattle.rcu_part_hand.proofs.HandRuns.{ran_none, same_hand_again}
@@ -108,3 +108,16 @@ returns-in-Ok-clause-stops g c = let r = c.next.new.self.state in let a = c.look
 
 pub returns-in-Ok-clause-sound : goal.returns-in-Ok-clause-sound
 returns-in-Ok-clause-sound g c = λ sound. c.claim.ensures.sound (c.next.ensures.sound (c.load.ensures.sound (c.look-seen.ensures.sound sound)))
+
+pub claim-requires-after_bounds : goal.claim-requires-after_bounds
+claim-requires-after_bounds g c κs within =
+    let k = c.next.ensures.keeps in let n = c.in-Ok.ensures.next in let is = sym (ap (λ (x : ClaimedCallback). x.ready) n.claimed) in (
+      assumption,
+      (
+        assumption,
+        (
+          ap (λ (v : View). sight v) k.view ∙ (ap (λ (v : View). sight v) c.load.ensures.loads.view ∙ (c.look-seen.ensures.looks.sight ∙ is)),
+          (subst (λ (s : ℕ). IsNext s c.in-Ok.claimed c.next.new.self.state) is n, (c.in-Ok.ensures.small, c.in-Ok.ensures.room)),
+        ),
+      ),
+    )

@@ -1,4 +1,8 @@
 use Rattle.std.proofs.Common.{◌≡◌, ℕ, ◌≤◌, ◌++◌, inr, ◌∙◌, ap, sym, subst, refl, arith}
+use Rattle.rcu_part_hand.specs.contracts.hand.Hand as row
+use Rattle.rcu_holdings.proofs.Sizes.{in_struct}
+use denote.Param.{param}
+use Rattle.std.specs.Mem.{FitsInMemory}
 use Rattle.rcu_board.specs.Roles.{MayClaim, cpu_of_role}
 use Rattle.rcu_board.specs.Seats.{view}
 use Rattle.rcu_holdings.specs.Helds.{drawn_by, held_by, taken_by}
@@ -100,3 +104,6 @@ returns-clause-keyed g c =
 pub returns-clause-sound : goal.returns-clause-sound
 returns-clause-sound g c = λ sound. let s = c.args.self.state in
     (hand_sound_kept g.J.Job.key_of g.J.Job.gives (drawn_by s.held) (drawn_by c.take-2.new.self) s.ran.items s.ran.items (ap (λ f. drawn_calls f) c.in-Some.ensures.front) refl sound, tt)
+
+pub take-requires-2 : goal.take-requires-2
+take-requires-2 g c = let h : FitsInMemory (row.the_row (param 0 g.row.J) (param 1 g.row.J-Receipt)) = assumption in in_struct _ _ _ (in_struct _ _ _ h)

@@ -1,4 +1,8 @@
 use Rattle.std.proofs.Common.{◌≡◌, ◌∙◌, sym, refl, List, subst}
+use Rattle.rcu_part_hand.specs.contracts.hand.Hand as row
+use Rattle.rcu_holdings.proofs.Sizes.{in_struct}
+use denote.Param.{param}
+use Rattle.std.specs.Mem.{FitsInMemory}
 use Rattle.rcu_holdings.specs.Helds.{drawn_by, held_by}
 use Rattle.rcu_holdings.specs.declared.hand.Fetched.TheVariants.{Got, Empty, Again}
 use Rattle.rcu_part_hand.proofs.HandRuns.{fetched, hand_sound_drawn}
@@ -59,3 +63,6 @@ returns-in-Empty-clause-same g c = record { part = record { board = refl; seat =
 
 pub returns-in-Again-clause-same : goal.returns-in-Again-clause-same
 returns-in-Again-clause-same g c = record { part = record { board = refl; seat = same_seat _ }; lane = c.fetch.ensures.lane; cpu = refl; blimit = refl }
+
+pub fetch-requires : goal.fetch-requires
+fetch-requires g c = let h : FitsInMemory (row.the_row (param 0 g.row.J) (param 1 g.row.J-Receipt)) = assumption in in_struct _ _ _ (in_struct _ _ _ h)

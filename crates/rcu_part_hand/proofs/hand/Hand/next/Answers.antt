@@ -1,4 +1,9 @@
 use Rattle.std.proofs.Common.{◌≡◌, List, inl, sym, subst, refl, arith}
+use Rattle.rcu_board.proofs.Facts.{same_seat}
+use Rattle.rcu_part_hand.specs.contracts.hand.Hand as row
+use Rattle.rcu_holdings.proofs.Sizes.{in_struct}
+use denote.Param.{param}
+use Rattle.std.specs.Mem.{FitsInMemory}
 use Rattle.rcu_board.specs.Seats.{view}
 use Rattle.rcu_holdings.specs.Helds.{drawn_by, taken_by}
 use Rattle.rcu_jobs.specs.declared.Stop.TheVariants.{Limit, Empty, Turn, Memory}
@@ -54,3 +59,33 @@ returns-clause-room g c = omega (arith, c.in-Ok.ensures.ok, c.reserve.ensures.le
 
 pub returns-clause-sound : goal.returns-clause-sound
 returns-clause-sound g c = hand_sound_kept g.J.Job.key_of g.J.Job.gives (drawn_by c.args.self.now.state.held) (drawn_by c.args.self.now.state.held) c.args.self.now.state.ran.items c.reserve.new.self.items refl c.reserve.ensures.items
+
+pub first-requires : goal.first-requires
+first-requires g c = let h : FitsInMemory (row.the_row (param 0 g.row.J) (param 1 g.row.J-Receipt)) = assumption in in_struct _ _ _ (in_struct _ _ _ h)
+
+pub snap-requires : goal.snap-requires
+snap-requires g c = c.in-Some.ensures.safe.0
+
+pub returns-in_default-clause-same : goal.returns-in_default-clause-same
+returns-in_default-clause-same g c = record { part = record { board = refl; seat = same_seat _ }; lane = refl; cpu = refl; blimit = refl }
+
+pub returns-in_default-clause-keeps : goal.returns-in_default-clause-keeps
+returns-in_default-clause-keeps g c = record { view = refl; held = refl; records = refl }
+
+pub returns-in_default-clause-sound : goal.returns-in_default-clause-sound
+returns-in_default-clause-sound g c = λ sound. sound
+
+pub returns-then-snap-seen-clause-same : goal.returns-then-snap-seen-clause-same
+returns-then-snap-seen-clause-same g c = record { part = record { board = refl; seat = same_seat _ }; lane = refl; cpu = refl; blimit = refl }
+
+pub returns-then-snap-seen-clause-keeps : goal.returns-then-snap-seen-clause-keeps
+returns-then-snap-seen-clause-keeps g c = record { view = refl; held = refl; records = refl }
+
+pub returns-then-snap-seen-clause-sound : goal.returns-then-snap-seen-clause-sound
+returns-then-snap-seen-clause-sound g c = λ sound. sound
+
+pub returns-in_default-reserve-clause-same : goal.returns-in_default-reserve-clause-same
+returns-in_default-reserve-clause-same g c = record { part = record { board = refl; seat = same_seat _ }; lane = refl; cpu = refl; blimit = refl }
+
+pub returns-clause-same : goal.returns-clause-same
+returns-clause-same g c = record { part = record { board = refl; seat = same_seat _ }; lane = refl; cpu = refl; blimit = refl }

@@ -1,4 +1,8 @@
 use Rattle.std.proofs.Common.{◌≡◌, ℕ, ◌≤◌, List, [], ◌∷◌, ◌++◌, inl, inr, ◌∙◌, ap, sym, subst, refl, arith}
+use Rattle.rcu_part_hand.specs.contracts.hand.Hand as row
+use Rattle.rcu_holdings.proofs.Sizes.{in_struct}
+use denote.Param.{param}
+use Rattle.std.specs.Mem.{FitsInMemory}
 use Rattle.rcu_board.specs.Roles.{cpu_of_role, MayClaim}
 use Rattle.rcu_board.specs.Seats.{view}
 use Rattle.rcu_board.specs.Views.{sight}
@@ -159,3 +163,9 @@ returns-in_default-reserve-clause-counts g c = ((λ e. (let f : Memory ≡ Limit
 
 pub returns-then-not-take-clause-counts : goal.returns-then-not-take-clause-counts
 returns-then-not-take-clause-counts g c = ((λ e. (let f : Turn ≡ Limit = e in cc)), λ e. (let f : Turn ≡ Again = e in cc))
+
+pub first-requires : goal.first-requires
+first-requires g c = let h : FitsInMemory (row.the_row (param 0 g.row.J) (param 1 g.row.J-Receipt)) = assumption in in_struct _ _ _ (in_struct _ _ _ h)
+
+pub take-requires-2 : goal.take-requires-2
+take-requires-2 g c = let h : FitsInMemory (row.the_row (param 0 g.row.J) (param 1 g.row.J-Receipt)) = assumption in in_struct _ _ _ (in_struct _ _ _ h)

@@ -1,4 +1,4 @@
-use Rattle.std.proofs.Common.{◌∙◌, ◌≡◌, ◌<◌, [], sym, ap, refl, arith, ℕ, ◌≤◌, subst}
+use Rattle.std.proofs.Common.{◌∙◌, ◌≡◌, [], sym, ap, refl, arith, ℕ, ◌≤◌, subst}
 use Rattle.rcu_board.specs.Words.{board_word}
 use Rattle.rcu_board.specs.Views.{sight}
 use Rattle.rcu_board.specs.declared.view.View.{View}
