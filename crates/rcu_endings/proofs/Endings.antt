@@ -22,7 +22,7 @@ use Rattle.rcu_places.proofs.Moves.{placed_all}
 use Rattle.rcu_places.proofs.Ordering.{begins}
 use Rattle.rcu_records.specs.Callbacks.{AreKeyed, numbered_callback, numbered_callbacks}
 use Rattle.rcu_records.specs.Records.{AreOfBoth, AreRipe, AreSeenBy, numbered_record, numbered_records}
-use Rattle.rcu_endings.specs.Ends.{AreInPlace, AreOnceBelow, EndsWith, IsEnd, keys_of, left_of}
+use Rattle.rcu_endings.specs.Ends.{AreInPlace, AreOnceBelow, EndsWith, IsEnd, IsSoundEnd, keys_of, left_of}
 use Rattle.rcu_endings.specs.Moving.{Takes, jobs_of}
 use Rattle.rcu_endings.proofs.Counting.{two_as_many}
 
@@ -188,15 +188,12 @@ module _ {J : Type 0} (key_of : J → ℕ) where
   keyed_rest (x ∷ xs) ys h = keyed_rest xs ys (λ j e z. h (suc j) e (let q : suc j < length (x ∷ (xs ++ ys)) = omega (arith, z) in q))
 
 module _ {J R : Type 0} (key_of : J → ℕ) (gives : ℕ → R → Type 0) where
-  -- one order of records and of what comes back is an end
-  is_end : (m : ℕ) (accepted : List Accepted) (ran : List (Record R)) (calls : List (Callback J)) → m ≤ length accepted → numbered_records ran ≡ take m (numbered 0 accepted) → numbered_callbacks calls ≡ drop m (numbered 0 accepted) → AreKeyed key_of calls → Given gives ran → AreRipe ran
-      → IsEnd key_of gives accepted m ran (jobs_of calls)
-  is_end m accepted ran calls within ran_is others_are keyed given ripe = record {
-    within = within;
-    ran_is = ran_is;
+  -- the keys of what comes back, and the receipts
+  is_sound_end : (m : ℕ) (accepted : List Accepted) (ran : List (Record R)) (calls : List (Callback J)) → numbered_callbacks calls ≡ drop m (numbered 0 accepted) → AreKeyed key_of calls → Given gives ran
+      → IsSoundEnd key_of gives accepted m ran (jobs_of calls)
+  is_sound_end m accepted ran calls others_are keyed given = record {
     back_is = keys_of_jobs key_of calls keyed ∙ (ap (map (λ (x : Numbered). x.key)) others_are ∙ (sym (drop-map (λ (x : Numbered). x.key) m (numbered 0 accepted)) ∙ ap (drop m) (numbered_keys 0 accepted)));
     given = given;
-    ripe = ripe;
   }
 
   -- an offloadable processor's accepted list, once its records are merged: those that ran, and those that are left
@@ -235,12 +232,15 @@ module _ {J R : Type 0} (key_of : J → ℕ) (gives : ℕ → R → Type 0) wher
       → (Given gives own → Given gives hands → Given gives ran) → (AreRipe own → AreRipe hands → AreRipe ran) → ((x : ℕ) → AreSeenBy x own → AreSeenBy x hands → AreSeenBy x ran) → AreOfBoth own hands ran
       → EndsWith key_of gives own hands h taken drawn ran back
   offloadable_ends own hands ran h taken drawn back passed passed_drawn is order given ripe seen records = record {
-    ends = λ accepted m places sound ripe_own ripe_hands once.
+    ends = λ accepted m places ripe_own ripe_hands once.
+        let p = offloadable_parted m accepted own hands ran h taken passed (order accepted) places once in
+        record { within = p.within; ran_is = p.ran_is; ripe = ripe ripe_own ripe_hands };
+    sound = λ accepted m places once sound.
         let keyed_drawn = keyed_first key_of drawn (drop (length drawn) (put_by h) ++ held_in h)
         (subst (AreKeyed key_of) (ap (λ l. l ++ held_in h) passed_drawn ∙ append_assoc drawn (drop (length drawn) (put_by h)) (held_in h)) sound.keyed) in
         let p = offloadable_parted m accepted own hands ran h taken passed (order accepted) places once in
-        subst (IsEnd key_of gives accepted m ran) (sym is)
-        (is_end m accepted ran (left_of h taken) p.within p.ran_is p.left_is (keyed_left h taken passed sound.keyed) (given sound.own_given (sound.hands_given keyed_drawn)) (ripe ripe_own ripe_hands));
+        subst (IsSoundEnd key_of gives accepted m ran) (sym is)
+        (is_sound_end m accepted ran (left_of h taken) p.left_is (keyed_left h taken passed sound.keyed) (given sound.own_given (sound.hands_given keyed_drawn)));
     seen = seen;
     records = records;
     jobs = is;
@@ -265,11 +265,14 @@ module _ {J R : Type 0} (key_of : J → ℕ) (gives : ℕ → R → Type 0) wher
 
   pub local_ends : (own ran : List (Record R)) (h : Holding J) (back : List J) → put_by h ≡ [] → ran ≡ own → back ≡ jobs_of (held_in h) → EndsWith key_of gives own [] h [] [] ran back
   local_ends own ran h back none same is = record {
-    ends = λ accepted m places sound ripe ripe_none once.
+    ends = λ accepted m places ripe ripe_none once.
         let p = local_parted m accepted own h none places (once_own m own once) in
-        subst (λ (rs : List (Record R)). IsEnd key_of gives accepted m rs back) (sym same)
-        (subst (IsEnd key_of gives accepted m own) (sym is)
-        (is_end m accepted own (held_in h) p.within p.ran_is p.left_is (subst (λ (l : List (Callback J)). AreKeyed key_of (l ++ held_in h)) none sound.keyed) sound.own_given ripe));
+        subst (λ (rs : List (Record R)). IsEnd accepted m rs) (sym same) (record { within = p.within; ran_is = p.ran_is; ripe = ripe });
+    sound = λ accepted m places once sound.
+        let p = local_parted m accepted own h none places (once_own m own once) in
+        subst (λ (rs : List (Record R)). IsSoundEnd key_of gives accepted m rs back) (sym same)
+        (subst (IsSoundEnd key_of gives accepted m own) (sym is)
+        (is_sound_end m accepted own (held_in h) p.left_is (subst (λ (l : List (Callback J)). AreKeyed key_of (l ++ held_in h)) none sound.keyed) sound.own_given));
     seen = λ x seen none_seen. subst (λ (rs : List (Record R)). AreSeenBy x rs) (sym same) seen;
     records = λ k d lt. inl (subst (λ (rs : List (Record R)). Contains rs (get_or ran k d)) same (Contains-get_or ran k d lt));
     jobs = is ∙ ap jobs_of (sym (none_left h none));

@@ -23,6 +23,13 @@ module _ {J : Type 0} where
   abbrev pub left_of : Holding J → List (Callback J) → List (Callback J)
   left_of h taken = drop (length taken) (put_by h) ++ held_in h
 
+module _ {R : Type 0} where
+  -- The records are those of the accepted numbers 0 to m - 1, with their keys and stamps, and the wait of each was over.
+  pub record IsEnd (accepted : List Accepted) (m : ℕ) (ran : List (Record R)) : Type 0 where
+    pub within : m ≤ length accepted
+    pub ran_is : numbered_records ran ≡ take m (numbered 0 accepted)
+    pub ripe : AreRipe ran
+
 module _ {J R : Type 0} where
   -- The law of places of a processor at rest, and of its hand: what the processor accepted is what it ran and what it put on
   -- its lane, in some order, and then what it holds; what the hand took is what it ran.
@@ -37,21 +44,21 @@ module _ {J R : Type 0} where
     pub own_given : Given gives own
     pub hands_given : AreKeyed key_of drawn → Given gives hands
 
-  -- The records are those of the accepted numbers 0 to m - 1, with their keys and stamps; handed back are the jobs of the
-  -- numbers from m on, in order.
-  pub record IsEnd (key_of : J → ℕ) (gives : ℕ → R → Type 0) (accepted : List Accepted) (m : ℕ) (ran : List (Record R)) (back : List J) : Type 0 where
-    pub within : m ≤ length accepted
-    pub ran_is : numbered_records ran ≡ take m (numbered 0 accepted)
+  -- What is known of jobs then: those that are handed back have the keys of the numbers from m on, in order, and each receipt
+  -- is as the relation wants it.
+  pub record IsSoundEnd (key_of : J → ℕ) (gives : ℕ → R → Type 0) (accepted : List Accepted) (m : ℕ) (ran : List (Record R)) (back : List J) : Type 0 where
     pub back_is : map key_of back ≡ drop m (keys_of accepted)
     pub given : Given gives ran
-    pub ripe : AreRipe ran
 
   -- How a processor ended that had these records and lists, and its hand these records, and took these callbacks of those
   -- that it drew. At what number the turns stood is learnt from the last loads alone, once all parts have ended.
   pub record EndsWith (key_of : J → ℕ) (gives : ℕ → R → Type 0) (own hands : List (Record R)) (h : Holding J) (taken drawn : List (Callback J)) (ran : List (Record R)) (back : List J) : Type 0 where
     -- where each number below m was claimed once, by processor or hand, and no other was
-    pub ends : (accepted : List Accepted) (m : ℕ) → AreInPlace accepted own hands h taken → AreSound key_of gives own hands h drawn → AreRipe own → AreRipe hands → AreOnceBelow m own hands
-        → IsEnd key_of gives accepted m ran back
+    pub ends : (accepted : List Accepted) (m : ℕ) → AreInPlace accepted own hands h taken → AreRipe own → AreRipe hands → AreOnceBelow m own hands
+        → IsEnd accepted m ran
+    -- and where jobs were sound
+    pub sound : (accepted : List Accepted) (m : ℕ) → AreInPlace accepted own hands h taken → AreOnceBelow m own hands → AreSound key_of gives own hands h drawn
+        → IsSoundEnd key_of gives accepted m ran back
     -- no record is later than those of which it was made
     pub seen : (x : ℕ) → AreSeenBy x own → AreSeenBy x hands → AreSeenBy x ran
     -- each record is one of those, whole: it has the sight by which it ran, and the receipt

@@ -4,7 +4,7 @@ use mathlib.Core.Logic.{dite}
 use native.Mathlib.Decide.{ℕ_discrete}
 use Rattle.std.specs.List.{All}
 use Rattle.std.proofs.lemmas.Bool.Decides.{nat_tests}
-use Rattle.std.proofs.lemmas.List.{length-map}
+use Rattle.std.proofs.lemmas.List.{length-drop, length-map}
 use Rattle.rcu_board.specs.Laws.{OddEquals, Reported}
 use Rattle.rcu_board.specs.Seats.{accepted_of, first_accepted, first_fresh, first_reports, reports_of}
 use Rattle.rcu_board.specs.Views.{Every, accepted_count, claimed, cpus, fresh_count, one_if_claim, seen_at, total}
@@ -14,17 +14,19 @@ use Rattle.rcu_board.specs.declared.view.Own.{Own}
 use Rattle.rcu_board.specs.declared.view.View.{View}
 use Rattle.rcu_board.proofs.Asks.{turns_not}
 use Rattle.rcu_board.proofs.Views.{total-append}
-use Rattle.rcu_endings.specs.Ends.{AreOnceBelow, IsEnd}
+use Rattle.rcu_endings.specs.Ends.{AreOnceBelow, IsEnd, IsSoundEnd}
+use Rattle.rcu_jobs.specs.declared.callback.Callback.{Callback}
 use Rattle.rcu_jobs.specs.declared.callback.Record.{Record}
 use Rattle.rcu_numbers.specs.Numbers.{snap_of}
 use Rattle.rcu_numbers.specs.Words.{number_of}
 use Rattle.rcu_numbers.proofs.WordLaws.{owes-lt}
 use Rattle.rcu_places.specs.Order.{between, times}
 use Rattle.rcu_places.specs.Places.{Accepted, numbered}
+use Rattle.rcu_records.specs.Callbacks.{numbered_callback}
 use Rattle.rcu_records.specs.Records.{AreSeenBy, numbered_record, numbered_records}
-use Rattle.rcu_gathering.specs.Closing.{Closes, ClosesAs, CpuEnd, HaveEnded, IsGraced, processors_of, seats_of}
+use Rattle.rcu_gathering.specs.Closing.{Closes, ClosesAs, CpuEnd, Ends, EndsAs, HaveEnded, IsGraced, calls_left, processors_of, seats_of}
 use Rattle.rcu_gathering.specs.Gathered.{gather}
-use Rattle.rcu_gathering.specs.Parts.{HandClaims, HandPart, IsAtRest, accepted_entry, accepted_list, claim_of, hand_ran, hand_views, views_of}
+use Rattle.rcu_gathering.specs.Parts.{HandClaims, HandPart, IsAtRest, IsSoundPart, accepted_entry, accepted_list, claim_of, hand_ran, hand_views, views_of}
 use Rattle.rcu_gathering.proofs.Claims.{cpu_at, no_claims, row_at}
 use Rattle.rcu_gathering.proofs.Gathers.{gather_claims, gather_each, gather_seen, gather_sights}
 use Rattle.rcu_gathering.proofs.Lists.{all_none, all_cons, all_head, all_imp, all_both, all_left, all_map, all_mapped, all_right, all_tail, every_all}
@@ -79,12 +81,13 @@ settled_between m j = grind (arith, nat_tests)
 seen_records : {R : Type 0} → (x cpu : ℕ) (v : View) (ran : List (Record R)) → v.claims ≡ map (claim_of cpu) ran → Every (λ (c : Claim). c.sight ≤ x) v.claims → AreSeenBy x ran
 seen_records x cpu v ran e h = all_map (λ (c : Claim). c.sight ≤ x) (claim_of cpu) ran (subst (All (λ (c : Claim). c.sight ≤ x)) e (every_all (λ (c : Claim). c.sight ≤ x) v.claims h))
 
-module _ {J R : Type 0} where
-  ran_length : (key_of : J → ℕ) (gives : ℕ → R → Type 0) (accepted : List Accepted) (m : ℕ) (ran : List (Record R)) (back : List J) → IsEnd key_of gives accepted m ran back → m ≡ length ran
-  ran_length key_of gives accepted m ran back e =
+module _ {R : Type 0} where
+  ran_length : (accepted : List Accepted) (m : ℕ) (ran : List (Record R)) → IsEnd accepted m ran → m ≡ length ran
+  ran_length accepted m ran e =
       let a = ap length e.ran_is ∙ length_taken m (numbered 0 accepted) (let n = numbered_length 0 accepted in let w = e.within in omega arith) in
       let b = length-map ran (numbered_record {R = R}) in omega arith
 
+module _ {J R : Type 0} where
   all_seats : (P : View → Type 0) (es : List (CpuEnd J R)) → All P (seats_of es) → All (λ (e : CpuEnd J R). All P (views_of e.part)) es
   all_seats P [] h = all_none (λ (e : CpuEnd J R). All P (views_of e.part))
   all_seats P (e ∷ es) h = all_cons (λ (e : CpuEnd J R). All P (views_of e.part)) e es (all_left P (views_of e.part) (seats_of es) h) (all_seats P es (all_right P (views_of e.part) (seats_of es) h))
@@ -92,6 +95,14 @@ module _ {J R : Type 0} where
   seen_hand : (x cpu : ℕ) (P : View → Type 0) (hand : Option (HandPart J R)) → ((v : View) → P v → Every (λ (c : Claim). c.sight ≤ x) v.claims) → HandClaims cpu hand → All P (hand_views hand) → AreSeenBy x (hand_ran hand)
   seen_hand x cpu P None f e h = all_none (λ (r : Record R). r.ready ≤ x)
   seen_hand x cpu P (Some y) f e h = seen_records x cpu y.view y.ran e (f y.view (all_head P y.view [] h))
+
+module _ {J R : Type 0} where
+  -- as many as were accepted ran or come back
+  pub as_many_ended : (views processors : List View) (e : CpuEnd J R) → EndsAs views processors e → length e.ran + length e.back ≡ length (accepted_list e.part.view)
+  as_many_ended views processors e h =
+      let accepted = accepted_list e.part.view in
+      let calls = calls_left e in
+      omega (arith, h.end.within, length-drop (length e.ran) (numbered 0 accepted), numbered_length 0 accepted, ap length h.jobs, length-map calls (λ (c : Callback J). c.job), ap length h.left, length-map calls (numbered_callback {J = J}))
 
 module _ {J R : Type 0} (key_of : J → ℕ) (gives : ℕ → R → Type 0) (n x : ℕ) (v : View) (others : List View) (es : List (CpuEnd J R)) (h : HaveEnded key_of gives n x v others es) where
   abbrev Whole : View
@@ -101,7 +112,7 @@ module _ {J R : Type 0} (key_of : J → ℕ) (gives : ℕ → R → Type 0) (n x
   Views = v ∷ (others ++ seats_of es)
 
   abbrev Rests : CpuEnd J R → Type 0
-  Rests e = IsAtRest key_of gives e.part
+  Rests e = IsAtRest e.part
 
   -- what is known of each view
   abbrev Stands : View → Type 0
@@ -121,25 +132,37 @@ module _ {J R : Type 0} (key_of : J → ℕ) (gives : ℕ → R → Type 0) (n x
   claims_at k j d lt =
       let a = total-append (claimed k j) (v ∷ others) (seats_of es) in
       let b = no_claims k j (v ∷ others) h.nothing in
-      let c = row_at key_of gives k j 0 k es d lt (omega arith) h.row h.at_rest in omega arith
+      let c = row_at k j 0 k es d lt (omega arith) h.row h.at_rest in omega arith
 
-  closes_at : (k : ℕ) (d : CpuEnd J R) → k < length es → ClosesAs key_of gives Views (processors_of es) (get_or es k d)
-  closes_at k d lt =
+  -- the turn word of the k-th processor says how many ran
+  abbrev ran_at : (k : ℕ) → k < n → ℕ
+  ran_at k near = ((h.settled.turns k near).0 + 1) / 2
+
+  all_claimed_at : (k j : ℕ) (near : k < n) → total (claimed k j) Views ≡ between 0 (ran_at k near) j
+  all_claimed_at k j near = sym (gather_claims (one_if_claim k j) v (others ++ seats_of es)) ∙ ((h.settled.turns k near).2.claims j ∙ settled_between (ran_at k near) j)
+
+  once_at : (k : ℕ) (near : k < n) (d : CpuEnd J R) → k < length es → AreOnceBelow (ran_at k near) (get_or es k d).part.own (hand_ran (get_or es k d).part.hand)
+  once_at k near d lt = λ j. sym (claims_at k j d lt) ∙ all_claimed_at k j near
+
+  end_at : (k : ℕ) (near : k < n) (d : CpuEnd J R) → k < length es → IsEnd (accepted_list (get_or es k d).part.view) (ran_at k near) (get_or es k d).ran
+  end_at k near d lt = let rest = h.at_rest k d lt in (h.ended k d lt).ends (accepted_list (get_or es k d).part.view) (ran_at k near) rest.places rest.ripe rest.hand_ripe (once_at k near d lt)
+
+  ends_at : (k : ℕ) (d : CpuEnd J R) → k < length es → EndsAs Views (processors_of es) (get_or es k d)
+  ends_at k d lt =
       let e = get_or es k d in
-      let near : k < n = (let z = h.all in omega arith) in
-      let cpu : e.part.cpu ≡ k = (let z = cpu_at key_of gives 0 k es d lt h.row in omega arith) in
+      let near : k < n = omega (arith, lt, h.all) in
+      let cpu : e.part.cpu ≡ k = (let z = cpu_at 0 k es d lt h.row in omega arith) in
       let rest = h.at_rest k d lt in
       let seats = stands k d lt in
       let own = all_head Stands e.part.view (hand_views e.part.hand) seats in
       let turn = h.settled.turns k near in
       let count = h.settled.counts k near in
-      let m = (turn.0 + 1) / 2 in
+      let m = ran_at k near in
       let number = number_of x in
-      let same : (j : ℕ) → total (claimed k j) Views ≡ between 0 m j = λ j. sym (gather_claims (one_if_claim k j) v (others ++ seats_of es)) ∙ (turn.2.claims j ∙ settled_between m j) in
-      let once : AreOnceBelow m e.part.own (hand_ran e.part.hand) = λ j. sym (claims_at k j d lt) ∙ same j in
+      let once = once_at k near d lt in
       let done = h.ended k d lt in
-      let end = done.ends (accepted_list e.part.view) m rest.places rest.sound rest.ripe rest.hand_ripe once in
-      let long : m ≡ length e.ran = ran_length key_of gives (accepted_list e.part.view) m e.ran e.back end in
+      let end = end_at k near d lt in
+      let long : m ≡ length e.ran = ran_length (accepted_list e.part.view) m e.ran end in
       let seen : AreSeenBy number e.ran = done.seen number (seen_records number e.part.cpu e.part.view e.part.own rest.claims own.1)
       (seen_hand number e.part.cpu Stands e.part.hand (λ w s. s.1) rest.hand_claims (all_tail Stands e.part.view (hand_views e.part.hand) seats)) in
       let sights = gather_sights (words_of n) (turns_word k) (omega arith) (turns_not k) v (others ++ seats_of es) h.long in
@@ -149,11 +172,11 @@ module _ {J R : Type 0} (key_of : J → ℕ) (gives : ℕ → R → Type 0) (n x
       let accepted : count.0 / 2 ≡ length (accepted_of e.part.view) = own_counted k (count.0 / 2) e.part.view.own (rest.own_cpu ∙ ap (λ (c : ℕ). c ∷ []) cpu) rest.stamped
       (all_head Counted e.part.view (hand_views e.part.hand) (all_seats Counted es counted k d lt)).0 in
       record {
-        end = subst (λ (i : ℕ). IsEnd key_of gives (accepted_list e.part.view) i e.ran e.back) long end;
+        end = subst (λ (i : ℕ). IsEnd (accepted_list e.part.view) i e.ran) long end;
         records = done.records;
         jobs = done.jobs;
         left = done.left (accepted_list e.part.view) m rest.places once ∙ ap (λ (i : ℕ). drop i (numbered 0 (accepted_list e.part.view))) long;
-        claims = λ j. ap (λ (p : ℕ). total (claimed p j) Views) cpu ∙ (same j ∙ ap (λ (i : ℕ). between 0 i j) long);
+        claims = λ j. ap (λ (p : ℕ). total (claimed p j) Views) cpu ∙ (all_claimed_at k j near ∙ ap (λ (i : ℕ). between 0 i j) long);
         graced = all_both (λ (r : Record R). snap_of r.stamp ≤ r.ready) (λ (r : Record R). r.ready ≤ number) (IsGraced (processors_of es)) e.ran
             (λ r ripe low. all_imp (λ (w : View). number / 4 ≤ reports_of w) (λ (w : View). (j : ℕ) × (j < reports_of w) × (r.stamp < 4 * j + 1) × (4 * j + 1 < r.ready)) (processors_of es)
             (λ w many. graced r.stamp r.ready number (reports_of w) ripe low many) enough) end.ripe seen;
@@ -165,8 +188,19 @@ module _ {J R : Type 0} (key_of : J → ℕ) (gives : ℕ → R → Type 0) (n x
             (gather_seen (OddEquals k count.0) v (others ++ seats_of es) count.1.final count.1.merged));
       }
 
-  pub closes : Closes key_of gives v others es
-  closes k d lt = closes_at k d lt
+  sound_at : (k : ℕ) (d : CpuEnd J R) → k < length es → IsSoundPart key_of gives (get_or es k d).part
+      → IsSoundEnd key_of gives (accepted_list (get_or es k d).part.view) (length (get_or es k d).ran) (get_or es k d).ran (get_or es k d).back
+  sound_at k d lt sound =
+      let e = get_or es k d in
+      let near : k < n = omega (arith, lt, h.all) in
+      let end = (h.ended k d lt).sound (accepted_list e.part.view) (ran_at k near) (h.at_rest k d lt).places (once_at k near d lt) sound in
+      subst (λ (i : ℕ). IsSoundEnd key_of gives (accepted_list e.part.view) i e.ran e.back) (ran_length (accepted_list e.part.view) (ran_at k near) e.ran (end_at k near d lt)) end
+
+  pub ends : Ends v others es
+  ends k d lt = ends_at k d lt
+
+  pub closes : All (λ (e : CpuEnd J R). IsSoundPart key_of gives e.part) es → Closes key_of gives v others es
+  closes sound k d lt = record { ends = ends_at k d lt; sound = sound_at k d lt (sound k d lt) }
 
   -- and of the reports of each
   pub reported : All (λ (e : CpuEnd J R). Reported x e.part.cpu (reports_of e.part.view)) es

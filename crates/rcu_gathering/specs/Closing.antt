@@ -4,7 +4,7 @@ use Rattle.rcu_board.specs.Seats.{reports_of}
 use Rattle.rcu_board.specs.Views.{claimed, seen_at, total}
 use Rattle.rcu_board.specs.Words.{accepts_word, turns_word, words_of}
 use Rattle.rcu_board.specs.declared.view.View.{View}
-use Rattle.rcu_endings.specs.Ends.{EndsWith, IsEnd, left_of}
+use Rattle.rcu_endings.specs.Ends.{EndsWith, IsEnd, IsSoundEnd, left_of}
 use Rattle.rcu_endings.specs.Moving.{jobs_of}
 use Rattle.rcu_jobs.specs.declared.callback.Callback.{Callback}
 use Rattle.rcu_jobs.specs.declared.callback.Record.{Record}
@@ -48,10 +48,11 @@ module _ {J R : Type 0} where
   abbrev pub WasEnded : (J → ℕ) → (ℕ → R → Type 0) → CpuEnd J R → Type 0
   WasEnded key_of gives e = EndsWith key_of gives e.part.own (hand_ran e.part.hand) e.part.lists (hand_taken e.part.hand) (hand_drawn e.part.hand) e.ran e.back
 
-  -- What is left of one processor, where these are all views, and `processors` are those of processors.
-  pub record ClosesAs (key_of : J → ℕ) (gives : ℕ → R → Type 0) (views processors : List View) (e : CpuEnd J R) : Type 0 where
-    -- as many as ran, 0 to m - 1, have records; the jobs of the others come back
-    pub end : IsEnd key_of gives (accepted_list e.part.view) (length e.ran) e.ran e.back
+  -- What is left of one processor, whatever is known of jobs, where these are all views, and `processors` are those of
+  -- processors.
+  pub record EndsAs (views processors : List View) (e : CpuEnd J R) : Type 0 where
+    -- as many as ran, 0 to m - 1, have records
+    pub end : IsEnd (accepted_list e.part.view) (length e.ran) e.ran
     -- each record is one that the processor or its hand had, whole
     pub records : AreOfBoth e.part.own (hand_ran e.part.hand) e.ran
     -- the jobs that come back are those of the callbacks that are left, which have the numbers from m on
@@ -65,6 +66,12 @@ module _ {J R : Type 0} where
     -- each view's sight of the accept word, where it is odd, has the accepted count as its half
     pub shut : All (λ v. seen_at v (accepts_word e.part.cpu) % 2 ≡ 1 → seen_at v (accepts_word e.part.cpu) / 2 ≡ length (accepted_list e.part.view)) views
 
+  -- What is left of one processor whose jobs are sound: those that come back have the keys as accepted, too, and each receipt is
+  -- as its job promises.
+  pub record ClosesAs (key_of : J → ℕ) (gives : ℕ → R → Type 0) (views processors : List View) (e : CpuEnd J R) : Type 0 where
+    pub ends : EndsAs views processors e
+    pub sound : IsSoundEnd key_of gives (accepted_list e.part.view) (length e.ran) e.ran e.back
+
   -- The parts of one open have ended: what the seats knew is in one view, from which the last loads were made.
   pub record HaveEnded (key_of : J → ℕ) (gives : ℕ → R → Type 0) (n x : ℕ) (v : View) (others : List View) (es : List (CpuEnd J R)) : Type 0 where
     pub settled : IsSettled n x (gather v (others ++ seats_of es))
@@ -73,11 +80,15 @@ module _ {J R : Type 0} where
     -- these are all processors, in order
     pub all : length es ≡ n
     pub row : InRow 0 es
-    pub at_rest : All (λ e. IsAtRest key_of gives e.part) es
+    pub at_rest : All (λ e. IsAtRest e.part) es
     pub ended : All (WasEnded key_of gives) es
     -- each seat is one of the board
     pub long : All (λ w. length w.seen ≡ words_of n) (v ∷ (others ++ seats_of es))
 
-  -- What `close` promises: of each processor.
+  -- What `close` promises of each processor, whatever is known of jobs.
+  abbrev pub Ends : View → List View → List (CpuEnd J R) → Type 0
+  Ends v others es = All (EndsAs (v ∷ (others ++ seats_of es)) (processors_of es)) es
+
+  -- What it promises where jobs are sound.
   abbrev pub Closes : (J → ℕ) → (ℕ → R → Type 0) → View → List View → List (CpuEnd J R) → Type 0
   Closes key_of gives v others es = All (ClosesAs key_of gives (v ∷ (others ++ seats_of es)) (processors_of es)) es

@@ -66,7 +66,7 @@ module _ {J R : Type 0} where
   HandClaims cpu None = Unit {0}
 
   -- A processor and its hand at rest.
-  pub record IsAtRest (key_of : J → ℕ) (gives : ℕ → R → Type 0) (c : CpuPart J R) : Type 0 where
+  pub record IsAtRest (c : CpuPart J R) : Type 0 where
     -- the processor's view has its lists, and each accepted number has its stamp
     pub own_cpu : cpus c.view.own ≡ c.cpu ∷ []
     pub stamped : fresh_of c.view ≡ None
@@ -77,5 +77,7 @@ module _ {J R : Type 0} where
     pub hand_claims : HandClaims c.cpu c.hand
     pub ripe : AreRipe c.own
     pub hand_ripe : AreRipe (hand_ran c.hand)
-    -- what is known of jobs
-    pub sound : AreSound key_of gives c.own (hand_ran c.hand) c.lists (hand_drawn c.hand)
+
+  -- what a processor and its hand know of jobs
+  abbrev pub IsSoundPart : (J → ℕ) → (ℕ → R → Type 0) → CpuPart J R → Type 0
+  IsSoundPart key_of gives c = AreSound key_of gives c.own (hand_ran c.hand) c.lists (hand_drawn c.hand)

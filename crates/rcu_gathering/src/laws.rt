@@ -6,8 +6,9 @@ ghost use Rattle.rcu_board.specs.Seats.{reports_of};
 ghost use Rattle.rcu_board.specs.Views.{claimed, seen_at, tally, total};
 ghost use Rattle.rcu_board.specs.Words.{is_asks};
 ghost use Rattle.rcu_board.specs.declared.view.View.{View};
-ghost use Rattle.rcu_gathering.specs.Closing.{Closes, CpuEnd, HaveEnded};
+ghost use Rattle.rcu_gathering.specs.Closing.{Closes, CpuEnd, Ends, HaveEnded};
 ghost use Rattle.rcu_gathering.specs.Gathered.{gather};
+ghost use Rattle.rcu_gathering.specs.Parts.{IsSoundPart};
 
 use rcu_jobs::Job;
 
@@ -21,9 +22,11 @@ pub fn gathering()
 {}
 
 /// Where the parts of one open have ended, each processor and its hand by [`rcu_endings::end_offloadable`] or
-/// [`rcu_endings::end_local`], the last loads say of each what `close` promises, and the last board word how many counted
-/// reports it made (see [`crate::reports_by`]).
+/// [`rcu_endings::end_local`], the last loads say of each what `close` promises, also of its jobs where these were sound, and
+/// the last board word how many counted reports it made (see [`crate::reports_by`]).
 pub fn closing<J: Job>()
-    ensures closes { (n x : ℕ) (v : View) (others : List View) (es : List (CpuEnd J J.Receipt)) → HaveEnded J.key_of J.gives n x v others es → Closes J.key_of J.gives v others es }
+    ensures ends { (n x : ℕ) (v : View) (others : List View) (es : List (CpuEnd J J.Receipt)) → HaveEnded J.key_of J.gives n x v others es → Ends v others es }
+    ensures closes { (n x : ℕ) (v : View) (others : List View) (es : List (CpuEnd J J.Receipt)) → HaveEnded J.key_of J.gives n x v others es → All (λ e. IsSoundPart J.key_of J.gives e.part) es
+        → Closes J.key_of J.gives v others es }
     ensures reports { (n x : ℕ) (v : View) (others : List View) (es : List (CpuEnd J J.Receipt)) → HaveEnded J.key_of J.gives n x v others es → All (λ e. Reported x e.part.cpu (reports_of e.part.view)) es }
 {}

@@ -1,7 +1,6 @@
 -- What is seen stays seen, and once all that was accepted has run no job comes back.
 use Rattle.std.proofs.Common.{◌≡◌, ℕ, zero, suc, ◌+◌, ◌*◌, ◌/◌, ◌%◌, ◌<◌, ◌≤◌, ◌∙◌, List, [], ◌∷◌, ◌++◌, map, drop, length, slice_index_or, get_or, sym, ap, subst, refl, arith}
 use Rattle.std.specs.List.{All, AllZip, Any}
-use Rattle.std.proofs.lemmas.List.{length-drop, length-map}
 use Rattle.rcu_board.specs.Seats.{NeverFalls}
 use Rattle.rcu_board.specs.Views.{seen_at}
 use Rattle.rcu_board.specs.Words.{accepts_word, turns_word}
@@ -9,17 +8,16 @@ use Rattle.rcu_board.specs.declared.board.Board.{Board}
 use Rattle.rcu_board.specs.declared.view.View.{View}
 use Rattle.rcu_control.specs.Barriers.{IsOver, count_at}
 use Rattle.rcu_control.specs.Parts.{control_view}
-use Rattle.rcu_endings.specs.Ends.{keys_of}
+use Rattle.rcu_gathering.proofs.Closings.{as_many_ended}
 use Rattle.rcu_gathering.proofs.Lists.{all_cons, all_head, all_left, all_map, all_mapped, all_none, all_right, all_tail}
-use Rattle.rcu_gathering.specs.Closing.{ClosesAs, CpuEnd, processors_of, seats_of}
+use Rattle.rcu_gathering.specs.Closing.{CpuEnd, EndsAs, processors_of, seats_of}
 use Rattle.rcu_gathering.specs.Parts.{CpuPart, accepted_list, hand_views, views_of}
 use Rattle.rcu_jobs.specs.declared.Counts.{Counts}
 use Rattle.rcu_jobs.specs.declared.answers.Closed.{Closed}
-use Rattle.rcu_places.specs.Places.{Accepted}
 use Rattle.rcu_part_processor.specs.Processors.{SameProcessor, board_of, view_of}
 use Rattle.rcu_part_processor.specs.declared.processor.Processor.{Processor}
 use Rattle.rcu_part_hand.specs.declared.hand.Hand.{Hand}
-use Rattle.rcu_parts.specs.AtClose.{ClosesWith, cpu_part, cpu_parts, hand_for, hands_after, other_views}
+use Rattle.rcu_parts.specs.AtClose.{AccountsFor, cpu_part, cpu_parts, hand_for, hands_after, other_views}
 use Rattle.rcu_parts.specs.Drained.{HasNoneBack, IsCountedFor, IsDrained, polling_views}
 use Rattle.rcu_parts.specs.OneOpen.{AreOfOneOpen, AreProcessorsFrom, Parts, hands_in, parts_board, processors_in}
 use Rattle.rcu_parts.specs.SameParts.{AreSameParts}
@@ -95,10 +93,10 @@ module _ {J R : Type 0} where
       all_cons Q v (map own_view (processors_in parts)) (all_head Q v others h)
       (all_own Q es (processors_in parts) (hands_in parts) same (all_right Q (other_views parts) (seats_of es) (all_tail Q v others h)))
 
-module _ {J R : Type 0} (key_of : J → ℕ) (gives : ℕ → R → Type 0) (counts : Counts) (parts : Parts J R) (drained : IsDrained counts parts) where
+module _ {J R : Type 0} (counts : Counts) (parts : Parts J R) (drained : IsDrained counts parts) where
   -- of a processor whose accepted callbacks the barrier counted no job comes back
   none_of : (es : List (CpuEnd J R)) (e : CpuEnd J R) → map (λ x. x.part) es ≡ cpu_parts (processors_in parts) (hands_in parts) → e.part.cpu < counts.n
-      → ClosesAs key_of gives (control_view parts.control ∷ (other_views parts ++ seats_of es)) (processors_of es) e → e.back ≡ []
+      → EndsAs (control_view parts.control ∷ (other_views parts ++ seats_of es)) (processors_of es) e → e.back ≡ []
   none_of es e same low h = let p = e.part.cpu in let accepted = accepted_list e.part.view in
       let Turns = λ (w : View). seen_at w (turns_word p) / 2 ≤ length e.ran in
       let Shut = λ (w : View). seen_at w (accepts_word p) % 2 ≡ 1 → seen_at w (accepts_word p) / 2 ≡ length accepted in
@@ -106,27 +104,23 @@ module _ {J R : Type 0} (key_of : J → ℕ) (gives : ℕ → R → Type 0) (cou
       let shut = any_of_all (IsCountedFor p counts) Shut (polling_views parts) (drained.counted p low) (all_polling Shut parts es same h.shut) in
       let ran : count_at counts p ≤ length e.ran = omega (arith, over.1 p low, over.2) in
       let all : length accepted ≤ count_at counts p = omega (arith, shut.1.1, shut.2 shut.1.0) in
-      let left = length-drop (length e.ran) (keys_of accepted) in
-      let keys = length-map accepted (λ (a : Accepted). a.key) in
-      let back = ap (λ (l : List ℕ). length l) h.end.back_is in
-      let jobs = length-map e.back key_of in
-      no_longer e.back (omega (arith, ran, all, back, left, keys, jobs))
+      no_longer e.back (omega (arith, ran, all, as_many_ended (control_view parts.control ∷ (other_views parts ++ seats_of es)) (processors_of es) e h))
 
   none_each : (k : ℕ) (b : Board) (all es : List (CpuEnd J R)) (ps : List (Processor J R)) (hs : List (Hand J R)) → map (λ x. x.part) all ≡ cpu_parts (processors_in parts) (hands_in parts) → map (λ x. x.part) es ≡ cpu_parts ps hs
-      → counts.n ≡ b.processors → AreProcessorsFrom k b ps → All (ClosesAs key_of gives (control_view parts.control ∷ (other_views parts ++ seats_of all)) (processors_of all)) es → All (λ e. e.back ≡ []) es
+      → counts.n ≡ b.processors → AreProcessorsFrom k b ps → All (EndsAs (control_view parts.control ∷ (other_views parts ++ seats_of all)) (processors_of all)) es → All (λ e. e.back ≡ []) es
   unfolding AreProcessorsFrom
   none_each k b all [] ps hs whole same many from h = all_none (λ (e : CpuEnd J R). e.back ≡ [])
   none_each k b all (e ∷ es) [] hs whole same many from h = absurd (let long = ap (λ (l : List (CpuPart J R)). length l) same in omega (arith, long))
   none_each k b all (e ∷ es) (p ∷ ps) hs whole same many from h =
       let first : e.part ≡ cpu_part p (hand_for p hs) = ap (λ (l : List (CpuPart J R)). get_or l 0 e.part) same in
       let rest = ap (λ (l : List (CpuPart J R)). drop 1 l) same in
-      let Ends = ClosesAs key_of gives (control_view parts.control ∷ (other_views parts ++ seats_of all)) (processors_of all) in
+      let Ends = EndsAs (control_view parts.control ∷ (other_views parts ++ seats_of all)) (processors_of all) in
       let near : e.part.cpu < counts.n = omega (arith, ap (λ (c : CpuPart J R). c.cpu) first, p.state.there, ap (λ (c : Board). c.processors) from.0, many) in
       all_cons (λ (x : CpuEnd J R). x.back ≡ []) e es (none_of all e whole near (all_head Ends e es h))
       (none_each (suc k) b all es ps (hands_after p hs) whole rest many from.2 (all_tail Ends e es h))
 
   -- a drained runtime hands no job back
-  pub drained_none_back : (closed : Closed J R) → AreOfOneOpen parts → ClosesWith key_of gives parts closed → HasNoneBack closed
+  pub drained_none_back : (closed : Closed J R) → AreOfOneOpen parts → AccountsFor parts closed → HasNoneBack closed
   drained_none_back closed one c =
       let None = λ (l : List J). l ≡ [] in
       let each = none_each 0 (parts_board parts) c.ends c.ends (processors_in parts) (hands_in parts) c.parts_are c.parts_are drained.many one.processors c.closes in

@@ -14,9 +14,9 @@ use Rattle.rcu_gathering.proofs.Gathers.{gather_append}
 use Rattle.rcu_gathering.proofs.Lists.{all_cons, all_head, all_none, all_tail}
 use Rattle.rcu_parts.specs.AtClose.{cpu_part, cpu_parts, first_hand, hand_for, hand_part, hands_after, other_hands}
 use Rattle.rcu_parts.specs.Ending.{AreLong, EndsEach, EndsOne, GoesOn, IsReady, MayEnd, all_back, all_ran, all_view, board_at}
-use Rattle.rcu_part_hand.specs.Hands.{IsSoundHand, hand_board}
+use Rattle.rcu_part_hand.specs.Hands.{hand_board}
 use Rattle.rcu_parts.specs.OneOpen.{AreProcessorsFrom, HasHand, HasMember, offloadable_in}
-use Rattle.rcu_part_processor.specs.Processors.{IsSound, board_of}
+use Rattle.rcu_part_processor.specs.Processors.{board_of}
 use Rattle.rcu_parts.specs.Rooms.{FitsCpu}
 use Rattle.rcu_parts.specs.declared.ending.Ending.{Ending}
 use Rattle.rcu_part_group.specs.declared.folk.Folk.{Folk}
@@ -30,7 +30,7 @@ module _ {J R : Type 0} where
   all_other P [] h = h
   all_other P (x ∷ hs) h = all_tail P x hs h
 
-  all_after : (P : Hand J R → Type 0) (p : Processor J R) (hs : List (Hand J R)) → All P hs → All P (hands_after p hs)
+  pub all_after : (P : Hand J R → Type 0) (p : Processor J R) (hs : List (Hand J R)) → All P hs → All P (hands_after p hs)
   all_after P p hs h = cond_both p.state.offloadable (other_hands hs) hs (All P) (λ e. all_other P hs h) (λ e. h)
 
   -- of a processor without a hand, and of one with the first
@@ -52,99 +52,98 @@ module _ {J R : Type 0} where
   pub counted_in : (p : Processor J R) (rest : List (Processor J R)) → p.state.offloadable ≡ true → offloadable_in (p ∷ rest) ≡ p ∷ offloadable_in rest
   counted_in p rest e = ap (λ b. cond b (p ∷ offloadable_in rest) (offloadable_in rest)) e
 
+  -- ---- what is known of the first that is left
+
+  pub may_end : (k : ℕ) (p : Processor J R) (rest : List (Processor J R)) (ms : List (Folk J)) (hs : List (Hand J R)) (rs : List (Ended J R)) (x : Ending J R) → IsReady k (p ∷ rest) ms hs rs x → MayEnd x
+  may_end k p rest ms hs rs x i = record { at = i.at; rests = i.rests; ran = (let a = i.for_ran in omega arith); back = (let a = i.for_back in omega arith) }
+
+  pub first_board : (k : ℕ) (p : Processor J R) (rest : List (Processor J R)) (ms : List (Folk J)) (hs : List (Hand J R)) (rs : List (Ended J R)) (x : Ending J R) → IsReady k (p ∷ rest) ms hs rs x → board_of p.state ≡ board_at x
+  unfolding AreProcessorsFrom
+  first_board k p rest ms hs rs x i = i.processors.0
+
+  pub first_cpu : (k : ℕ) (p : Processor J R) (rest : List (Processor J R)) (ms : List (Folk J)) (hs : List (Hand J R)) (rs : List (Ended J R)) (x : Ending J R) → IsReady k (p ∷ rest) ms hs rs x → p.state.cpu ≡ k
+  unfolding AreProcessorsFrom
+  first_cpu k p rest ms hs rs x i = i.processors.1
+
+  rooms_split : (k : ℕ) (p : Processor J R) (rest : List (Processor J R)) (ms : List (Folk J)) (hs : List (Hand J R)) (rs left : List (Ended J R)) (room : Ended J R) (x : Ending J R) → IsReady k (p ∷ rest) ms hs rs x → rs ≡ room ∷ left
+      → FitsCpu (cpu_part p (hand_for p hs)) room × AllZip FitsCpu (cpu_parts rest (hands_after p hs)) left
+  rooms_split k p rest ms hs rs left room x i split = subst (λ l. AllZip FitsCpu (cpu_parts (p ∷ rest) hs) l) split i.rooms_are
+
+  pub first_room : (k : ℕ) (p : Processor J R) (rest : List (Processor J R)) (ms : List (Folk J)) (hs : List (Hand J R)) (rs left : List (Ended J R)) (room : Ended J R) (x : Ending J R) (hand : Option (HandPart J R)) → IsReady k (p ∷ rest) ms hs rs x → rs ≡ room ∷ left
+      → hand_for p hs ≡ hand → FitsCpu (cpu_part p hand) room
+  first_room k p rest ms hs rs left room x hand i split e = subst (λ o. FitsCpu (cpu_part p o) room) e (rooms_split k p rest ms hs rs left room x i split).0
+
+  members_split : (k : ℕ) (p : Processor J R) (rest : List (Processor J R)) (m : Folk J) (ms left : List (Folk J)) (hs : List (Hand J R)) (rs : List (Ended J R)) (x : Ending J R) → IsReady k (p ∷ rest) ms hs rs x → p.state.offloadable ≡ true → ms ≡ m ∷ left
+      → HasMember p m × AllZip HasMember (offloadable_in rest) left
+  members_split k p rest m ms left hs rs x i e split = subst (λ l. AllZip HasMember (p ∷ offloadable_in rest) l) split (subst (λ l. AllZip HasMember l ms) (counted_in p rest e) i.members_are)
+
+  hands_split : (k : ℕ) (p : Processor J R) (rest : List (Processor J R)) (m : Folk J) (ms left : List (Folk J)) (h : Hand J R) (hs others : List (Hand J R)) (rs : List (Ended J R)) (x : Ending J R) → IsReady k (p ∷ rest) ms hs rs x → ms ≡ m ∷ left → hs ≡ h ∷ others
+      → HasHand m h × AllZip HasHand left others
+  hands_split k p rest m ms left h hs others rs x i split first = subst (λ l. AllZip HasHand l (h ∷ others)) split (subst (λ l. AllZip HasHand ms l) first i.running)
+
+  pub first_member : (k : ℕ) (p : Processor J R) (rest : List (Processor J R)) (m : Folk J) (ms left : List (Folk J)) (hs : List (Hand J R)) (rs : List (Ended J R)) (x : Ending J R) → IsReady k (p ∷ rest) ms hs rs x → p.state.offloadable ≡ true → ms ≡ m ∷ left
+      → HasMember p m
+  first_member k p rest m ms left hs rs x i e split = (members_split k p rest m ms left hs rs x i e split).0
+
+  pub first_has_hand : (k : ℕ) (p : Processor J R) (rest : List (Processor J R)) (m : Folk J) (ms left : List (Folk J)) (h : Hand J R) (hs others : List (Hand J R)) (rs : List (Ended J R)) (x : Ending J R) → IsReady k (p ∷ rest) ms hs rs x → ms ≡ m ∷ left → hs ≡ h ∷ others
+      → HasHand m h
+  first_has_hand k p rest m ms left h hs others rs x i split first = (hands_split k p rest m ms left h hs others rs x i split first).0
+
+  pub first_of_hands : (P : Hand J R → Type 0) (h : Hand J R) (hs others : List (Hand J R)) → hs ≡ h ∷ others → All P hs → P h
+  first_of_hands P h hs others split a = all_head P h others (subst (All P) split a)
+
+  -- there is a room for it, and where it is offloadable a member and a hand
+  pub some_room : (k : ℕ) (p : Processor J R) (rest : List (Processor J R)) (ms : List (Folk J)) (hs : List (Hand J R)) (rs : List (Ended J R)) (x : Ending J R) → IsReady k (p ∷ rest) ms hs rs x → rs ≢ []
+  some_room k p rest ms hs rs x i none = subst (λ l. AllZip FitsCpu (cpu_parts (p ∷ rest) hs) l) none i.rooms_are
+
+  pub some_member : (k : ℕ) (p : Processor J R) (rest : List (Processor J R)) (ms : List (Folk J)) (hs : List (Hand J R)) (rs : List (Ended J R)) (x : Ending J R) → IsReady k (p ∷ rest) ms hs rs x → p.state.offloadable ≡ true → ms ≢ []
+  some_member k p rest ms hs rs x i e none = subst (λ l. AllZip HasMember (p ∷ offloadable_in rest) l) none (subst (λ l. AllZip HasMember l ms) (counted_in p rest e) i.members_are)
+
+  pub some_hand : (k : ℕ) (p : Processor J R) (rest : List (Processor J R)) (m : Folk J) (ms left : List (Folk J)) (hs : List (Hand J R)) (rs : List (Ended J R)) (x : Ending J R) → IsReady k (p ∷ rest) ms hs rs x → ms ≡ m ∷ left → hs ≢ []
+  some_hand k p rest m ms left hs rs x i split none = subst (λ l. AllZip HasHand (m ∷ left) l) none (subst (λ l. AllZip HasHand l hs) split i.running)
+
+  -- ---- and of those behind it, once it has ended
+
+  next_ready : (k : ℕ) (p : Processor J R) (rest : List (Processor J R)) (ms ms' : List (Folk J)) (hs hs' : List (Hand J R)) (rs rs' : List (Ended J R)) (room : Ended J R) (x y : Ending J R) → IsReady k (p ∷ rest) ms hs rs x → GoesOn x y
+      → rs ≡ room ∷ rs' → hs' ≡ hands_after p hs → AllZip HasMember (offloadable_in rest) ms' → AllZip HasHand ms' hs' → IsReady (suc k) rest ms' hs' rs' y
+  unfolding AreProcessorsFrom
+  next_ready k p rest ms ms' hs hs' rs rs' room x y i g split after members running = record {
+    at = g.same ∙ (i.at ∙ ap (λ b. b.words.table.shared.table_id) (sym g.board));
+    rests = g.rests;
+    processors = subst (λ b. AreProcessorsFrom (suc k) b rest) (sym g.board) i.processors.2;
+    hands_at = subst (λ b. All (λ (h : Hand J R). hand_board h.state ≡ b) hs') (sym g.board) (subst (All (λ (h : Hand J R). hand_board h.state ≡ board_at x)) (sym after) (all_after (λ h. hand_board h.state ≡ board_at x) p hs i.hands_at));
+    members_are = members;
+    running = running;
+    rooms_are = subst (λ l. AllZip FitsCpu (cpu_parts rest l) rs') (sym after) (rooms_split k p rest ms hs rs rs' room x i split).1;
+    for_ran = (let a = i.for_ran in let b = g.ran.0 in let c = g.ran.1 in omega arith);
+    for_back = (let a = i.for_back in let b = g.back.0 in let c = g.back.1 in omega arith);
+  }
+
+  pub ready_alone : (k : ℕ) (p : Processor J R) (rest : List (Processor J R)) (ms : List (Folk J)) (hs : List (Hand J R)) (rs rs' : List (Ended J R)) (room : Ended J R) (x y : Ending J R) → IsReady k (p ∷ rest) ms hs rs x → GoesOn x y
+      → rs ≡ room ∷ rs' → p.state.offloadable ≡ false → IsReady (suc k) rest ms hs rs' y
+  ready_alone k p rest ms hs rs rs' room x y i g split e =
+      next_ready k p rest ms ms hs hs rs rs' room x y i g split (same_after p hs e) (subst (λ l. AllZip HasMember l ms) (skipped p rest e) i.members_are) i.running
+
+  pub ready_with : (k : ℕ) (p : Processor J R) (rest : List (Processor J R)) (m : Folk J) (ms ms' : List (Folk J)) (h : Hand J R) (hs hs' : List (Hand J R)) (rs rs' : List (Ended J R)) (room : Ended J R) (x y : Ending J R) → IsReady k (p ∷ rest) ms hs rs x
+      → GoesOn x y → rs ≡ room ∷ rs' → p.state.offloadable ≡ true → ms ≡ m ∷ ms' → hs ≡ h ∷ hs' → IsReady (suc k) rest ms' hs' rs' y
+  ready_with k p rest m ms ms' h hs hs' rs rs' room x y i g split e first second =
+      next_ready k p rest ms ms' hs hs' rs rs' room x y i g split (others_are p h hs hs' e second) (members_split k p rest m ms ms' hs rs x i e first).1 (hands_split k p rest m ms ms' h hs hs' rs x i first second).1
+
+  pub now_first : (k : ℕ) (now : List (Processor J R)) (p : Processor J R) (rest : List (Processor J R)) (ms : List (Folk J)) (hs : List (Hand J R)) (rs : List (Ended J R)) (x : Ending J R) → IsReady k now ms hs rs x → now ≡ p ∷ rest
+      → IsReady k (p ∷ rest) ms hs rs x
+  now_first k now p rest ms hs rs x i split = subst (λ l. IsReady k l ms hs rs x) split i
+
   module _ (key_of : J → ℕ) (gives : ℕ → R → Type 0) where
-    -- ---- what is known of the first that is left
-
-    pub may_end : (k : ℕ) (p : Processor J R) (rest : List (Processor J R)) (ms : List (Folk J)) (hs : List (Hand J R)) (rs : List (Ended J R)) (x : Ending J R) → IsReady key_of gives k (p ∷ rest) ms hs rs x → MayEnd x
-    may_end k p rest ms hs rs x i = record { at = i.at; rests = i.rests; ran = (let a = i.for_ran in omega arith); back = (let a = i.for_back in omega arith) }
-
-    pub first_board : (k : ℕ) (p : Processor J R) (rest : List (Processor J R)) (ms : List (Folk J)) (hs : List (Hand J R)) (rs : List (Ended J R)) (x : Ending J R) → IsReady key_of gives k (p ∷ rest) ms hs rs x → board_of p.state ≡ board_at x
-    unfolding AreProcessorsFrom
-    first_board k p rest ms hs rs x i = i.processors.0
-
-    pub first_cpu : (k : ℕ) (p : Processor J R) (rest : List (Processor J R)) (ms : List (Folk J)) (hs : List (Hand J R)) (rs : List (Ended J R)) (x : Ending J R) → IsReady key_of gives k (p ∷ rest) ms hs rs x → p.state.cpu ≡ k
-    unfolding AreProcessorsFrom
-    first_cpu k p rest ms hs rs x i = i.processors.1
-
-    pub first_sound : (k : ℕ) (p : Processor J R) (rest : List (Processor J R)) (ms : List (Folk J)) (hs : List (Hand J R)) (rs : List (Ended J R)) (x : Ending J R) → IsReady key_of gives k (p ∷ rest) ms hs rs x → IsSound key_of gives p.state
-    first_sound k p rest ms hs rs x i = all_head (λ (q : Processor J R). IsSound key_of gives q.state) p rest i.sound
-
-    rooms_split : (k : ℕ) (p : Processor J R) (rest : List (Processor J R)) (ms : List (Folk J)) (hs : List (Hand J R)) (rs left : List (Ended J R)) (room : Ended J R) (x : Ending J R) → IsReady key_of gives k (p ∷ rest) ms hs rs x → rs ≡ room ∷ left
-        → FitsCpu (cpu_part p (hand_for p hs)) room × AllZip FitsCpu (cpu_parts rest (hands_after p hs)) left
-    rooms_split k p rest ms hs rs left room x i split = subst (λ l. AllZip FitsCpu (cpu_parts (p ∷ rest) hs) l) split i.rooms_are
-
-    pub first_room : (k : ℕ) (p : Processor J R) (rest : List (Processor J R)) (ms : List (Folk J)) (hs : List (Hand J R)) (rs left : List (Ended J R)) (room : Ended J R) (x : Ending J R) (hand : Option (HandPart J R)) → IsReady key_of gives k (p ∷ rest) ms hs rs x → rs ≡ room ∷ left
-        → hand_for p hs ≡ hand → FitsCpu (cpu_part p hand) room
-    first_room k p rest ms hs rs left room x hand i split e = subst (λ o. FitsCpu (cpu_part p o) room) e (rooms_split k p rest ms hs rs left room x i split).0
-
-    members_split : (k : ℕ) (p : Processor J R) (rest : List (Processor J R)) (m : Folk J) (ms left : List (Folk J)) (hs : List (Hand J R)) (rs : List (Ended J R)) (x : Ending J R) → IsReady key_of gives k (p ∷ rest) ms hs rs x → p.state.offloadable ≡ true → ms ≡ m ∷ left
-        → HasMember p m × AllZip HasMember (offloadable_in rest) left
-    members_split k p rest m ms left hs rs x i e split = subst (λ l. AllZip HasMember (p ∷ offloadable_in rest) l) split (subst (λ l. AllZip HasMember l ms) (counted_in p rest e) i.members_are)
-
-    hands_split : (k : ℕ) (p : Processor J R) (rest : List (Processor J R)) (m : Folk J) (ms left : List (Folk J)) (h : Hand J R) (hs others : List (Hand J R)) (rs : List (Ended J R)) (x : Ending J R) → IsReady key_of gives k (p ∷ rest) ms hs rs x → ms ≡ m ∷ left → hs ≡ h ∷ others
-        → HasHand m h × AllZip HasHand left others
-    hands_split k p rest m ms left h hs others rs x i split first = subst (λ l. AllZip HasHand l (h ∷ others)) split (subst (λ l. AllZip HasHand ms l) first i.running)
-
-    pub first_member : (k : ℕ) (p : Processor J R) (rest : List (Processor J R)) (m : Folk J) (ms left : List (Folk J)) (hs : List (Hand J R)) (rs : List (Ended J R)) (x : Ending J R) → IsReady key_of gives k (p ∷ rest) ms hs rs x → p.state.offloadable ≡ true → ms ≡ m ∷ left
-        → HasMember p m
-    first_member k p rest m ms left hs rs x i e split = (members_split k p rest m ms left hs rs x i e split).0
-
-    pub first_has_hand : (k : ℕ) (p : Processor J R) (rest : List (Processor J R)) (m : Folk J) (ms left : List (Folk J)) (h : Hand J R) (hs others : List (Hand J R)) (rs : List (Ended J R)) (x : Ending J R) → IsReady key_of gives k (p ∷ rest) ms hs rs x → ms ≡ m ∷ left → hs ≡ h ∷ others
-        → HasHand m h
-    first_has_hand k p rest m ms left h hs others rs x i split first = (hands_split k p rest m ms left h hs others rs x i split first).0
-
-    pub first_of_hands : (P : Hand J R → Type 0) (h : Hand J R) (hs others : List (Hand J R)) → hs ≡ h ∷ others → All P hs → P h
-    first_of_hands P h hs others split a = all_head P h others (subst (All P) split a)
-
-    -- there is a room for it, and where it is offloadable a member and a hand
-    pub some_room : (k : ℕ) (p : Processor J R) (rest : List (Processor J R)) (ms : List (Folk J)) (hs : List (Hand J R)) (rs : List (Ended J R)) (x : Ending J R) → IsReady key_of gives k (p ∷ rest) ms hs rs x → rs ≢ []
-    some_room k p rest ms hs rs x i none = subst (λ l. AllZip FitsCpu (cpu_parts (p ∷ rest) hs) l) none i.rooms_are
-
-    pub some_member : (k : ℕ) (p : Processor J R) (rest : List (Processor J R)) (ms : List (Folk J)) (hs : List (Hand J R)) (rs : List (Ended J R)) (x : Ending J R) → IsReady key_of gives k (p ∷ rest) ms hs rs x → p.state.offloadable ≡ true → ms ≢ []
-    some_member k p rest ms hs rs x i e none = subst (λ l. AllZip HasMember (p ∷ offloadable_in rest) l) none (subst (λ l. AllZip HasMember l ms) (counted_in p rest e) i.members_are)
-
-    pub some_hand : (k : ℕ) (p : Processor J R) (rest : List (Processor J R)) (m : Folk J) (ms left : List (Folk J)) (hs : List (Hand J R)) (rs : List (Ended J R)) (x : Ending J R) → IsReady key_of gives k (p ∷ rest) ms hs rs x → ms ≡ m ∷ left → hs ≢ []
-    some_hand k p rest m ms left hs rs x i split none = subst (λ l. AllZip HasHand (m ∷ left) l) none (subst (λ l. AllZip HasHand l hs) split i.running)
-
-    -- ---- and of those behind it, once it has ended
-
-    next_ready : (k : ℕ) (p : Processor J R) (rest : List (Processor J R)) (ms ms' : List (Folk J)) (hs hs' : List (Hand J R)) (rs rs' : List (Ended J R)) (room : Ended J R) (x y : Ending J R) → IsReady key_of gives k (p ∷ rest) ms hs rs x → GoesOn x y
-        → rs ≡ room ∷ rs' → hs' ≡ hands_after p hs → AllZip HasMember (offloadable_in rest) ms' → AllZip HasHand ms' hs' → IsReady key_of gives (suc k) rest ms' hs' rs' y
-    unfolding AreProcessorsFrom
-    next_ready k p rest ms ms' hs hs' rs rs' room x y i g split after members running = record {
-      at = g.same ∙ (i.at ∙ ap (λ b. b.words.table.shared.table_id) (sym g.board));
-      rests = g.rests;
-      processors = subst (λ b. AreProcessorsFrom (suc k) b rest) (sym g.board) i.processors.2;
-      hands_at = subst (λ b. All (λ (h : Hand J R). hand_board h.state ≡ b) hs') (sym g.board) (subst (All (λ (h : Hand J R). hand_board h.state ≡ board_at x)) (sym after) (all_after (λ h. hand_board h.state ≡ board_at x) p hs i.hands_at));
-      members_are = members;
-      running = running;
-      rooms_are = subst (λ l. AllZip FitsCpu (cpu_parts rest l) rs') (sym after) (rooms_split k p rest ms hs rs rs' room x i split).1;
-      for_ran = (let a = i.for_ran in let b = g.ran.0 in let c = g.ran.1 in omega arith);
-      for_back = (let a = i.for_back in let b = g.back.0 in let c = g.back.1 in omega arith);
-      sound = all_tail (λ (q : Processor J R). IsSound key_of gives q.state) p rest i.sound;
-      hands_sound = subst (All (λ (h : Hand J R). IsSoundHand key_of gives h.state)) (sym after) (all_after (λ h. IsSoundHand key_of gives h.state) p hs i.hands_sound);
-    }
-
-    pub ready_alone : (k : ℕ) (p : Processor J R) (rest : List (Processor J R)) (ms : List (Folk J)) (hs : List (Hand J R)) (rs rs' : List (Ended J R)) (room : Ended J R) (x y : Ending J R) → IsReady key_of gives k (p ∷ rest) ms hs rs x → GoesOn x y
-        → rs ≡ room ∷ rs' → p.state.offloadable ≡ false → IsReady key_of gives (suc k) rest ms hs rs' y
-    ready_alone k p rest ms hs rs rs' room x y i g split e =
-        next_ready k p rest ms ms hs hs rs rs' room x y i g split (same_after p hs e) (subst (λ l. AllZip HasMember l ms) (skipped p rest e) i.members_are) i.running
-
-    pub ready_with : (k : ℕ) (p : Processor J R) (rest : List (Processor J R)) (m : Folk J) (ms ms' : List (Folk J)) (h : Hand J R) (hs hs' : List (Hand J R)) (rs rs' : List (Ended J R)) (room : Ended J R) (x y : Ending J R) → IsReady key_of gives k (p ∷ rest) ms hs rs x
-        → GoesOn x y → rs ≡ room ∷ rs' → p.state.offloadable ≡ true → ms ≡ m ∷ ms' → hs ≡ h ∷ hs' → IsReady key_of gives (suc k) rest ms' hs' rs' y
-    ready_with k p rest m ms ms' h hs hs' rs rs' room x y i g split e first second =
-        next_ready k p rest ms ms' hs hs' rs rs' room x y i g split (others_are p h hs hs' e second) (members_split k p rest m ms ms' hs rs x i e first).1 (hands_split k p rest m ms ms' h hs hs' rs x i first second).1
-
     -- ---- those that have ended
 
     -- So many have ended, and the others are ready.
     pub record EndsSoFar (ps : List (Processor J R)) (hs : List (Hand J R)) (rest : List (Processor J R)) (ms : List (Folk J)) (left : List (Hand J R)) (rs : List (Ended J R)) (x y : Ending J R) : Type 0 where
       pub ends : List (CpuEnd J R)
-      pub ready : IsReady key_of gives (length ends) rest ms left rs y
+      pub ready : IsReady (length ends) rest ms left rs y
       pub board : board_at y ≡ board_at x
       pub parts : cpu_parts ps hs ≡ map (λ e. e.part) ends ++ cpu_parts rest left
       pub row : InRow 0 ends
-      pub at_rest : All (λ e. IsAtRest key_of gives e.part) ends
+      pub at_rest : All (λ e. IsAtRest e.part) ends
       pub ended : All (WasEnded key_of gives) ends
       pub view : all_view y ≡ gather (all_view x) (seats_of ends)
       pub long : AreLong (board_at x).processors (seats_of ends)
@@ -163,15 +162,15 @@ module _ {J R : Type 0} where
     all_more : {A : Type 0} (P : A → Type 0) (xs : List A) (x : A) → All P xs → P x → All P (xs ++ x ∷ [])
     all_more P xs x h p = All-append P xs (x ∷ []) h (all_cons P x [] p (all_none P))
 
-    pub none_ended : (ps : List (Processor J R)) (hs : List (Hand J R)) (rest : List (Processor J R)) (ms : List (Folk J)) (rs : List (Ended J R)) (x : Ending J R) → rest ≡ ps → IsReady key_of gives 0 ps ms hs rs x → EndsSoFar ps hs rest ms hs rs x x
+    pub none_ended : (ps : List (Processor J R)) (hs : List (Hand J R)) (rest : List (Processor J R)) (ms : List (Folk J)) (rs : List (Ended J R)) (x : Ending J R) → rest ≡ ps → IsReady 0 ps ms hs rs x → EndsSoFar ps hs rest ms hs rs x x
     unfolding InRow
     none_ended ps hs rest ms rs x same i = record {
       ends = [];
-      ready = subst (λ l. IsReady key_of gives 0 l ms hs rs x) (sym same) i;
+      ready = subst (λ l. IsReady 0 l ms hs rs x) (sym same) i;
       board = refl;
       parts = ap (λ l. cpu_parts l hs) (sym same);
       row = tt;
-      at_rest = all_none (λ (e : CpuEnd J R). IsAtRest key_of gives e.part);
+      at_rest = all_none (λ (e : CpuEnd J R). IsAtRest e.part);
       ended = all_none (WasEnded key_of gives);
       view = refl;
       long = all_none (λ (w : View). length w.seen ≡ words_of (board_at x).processors);
@@ -179,27 +178,23 @@ module _ {J R : Type 0} where
       back = sym (append-nil (all_back x));
     }
 
-    pub now_first : (k : ℕ) (now : List (Processor J R)) (p : Processor J R) (rest : List (Processor J R)) (ms : List (Folk J)) (hs : List (Hand J R)) (rs : List (Ended J R)) (x : Ending J R) → IsReady key_of gives k now ms hs rs x → now ≡ p ∷ rest
-        → IsReady key_of gives k (p ∷ rest) ms hs rs x
-    now_first k now p rest ms hs rs x i split = subst (λ l. IsReady key_of gives k l ms hs rs x) split i
-
     pub one_more_ended : (ps : List (Processor J R)) (hs : List (Hand J R)) (p : Processor J R) (rest now : List (Processor J R)) (ms ms' : List (Folk J)) (left left' : List (Hand J R)) (rs rs' : List (Ended J R)) (x y z : Ending J R) → EndsSoFar ps hs now ms left rs x y
-        → now ≡ p ∷ rest → ((k : ℕ) (rest : List (Processor J R)) → IsReady key_of gives k (p ∷ rest) ms left rs y → IsReady key_of gives (suc k) rest ms' left' rs' z) → board_at z ≡ board_at y
+        → now ≡ p ∷ rest → ((k : ℕ) (rest : List (Processor J R)) → IsReady k (p ∷ rest) ms left rs y → IsReady (suc k) rest ms' left' rs' z) → board_at z ≡ board_at y
         → left' ≡ hands_after p left → EndsOne key_of gives (cpu_part p (hand_for p left)) y z → EndsSoFar ps hs rest ms' left' rs' x z
     one_more_ended ps hs p rest now ms ms' left left' rs rs' x y z s split next board after o =
-        let ready = subst (λ l. IsReady key_of gives (length s.ends) l ms left rs y) split s.ready in
+        let ready = subst (λ l. IsReady (length s.ends) l ms left rs y) split s.ready in
         let e = o.end in
         let many : length (s.ends ++ e ∷ []) ≡ suc (length s.ends) = omega (arith, length-append s.ends (e ∷ [])) in
         let c = cpu_part p (hand_for p left) in
         record {
           ends = s.ends ++ e ∷ [];
-          ready = subst (λ k. IsReady key_of gives k rest ms' left' rs' z) (sym many) (next (length s.ends) rest ready);
+          ready = subst (λ k. IsReady k rest ms' left' rs' z) (sym many) (next (length s.ends) rest ready);
           board = board ∙ s.board;
           parts = s.parts ∙ (ap (λ l. map (λ (d : CpuEnd J R). d.part) s.ends ++ cpu_parts l left) split ∙ (ap (λ l. map (λ (d : CpuEnd J R). d.part) s.ends ++ c ∷ cpu_parts rest l) (sym after)
               ∙ (ap (λ d. map (λ (d : CpuEnd J R). d.part) s.ends ++ d ∷ cpu_parts rest left') (sym o.part) ∙ (sym (append_assoc (map (λ (d : CpuEnd J R). d.part) s.ends) (e.part ∷ []) (cpu_parts rest left'))
               ∙ ap (λ l. l ++ cpu_parts rest left') (sym (map-append (λ (d : CpuEnd J R). d.part) s.ends (e ∷ [])))))));
           row = in_row_more 0 s.ends e s.row (let a = ap (λ (d : CpuPart J R). d.cpu) o.part in let b = first_cpu (length s.ends) p rest ms left rs y ready in omega (arith, a, b));
-          at_rest = all_more (λ (d : CpuEnd J R). IsAtRest key_of gives d.part) s.ends e s.at_rest o.at_rest;
+          at_rest = all_more (λ (d : CpuEnd J R). IsAtRest d.part) s.ends e s.at_rest o.at_rest;
           ended = all_more (WasEnded key_of gives) s.ends e s.ended o.ended;
           view = o.view ∙ (ap (λ w. gather w (views_of e.part)) s.view ∙ (sym (gather_append (all_view x) (seats_of s.ends) (views_of e.part)) ∙ ap (gather (all_view x)) (sym (seats_more s.ends e))));
           long = subst (AreLong (board_at x).processors) (sym (seats_more s.ends e)) (All-append (λ (w : View). length w.seen ≡ words_of (board_at x).processors) (seats_of s.ends) (views_of e.part) s.long (subst (λ b. AreLong b.processors (views_of e.part)) s.board o.long));

@@ -2,6 +2,8 @@
 use Rattle.std.proofs.Common.{◌≡◌, ℕ, ◌+◌, ◌-◌, ◌≤◌, ◌∙◌, Option, Some, None, List, [], ◌∷◌, ◌++◌, map, length, ap, subst, refl, arith, vec_len}
 use Rattle.std.proofs.Math.Logic.{∥∥₁_elim}
 use Rattle.std.proofs.Props.{props}
+use Rattle.std.specs.List.{All}
+use Rattle.std.proofs.lemmas.Bool.{cond_both}
 use Rattle.std.proofs.lemmas.List.{length-map}
 use Rattle.rcu_board.specs.Seats.{AtBoard, accepted_of, view}
 use Rattle.rcu_board.specs.Views.{cpus, joined}
@@ -11,20 +13,21 @@ use Rattle.rcu_board.specs.declared.board.Seat.{Seat}
 use Rattle.rcu_board.specs.declared.view.View.{View}
 use Rattle.rcu_endings.specs.Ends.{HasRoom}
 use Rattle.rcu_endings.specs.declared.ended.Ended.{Ended}
-use Rattle.rcu_gathering.specs.Parts.{HandPart, IsAtRest, accepted_entry, accepted_list, claim_of, hand_ran, hand_taken}
-use Rattle.rcu_gathering.proofs.Lists.{all_cons, all_none}
+use Rattle.rcu_gathering.specs.Parts.{HandPart, IsAtRest, IsSoundPart, accepted_entry, accepted_list, claim_of, hand_ran, hand_taken}
+use Rattle.rcu_gathering.proofs.Lists.{all_cons, all_head, all_none, all_tail}
 use Rattle.rcu_holdings.specs.Callers.{Holding, held_in, put_by}
 use Rattle.rcu_jobs.specs.declared.callback.Record.{Record}
 use Rattle.rcu_numbers.specs.Numbers.{snap_of}
 use Rattle.rcu_places.proofs.Moves.{placed_all}
 use Rattle.rcu_records.specs.Records.{numbered_record, numbered_records}
-use Rattle.rcu_parts.specs.AtClose.{cpu_part, hand_part}
+use Rattle.rcu_parts.specs.AtClose.{cpu_part, cpu_parts, first_hand, hand_for, hand_part, hands_after}
 use Rattle.rcu_parts.specs.Ending.{AreLong}
 use Rattle.rcu_part_hand.specs.Hands.{IsSoundHand}
 use Rattle.rcu_part_processor.specs.Lawful.{IsLawful}
 use Rattle.rcu_part_steps.specs.Places.{numbered_callback, numbered_callbacks}
 use Rattle.rcu_part_processor.specs.Processors.{IsSound, lists_of, records_of, view_of}
 use Rattle.rcu_parts.specs.Rooms.{FitsCpu}
+use Rattle.rcu_parts.proofs.OneByOne.{all_after}
 use Rattle.rcu_board.proofs.Facts.{seen-long}
 use Rattle.rcu_part_hand.specs.declared.hand.Hand.{Hand}
 use Rattle.rcu_part_processor.specs.declared.processor.Processor.{Processor}
@@ -49,8 +52,8 @@ module _ {J R : Type 0} where
   own_cpu p = p.state.seat.of_role.own p.state.cpu p.state.role
 
   -- a processor that has no hand
-  pub rests_alone : (key_of : J → ℕ) (gives : ℕ → R → Type 0) (p : Processor J R) → IsSound key_of gives p.state → IsAtRest key_of gives (cpu_part p None)
-  rests_alone key_of gives p sound = record {
+  pub rests_alone : (p : Processor J R) → IsAtRest (cpu_part p None)
+  rests_alone p = record {
     own_cpu = own_cpu p;
     stamped = p.state.lawful.stamped;
     places = record { processor = p.state.lawful.places; hand = refl };
@@ -58,13 +61,11 @@ module _ {J R : Type 0} where
     hand_claims = tt;
     ripe = p.state.lawful.ripe;
     hand_ripe = all_none (λ r. snap_of r.stamp ≤ r.ready);
-    sound = record { keyed = sound.keyed; own_given = sound.given; hands_given = λ keyed. all_none (λ r. gives r.key r.receipt) };
   }
 
   -- a processor and its hand
-  pub rests_with : (key_of : J → ℕ) (gives : ℕ → R → Type 0) (p : Processor J R) (h : Hand J R) → h.state.cpu ≡ p.state.cpu → IsSound key_of gives p.state → IsSoundHand key_of gives h.state
-      → IsAtRest key_of gives (cpu_part p (Some (hand_part h)))
-  rests_with key_of gives p h same sound hands = record {
+  pub rests_with : (p : Processor J R) (h : Hand J R) → h.state.cpu ≡ p.state.cpu → IsAtRest (cpu_part p (Some (hand_part h)))
+  rests_with p h same = record {
     own_cpu = own_cpu p;
     stamped = p.state.lawful.stamped;
     places = record { processor = p.state.lawful.places; hand = h.state.lawful.places };
@@ -72,8 +73,22 @@ module _ {J R : Type 0} where
     hand_claims = subst (λ (k : ℕ). (view h.state.seat).claims ≡ map (claim_of k) h.state.ran.items) same h.state.lawful.claims;
     ripe = p.state.lawful.ripe;
     hand_ripe = h.state.lawful.ripe;
-    sound = record { keyed = sound.keyed; own_given = sound.given; hands_given = hands };
   }
+
+  -- ---- what they know of jobs
+
+  sound_part : (key_of : J → ℕ) (gives : ℕ → R → Type 0) (p : Processor J R) (hs : List (Hand J R)) → IsSound key_of gives p.state → All (λ h. IsSoundHand key_of gives h.state) hs → IsSoundPart key_of gives (cpu_part p (first_hand hs))
+  sound_part key_of gives p [] sound hands = record { keyed = sound.keyed; own_given = sound.given; hands_given = λ keyed. all_none (λ r. gives r.key r.receipt) }
+  sound_part key_of gives p (h ∷ hs) sound hands = record { keyed = sound.keyed; own_given = sound.given; hands_given = all_head (λ h. IsSoundHand key_of gives h.state) h hs hands }
+
+  sound_for : (key_of : J → ℕ) (gives : ℕ → R → Type 0) (p : Processor J R) (hs : List (Hand J R)) → IsSound key_of gives p.state → All (λ h. IsSoundHand key_of gives h.state) hs → IsSoundPart key_of gives (cpu_part p (hand_for p hs))
+  sound_for key_of gives p hs sound hands =
+      cond_both p.state.offloadable (first_hand hs) None (λ hand. IsSoundPart key_of gives (cpu_part p hand)) (λ e. sound_part key_of gives p hs sound hands) (λ e. sound_part key_of gives p [] sound (all_none (λ h. IsSoundHand key_of gives h.state)))
+
+  pub sound_parts : (key_of : J → ℕ) (gives : ℕ → R → Type 0) (ps : List (Processor J R)) (hs : List (Hand J R)) → All (λ p. IsSound key_of gives p.state) ps → All (λ h. IsSoundHand key_of gives h.state) hs → All (IsSoundPart key_of gives) (cpu_parts ps hs)
+  sound_parts key_of gives [] hs sound hands = all_none (IsSoundPart key_of gives)
+  sound_parts key_of gives (p ∷ ps) hs sound hands = all_cons (IsSoundPart key_of gives) (cpu_part p (hand_for p hs)) (cpu_parts ps (hands_after p hs)) (sound_for key_of gives p hs (all_head (λ p. IsSound key_of gives p.state) p ps sound) hands)
+      (sound_parts key_of gives ps (hands_after p hs) (all_tail (λ p. IsSound key_of gives p.state) p ps sound) (all_after (λ h. IsSoundHand key_of gives h.state) p hs hands))
 
   -- what was accepted ran, was put on the lane, or is held
   all_counted : (cpu n : ℕ) (v : View) (ran : List (Record R)) (h : Holding J) → IsLawful cpu n v ran h → n ≡ length ran + length (put_by h) + length (held_in h)

@@ -19,16 +19,16 @@ use Rattle.rcu_control.specs.Parts.{control_seat, control_view, driver_board, dr
 use Rattle.rcu_control.specs.declared.control.Control.{Control}
 use Rattle.rcu_control.specs.declared.driver.Driver.{Driver}
 use Rattle.rcu_endings.specs.declared.ended.Ended.{Ended}
-use Rattle.rcu_gathering.specs.Closing.{Closes, CpuEnd, HaveEnded, InRow, WasEnded, seats_of}
+use Rattle.rcu_gathering.specs.Closing.{CpuEnd, HaveEnded, InRow, WasEnded, seats_of}
 use Rattle.rcu_gathering.specs.Gathered.{IsSettled, gather}
-use Rattle.rcu_gathering.specs.Parts.{IsAtRest, views_of}
+use Rattle.rcu_gathering.specs.Parts.{IsAtRest, IsSoundPart, views_of}
 use Rattle.rcu_gathering.proofs.Gathers.{gather_append, gather_weight}
-use Rattle.rcu_gathering.proofs.Lists.{all_cons, all_head, all_none, all_tail}
+use Rattle.rcu_gathering.proofs.Lists.{all_cons, all_head, all_map, all_none, all_tail}
 use Rattle.rcu_jobs.specs.declared.answers.Closed.{Closed}
-use Rattle.rcu_parts.specs.AtClose.{ClosesWith, cpu_part, cpu_parts, first_hand, hand_part, hands_after, other_hands, other_views}
+use Rattle.rcu_parts.specs.AtClose.{Answers, cpu_part, cpu_parts, first_hand, hand_part, hands_after, other_hands, other_views}
 use Rattle.rcu_parts.specs.Ending.{AreLong, AreReportedFrom, EndsEach, IsReady, Settles, all_view, board_at}
 use Rattle.rcu_part_group.specs.Groups.{group_board, group_view}
-use Rattle.rcu_part_hand.specs.Hands.{IsSoundHand, hand_board, hand_view}
+use Rattle.rcu_part_hand.specs.Hands.{hand_board, hand_view}
 use Rattle.rcu_parts.specs.OneOpen.{AreOfOneOpen, AreProcessorsFrom, AreSoundParts, Parts, HasHand, HasMember, groups_in, hands_in, members_in, offloadable_in, parts_board, processors_in}
 use Rattle.rcu_part_processor.specs.Processors.{view_of}
 use Rattle.rcu_parts.specs.Rooms.{FitsAll, FitsCpu}
@@ -39,7 +39,7 @@ use Rattle.rcu_part_hand.specs.declared.hand.Hand.{Hand}
 use Rattle.rcu_part_processor.specs.declared.processor.Processor.{Processor}
 use Rattle.rcu_parts.specs.declared.room.Room.{Room}
 use Rattle.rcu_parts.proofs.OneByOne.{counted_in, skipped}
-use Rattle.rcu_parts.proofs.Resting.{is_long_at}
+use Rattle.rcu_parts.proofs.Resting.{is_long_at, sound_parts}
 
 abbrev weight : View → ℕ
 weight w = w.weight
@@ -131,7 +131,7 @@ module _ {J R : Type 0} where
       (is_long_at (parts_board parts) (group_board g.state) g.state.seat (all_head P g gs h) g.state.here) (groups_long parts gs (all_tail P g gs h))
 
   pub have_ended : (key_of : J → ℕ) (gives : ℕ → R → Type 0) (parts : Parts J R) (x : ℕ) (es : List (CpuEnd J R)) → AreOfOneOpen parts → map (λ e. e.part) es ≡ cpu_parts (processors_in parts) (hands_in parts)
-      → InRow 0 es → All (λ e. IsAtRest key_of gives e.part) es → All (WasEnded key_of gives) es → AreLong (parts_board parts).processors (seats_of es)
+      → InRow 0 es → All (λ e. IsAtRest e.part) es → All (WasEnded key_of gives) es → AreLong (parts_board parts).processors (seats_of es)
       → IsSettled (parts_board parts).processors x (gather (control_view parts.control) (other_views parts ++ seats_of es))
       → HaveEnded key_of gives (parts_board parts).processors x (control_view parts.control) (other_views parts) es
   have_ended key_of gives parts x es one same row at_rest ended long settled =
@@ -161,33 +161,36 @@ module _ {J R : Type 0} where
   pub weighs_all : (parts : Parts J R) (last : View) (es : List (CpuEnd J R)) → AreOfOneOpen parts → map (λ e. e.part) es ≡ cpu_parts (processors_in parts) (hands_in parts) → last ≡ gather (control_view parts.control) (other_views parts ++ seats_of es) → last.weight ≡ all_seats
   weighs_all parts last es one same e = ap weight e ∙ (gather_weight (control_view parts.control) (other_views parts ++ seats_of es) ∙ whole_weight parts es one same)
 
-  module _ (key_of : J → ℕ) (gives : ℕ → R → Type 0) where
-    -- all processors are left
-    pub first_ready : (parts : Parts J R) (room : Room J R) (ms : List (Folk J)) (hs : List (Hand J R)) (rs : List (Ended J R)) (x : Ending J R) → AreOfOneOpen parts → AreSoundParts key_of gives parts → FitsAll (processors_in parts) (hands_in parts) room
-        → board_at x ≡ parts_board parts → GatheredAt (board_at x) x.all → (all_view x).running ≡ [] → ms ≡ members_in (groups_in parts) → hs ≡ hands_in parts → rs ≡ room.ends.items → x.ran ≡ room.ran → x.back ≡ room.back
-        → IsReady key_of gives 0 (processors_in parts) ms hs rs x
-    first_ready parts room ms hs rs x one sound fits board at rests members hands rooms ran back = record {
-      at = at;
-      rests = rests;
-      processors = subst (λ b. AreProcessorsFrom 0 b (processors_in parts)) (sym board) one.processors;
-      hands_at = subst (λ l. All (λ (h : Hand J R). hand_board h.state ≡ board_at x) l) (sym hands) (subst (λ b. All (λ (h : Hand J R). hand_board h.state ≡ b) (hands_in parts)) (sym board) one.hands);
-      members_are = subst (AllZip HasMember (offloadable_in (processors_in parts))) (sym members) one.members;
-      running = subst (λ l. AllZip HasHand l hs) (sym members) (subst (AllZip HasHand (members_in (groups_in parts))) (sym hands) one.running);
-      rooms_are = subst (λ l. AllZip FitsCpu (cpu_parts (processors_in parts) hs) l) (sym rooms) (subst (λ l. AllZip FitsCpu (cpu_parts (processors_in parts) l) room.ends.items) (sym hands) fits.ends);
-      for_ran = subst (λ v. vec_len v + length (processors_in parts) ≤ vec_capacity v) (sym ran) (let o = room.ran.ok.0 in let n = ap length fits.no_ran in let r = fits.ran in omega (arith, o, n, r));
-      for_back = subst (λ v. vec_len v + length (processors_in parts) ≤ vec_capacity v) (sym back) (let o = room.back.ok.0 in let n = ap length fits.no_back in let r = fits.back in omega (arith, o, n, r));
-      sound = sound.processors;
-      hands_sound = subst (All (λ (h : Hand J R). IsSoundHand key_of gives h.state)) (sym hands) sound.hands;
-    }
+  -- all processors are left
+  pub first_ready : (parts : Parts J R) (room : Room J R) (ms : List (Folk J)) (hs : List (Hand J R)) (rs : List (Ended J R)) (x : Ending J R) → AreOfOneOpen parts → FitsAll (processors_in parts) (hands_in parts) room
+      → board_at x ≡ parts_board parts → GatheredAt (board_at x) x.all → (all_view x).running ≡ [] → ms ≡ members_in (groups_in parts) → hs ≡ hands_in parts → rs ≡ room.ends.items → x.ran ≡ room.ran → x.back ≡ room.back
+      → IsReady 0 (processors_in parts) ms hs rs x
+  first_ready parts room ms hs rs x one fits board at rests members hands rooms ran back = record {
+    at = at;
+    rests = rests;
+    processors = subst (λ b. AreProcessorsFrom 0 b (processors_in parts)) (sym board) one.processors;
+    hands_at = subst (λ l. All (λ (h : Hand J R). hand_board h.state ≡ board_at x) l) (sym hands) (subst (λ b. All (λ (h : Hand J R). hand_board h.state ≡ b) (hands_in parts)) (sym board) one.hands);
+    members_are = subst (AllZip HasMember (offloadable_in (processors_in parts))) (sym members) one.members;
+    running = subst (λ l. AllZip HasHand l hs) (sym members) (subst (AllZip HasHand (members_in (groups_in parts))) (sym hands) one.running);
+    rooms_are = subst (λ l. AllZip FitsCpu (cpu_parts (processors_in parts) hs) l) (sym rooms) (subst (λ l. AllZip FitsCpu (cpu_parts (processors_in parts) l) room.ends.items) (sym hands) fits.ends);
+    for_ran = subst (λ v. vec_len v + length (processors_in parts) ≤ vec_capacity v) (sym ran) (let o = room.ran.ok.0 in let n = ap length fits.no_ran in let r = fits.ran in omega (arith, o, n, r));
+    for_back = subst (λ v. vec_len v + length (processors_in parts) ≤ vec_capacity v) (sym back) (let o = room.back.ok.0 in let n = ap length fits.no_back in let r = fits.back in omega (arith, o, n, r));
+  }
 
-    -- what the last loads tell, once all have ended
-    pub closes_with : (parts : Parts J R) (closed : Closed J R) (room : Room J R) (hs : List (Hand J R)) (x y : Ending J R) (b : Board) → AreOfOneOpen parts → FitsAll (processors_in parts) (hands_in parts) room
+  module _ (key_of : J → ℕ) (gives : ℕ → R → Type 0) where
+    -- what they know of jobs as they end, where they were sound
+    pub sound_ends : (parts : Parts J R) (hs : List (Hand J R)) (es : List (CpuEnd J R)) → AreSoundParts key_of gives parts → hs ≡ hands_in parts → map (λ e. e.part) es ≡ cpu_parts (processors_in parts) hs → All (λ e. IsSoundPart key_of gives e.part) es
+    sound_ends parts hs es sound hands same = all_map (IsSoundPart key_of gives) (λ (e : CpuEnd J R). e.part) es
+        (subst (All (IsSoundPart key_of gives)) (sym (same ∙ ap (cpu_parts (processors_in parts)) hands)) (sound_parts key_of gives (processors_in parts) (hands_in parts) sound.processors sound.hands))
+
+    -- what the last loads tell, once all have ended: what is answered, and what is so of the ends
+    pub answers_with : (parts : Parts J R) (closed : Closed J R) (room : Room J R) (hs : List (Hand J R)) (x y : Ending J R) (b : Board) → AreOfOneOpen parts → FitsAll (processors_in parts) (hands_in parts) room
         → x.ran ≡ room.ran → x.back ≡ room.back → hs ≡ hands_in parts → board_at x ≡ parts_board parts → b ≡ parts_board parts → (e : EndsEach key_of gives (processors_in parts) hs x y)
         → all_view y ≡ gather (control_view parts.control) (other_views parts ++ seats_of e.ends) → (s : Settles b.processors (all_view y) closed.reports.items) → closed.ran ≡ y.ran → closed.back ≡ y.back
-        → ((n w : ℕ) (v : View) (others : List View) (es : List (CpuEnd J R)) → HaveEnded key_of gives n w v others es → Closes key_of gives v others es)
         → ((n w : ℕ) (v : View) (others : List View) (es : List (CpuEnd J R)) → HaveEnded key_of gives n w v others es → All (λ d. Reported w d.part.cpu (reports_of d.part.view)) es)
-        → ClosesWith key_of gives parts closed
-    closes_with parts closed room hs x y b one fits ran back hands board same e view s ran_is back_is closes reports =
+        → (promised : List (CpuEnd J R) → Type 0) → (HaveEnded key_of gives (parts_board parts).processors s.word (control_view parts.control) (other_views parts) e.ends → promised e.ends)
+        → Answers promised parts closed
+    answers_with parts closed room hs x y b one fits ran back hands board same e view s ran_is back_is reports promised closes =
         let parts_are = e.parts ∙ ap (cpu_parts (processors_in parts)) hands in
         let long = subst (λ c. AreLong c.processors (seats_of e.ends)) board e.long in
         let settled = subst (λ v. IsSettled (parts_board parts).processors s.word v) view (subst (λ c. IsSettled c.processors s.word (all_view y)) same s.settled) in
@@ -202,5 +205,5 @@ module _ {J R : Type 0} where
           back = ap (λ r. map (λ c. c.items) r.items) back_is ∙ (e.back ∙ ap (λ l. map (λ c. c.items) l ++ map (λ (d : CpuEnd J R). d.back) e.ends) (ap (λ r. r.items) back ∙ fits.no_back));
           reports = s.counts counts (length-map e.ends (λ (d : CpuEnd J R). reports_of d.part.view) ∙ (as_many_ends (processors_in parts) hs e.ends e.parts ∙ (one.as_many ∙ ap (λ c. c.processors) (sym same))))
               (reported_from s.word 0 e.ends e.row (reports n s.word v (other_views parts) e.ends h));
-          closes = closes n s.word v (other_views parts) e.ends h;
+          closes = closes h;
         }

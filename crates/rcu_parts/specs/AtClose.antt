@@ -3,7 +3,7 @@ use Rattle.std.specs.Prelude.{◌≡◌, ℕ, Option, Some, None, List, [], ◌�
 use Rattle.rcu_board.specs.Seats.{reports_of}
 use Rattle.rcu_board.specs.declared.view.View.{View}
 use Rattle.rcu_control.specs.Parts.{control_view, driver_view}
-use Rattle.rcu_gathering.specs.Closing.{Closes, CpuEnd}
+use Rattle.rcu_gathering.specs.Closing.{Closes, CpuEnd, Ends}
 use Rattle.rcu_gathering.specs.Parts.{CpuPart, HandPart}
 use Rattle.rcu_holdings.specs.Helds.{taken_by}
 use Rattle.rcu_jobs.specs.declared.answers.Closed.{Closed}
@@ -46,12 +46,20 @@ module _ {J R : Type 0} where
   abbrev pub other_views : Parts J R → List View
   other_views parts = driver_view parts.driver ∷ map (λ g. group_view g.state) (groups_in parts)
 
-  -- What is answered is what is left of each processor, with how many counted reports it made; and that is what `close`
-  -- promises of the views, records and lists of all parts.
-  pub record ClosesWith (key_of : J → ℕ) (gives : ℕ → R → Type 0) (parts : Parts J R) (closed : Closed J R) : Type 0 where
+  -- What is answered is what is left of each processor, with how many counted reports it made; and this is so of those ends.
+  pub record Answers (promised : List (CpuEnd J R) → Type 0) (parts : Parts J R) (closed : Closed J R) : Type 0 where
     pub ends : List (CpuEnd J R)
     pub parts_are : map (λ e. e.part) ends ≡ cpu_parts (processors_in parts) (hands_in parts)
     pub ran : map (λ v. v.items) closed.ran.items ≡ map (λ e. e.ran) ends
     pub back : map (λ v. v.items) closed.back.items ≡ map (λ e. e.back) ends
     pub reports : closed.reports.items ≡ map (λ e. reports_of e.part.view) ends
-    pub closes : Closes key_of gives (control_view parts.control) (other_views parts) ends
+    pub closes : promised ends
+
+  -- What `close` promises of the views, records and lists of all parts, whatever is known of jobs: which callbacks ran, with
+  -- which numbers, keys, stamps and looks, and that what comes back are the jobs of all others, in order.
+  abbrev pub AccountsFor : Parts J R → Closed J R → Type 0
+  AccountsFor parts closed = Answers (Ends (control_view parts.control) (other_views parts)) parts closed
+
+  -- What it promises where jobs are sound: also that the jobs that come back have their callbacks' keys, and what the receipts are.
+  abbrev pub ClosesWith : (J → ℕ) → (ℕ → R → Type 0) → Parts J R → Closed J R → Type 0
+  ClosesWith key_of gives parts closed = Answers (Closes key_of gives (control_view parts.control) (other_views parts)) parts closed

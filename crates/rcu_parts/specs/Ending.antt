@@ -13,9 +13,8 @@ use Rattle.rcu_gathering.specs.Gathered.{IsSettled, gather}
 use Rattle.rcu_gathering.specs.Parts.{CpuPart, IsAtRest, views_of}
 use Rattle.rcu_jobs.specs.declared.callback.Record.{Record}
 use Rattle.rcu_parts.specs.AtClose.{cpu_parts}
-use Rattle.rcu_part_hand.specs.Hands.{IsSoundHand, hand_board}
+use Rattle.rcu_part_hand.specs.Hands.{hand_board}
 use Rattle.rcu_parts.specs.OneOpen.{AreProcessorsFrom, HasHand, HasMember, offloadable_in}
-use Rattle.rcu_part_processor.specs.Processors.{IsSound}
 use Rattle.rcu_parts.specs.Rooms.{FitsCpu}
 use Rattle.rcu_parts.specs.declared.ending.Ending.{Ending}
 use Rattle.rcu_part_group.specs.declared.folk.Folk.{Folk}
@@ -52,7 +51,7 @@ module _ {J R : Type 0} where
   all_back x = map (λ v. v.items) x.back.items
 
   -- These processors, k, k + 1, .., are left, and these members, hands and rooms are theirs.
-  pub record IsReady (key_of : J → ℕ) (gives : ℕ → R → Type 0) (k : ℕ) (rest : List (Processor J R)) (members : List (Folk J)) (hands : List (Hand J R)) (rooms : List (Ended J R)) (x : Ending J R) : Type 0 where
+  pub record IsReady (k : ℕ) (rest : List (Processor J R)) (members : List (Folk J)) (hands : List (Hand J R)) (rooms : List (Ended J R)) (x : Ending J R) : Type 0 where
     pub at : GatheredAt (board_at x) x.all
     pub rests : (all_view x).running ≡ []
     pub processors : AreProcessorsFrom k (board_at x) rest
@@ -62,14 +61,12 @@ module _ {J R : Type 0} where
     pub rooms_are : AllZip FitsCpu (cpu_parts rest hands) rooms
     pub for_ran : vec_len x.ran + length rest ≤ vec_capacity x.ran
     pub for_back : vec_len x.back + length rest ≤ vec_capacity x.back
-    pub sound : All (λ p. IsSound key_of gives p.state) rest
-    pub hands_sound : All (λ h. IsSoundHand key_of gives h.state) hands
 
   -- This processor ended, and its hand with it.
   pub record EndsOne (key_of : J → ℕ) (gives : ℕ → R → Type 0) (c : CpuPart J R) (x y : Ending J R) : Type 0 where
     pub end : CpuEnd J R
     pub part : end.part ≡ c
-    pub at_rest : IsAtRest key_of gives end.part
+    pub at_rest : IsAtRest end.part
     pub ended : WasEnded key_of gives end
     pub view : all_view y ≡ gather (all_view x) (views_of end.part)
     pub long : AreLong (board_at x).processors (views_of end.part)
@@ -96,7 +93,7 @@ module _ {J R : Type 0} where
     pub ends : List (CpuEnd J R)
     pub parts : map (λ e. e.part) ends ≡ cpu_parts ps hs
     pub row : InRow 0 ends
-    pub at_rest : All (λ e. IsAtRest key_of gives e.part) ends
+    pub at_rest : All (λ e. IsAtRest e.part) ends
     pub ended : All (WasEnded key_of gives) ends
     pub view : all_view y ≡ gather (all_view x) (seats_of ends)
     pub long : AreLong (board_at x).processors (seats_of ends)

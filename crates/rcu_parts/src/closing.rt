@@ -1,7 +1,7 @@
 //! The end of a runtime.
 
 ghost use Rattle.std.specs.Prelude.{◌≡◌, IfOk, IfErr};
-ghost use Rattle.rcu_parts.specs.AtClose.{ClosesWith};
+ghost use Rattle.rcu_parts.specs.AtClose.{AccountsFor, ClosesWith};
 ghost use Rattle.rcu_parts.specs.OneOpen.{AreOfOneOpen, AreSoundParts};
 
 use crate::ending::close_in;
@@ -31,8 +31,8 @@ pub struct AllClosing<P, G, H> {
 /// Refusal 2, want of memory. No job, record or word has changed.
 pub fn close<J: Job>(alloc: Global, parts: Parts<J>) -> Result<Closed<J>, Closing<J>>
     requires parts { AreOfOneOpen parts }
-    requires sound { AreSoundParts J.key_of J.gives parts }
-    ensures closes { IfOk result (λ closed. ClosesWith J.key_of J.gives parts closed) }
+    ensures accounts { IfOk result (λ closed. AccountsFor parts closed) }
+    ensures closes { IfOk result (λ closed. AreSoundParts J.key_of J.gives parts → ClosesWith J.key_of J.gives parts closed) }
     ensures left { IfErr result (λ closing. closing.parts ≡ parts) }
 {
     let Ok(room) = Room::find(alloc, &parts.processors, &parts.hands) else {
@@ -49,8 +49,8 @@ impl<J: Job> AllClosing<Processor<J>, Group<J>, Hand<J>> {
     /// As [`close`].
     pub fn again(self, alloc: Global) -> Result<Closed<J>, Closing<J>>
         requires parts { AreOfOneOpen self.parts }
-        requires sound { AreSoundParts J.key_of J.gives self.parts }
-        ensures closes { IfOk result (λ closed. ClosesWith J.key_of J.gives self.parts closed) }
+        ensures accounts { IfOk result (λ closed. AccountsFor self.parts closed) }
+        ensures closes { IfOk result (λ closed. AreSoundParts J.key_of J.gives self.parts → ClosesWith J.key_of J.gives self.parts closed) }
         ensures left { IfErr result (λ closing. closing.parts ≡ self.parts) }
     {
         close(alloc, self.parts)

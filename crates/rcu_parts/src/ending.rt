@@ -1,7 +1,7 @@
 //! The end of all parts, in the room that was found.
 
 ghost use Rattle.std.specs.Prelude.{◌≡◌, ◌≢◌, [], ◌∷◌};
-ghost use Rattle.rcu_parts.specs.AtClose.{ClosesWith};
+ghost use Rattle.rcu_parts.specs.AtClose.{AccountsFor, ClosesWith};
 ghost use Rattle.rcu_parts.specs.Ending.{all_view, board_at};
 ghost use Rattle.rcu_parts.specs.OneOpen.{AreOfOneOpen, AreSoundParts};
 ghost use Rattle.rcu_parts.specs.Rooms.{FitsAll};
@@ -47,9 +47,9 @@ impl<J: Job> Ending<J> {
     ghost use Rattle.rcu_board.specs.Views.{joined};
     ghost use Rattle.rcu_parts.specs.AtClose.{cpu_part, hand_for, hand_part, hands_after};
     ghost use Rattle.rcu_parts.specs.Ending.{EndsEach, EndsOne, GoesOn, IsReady, MayEnd};
-    ghost use Rattle.rcu_part_hand.specs.Hands.{IsSoundHand, hand_board};
+    ghost use Rattle.rcu_part_hand.specs.Hands.{hand_board};
     ghost use Rattle.rcu_parts.specs.OneOpen.{HasHand, HasMember};
-    ghost use Rattle.rcu_part_processor.specs.Processors.{IsSound, board_of};
+    ghost use Rattle.rcu_part_processor.specs.Processors.{board_of};
     ghost use Rattle.rcu_parts.specs.Rooms.{FitsCpu};
     ghost use Rattle.rcu_part_processor.specs.declared.processor.Processor.{Processor as One};
 
@@ -61,7 +61,7 @@ impl<J: Job> Ending<J> {
         mut hands: VecDeque<Hand<J>>,
         mut rooms: VecDeque<Ended<J, J::Receipt>>,
     )
-        requires ready { IsReady J.key_of J.gives 0 processors.items members.items hands.items rooms.items self.old }
+        requires ready { IsReady 0 processors.items members.items hands.items rooms.items self.old }
         ensures board { board_at self.new ≡ board_at self.old }
         ensures at { GatheredAt (board_at self.new) self.new.all }
         ensures ends { EndsEach J.key_of J.gives processors.items hands.items self.old self.new }
@@ -79,8 +79,8 @@ impl<J: Job> Ending<J> {
         hands: &mut VecDeque<Hand<J>>,
         rooms: &mut VecDeque<Ended<J, J::Receipt>>,
     )
-        requires ready { (k : ℕ) × (rest : List (One J J.Receipt)) × IsReady J.key_of J.gives k (processor ∷ rest) members.old.items hands.old.items rooms.old.items self.old }
-        ensures ready { (k : ℕ) (rest : List (One J J.Receipt)) → IsReady J.key_of J.gives k (processor ∷ rest) members.old.items hands.old.items rooms.old.items self.old → IsReady J.key_of J.gives (suc k) rest members.new.items hands.new.items rooms.new.items self.new }
+        requires ready { (k : ℕ) × (rest : List (One J J.Receipt)) × IsReady k (processor ∷ rest) members.old.items hands.old.items rooms.old.items self.old }
+        ensures ready { (k : ℕ) (rest : List (One J J.Receipt)) → IsReady k (processor ∷ rest) members.old.items hands.old.items rooms.old.items self.old → IsReady (suc k) rest members.new.items hands.new.items rooms.new.items self.new }
         ensures board { board_at self.new ≡ board_at self.old }
         ensures hands { hands.new.items ≡ hands_after processor hands.old.items }
         ensures ends { EndsOne J.key_of J.gives (cpu_part processor (hand_for processor hands.old.items)) self.old self.new }
@@ -100,7 +100,6 @@ impl<J: Job> Ending<J> {
         requires may { MayEnd self.old }
         requires alone { processor.state.offloadable ≡ false }
         requires board { board_of processor.state ≡ board_at self.old }
-        requires sound { IsSound J.key_of J.gives processor.state }
         requires room { FitsCpu (cpu_part processor None) room }
         ensures goes_on { GoesOn self.old self.new }
         ensures ends { EndsOne J.key_of J.gives (cpu_part processor None) self.old self.new }
@@ -129,8 +128,6 @@ impl<J: Job> Ending<J> {
         requires hand_board { hand_board hand.state ≡ board_at self.old }
         requires member { HasMember processor folk }
         requires hand { HasHand folk hand }
-        requires sound { IsSound J.key_of J.gives processor.state }
-        requires hand_sound { IsSoundHand J.key_of J.gives hand.state }
         requires room { FitsCpu (cpu_part processor (Some (hand_part hand))) room }
         ensures goes_on { GoesOn self.old self.new }
         ensures ends { EndsOne J.key_of J.gives (cpu_part processor (Some (hand_part hand))) self.old self.new }
@@ -183,9 +180,9 @@ impl<J: Job> Ending<J> {
 /// Closes all parts, in the room that was found.
 pub(crate) fn close_in<J: Job>(parts: Parts<J>, room: Room<J>) -> Closed<J>
     requires parts { AreOfOneOpen parts }
-    requires sound { AreSoundParts J.key_of J.gives parts }
     requires room { FitsAll parts.processors.items parts.hands.items room }
-    ensures { ClosesWith J.key_of J.gives parts result }
+    ensures accounts { AccountsFor parts result }
+    ensures closes { AreSoundParts J.key_of J.gives parts → ClosesWith J.key_of J.gives parts result }
 {
     let AllParts {
         processors,

@@ -2,7 +2,7 @@
 
 ghost use Rattle.rcu_jobs.specs.declared.Counts.{Counts};
 ghost use Rattle.rcu_jobs.specs.declared.answers.Closed.{Closed};
-ghost use Rattle.rcu_parts.specs.AtClose.{ClosesWith};
+ghost use Rattle.rcu_parts.specs.AtClose.{AccountsFor};
 ghost use Rattle.rcu_parts.specs.Drained.{HasNoneBack, IsDrained};
 ghost use Rattle.rcu_parts.specs.OneOpen.{AreOfOneOpen, Parts};
 ghost use Rattle.rcu_parts.specs.SameParts.{AreSameParts};
@@ -22,5 +22,5 @@ pub fn drained<J: Job>()
     ensures stays { (counts : Counts) (old new : Parts J J.Receipt) → AreSameParts old new → AreOfOneOpen old
         → IsDrained counts old → IsDrained counts new }
     ensures none_back { (counts : Counts) (parts : Parts J J.Receipt) (closed : Closed J J.Receipt) → AreOfOneOpen parts
-        → IsDrained counts parts → ClosesWith J.key_of J.gives parts closed → HasNoneBack closed }
+        → IsDrained counts parts → AccountsFor parts closed → HasNoneBack closed }
 {}

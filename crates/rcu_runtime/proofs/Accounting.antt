@@ -1,12 +1,12 @@
 -- No callback is lost: what `close` promises, counted.
 use Rattle.std.proofs.Common.{◌≡◌, ℕ, ◌+◌, List, [], ◌∷◌, ◌++◌, map, drop, length, get_or, sum_by, ap, sym, ◌∙◌, subst, refl, arith}
 use Rattle.std.specs.Prelude.{All}
-use Rattle.std.proofs.lemmas.List.{length-drop, length-map}
+use Rattle.std.proofs.lemmas.List.{length-map}
 use Rattle.std.proofs.lemmas.List.Sums.{sum_by-cons}
 use Rattle.rcu_board.specs.Seats.{accepted_of}
 use Rattle.rcu_board.specs.declared.view.View.{View}
 use Rattle.rcu_control.specs.Parts.{control_view}
-use Rattle.rcu_endings.specs.Ends.{keys_of}
+use Rattle.rcu_gathering.proofs.Closings.{as_many_ended}
 use Rattle.rcu_gathering.proofs.Lists.{all_head, all_imp, all_map, all_mapped, all_tail}
 use Rattle.rcu_gathering.specs.Closing.{ClosesAs, CpuEnd, processors_of, seats_of}
 use Rattle.rcu_gathering.specs.Parts.{CpuPart, accepted_entry, accepted_list}
@@ -17,7 +17,6 @@ use Rattle.rcu_parts.specs.AtClose.{ClosesWith, cpu_part, cpu_parts, hand_for, h
 use Rattle.rcu_parts.specs.OneOpen.{Parts, hands_in, processors_in}
 use Rattle.rcu_part_processor.specs.Processors.{view_of}
 use Rattle.rcu_part_hand.specs.declared.hand.Hand.{Hand}
-use Rattle.rcu_places.specs.Places.{Accepted}
 use Rattle.rcu_part_processor.specs.declared.processor.Processor.{Processor}
 use Rattle.rcu_runtime.specs.Ends.{HaveReceipts, back_in, ran_in}
 use Rattle.rcu_runtime.specs.Runtimes.{accepted_in}
@@ -39,15 +38,9 @@ module _ {J R : Type 0} (key_of : J → ℕ) (gives : ℕ → R → Type 0) wher
   one_end : (views processors : List View) (p : Processor J R) (c : CpuPart J R) (e : CpuEnd J R) → c.view ≡ view_of p.state → e.part ≡ c → ClosesAs key_of gives views processors e
       → length e.ran + length e.back ≡ p.state.accepted
   one_end views processors p c e at part h =
-      let accepted = accepted_list e.part.view in
       let view : e.part.view ≡ view_of p.state = ap (λ (x : CpuPart J R). x.view) part ∙ at in
-      let many : length accepted ≡ p.state.accepted = ap (λ (w : View). length (accepted_list w)) view ∙ (length-map (accepted_of (view_of p.state)) accepted_entry ∙ p.state.lawful.counted) in
-      let left = length-drop (length e.ran) (keys_of accepted) in
-      let keys = length-map accepted (λ (a : Accepted). a.key) in
-      let back = ap (λ (l : List ℕ). length l) h.end.back_is in
-      let jobs = length-map e.back key_of in
-      let within = h.end.within in
-      omega (arith, many, left, keys, back, jobs, within)
+      let many : length (accepted_list e.part.view) ≡ p.state.accepted = ap (λ (w : View). length (accepted_list w)) view ∙ (length-map (accepted_of (view_of p.state)) accepted_entry ∙ p.state.lawful.counted) in
+      omega (arith, many, as_many_ended views processors e h.ends)
 
   each_end : (views processors : List View) (es : List (CpuEnd J R)) (ps : List (Processor J R)) (hs : List (Hand J R)) → map (λ e. e.part) es ≡ cpu_parts ps hs → All (ClosesAs key_of gives views processors) es
       → sum_by (λ e. length e.ran) es + sum_by (λ e. length e.back) es ≡ sum_by (λ p. p.state.accepted) ps
@@ -80,6 +73,6 @@ module _ {J R : Type 0} (key_of : J → ℕ) (gives : ℕ → R → Type 0) wher
     have_receipts =
         let views = control_view parts.control ∷ (other_views parts ++ seats_of c.ends) in
         let P = λ (records : List (Record R)). Given gives records in
-        let each = all_imp (ClosesAs key_of gives views (processors_of c.ends)) (λ e. P e.ran) c.ends (λ e h. h.end.given) c.closes in
+        let each = all_imp (ClosesAs key_of gives views (processors_of c.ends)) (λ e. P e.ran) c.ends (λ e h. h.sound.given) c.closes in
         let lists = all_mapped P (λ (e : CpuEnd J R). e.ran) c.ends each in
         all_map P (λ v. v.items) closed.ran.items (subst (All P) (sym c.ran) lists)

@@ -10,6 +10,7 @@ use Rattle.rcu_board.specs.declared.view.View.{View}
 use Rattle.rcu_control.specs.Parts.{control_view}
 use Rattle.rcu_gathering.proofs.Lists.{all_cons, all_head, all_map, all_mapped, all_none, all_tail}
 use Rattle.rcu_endings.specs.Ends.{keys_of}
+use Rattle.rcu_gathering.proofs.Closings.{as_many_ended}
 use Rattle.rcu_gathering.specs.Closing.{ClosesAs, CpuEnd, processors_of, seats_of}
 use Rattle.rcu_places.specs.Places.{Accepted, Numbered, numbered}
 use Rattle.rcu_records.specs.Records.{numbered_record}
@@ -73,17 +74,12 @@ module _ {J R : Type 0} (key_of : J → ℕ) (gives : ℕ → R → Type 0) wher
   -- of a processor all of whose callbacks have run no job comes back
   none_back : (v : View) (views processors : List View) (p : Processor J R) (c : CpuPart J R) (e : CpuEnd J R) → c.cpu ≡ p.state.cpu → c.view ≡ view_of p.state → e.part ≡ c → ClosesAs key_of gives (v ∷ views) processors e → AllRan v p → e.back ≡ []
   none_back v views processors p c e cpu at part h ran =
-      let turns = all_head (λ w. seen_at w (turns_word e.part.cpu) / 2 ≤ length e.ran) v views h.turns in
+      let turns = all_head (λ w. seen_at w (turns_word e.part.cpu) / 2 ≤ length e.ran) v views h.ends.turns in
       let same : e.part.cpu ≡ p.state.cpu = ap (λ (x : CpuPart J R). x.cpu) part ∙ cpu in
       let seen : seen_at v (turns_word p.state.cpu) / 2 ≤ length e.ran = subst (λ k. seen_at v (turns_word k) / 2 ≤ length e.ran) same turns in
       let view : e.part.view ≡ view_of p.state = ap (λ (x : CpuPart J R). x.view) part ∙ at in
       let many : length (accepted_list e.part.view) ≡ p.state.accepted = ap (λ (w : View). length (accepted_list w)) view ∙ (length-map (accepted_of (view_of p.state)) accepted_entry ∙ p.state.lawful.counted) in
-      let accepted = accepted_list e.part.view in
-      let left = length-drop (length e.ran) (keys_of accepted) in
-      let keys = length-map accepted (λ (a : Accepted). a.key) in
-      let back = ap (λ (l : List ℕ). length l) h.end.back_is in
-      let jobs = length-map e.back key_of in
-      no_longer e.back (omega (arith, seen, ran, many, back, left, keys, jobs))
+      no_longer e.back (omega (arith, seen, ran, many, as_many_ended (v ∷ views) processors e h.ends))
 
   none_back_each : (v : View) (views processors : List View) (es : List (CpuEnd J R)) (ps : List (Processor J R)) (hs : List (Hand J R)) → map (λ e. e.part) es ≡ cpu_parts ps hs → All (ClosesAs key_of gives (v ∷ views) processors) es → All (AllRan v) ps → All (λ e. e.back ≡ []) es
   none_back_each v views processors [] ps hs same h ran = all_none (λ (e : CpuEnd J R). e.back ≡ [])
@@ -113,12 +109,10 @@ module _ {J R : Type 0} (key_of : J → ℕ) (gives : ℕ → R → Type 0) wher
       let view : e.part.view ≡ view_of p.state = ap (λ (x : CpuPart J R). x.view) part ∙ at in
       let accepted = accepted_list e.part.view in
       let none = none_back v views processors p c e cpu at part h ran in
-      let left = length-drop (length e.ran) (keys_of accepted) in
-      let keys = length-map accepted (λ (a : Accepted). a.key) in
-      let back = ap (λ (l : List ℕ). length l) (sym (ap (map key_of) none) ∙ h.end.back_is) in
+      let back = ap (λ (l : List J). length l) none in
       let numbers = length-numbered 0 accepted in
-      let all : take (length e.ran) (numbered 0 accepted) ≡ numbered 0 accepted = take_all (length e.ran) (numbered 0 accepted) (omega (arith, left, keys, back, numbers)) in
-      sym (map-map (λ (n : Numbered). n.key) numbered_record e.ran) ∙ (ap (map (λ (n : Numbered). n.key)) (h.end.ran_is ∙ all) ∙ (keys_of_numbered 0 accepted ∙ ap (λ (w : View). keys_of (accepted_list w)) view))
+      let all : take (length e.ran) (numbered 0 accepted) ≡ numbered 0 accepted = take_all (length e.ran) (numbered 0 accepted) (omega (arith, as_many_ended (v ∷ views) processors e h.ends, back, numbers)) in
+      sym (map-map (λ (n : Numbered). n.key) numbered_record e.ran) ∙ (ap (map (λ (n : Numbered). n.key)) (h.ends.end.ran_is ∙ all) ∙ (keys_of_numbered 0 accepted ∙ ap (λ (w : View). keys_of (accepted_list w)) view))
 
   ran_keys_each : (v : View) (views processors : List View) (es : List (CpuEnd J R)) (ps : List (Processor J R)) (hs : List (Hand J R)) → map (λ e. e.part) es ≡ cpu_parts ps hs → All (ClosesAs key_of gives (v ∷ views) processors) es → All (AllRan v) ps
       → map (λ e. map (λ (r : Record R). r.key) e.ran) es ≡ map (λ p. keys_in p) ps

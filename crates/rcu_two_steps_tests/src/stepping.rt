@@ -7,7 +7,7 @@ ghost use Rattle.rcu_control.specs.Parts.{driver_board, driver_seat};
 ghost use Rattle.rcu_control.specs.Views.{SamePart};
 ghost use Rattle.rcu_part_hand.specs.Hands.{SameHand, IsSoundHand};
 ghost use Rattle.rcu_part_processor.specs.Processors.{SameProcessor, IsSound};
-ghost use Rattle.rcu_parts.specs.OneOpen.{AreOfOneOpen, AreSoundParts};
+ghost use Rattle.rcu_parts.specs.OneOpen.{AreOfOneOpen};
 ghost use Rattle.rcu_two_steps_tests.specs.Echoes.{IsOwnKey, key_of_echo};
 
 use crate::echo::Echo;
@@ -81,7 +81,6 @@ pub fn work_and_close(
     job: Echo,
 ) -> Result<Closed<Echo>, Closing<Echo>>
     requires one { AreOfOneOpen parts }
-    requires sound { AreSoundParts key_of_echo IsOwnKey parts }
 {
     let mut parts = parts;
     work_last(&mut parts.processors, &mut parts.driver, job);

@@ -5,13 +5,14 @@ use denote.Param.{param}
 use Rattle.rcu_board.specs.Seats.{gathered_view, view}
 use Rattle.rcu_control.specs.Parts.{control_board, control_view, driver_view}
 use Rattle.rcu_holdings.proofs.Sizes.{in_struct}
-use Rattle.rcu_parts.specs.AtClose.{cpu_parts}
+use Rattle.rcu_gathering.specs.Closing.{Closes, Ends}
+use Rattle.rcu_parts.specs.AtClose.{cpu_parts, other_views}
 use Rattle.rcu_part_group.specs.Groups.{group_board}
 use Rattle.rcu_parts.specs.declared.ending.Ending.{Ending}
 use Rattle.rcu_part_group.specs.contracts.group.Group as group_row
 use Rattle.rcu_part_hand.specs.contracts.hand.Hand as hand_row
 use Rattle.rcu_part_processor.specs.contracts.processor.Processor as row
-use Rattle.rcu_parts.proofs.WholeClose.{as_many_hands, closes_with, first_ready, gathered_all, two_views, weighs_all}
+use Rattle.rcu_parts.proofs.WholeClose.{answers_with, as_many_hands, first_ready, gathered_all, sound_ends, two_views, weighs_all}
 use Rattle.rcu_parts.proofs.ending.close_in.Goals as goal
 
 pub gather_groups-members-requires-after_bounds : goal.gather_groups-members-requires-after_bounds
@@ -53,9 +54,9 @@ end_each-requires-clause-ready g c κs within =
         in_struct _ _ _ (in_struct _ _ _ (in_struct _ _ _ h)),
         (
           q,
-          first_ready g.J.Job.key_of g.J.Job.gives c.args.parts c.args.room c.from.result.items c.from-2.result.items c.from-3.result.items
+          first_ready c.args.parts c.args.room c.from.result.items c.from-2.result.items c.from-3.result.items
               (record { board = c.into_parts-board.result.0; all = c.gather_groups-members.new.all; ran = c.args.room.ran; back = c.args.room.back })
-              c.requires.parts c.requires.sound c.requires.room c.into_parts-board.ensures.0 (at ∙ ap (λ b. b.words.table.shared.table_id) (sym c.into_parts-board.ensures.0)) t.rests
+              c.requires.parts c.requires.room c.into_parts-board.ensures.0 (at ∙ ap (λ b. b.words.table.shared.table_id) (sym c.into_parts-board.ensures.0)) t.rests
               (c.from.ensures.0 ∙ t.members) c.from-2.ensures.0 c.from-3.ensures.0 refl refl,
         ),
       ),
@@ -83,10 +84,16 @@ returns g c =
     let e = c.end_each.ensures.ends in
     let two = two_views k d c.merge.new.all c.new-all.result c.into_parts-board.result.1 c.into_seat.result c.new-all.ensures.view c.into_parts-board.ensures.1 c.into_seat.ensures c.merge.ensures.view in
     let x : Ending g.row.J.Denot g.row.J-Receipt.Denot = record { board = c.into_parts-board.result.0; all = c.gather_groups-members.new.all; ran = c.args.room.ran; back = c.args.room.back } in
-    closes_with g.J.Job.key_of g.J.Job.gives c.args.parts (record { ran = c.end_each.new.self.ran; back = c.end_each.new.self.back; reports = c.load_last-reports.result }) c.args.room c.from-2.result.items x c.end_each.new.self c.deref-3.result.now
+    let answers = answers_with g.J.Job.key_of g.J.Job.gives c.args.parts (record { ran = c.end_each.new.self.ran; back = c.end_each.new.self.back; reports = c.load_last-reports.result }) c.args.room c.from-2.result.items x c.end_each.new.self c.deref-3.result.now
     c.requires.parts c.requires.room refl refl c.from-2.ensures.0 c.into_parts-board.ensures.0 (c.deref-3.ensures ∙ (c.end_each.ensures.board ∙ c.into_parts-board.ensures.0)) e
     (gathered_all c.args.parts (gathered_view c.merge.new.all) (gathered_view c.gather_groups-members.new.all) (gathered_view c.end_each.new.self.all) e.ends two c.gather_groups-members.ensures.view e.view)
-    c.load_last-reports.ensures refl refl c.closing.ensures.closes c.closing.ensures.reports
+    c.load_last-reports.ensures refl refl c.closing.ensures.reports in
+    let v = control_view k in
+    let others = other_views c.args.parts in record {
+      accounts = answers (Ends v others) (λ h. c.closing.ensures.ends _ _ v others e.ends h);
+      closes = λ sound. answers (Closes g.J.Job.key_of g.J.Job.gives v others)
+          (λ h. c.closing.ensures.closes _ _ v others e.ends h (sound_ends g.J.Job.key_of g.J.Job.gives c.args.parts c.from-2.result.items e.ends sound c.from-2.ensures.0 e.parts));
+    }
 
 pub merge-requires-clause-all : goal.merge-requires-clause-all
 merge-requires-clause-all g c = let k = c.args.parts.control in c.new-all.ensures.board ∙ (ap (λ s. s.seat.table_id) c.into_parts-board.ensures.1 ∙ (k.here ∙ ap (λ t. t.words.table.shared.table_id) (sym (c.deref.ensures ∙ c.into_parts-board.ensures.0))))

@@ -4,5 +4,5 @@ use Rattle.rcu_parts.proofs.laws.drained.Goals as goal
 pub returns : goal.returns
 returns g c = record {
   stays = λ counts old new same one drained. stays_drained counts old new same one drained;
-  none_back = λ counts parts closed one drained closes. drained_none_back g.J.Job.key_of g.J.Job.gives counts parts drained closed one closes;
+  none_back = λ counts parts closed one drained closes. drained_none_back counts parts drained closed one closes;
 }

@@ -13,6 +13,6 @@ returns g c = let setup = c.args.setup.now in let jobs = c.args.jobs.items in le
     record {
       prints = writes_then (PrintsScript (Prints (λ job. job.key)) start end setup.script.items jobs) (Replays (λ job. job.key) (Promised 65536) setup jobs)
           (g.W.Write.contents c.args.writer.now) (g.W.Write.contents c.perform_all.new.writer) (g.W.Write.contents c.write_totals.new.writer) c.write_totals.result (whole_totals true closed)
-          (λ lines prints. record { start = start; opened = c.in_ok-parts.ensures.opened; lines = lines; end = end; prints = prints; closed = closed; closes = c.in-Ok.ensures.closes; whole = refl })
+          (λ lines prints. record { start = start; opened = c.in_ok-parts.ensures.opened; lines = lines; end = end; prints = prints; closed = closed; closes = c.in-Ok.ensures.closes (c.in_ok-perform_all.ensures.sound c.in_ok-parts.ensures.sound); whole = refl })
           c.in_ok-perform_all.ensures.prints c.write_totals.ensures;
     }

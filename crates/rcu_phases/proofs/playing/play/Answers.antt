@@ -14,18 +14,18 @@ run_phases-requires-after_bounds g c κs within =
     let h : FitsInMemory (hand.the_row (param 0 g.row.J) receipt) = assumption in
     (p, (q, h))
 
-pub close-requires-after_bounds : goal.close-requires-after_bounds
-close-requires-after_bounds g c κs within = let key_of = g.J.Job.key_of in let gives = g.J.Job.gives in
+pub close-requires-clause-parts : goal.close-requires-clause-parts
+close-requires-clause-parts g c κs within = let key_of = g.J.Job.key_of in let gives = g.J.Job.gives in
     let p : FitsInMemory (processor.the_row (param 0 g.row.J) receipt) = assumption in
     let q : FitsInMemory (group.the_row (param 0 g.row.J) receipt) = assumption in
     let h : FitsInMemory (hand.the_row (param 0 g.row.J) receipt) = assumption in
     let old = c.args.parts in let new = c.dismiss-ended.result.0 in let from = c.assemble-company.ensures in let to = c.dismiss-ended.ensures in let kept = c.in_ok-run_phases.ensures in
     let same = stay_same_parts key_of gives old new c.assemble-company.result c.in_ok-run_phases.field-0 from to kept in
-    (p, (q, (h, (c.same_parts.ensures.one old new same c.requires.parts, stay_sound_parts key_of gives old new c.assemble-company.result c.in_ok-run_phases.field-0 from to kept c.requires.sound))))
+    (p, (q, (h, c.same_parts.ensures.one old new same c.requires.parts)))
 
 pub returns : goal.returns
 returns g c = record {
   ended = c.dismiss-ended.result.0;
   same = stay_same_parts g.J.Job.key_of g.J.Job.gives c.args.parts c.dismiss-ended.result.0 c.assemble-company.result c.in_ok-run_phases.field-0 c.assemble-company.ensures c.dismiss-ended.ensures c.in_ok-run_phases.ensures;
-  closes = c.in-Ok.ensures.closes;
+  closes = c.in-Ok.ensures.closes (stay_sound_parts g.J.Job.key_of g.J.Job.gives c.args.parts c.dismiss-ended.result.0 c.assemble-company.result c.in_ok-run_phases.field-0 c.assemble-company.ensures c.dismiss-ended.ensures c.in_ok-run_phases.ensures c.requires.sound);
 }

@@ -18,15 +18,15 @@ close-requires-send-J-Receipt g c κs within = search rules
 pub run_parts-requires-after_bounds : goal.run_parts-requires-after_bounds
 run_parts-requires-after_bounds g c κs within = let some : 0 < vec_len c.args.parts.processors = some_of (vec_len c.args.parts.processors) (sym c.is_empty.ensures ∙ c.if-is_empty.false) in (assumption, (assumption, (assumption, some)))
 
-pub close-requires-after_bounds : goal.close-requires-after_bounds
-close-requires-after_bounds g c κs within = let key_of = g.J.Job.key_of in let gives = g.J.Job.gives in let old = c.args.parts in let new = c.in_ok-ended.ended in let ran = c.in_ok-ended.ensures.ran in
-    (assumption, (assumption, (assumption, (c.same_parts.ensures.one old new (all_same key_of gives old new ran) c.requires.parts, all_sound key_of gives old new ran c.requires.sound))))
+pub close-requires-clause-parts : goal.close-requires-clause-parts
+close-requires-clause-parts g c κs within = let key_of = g.J.Job.key_of in let gives = g.J.Job.gives in let old = c.args.parts in let new = c.in_ok-ended.ended in let ran = c.in_ok-ended.ensures.ran in
+    (assumption, (assumption, (assumption, c.same_parts.ensures.one old new (all_same key_of gives old new ran) c.requires.parts)))
 
 pub returns-clause-closes : goal.returns-clause-closes
-returns-clause-closes g c = record { ended = c.in_ok-ended.ended; same = all_same g.J.Job.key_of g.J.Job.gives c.args.parts c.in_ok-ended.ended c.in_ok-ended.ensures.ran; closes = c.in-Ok.ensures.closes }
+returns-clause-closes g c = record { ended = c.in_ok-ended.ended; same = all_same g.J.Job.key_of g.J.Job.gives c.args.parts c.in_ok-ended.ended c.in_ok-ended.ensures.ran; closes = c.in-Ok.ensures.closes (all_sound g.J.Job.key_of g.J.Job.gives c.args.parts c.in_ok-ended.ended c.in_ok-ended.ensures.ran c.requires.sound) }
 
 pub returns-clause-ran : goal.returns-clause-ran
-returns-clause-ran g c = λ unused. none_handed_back g.J.Job.key_of g.J.Job.gives c.args.parts c.in_ok-ended.ended c.in-Ok.closed c.in_ok-ended.ensures.ran unused c.in-Ok.ensures.closes
+returns-clause-ran g c = λ unused. none_handed_back g.J.Job.key_of g.J.Job.gives c.args.parts c.in_ok-ended.ended c.in-Ok.closed c.in_ok-ended.ensures.ran unused (c.in-Ok.ensures.closes (all_sound g.J.Job.key_of g.J.Job.gives c.args.parts c.in_ok-ended.ended c.in_ok-ended.ensures.ran c.requires.sound))
 
 pub returns-clause-all : goal.returns-clause-all
-returns-clause-all g c = λ unused. all_have_run g.J.Job.key_of g.J.Job.gives c.args.parts c.in_ok-ended.ended c.in-Ok.closed c.args.jobs.items (map (λ own. own.items) c.in_ok-ended.answers.items) c.in_ok-ended.ensures.ran unused c.in-Ok.ensures.closes (c.in_ok-ended.ensures.answered unused)
+returns-clause-all g c = λ unused. all_have_run g.J.Job.key_of g.J.Job.gives c.args.parts c.in_ok-ended.ended c.in-Ok.closed c.args.jobs.items (map (λ own. own.items) c.in_ok-ended.answers.items) c.in_ok-ended.ensures.ran unused (c.in-Ok.ensures.closes (all_sound g.J.Job.key_of g.J.Job.gives c.args.parts c.in_ok-ended.ended c.in_ok-ended.ensures.ran c.requires.sound)) (c.in_ok-ended.ensures.answered unused)

@@ -9,23 +9,20 @@ use Rattle.rcu_parts.specs.OneOpen.{groups_in, hands_in}
 use Rattle.rcu_control.proofs.Stepping.{same_part}
 use Rattle.rcu_two_steps_tests.proofs.stepping.work_and_close.Goals as goal
 
-pub close-requires-after_bounds : goal.close-requires-after_bounds
-close-requires-after_bounds c κs = (
+pub close-requires-clause-parts : goal.close-requires-clause-parts
+close-requires-clause-parts c κs = (
   omega arith,
   (
     omega arith,
     (
       omega arith,
-      (
-        stay_same c.args.parts _ (record {
-          control = same_part _ _;
-          driver = c.work_last.ensures.driver;
-          processors = c.work_last.ensures.same;
-          groups = zip_same (λ g h. SameGroup g.state h.state) (λ g. same_group g.state) (groups_in c.args.parts);
-          hands = zip_same (λ h i. SameHand h.state i.state) (λ h. same_hand h.state) (hands_in c.args.parts);
-        }) c.requires.one,
-        record { processors = c.work_last.ensures.sound c.requires.sound.processors; hands = c.requires.sound.hands },
-      ),
+      stay_same c.args.parts _ (record {
+        control = same_part _ _;
+        driver = c.work_last.ensures.driver;
+        processors = c.work_last.ensures.same;
+        groups = zip_same (λ g h. SameGroup g.state h.state) (λ g. same_group g.state) (groups_in c.args.parts);
+        hands = zip_same (λ h i. SameHand h.state i.state) (λ h. same_hand h.state) (hands_in c.args.parts);
+      }) c.requires.one,
     ),
   ),
 )

@@ -44,7 +44,7 @@ returns-clause-ends g c =
     record {
       end = record { part = p; ran = c.end_local.result.ran.items; back = c.end_local.result.back.items };
       part = refl;
-      at_rest = rests_alone g.J.Job.key_of g.J.Job.gives c.args.processor c.requires.sound;
+      at_rest = rests_alone c.args.processor;
       ended = subst (λ q. EndsWith g.J.Job.key_of g.J.Job.gives q.ran.items [] (holding q.lists) [] [] c.end_local.result.ran.items c.end_local.result.back.items) s e.ends;
       view = ap all_view k.others ∙ (t.view ∙ ap (λ q. joined (all_view c.args.self.now) (view q.seat)) s);
       long = one_long (board_at c.args.self.now) (board_of c.args.processor.state) c.args.processor.state.seat c.requires.board c.args.processor.state.here;

@@ -20,7 +20,7 @@ end_one-requires-clause-ready g c κs within =
     let m : FitsInMemory (folk_row.the_row (param 0 g.row.J)) = assumption in
     let k : FitsInMemory (hand_row.the_row (param 0 g.row.J) (param 1 g.row.J-Receipt)) = assumption in
     let s = c.loop-processor.invariant in
-    (h, (m, (k, (length s.ends, c.next.new.self.rest.items, now_first g.J.Job.key_of g.J.Job.gives (length s.ends) _ c.in-Some.processor _ _ _ _ _ s.ready c.in-Some.ensures.steps.0))))
+    (h, (m, (k, (length s.ends, c.next.new.self.rest.items, now_first (length s.ends) _ c.in-Some.processor _ _ _ _ _ s.ready c.in-Some.ensures.steps.0))))
 
 pub loop-processor-preserved : goal.loop-processor-preserved
 loop-processor-preserved g c =

@@ -72,7 +72,7 @@ returns-clause-ends g c =
     record {
       end = record { part = p; ran = c.end_offloadable.result.ran.items; back = c.end_offloadable.result.back.items };
       part = refl;
-      at_rest = rests_with g.J.Job.key_of g.J.Job.gives c.args.processor c.args.hand (c.requires.hand.cpu ∙ c.requires.member.cpu) c.requires.sound c.requires.hand_sound;
+      at_rest = rests_with c.args.processor c.args.hand (c.requires.hand.cpu ∙ c.requires.member.cpu);
       ended = subst₂ (λ p h. EndsWith g.J.Job.key_of g.J.Job.gives p.ran.items h.ran.items (holding p.lists) (taken_by h.held) (drawn_by h.held) c.end_offloadable.result.ran.items c.end_offloadable.result.back.items) s f c.end_offloadable.ensures.ends;
       view = ap all_view k.others ∙ (u.view ∙ (ap (λ w. joined w (view c.into_state-hands_seat.result.seat)) t.view ∙ subst₂ (λ p h. joined (joined (all_view c.args.self.now) (view c.into_state-seat.result.seat)) (view c.into_state-hands_seat.result.seat) ≡ joined (joined (all_view c.args.self.now) (view p.seat)) (view h.seat)) s f refl));
       long = both_long (board_at c.args.self.now) (board_of c.args.processor.state) (hand_board c.args.hand.state) c.args.processor.state.seat c.args.hand.state.seat c.requires.board c.requires.hand_board c.args.processor.state.here c.args.hand.state.here;
