@@ -1,0 +1,4 @@
+pub mod Crews
+pub mod Steps
+pub mod Acts
+pub mod Runs
