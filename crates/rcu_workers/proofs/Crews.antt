@@ -1,7 +1,8 @@
 -- Lists place by place: what was started, what came back, and what is known of both.
 use Rattle.std.proofs.Common.{◌≡◌, ℕ, ◌+◌, ◌<◌, ◌≤◌, List, [], ◌∷◌, ◌++◌, map, length, append_assoc, ap, sym, ◌∙◌, refl, subst, arith}
 use Rattle.std.specs.List.{AllZip}
-use Rattle.std.proofs.lemmas.List.{length-map}
+use Rattle.std.proofs.lemmas.List.{length-map, nil_from_length}
+use Rattle.rcu_parts.proofs.Zips.{all_of}
 use Rattle.rcu_workers.specs.Crews.{HasBegun, HasEnded}
 use Rattle.rcu_workers.specs.declared.crew.Started.{Started}
 use Rattle.rcu_workers.specs.declared.crew.Started.TheVariants.{Running, Back}
@@ -71,3 +72,7 @@ begun_of promise of Kept S f w p is (Back q) k = subst (λ x. S x q) is (f w q k
 -- as many as were taken from
 pub as_many : {A B : Type 0} (f : A → B) (xs : List A) (ys : List B) → map f xs ≡ ys → length xs ≡ length ys
 as_many f xs ys e = sym (length-map xs f) ∙ ap (λ l. length l) e
+
+-- what is said of all that came is said of the whole list, where none is left
+pub all_done : {A B : Type 0} (R : A → B → Type 0) (done rest all : List A) (ys : List B) → done ++ rest ≡ all → length rest ≡ 0 → AllZip R done ys → AllZip R all ys
+all_done R done rest all ys order none z = subst (λ l. AllZip R l ys) (all_of done rest all order (nil_from_length rest none)) z

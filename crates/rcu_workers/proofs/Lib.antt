@@ -2,3 +2,4 @@ pub mod Crews
 pub mod Steps
 pub mod Acts
 pub mod Runs
+pub mod Backs

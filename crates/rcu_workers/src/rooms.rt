@@ -37,10 +37,12 @@ impl<J: Job, W: Worker<J>> Rooms<J, W> {
         ensures others { IfOk result (λ rooms. (rooms.groups.many ≡ vec_len parts.now.groups) × (rooms.hands.many ≡ vec_len parts.now.hands)) }
     {
         let many = parts.processors.len();
+        let posts = Vec::with_capacity(alloc, many)?;
+        let at_posts = Room::new(alloc, many)?;
         Ok(Rooms {
             signals: Arc::new(alloc, Signals::new())?,
-            posts: Vec::with_capacity(alloc, many)?,
-            at_posts: Room::new(alloc, many)?,
+            posts,
+            at_posts,
             halves: Halves::with_room(alloc, many)?,
             groups: Room::new(alloc, parts.groups.len())?,
             hands: Room::new(alloc, parts.hands.len())?,

@@ -2,6 +2,7 @@
 
 ghost use Rattle.std.specs.Prelude.{◌≡◌, ◌≤◌, vec_len};
 ghost use Rattle.std.specs.List.{AllZip};
+ghost use denote.Param.Send.{IsSend};
 ghost use Rattle.rcu_workers.specs.Crews.{HasBegun};
 ghost use Rattle.rcu_workers.specs.Stays.{DriverStays, GroupStays, HandStays};
 ghost use Rattle.rcu_workers.specs.Steps.{PostWorks};
@@ -56,6 +57,7 @@ pub(crate) fn start_group<
     let own = *rt;
     let promise = Stays(Snapshot::of(&group));
     let run = move || -> Group<J>
+        requires { IsSend J.row × IsSend S.row × IsSend R.row }
         ensures { GroupStays group result }
     { run_group(group, &own, &shared) };
     begin(rt, signals, promise, run)
@@ -101,6 +103,7 @@ pub(crate) fn start_hand<
     let own = *rt;
     let promise = Stays(Snapshot::of(&hand));
     let run = move || -> Hand<J>
+        requires { IsSend J.row × IsSend S.row × IsSend R.row }
         ensures { HandStays J.key_of J.gives hand result }
     { run_hand(hand, &own, &shared) };
     begin(rt, signals, promise, run)
@@ -147,6 +150,7 @@ pub(crate) fn start_post<
     let own = *rt;
     let promise = Works(Snapshot::of(&post));
     let run = move || -> Station<J, W>
+        requires { IsSend J.row × IsSend S.row × IsSend W.row × IsSend R.row }
         ensures { PostWorks J.key_of J.gives post result }
     { run_post(post, &own, &shared) };
     begin(rt, signals, promise, run)

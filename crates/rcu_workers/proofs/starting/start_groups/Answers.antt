@@ -2,7 +2,7 @@ use Rattle.std.proofs.Common.{◌≡◌, ◌≤◌, length, rules, refl, arith}
 use Rattle.std.specs.Vec.{vec_capacity, vec_len}
 use Rattle.rcu_workers.specs.Crews.{HasBegun}
 use Rattle.rcu_workers.specs.Stays.{GroupStays}
-use Rattle.rcu_workers.proofs.Crews.{order_after, room_for_more, zip_pushed}
+use Rattle.rcu_workers.proofs.Crews.{all_done, order_after, room_for_more, zip_pushed}
 use Rattle.rcu_workers.proofs.starting.start_groups.Goals as goal
 
 pub loop-group-preserved : goal.loop-group-preserved
@@ -16,3 +16,19 @@ loop-group-preserved g c = let l = c.loop-group in let i = l.invariant in let re
 
 pub invariant_of-result : goal.invariant_of-result
 invariant_of-result g c = let i = c.loop-group.invariant in record { empty = c.args.room.empty.1; fits = omega (arith, i.ended) }
+
+pub start_group-requires-send-J : goal.start_group-requires-send-J
+start_group-requires-send-J g c κs within = assumption
+
+pub start_group-requires-send-S : goal.start_group-requires-send-S
+start_group-requires-send-S g c κs within = assumption
+
+pub start_group-requires-send-R : goal.start_group-requires-send-R
+start_group-requires-send-R g c κs within = assumption
+
+pub start_group-requires-after_bounds : goal.start_group-requires-after_bounds
+start_group-requires-after_bounds g c κs within = assumption
+
+pub returns : goal.returns
+returns g c = let l = c.loop-group in let rest = l.group-iterator.rest.items in let none : length rest ≡ 0 = search rules in
+    all_done (HasBegun (λ thread. thread.promise.0.value) GroupStays) l.yielded rest c.args.groups.items l.started.items l.invariant.order none l.invariant.started

@@ -2,7 +2,7 @@ use Rattle.std.proofs.Common.{◌≡◌, ◌≤◌, length, rules, refl, arith}
 use Rattle.std.specs.Vec.{vec_capacity, vec_len}
 use Rattle.rcu_workers.specs.Crews.{HasBegun}
 use Rattle.rcu_workers.specs.Stays.{HandStays}
-use Rattle.rcu_workers.proofs.Crews.{order_after, room_for_more, zip_pushed}
+use Rattle.rcu_workers.proofs.Crews.{all_done, order_after, room_for_more, zip_pushed}
 use Rattle.rcu_workers.proofs.starting.start_hands.Goals as goal
 
 pub loop-hand-preserved : goal.loop-hand-preserved
@@ -16,3 +16,19 @@ loop-hand-preserved g c = let l = c.loop-hand in let i = l.invariant in let rest
 
 pub invariant_of-result : goal.invariant_of-result
 invariant_of-result g c = let i = c.loop-hand.invariant in record { empty = c.args.room.empty.1; fits = omega (arith, i.ended) }
+
+pub start_hand-requires-send-J : goal.start_hand-requires-send-J
+start_hand-requires-send-J g c κs within = assumption
+
+pub start_hand-requires-send-S : goal.start_hand-requires-send-S
+start_hand-requires-send-S g c κs within = assumption
+
+pub start_hand-requires-send-R : goal.start_hand-requires-send-R
+start_hand-requires-send-R g c κs within = assumption
+
+pub start_hand-requires-after_bounds : goal.start_hand-requires-after_bounds
+start_hand-requires-after_bounds g c κs within = assumption
+
+pub returns : goal.returns
+returns g c = let l = c.loop-hand in let rest = l.hand-iterator.rest.items in let none : length rest ≡ 0 = search rules in
+    all_done (HasBegun (λ thread. thread.promise.0.value) (HandStays g.J.Job.key_of g.J.Job.gives)) l.yielded rest c.args.hands.items l.started.items l.invariant.order none l.invariant.started

@@ -2,7 +2,7 @@ use Rattle.std.proofs.Common.{◌≡◌, ◌≤◌, length, rules, refl, arith}
 use Rattle.std.specs.Vec.{vec_capacity, vec_len}
 use Rattle.rcu_workers.specs.Crews.{HasBegun}
 use Rattle.rcu_workers.specs.Steps.{PostWorks}
-use Rattle.rcu_workers.proofs.Crews.{order_after, room_for_more, zip_pushed}
+use Rattle.rcu_workers.proofs.Crews.{all_done, order_after, room_for_more, zip_pushed}
 use Rattle.rcu_workers.proofs.starting.start_posts.Goals as goal
 
 pub loop-post-preserved : goal.loop-post-preserved
@@ -16,3 +16,22 @@ loop-post-preserved g c = let l = c.loop-post in let i = l.invariant in let rest
 
 pub invariant_of-result : goal.invariant_of-result
 invariant_of-result g c = let i = c.loop-post.invariant in record { empty = c.args.room.empty.1; fits = omega (arith, i.ended) }
+
+pub start_post-requires-send-J : goal.start_post-requires-send-J
+start_post-requires-send-J g c κs within = assumption
+
+pub start_post-requires-send-S : goal.start_post-requires-send-S
+start_post-requires-send-S g c κs within = assumption
+
+pub start_post-requires-send-W : goal.start_post-requires-send-W
+start_post-requires-send-W g c κs within = assumption
+
+pub start_post-requires-send-R : goal.start_post-requires-send-R
+start_post-requires-send-R g c κs within = assumption
+
+pub start_post-requires-after_bounds : goal.start_post-requires-after_bounds
+start_post-requires-after_bounds g c κs within = assumption
+
+pub returns : goal.returns
+returns g c = let l = c.loop-post in let rest = l.post-iterator.rest.items in let none : length rest ≡ 0 = search rules in
+    all_done (HasBegun (λ thread. thread.promise.0.value) (PostWorks g.J.Job.key_of g.J.Job.gives)) l.yielded rest c.args.posts.items l.started.items l.invariant.order none l.invariant.started

@@ -1,0 +1,10 @@
+use Rattle.rcu_workers.proofs.starting.start_hand.Goals as goal
+
+pub run_hand-requires-send-J : goal.run_hand-requires-send-J
+run_hand-requires-send-J g c κs within = record { owned = c.type_bounds.send-J.owned; leaving = c.type_bounds.send-J.leaving }
+
+pub run_hand-requires-send-J-Receipt : goal.run_hand-requires-send-J-Receipt
+run_hand-requires-send-J-Receipt g c κs within = record { owned = c.type_bounds.send-S.owned; leaving = c.type_bounds.send-S.leaving }
+
+pub run_hand-requires-after_bounds : goal.run_hand-requires-after_bounds
+run_hand-requires-after_bounds g c κs within = assumption

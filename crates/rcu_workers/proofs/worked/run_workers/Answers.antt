@@ -1,0 +1,32 @@
+use Rattle.std.proofs.Common.{◌∙◌, refl, subst, sym}
+use Rattle.std.specs.Prelude.{vec_len}
+use Rattle.rcu_runtime.proofs.Wholes.{continues_itself}
+use Rattle.rcu_runtime.specs.Runtimes.{Continues}
+use Rattle.rcu_workers.specs.Faults.{ComesBack, IsLate}
+use Rattle.rcu_workers.proofs.Backs.{continues_either, early_back, if_err, late_back}
+use Rattle.rcu_workers.proofs.Runs.{worked_continues, worked_whole}
+use Rattle.rcu_workers.proofs.worked.run_workers.Goals as goal
+
+pub put_together-requires-clause-whole : goal.put_together-requires-clause-whole
+put_together-requires-clause-whole g c = c.take_apart-parts.ensures.whole
+
+pub returns-in-Err-clause-continues : goal.returns-in-Err-clause-continues
+returns-in-Err-clause-continues g c = subst (Continues c.args.runtime) (sym (c.put_together.ensures ∙ c.take_apart-parts.ensures.parts)) (continues_itself c.args.runtime)
+
+pub returns-in-Err-clause-back : goal.returns-in-Err-clause-back
+returns-in-Err-clause-back g c = early_back (vec_len c.take_apart-parts.result.0.processors) (vec_len c.args.workers) c.in-Err.fault c.args.runtime c.put_together.result c.args.workers.items c.args.workers.items c.in-Err.ensures.fault (c.put_together.ensures ∙ c.take_apart-parts.ensures.parts) refl
+
+pub put_together-runtime-requires-clause-whole : goal.put_together-runtime-requires-clause-whole
+put_together-runtime-requires-clause-whole g c = worked_whole g.J.Job.key_of g.J.Job.gives c.take_apart-parts.result.0 c.run_parts-ran.result.parts c.run_parts-ran.ensures c.take_apart-parts.result.1 c.take_apart-parts.ensures.whole
+
+pub returns-clause-continues : goal.returns-clause-continues
+returns-clause-continues g c = let apart = c.take_apart-parts in let ran = worked_continues g.J.Job.key_of g.J.Job.gives apart.result.0 c.run_parts-ran.result.parts c.run_parts-ran.ensures apart.ensures.whole.close.one in
+    let on = subst (Continues c.args.runtime) (sym c.put_together-runtime.ensures) (subst (λ x. Continues x c.run_parts-ran.result.parts) apart.ensures.parts ran) in
+    continues_either (λ w. w.runtime) (λ refused. refused.worked.runtime) c.args.runtime c.put_together-runtime.result on c.answer.result c.answer.ensures.continues
+
+pub returns-clause-back : goal.returns-clause-back
+returns-clause-back g c = if_err (λ refused. IsLate refused.fault) (λ refused. ComesBack refused.fault c.args.runtime refused.worked.runtime c.args.workers.items refused.worked.workers.items)
+    (λ refused late. late_back refused.fault c.args.runtime refused.worked.runtime c.args.workers.items refused.worked.workers.items late) c.answer.result c.answer.ensures.fault
+
+pub returns-clause-drained : goal.returns-clause-drained
+returns-clause-drained g c = c.answer.ensures.drained
