@@ -98,10 +98,10 @@ pub(crate) struct Ran<P, W> {
 /// Runs all parts, each in a thread of its own, the processors with their workers.
 pub(crate) fn run_parts<
     J: Job<Receipt = S> + 'static,
-    S: Send + Drop + 'static,
     W: Worker<J> + 'static,
-    G: Steering,
     R: Threads + Wait + Clock + Copy + Send + 'static,
+    S: Send + Drop + 'static,
+    G: Steering,
 >(
     rt: &R,
     parts: Parts<J>,

@@ -45,8 +45,8 @@ pub(crate) fn start_driver<R: Threads + Wait + Clock + Copy + Send + 'static>(
 /// Starts a thread for a group.
 pub(crate) fn start_group<
     J: Job<Receipt = S> + 'static,
-    S: Send + Drop + 'static,
     R: Threads + Wait + Clock + Copy + Send + 'static,
+    S: Send + Drop + 'static,
 >(rt: &R, group: Group<J>, signals: &Arc<Signals, Global>) -> Started<Running<Group<J>>, Group<J>>
     ensures { HasBegun (λ thread. thread.promise.0.value) GroupStays group result }
 {
@@ -57,7 +57,7 @@ pub(crate) fn start_group<
     let own = *rt;
     let promise = Stays(Snapshot::of(&group));
     let run = move || -> Group<J>
-        requires { IsSend J.row × IsSend S.row × IsSend R.row }
+        requires { IsSend J.row × IsSend R.row × IsSend S.row }
         ensures { GroupStays group result }
     { run_group(group, &own, &shared) };
     begin(rt, signals, promise, run)
@@ -66,8 +66,8 @@ pub(crate) fn start_group<
 /// Starts a thread for each group.
 pub(crate) fn start_groups<
     J: Job<Receipt = S> + 'static,
-    S: Send + Drop + 'static,
     R: Threads + Wait + Clock + Copy + Send + 'static,
+    S: Send + Drop + 'static,
 >(
     rt: &R,
     groups: Vec<Group<J>>,
@@ -91,8 +91,8 @@ pub(crate) fn start_groups<
 /// Starts a thread for a hand.
 pub(crate) fn start_hand<
     J: Job<Receipt = S> + 'static,
-    S: Send + Drop + 'static,
     R: Threads + Wait + Clock + Copy + Send + 'static,
+    S: Send + Drop + 'static,
 >(rt: &R, hand: Hand<J>, signals: &Arc<Signals, Global>) -> Started<Running<Hand<J>>, Hand<J>>
     ensures { HasBegun (λ thread. thread.promise.0.value) (HandStays J.key_of J.gives) hand result }
 {
@@ -103,7 +103,7 @@ pub(crate) fn start_hand<
     let own = *rt;
     let promise = Stays(Snapshot::of(&hand));
     let run = move || -> Hand<J>
-        requires { IsSend J.row × IsSend S.row × IsSend R.row }
+        requires { IsSend J.row × IsSend R.row × IsSend S.row }
         ensures { HandStays J.key_of J.gives hand result }
     { run_hand(hand, &own, &shared) };
     begin(rt, signals, promise, run)
@@ -112,8 +112,8 @@ pub(crate) fn start_hand<
 /// Starts a thread for each hand.
 pub(crate) fn start_hands<
     J: Job<Receipt = S> + 'static,
-    S: Send + Drop + 'static,
     R: Threads + Wait + Clock + Copy + Send + 'static,
+    S: Send + Drop + 'static,
 >(
     rt: &R,
     hands: Vec<Hand<J>>,
@@ -137,9 +137,9 @@ pub(crate) fn start_hands<
 /// Starts a thread for a processor with its worker.
 pub(crate) fn start_post<
     J: Job<Receipt = S> + 'static,
-    S: Send + Drop + 'static,
     W: Worker<J> + 'static,
     R: Threads + Wait + Clock + Copy + Send + 'static,
+    S: Send + Drop + 'static,
 >(rt: &R, post: Station<J, W>, signals: &Arc<Signals, Global>) -> Started<Working<J, W>, Station<J, W>>
     ensures { HasBegun (λ thread. thread.promise.0.value) (PostWorks J.key_of J.gives) post result }
 {
@@ -150,7 +150,7 @@ pub(crate) fn start_post<
     let own = *rt;
     let promise = Works(Snapshot::of(&post));
     let run = move || -> Station<J, W>
-        requires { IsSend J.row × IsSend S.row × IsSend W.row × IsSend R.row }
+        requires { IsSend J.row × IsSend W.row × IsSend R.row × IsSend S.row }
         ensures { PostWorks J.key_of J.gives post result }
     { run_post(post, &own, &shared) };
     begin(rt, signals, promise, run)
@@ -159,9 +159,9 @@ pub(crate) fn start_post<
 /// Starts a thread for each post.
 pub(crate) fn start_posts<
     J: Job<Receipt = S> + 'static,
-    S: Send + Drop + 'static,
     W: Worker<J> + 'static,
     R: Threads + Wait + Clock + Copy + Send + 'static,
+    S: Send + Drop + 'static,
 >(
     rt: &R,
     posts: Vec<Station<J, W>>,

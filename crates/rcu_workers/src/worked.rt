@@ -108,13 +108,12 @@ fn answer<J: Job, W: Worker<J>>(
 ///
 /// Want of memory, another number of workers than of processors, or no thread for some part: then no worker made a step. Or
 /// the runtime isn't drained though that was asked for. The runtime and the workers come back.
-#[tactic(none)]
 pub fn run_workers<
     J: Job<Receipt = S> + 'static,
-    S: Send + Drop + 'static,
     W: Worker<J> + 'static,
-    G: Steering,
     R: Threads + Wait + Clock + Copy + Send + 'static,
+    S: Send + Drop + 'static,
+    G: Steering,
 >(
     rt: &R,
     alloc: Global,

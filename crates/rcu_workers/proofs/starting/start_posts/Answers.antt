@@ -35,3 +35,12 @@ start_post-requires-after_bounds g c κs within = assumption
 pub returns : goal.returns
 returns g c = let l = c.loop-post in let rest = l.post-iterator.rest.items in let none : length rest ≡ 0 = search rules in
     all_done (HasBegun (λ thread. thread.promise.0.value) (PostWorks g.J.Job.key_of g.J.Job.gives)) l.yielded rest c.args.posts.items l.started.items l.invariant.order none l.invariant.started
+
+pub into_iter-post-iterator-requires-room-T-Destruct : goal.into_iter-post-iterator-requires-room-T-Destruct
+into_iter-post-iterator-requires-room-T-Destruct g c κs within = assumption
+
+pub next-requires-room-T-Destruct : goal.next-requires-room-T-Destruct
+next-requires-room-T-Destruct g c κs within = assumption
+
+pub drop-post-iterator-requires-room-T-Destruct : goal.drop-post-iterator-requires-room-T-Destruct
+drop-post-iterator-requires-room-T-Destruct g c κs within = assumption

@@ -4,7 +4,7 @@ pub run_group-requires-send-J : goal.run_group-requires-send-J
 run_group-requires-send-J g c κs within = record { owned = c.requires.0.owned; leaving = c.requires.0.leaving }
 
 pub run_group-requires-send-J-Receipt : goal.run_group-requires-send-J-Receipt
-run_group-requires-send-J-Receipt g c κs within = record { owned = c.requires.1.owned; leaving = c.requires.1.leaving }
+run_group-requires-send-J-Receipt g c κs within = record { owned = c.requires.2.owned; leaving = c.requires.2.leaving }
 
 pub run_group-requires-after_bounds : goal.run_group-requires-after_bounds
 run_group-requires-after_bounds g c κs within = assumption
