@@ -2,11 +2,9 @@
 
 ghost use Rattle.std.specs.Prelude.{◌≡◌, ◌≤◌, [], IfOk, vec_capacity, vec_len};
 ghost use Rattle.std.specs.List.{AllZip};
-ghost use Rattle.rcu_workers.specs.Crews.{HasBegun, HasEnded};
+ghost use Rattle.rcu_workers.specs.Crews.{HasEnded};
 
-use crate::signals::Signals;
 use std::alloc::{AllocError, Global};
-use std::thread;
 use std::thread::{Promise, PromisedHandle, Threads};
 
 /// A part that was to run in a thread.
@@ -52,26 +50,6 @@ pub struct Crew<H, P> {
     pub(crate) ended: Vec<P>,
     ghost empty: { ended.items ≡ [] },
     ghost fits: { vec_len started ≤ vec_capacity ended },
-}
-
-/// Runs this in a thread. Where none can be made, the run is over for all, and it is run here.
-pub fn begin<
-    T: Send + Drop + 'static,
-    P: Promise<T> + Drop,
-    F: FnOnce() -> T + Send + 'static,
-    R: Threads,
->(rt: &R, signals: &Signals, promise: P, run: F) -> Started<PromisedHandle<T, P>, T>
-    requires runs { F.pre run }
-    requires keeps { (part : T) → F.post run part → P.kept_by promise part }
-    ensures { HasBegun (λ thread. thread.promise) P.kept_by promise result }
-{
-    match thread::spawn_with(rt, promise, run) {
-        Ok(thread) => Started::Running(thread),
-        Err(refused) => {
-            signals.end();
-            Started::Back((refused.value)())
-        }
-    }
 }
 
 /// The part that comes back, once its thread has ended.

@@ -7,7 +7,7 @@ ghost use Rattle.rcu_workers.specs.Crews.{HasBegun};
 ghost use Rattle.rcu_workers.specs.Stays.{DriverStays, GroupStays, HandStays};
 ghost use Rattle.rcu_workers.specs.Steps.{PostWorks};
 
-use crate::crew::{Crew, Room, Started, begin};
+use crate::crew::{Crew, Room, Started};
 use crate::part::{Running, Station, Stays, Working, Works};
 use crate::post::run_post;
 use crate::signals::Signals;
@@ -20,6 +20,7 @@ use std::alloc::Global;
 use std::rt::Clock;
 use std::snapshot::Snapshot;
 use std::sync::{Arc, Wait};
+use std::thread;
 use std::thread::Threads;
 
 /// Starts a thread for the driver.
@@ -39,7 +40,13 @@ pub(crate) fn start_driver<R: Threads + Wait + Clock + Copy + Send + 'static>(
     let run = move || -> Driver
         ensures { DriverStays driver result }
     { run_driver(driver, &own, &shared) };
-    begin(rt, signals, promise, run)
+    match thread::spawn_with(rt, promise, run) {
+        Ok(thread) => Started::Running(thread),
+        Err(refused) => {
+            signals.end();
+            Started::Back((refused.value)())
+        }
+    }
 }
 
 /// Starts a thread for a group.
@@ -60,7 +67,13 @@ pub(crate) fn start_group<
         requires { IsSend J.row × IsSend R.row × IsSend S.row }
         ensures { GroupStays group result }
     { run_group(group, &own, &shared) };
-    begin(rt, signals, promise, run)
+    match thread::spawn_with(rt, promise, run) {
+        Ok(thread) => Started::Running(thread),
+        Err(refused) => {
+            signals.end();
+            Started::Back((refused.value)())
+        }
+    }
 }
 
 /// Starts a thread for each group.
@@ -106,7 +119,13 @@ pub(crate) fn start_hand<
         requires { IsSend J.row × IsSend R.row × IsSend S.row }
         ensures { HandStays J.key_of J.gives hand result }
     { run_hand(hand, &own, &shared) };
-    begin(rt, signals, promise, run)
+    match thread::spawn_with(rt, promise, run) {
+        Ok(thread) => Started::Running(thread),
+        Err(refused) => {
+            signals.end();
+            Started::Back((refused.value)())
+        }
+    }
 }
 
 /// Starts a thread for each hand.
@@ -153,7 +172,13 @@ pub(crate) fn start_post<
         requires { IsSend J.row × IsSend W.row × IsSend R.row × IsSend S.row }
         ensures { PostWorks J.key_of J.gives post result }
     { run_post(post, &own, &shared) };
-    begin(rt, signals, promise, run)
+    match thread::spawn_with(rt, promise, run) {
+        Ok(thread) => Started::Running(thread),
+        Err(refused) => {
+            signals.end();
+            Started::Back((refused.value)())
+        }
+    }
 }
 
 /// Starts a thread for each post.

@@ -8,6 +8,3 @@ run_group-requires-send-J-Receipt g c κs within = record { owned = c.type_bound
 
 pub run_group-requires-after_bounds : goal.run_group-requires-after_bounds
 run_group-requires-after_bounds g c κs within = assumption
-
-pub begin-requires-clause-runs : goal.begin-requires-clause-runs
-begin-requires-clause-runs g c κs within = (assumption, ((record { owned = c.type_bounds.send-J.owned; leaving = c.type_bounds.send-J.leaving }, record { owned = c.type_bounds.send-R.owned; leaving = c.type_bounds.send-R.leaving }, record { owned = c.type_bounds.send-S.owned; leaving = c.type_bounds.send-S.leaving }), (record { owned = c.type_bounds.send-J.owned; leaving = c.type_bounds.send-J.leaving }, record { owned = c.type_bounds.send-R.owned; leaving = c.type_bounds.send-R.leaving }, record { owned = c.type_bounds.send-S.owned; leaving = c.type_bounds.send-S.leaving })))
