@@ -3,3 +3,4 @@ pub mod Steps
 pub mod Acts
 pub mod Runs
 pub mod Backs
+pub mod Sends
