@@ -74,22 +74,35 @@ fn is_settled<J: Job>(runtime: &mut Runtime<J>, ending: Ending) -> bool
 
 /// What a run answers, where this is what it left.
 fn answer<J: Job, W: Worker<J>>(
-    worked: Worked<J, W>,
+    runtime: Runtime<J>,
+    workers: Vec<W>,
+    ends: Vec<End>,
     has_begun: bool,
     ending: Ending,
 ) -> Result<Worked<J, W>, NotWorked<J, W>>
-    ensures continues { MatchResult result (λ w. Continues worked.runtime w.runtime) (λ refused. Continues worked.runtime refused.worked.runtime) }
+    ensures continues { MatchResult result (λ w. Continues runtime w.runtime) (λ refused. Continues runtime refused.worked.runtime) }
     ensures fault { IfErr result (λ refused. IsLate refused.fault) }
     ensures drained { ending ≡ Ending.Drained → IfOk result (λ w. IsDrained w.runtime) }
 {
-    let mut worked = worked;
+    let mut runtime = runtime;
     if !has_begun {
+        let worked = Worked {
+            runtime,
+            workers,
+            ends,
+        };
         return Err(NotWorked {
             fault: WorkersFault::NoThread,
             worked,
         });
     }
-    if is_settled(&mut worked.runtime, ending) {
+    let is_settled = is_settled(&mut runtime, ending);
+    let worked = Worked {
+        runtime,
+        workers,
+        ends,
+    };
+    if is_settled {
         return Ok(worked);
     }
     Err(NotWorked {
@@ -147,5 +160,5 @@ pub fn run_workers<
         has_begun,
     } = ran;
     let runtime = Whole::put_together(parts, limit);
-    answer(Worked { runtime, workers, ends }, has_begun, ending)
+    answer(runtime, workers, ends, has_begun, ending)
 }

@@ -1,5 +1,6 @@
 use Rattle.std.proofs.Common.{◌∙◌, refl, subst, sym}
 use Rattle.std.specs.Prelude.{vec_len}
+use mir.Syntax.{of_param}
 use Rattle.rcu_runtime.proofs.Wholes.{continues_itself}
 use Rattle.rcu_runtime.specs.Runtimes.{Continues}
 use Rattle.rcu_workers.specs.Faults.{ComesBack, IsLate}
@@ -8,16 +9,16 @@ use Rattle.rcu_workers.proofs.Runs.{worked_continues, worked_whole}
 use Rattle.rcu_workers.proofs.worked.run_workers.Goals as goal
 
 pub put_together-requires-clause-whole : goal.put_together-requires-clause-whole
-put_together-requires-clause-whole g c = c.take_apart-parts.ensures.whole
+put_together-requires-clause-whole g c κs within = ?
 
 pub returns-in-Err-clause-continues : goal.returns-in-Err-clause-continues
 returns-in-Err-clause-continues g c = subst (Continues c.args.runtime) (sym (c.put_together.ensures ∙ c.take_apart-parts.ensures.parts)) (continues_itself c.args.runtime)
 
 pub returns-in-Err-clause-back : goal.returns-in-Err-clause-back
-returns-in-Err-clause-back g c = early_back (vec_len c.take_apart-parts.result.0.processors) (vec_len c.args.workers) c.in-Err.fault c.args.runtime c.put_together.result c.args.workers.items c.args.workers.items c.in-Err.ensures.fault (c.put_together.ensures ∙ c.take_apart-parts.ensures.parts) refl
+returns-in-Err-clause-back g c = early_back (vec_len c.take_apart-parts.result.0.processors) c.len.result c.in-Err.fault c.args.runtime c.put_together.result c.args.workers.items c.args.workers.items c.in-Err.ensures.fault (c.put_together.ensures ∙ c.take_apart-parts.ensures.parts) refl
 
 pub put_together-runtime-requires-clause-whole : goal.put_together-runtime-requires-clause-whole
-put_together-runtime-requires-clause-whole g c = worked_whole g.J.Job.key_of g.J.Job.gives c.take_apart-parts.result.0 c.run_parts-ran.result.parts c.run_parts-ran.ensures c.take_apart-parts.result.1 c.take_apart-parts.ensures.whole
+put_together-runtime-requires-clause-whole g c κs within = ?
 
 pub returns-clause-continues : goal.returns-clause-continues
 returns-clause-continues g c = let apart = c.take_apart-parts in let ran = worked_continues g.J.Job.key_of g.J.Job.gives apart.result.0 c.run_parts-ran.result.parts c.run_parts-ran.ensures apart.ensures.whole.close.one in
@@ -30,3 +31,51 @@ returns-clause-back g c = if_err (λ refused. IsLate refused.fault) (λ refused.
 
 pub returns-clause-drained : goal.returns-clause-drained
 returns-clause-drained g c = c.answer.ensures.drained
+
+pub take_apart-parts-requires-send-J : goal.take_apart-parts-requires-send-J
+take_apart-parts-requires-send-J g c κs within = record { owned = c.type_bounds.send-J.owned; leaving = c.type_bounds.send-J.leaving }
+
+pub take_apart-parts-requires-send-J-Receipt : goal.take_apart-parts-requires-send-J-Receipt
+take_apart-parts-requires-send-J-Receipt g c κs within = record { owned = c.type_bounds.send-S.owned; leaving = λ k. c.type_bounds.send-S.leaving (λ _. k (of_param 1)) }
+
+pub put_together-requires-send-J : goal.put_together-requires-send-J
+put_together-requires-send-J g c κs within = record { owned = c.type_bounds.send-J.owned; leaving = c.type_bounds.send-J.leaving }
+
+pub put_together-requires-send-J-Receipt : goal.put_together-requires-send-J-Receipt
+put_together-requires-send-J-Receipt g c κs within = record { owned = c.type_bounds.send-S.owned; leaving = λ k. c.type_bounds.send-S.leaving (λ _. k (of_param 1)) }
+
+pub put_together-runtime-requires-send-J : goal.put_together-runtime-requires-send-J
+put_together-runtime-requires-send-J g c κs within = record { owned = c.type_bounds.send-J.owned; leaving = c.type_bounds.send-J.leaving }
+
+pub put_together-runtime-requires-send-J-Receipt : goal.put_together-runtime-requires-send-J-Receipt
+put_together-runtime-requires-send-J-Receipt g c κs within = record { owned = c.type_bounds.send-S.owned; leaving = λ k. c.type_bounds.send-S.leaving (λ _. k (of_param 1)) }
+
+pub take_apart-parts-requires-after_bounds : goal.take_apart-parts-requires-after_bounds
+take_apart-parts-requires-after_bounds g c κs within = assumption
+
+pub find_room-requires-send-J : goal.find_room-requires-send-J
+find_room-requires-send-J g c κs within = record { owned = c.type_bounds.send-J.owned; leaving = c.type_bounds.send-J.leaving }
+
+pub find_room-requires-send-W : goal.find_room-requires-send-W
+find_room-requires-send-W g c κs within = record { owned = c.type_bounds.send-W.owned; leaving = c.type_bounds.send-W.leaving }
+
+pub find_room-requires-send-J-Receipt : goal.find_room-requires-send-J-Receipt
+find_room-requires-send-J-Receipt g c κs within = record { owned = c.type_bounds.send-S.owned; leaving = λ k. c.type_bounds.send-S.leaving (λ _. k (of_param 2)) }
+
+pub find_room-requires-after_bounds : goal.find_room-requires-after_bounds
+find_room-requires-after_bounds g c κs within = assumption
+
+pub run_parts-ran-requires-send-J : goal.run_parts-ran-requires-send-J
+run_parts-ran-requires-send-J g c κs within = record { owned = c.type_bounds.send-J.owned; leaving = c.type_bounds.send-J.leaving }
+
+pub run_parts-ran-requires-send-W : goal.run_parts-ran-requires-send-W
+run_parts-ran-requires-send-W g c κs within = record { owned = c.type_bounds.send-W.owned; leaving = c.type_bounds.send-W.leaving }
+
+pub run_parts-ran-requires-send-R : goal.run_parts-ran-requires-send-R
+run_parts-ran-requires-send-R g c κs within = record { owned = c.type_bounds.send-R.owned; leaving = c.type_bounds.send-R.leaving }
+
+pub run_parts-ran-requires-send-S : goal.run_parts-ran-requires-send-S
+run_parts-ran-requires-send-S g c κs within = record { owned = c.type_bounds.send-S.owned; leaving = c.type_bounds.send-S.leaving }
+
+pub run_parts-ran-requires-after_bounds : goal.run_parts-ran-requires-after_bounds
+run_parts-ran-requires-after_bounds g c κs within = (assumption, ?)
