@@ -42,7 +42,11 @@ fn members(alloc: Global, table: &Arc<Table>, last: u64) -> Result<Vec<Member>, 
     let mut members = Vec::new(alloc);
     for cpu in 0..=UPDATER {
         members.push(Member {
-            role: if cpu == UPDATER { Role::Publishes(last) } else { Role::Reads(READS) },
+            role: if cpu == UPDATER {
+                Role::Publishes(last)
+            } else {
+                Role::Reads(READS)
+            },
             table: Arc::try_clone(table)?,
             moment: 0,
             reads: 0,
@@ -67,7 +71,10 @@ fn run_once<R: Threads + Wait + Clock + Print + Copy + Send + 'static>(
         Err(refused) => return Err(Fault::Workers(refused.fault)),
     };
     for member in &worked.workers {
-        println!(rt; "{:?}: {} reads, {} of what was let go", member.role, member.reads, member.torn)?;
+        println!(rt;
+            "{:?}: {} reads, {} of what was let go",
+            member.role, member.reads, member.torn
+        )?;
     }
     Ok(worked.runtime)
 }
@@ -86,10 +93,24 @@ fn run<R: Threads + Wait + Clock + Print + Copy + Send + 'static>(
         order: Order::Deoffload(UPDATER),
     };
     let runtime = open::<Retired>(alloc, shape)?;
-    let runtime = run_once(rt, alloc, runtime, &mut switcher, VERSIONS, Ending::AfterBarrier)?;
+    let runtime = run_once(
+        rt,
+        alloc,
+        runtime,
+        &mut switcher,
+        VERSIONS,
+        Ending::AfterBarrier,
+    )?;
     switcher.after += VERSIONS;
     switcher.order = Order::Offload(UPDATER);
-    let runtime = run_once(rt, alloc, runtime, &mut switcher, 2 * VERSIONS, Ending::Drained)?;
+    let runtime = run_once(
+        rt,
+        alloc,
+        runtime,
+        &mut switcher,
+        2 * VERSIONS,
+        Ending::Drained,
+    )?;
     runtime.close(alloc).map_err(|_| Fault::Memory(AllocError))
 }
 
@@ -98,7 +119,10 @@ fn main(rt: HostRuntime) -> io::Result<()> {
         Ok(closed) => {
             let ran = closed.ran.iter().map(|records| records.len());
             let back = closed.back.iter().map(|jobs| jobs.len());
-            let (ran, back) = (ran.fold(0, usize::saturating_add), back.fold(0, usize::saturating_add));
+            let (ran, back) = (
+                ran.fold(0, usize::saturating_add),
+                back.fold(0, usize::saturating_add),
+            );
             println!(rt; "{ran} versions were let go, {back} jobs are handed back")
         }
         Err(fault) => eprintln!(rt; "{fault}"),

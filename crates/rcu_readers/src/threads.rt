@@ -1,7 +1,7 @@
 //! What the threads do: readers and an updater, by steps of their processors.
 
 use crate::table::{Retired, Table};
-use rcu_workers::{Answer, Order, Reading, Reply, Step, Steering, Worker};
+use rcu_workers::{Answer, Order, Reading, Reply, Steering, Step, Worker};
 use std::sync::Arc;
 
 /// What a worker does with its processor.

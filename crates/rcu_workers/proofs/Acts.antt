@@ -1,5 +1,5 @@
 -- What a call of a processor answers, as what its worker is told.
-use Rattle.std.proofs.Common.{◌≡◌, ◌≢◌, ℕ, ◌<◌, ◌≤◌, Result, Ok, Err, IfOk, IfErr, IsErr, true, false, sym, subst, arith}
+use Rattle.std.proofs.Common.{◌≡◌, ◌≢◌, ℕ, ◌<◌, Result, Ok, Err, true, false, sym, subst, arith}
 use Rattle.std.specs.Prelude.{MatchResult}
 use Rattle.rcu_jobs.specs.declared.answers.Refused.{Refused}
 use Rattle.rcu_jobs.specs.declared.answers.Ticket.{Ticket}
@@ -8,7 +8,6 @@ use Rattle.rcu_lists.specs.declared.pace.Kind.TheVariants.{Lazy, Plain}
 use Rattle.rcu_part_processor.specs.Processors.{IsSound}
 use Rattle.rcu_part_processor.specs.declared.processor.Processor.{Processor}
 use Rattle.rcu_runtime.proofs.Accepted.{Answers}
-use Rattle.rcu_runtime.specs.Calls.{AcceptsJob, RefusesJob}
 use Rattle.rcu_workers.specs.Steps.{Does, ProcessorWorks}
 use Rattle.rcu_workers.specs.declared.acting.Acted.{Acted}
 use Rattle.rcu_workers.specs.declared.acting.Acted.TheVariants as acted

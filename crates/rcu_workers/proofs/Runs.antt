@@ -1,18 +1,17 @@
 -- A runtime that ran in threads is the same runtime, and whole.
-use Rattle.std.proofs.Common.{◌≡◌, ℕ, ◌+◌, ◌≤◌, ◌∙◌, List, [], ◌∷◌, sum_by, ap, sym, subst, arith}
+use Rattle.std.proofs.Common.{ℕ, ◌≤◌, List, [], ◌∷◌, sum_by, arith}
 use Rattle.std.proofs.lemmas.List.Sums.{sum_by-cons}
 use Rattle.std.specs.List.{AllZip}
-use Rattle.rcu_control.proofs.Stepping.{same_again}
 use Rattle.rcu_part_hand.specs.Hands.{IsSoundHand, SameHand}
 use Rattle.rcu_part_hand.specs.declared.hand.Hand.{Hand}
 use Rattle.rcu_part_processor.specs.Processors.{IsSound, SameProcessor}
 use Rattle.rcu_part_processor.specs.declared.processor.Processor.{Processor}
 use Rattle.rcu_parts.proofs.Draining.{stays_drained}
-use Rattle.rcu_parts.specs.OneOpen.{AreOfOneOpen, Parts, groups_in, hands_in, processors_in}
+use Rattle.rcu_parts.specs.OneOpen.{AreOfOneOpen, Parts, hands_in, processors_in}
 use Rattle.rcu_parts.specs.SameParts.{AreSameParts}
 use Rattle.rcu_runtime.proofs.Changing.{all_along, zip_weaker}
 use Rattle.rcu_runtime.proofs.Wholes.{whole_kept}
-use Rattle.rcu_runtime.specs.Runtimes.{Continues, IsWhole, accepted_in}
+use Rattle.rcu_runtime.specs.Runtimes.{Continues, IsWhole}
 use Rattle.rcu_workers.specs.Runs.{HaveWorked}
 use Rattle.rcu_workers.specs.Stays.{HandStays}
 use Rattle.rcu_workers.specs.Steps.{ProcessorWorks}

@@ -59,10 +59,7 @@ pub(crate) fn pair<P: Drop, W: Drop>(
 }
 
 /// Takes processors and workers from each other.
-pub(crate) fn part<P: Drop, W: Drop>(
-    posts: Vec<Post<P, W>>,
-    room: Halves<P, W>,
-) -> Halves<P, W>
+pub(crate) fn part<P: Drop, W: Drop>(posts: Vec<Post<P, W>>, room: Halves<P, W>) -> Halves<P, W>
     requires { AreHalvesFor (vec_len posts) room }
     ensures processors { result.processors.items ≡ map (λ post. post.processor) posts.items }
     ensures workers { result.workers.items ≡ map (λ post. post.worker) posts.items }

@@ -96,7 +96,6 @@ pub(crate) struct Ran<P, W> {
 }
 
 /// Runs all parts, each in a thread of its own, the processors with their workers.
-#[tactic(none)]
 pub(crate) fn run_parts<
     J: Job<Receipt = S> + 'static,
     W: Worker<J> + 'static,

@@ -159,7 +159,11 @@ pub(crate) fn start_post<
     W: Worker<J> + 'static,
     R: Threads + Wait + Clock + Copy + Send + 'static,
     S: Send + Drop + 'static,
->(rt: &R, post: Station<J, W>, signals: &Arc<Signals, Global>) -> Started<Working<J, W>, Station<J, W>>
+>(
+    rt: &R,
+    post: Station<J, W>,
+    signals: &Arc<Signals, Global>,
+) -> Started<Working<J, W>, Station<J, W>>
     ensures { HasBegun (λ thread. thread.promise.0.value) (PostWorks J.key_of J.gives) post result }
 {
     let Ok(shared) = Arc::try_clone(signals) else {

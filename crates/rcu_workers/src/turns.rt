@@ -56,11 +56,7 @@ pub(crate) fn run_group<J: Job, R: Wait + Clock>(
 }
 
 /// Makes turns of a hand.
-pub(crate) fn run_hand<J: Job, R: Wait + Clock>(
-    hand: Hand<J>,
-    rt: &R,
-    signals: &Signals,
-) -> Hand<J>
+pub(crate) fn run_hand<J: Job, R: Wait + Clock>(hand: Hand<J>, rt: &R, signals: &Signals) -> Hand<J>
     ensures { HandStays J.key_of J.gives hand result }
 {
     let mut hand = hand;

@@ -121,7 +121,6 @@ fn answer<J: Job, W: Worker<J>>(
 ///
 /// Want of memory, another number of workers than of processors, or no thread for some part: then no worker made a step. Or
 /// the runtime isn't drained though that was asked for. The runtime and the workers come back.
-#[tactic(none)]
 pub fn run_workers<
     J: Job<Receipt = S> + 'static,
     W: Worker<J> + 'static,

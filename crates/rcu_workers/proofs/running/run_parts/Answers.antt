@@ -1,4 +1,4 @@
-use Rattle.std.proofs.Common.{◌≡◌, ◌∙◌, ap, length, map, subst, sym, vec_len, arith}
+use Rattle.std.proofs.Common.{◌≡◌, map, subst, sym, vec_len, arith}
 use mir.Syntax.{of_param}
 use Rattle.std.specs.List.{AllZip}
 use Rattle.rcu_workers.specs.Crews.{HasBegun, HasEnded}
@@ -92,7 +92,7 @@ part-processors-requires-room-P-Destruct g c κs within = assumption
 pub part-processors-requires : goal.part-processors-requires
 part-processors-requires g c =
     let key_of = g.J.Job.key_of in let gives = g.J.Job.gives in
-    let many = as_many (λ p. p.processor) c.pair-posts.result.items c.args.parts.processors.items c.pair-posts.ensures.processors in let posts = c.pair-posts.result.ok.0 in let parts = c.args.parts.processors.ok.0 in 
+    let many = as_many (λ p. p.processor) c.pair-posts.result.items c.args.parts.processors.items c.pair-posts.ensures.processors in let posts = c.pair-posts.result.ok.0 in let parts = c.args.parts.processors.ok.0 in
     let begun = zip_length (HasBegun (λ t. t.promise.0.value) (PostWorks key_of gives)) c.pair-posts.result.items c.start_posts-posts.result.started.items c.start_posts-posts.ensures in
     let ended = zip_length (HasEnded (λ t q. PostWorks key_of gives t.promise.0.value q)) c.start_posts-posts.result.started.items c.join_all-posts.result.items c.join_all-posts.ensures in
     let joined = c.join_all-posts.result.ok.0 in

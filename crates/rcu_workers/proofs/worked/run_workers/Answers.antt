@@ -9,7 +9,7 @@ use Rattle.rcu_workers.proofs.Runs.{worked_continues, worked_whole}
 use Rattle.rcu_workers.proofs.worked.run_workers.Goals as goal
 
 pub put_together-requires-clause-whole : goal.put_together-requires-clause-whole
-put_together-requires-clause-whole g c κs within = ?
+put_together-requires-clause-whole g c κs within = (assumption, (assumption, (assumption, c.take_apart-parts.ensures.whole)))
 
 pub returns-in-Err-clause-continues : goal.returns-in-Err-clause-continues
 returns-in-Err-clause-continues g c = subst (Continues c.args.runtime) (sym (c.put_together.ensures ∙ c.take_apart-parts.ensures.parts)) (continues_itself c.args.runtime)
@@ -18,7 +18,7 @@ pub returns-in-Err-clause-back : goal.returns-in-Err-clause-back
 returns-in-Err-clause-back g c = early_back (vec_len c.take_apart-parts.result.0.processors) c.len.result c.in-Err.fault c.args.runtime c.put_together.result c.args.workers.items c.args.workers.items c.in-Err.ensures.fault (c.put_together.ensures ∙ c.take_apart-parts.ensures.parts) refl
 
 pub put_together-runtime-requires-clause-whole : goal.put_together-runtime-requires-clause-whole
-put_together-runtime-requires-clause-whole g c κs within = ?
+put_together-runtime-requires-clause-whole g c κs within = (assumption, (assumption, (assumption, worked_whole g.J.Job.key_of g.J.Job.gives c.take_apart-parts.result.0 c.run_parts-ran.result.parts c.run_parts-ran.ensures c.take_apart-parts.result.1 c.take_apart-parts.ensures.whole)))
 
 pub returns-clause-continues : goal.returns-clause-continues
 returns-clause-continues g c = let apart = c.take_apart-parts in let ran = worked_continues g.J.Job.key_of g.J.Job.gives apart.result.0 c.run_parts-ran.result.parts c.run_parts-ran.ensures apart.ensures.whole.close.one in
@@ -78,4 +78,17 @@ pub run_parts-ran-requires-send-S : goal.run_parts-ran-requires-send-S
 run_parts-ran-requires-send-S g c κs within = record { owned = c.type_bounds.send-S.owned; leaving = c.type_bounds.send-S.leaving }
 
 pub run_parts-ran-requires-after_bounds : goal.run_parts-ran-requires-after_bounds
-run_parts-ran-requires-after_bounds g c κs within = (assumption, ?)
+run_parts-ran-requires-after_bounds g c κs within = let room = c.in-Ok.ensures in
+    (assumption, (assumption, (assumption, (sym c.len.ensures ∙ room.many, (room.posts, (room.at_posts, (room.halves, room.others)))))))
+
+pub answer-requires-send-J : goal.answer-requires-send-J
+answer-requires-send-J g c κs within = record { owned = c.type_bounds.send-J.owned; leaving = c.type_bounds.send-J.leaving }
+
+pub answer-requires-send-W : goal.answer-requires-send-W
+answer-requires-send-W g c κs within = record { owned = c.type_bounds.send-W.owned; leaving = c.type_bounds.send-W.leaving }
+
+pub answer-requires-send-J-Receipt : goal.answer-requires-send-J-Receipt
+answer-requires-send-J-Receipt g c κs within = record { owned = c.type_bounds.send-S.owned; leaving = λ k. c.type_bounds.send-S.leaving (λ _. k (of_param 2)) }
+
+pub answer-requires-after_bounds : goal.answer-requires-after_bounds
+answer-requires-after_bounds g c κs within = assumption
