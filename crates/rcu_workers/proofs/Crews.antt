@@ -1,0 +1,78 @@
+-- Lists place by place: what was started, what came back, and what is known of both.
+use Rattle.std.proofs.Common.{◌≡◌, ℕ, ◌+◌, ◌<◌, ◌≤◌, List, [], ◌∷◌, ◌++◌, map, length, append_assoc, ap, sym, ◌∙◌, refl, subst, arith}
+use Rattle.std.specs.List.{AllZip}
+use Rattle.std.proofs.lemmas.List.{length-map, nil_from_length}
+use Rattle.rcu_parts.proofs.Zips.{all_of}
+use Rattle.rcu_workers.specs.Crews.{HasBegun, HasEnded}
+use Rattle.rcu_workers.specs.declared.crew.Started.{Started}
+use Rattle.rcu_workers.specs.declared.crew.Started.TheVariants.{Running, Back}
+
+module _ {A B : Type 0} (R : A → B → Type 0) where
+  zip_push : (xs : List A) (ys : List B) (x : A) (y : B) → AllZip R xs ys → R x y → AllZip R (xs ++ x ∷ []) (ys ++ y ∷ [])
+  zip_push [] [] x y h r = (r, tt)
+  zip_push [] (b ∷ bs) x y h r = absurd h
+  zip_push (a ∷ as') [] x y h r = absurd h
+  zip_push (a ∷ as') (b ∷ bs) x y h r = (h.0, zip_push as' bs x y h.1 r)
+
+  pub zip_pushed : (xs : List A) (ys zs : List B) (x : A) (y : B) → zs ≡ ys ++ y ∷ [] → AllZip R xs ys → R x y → AllZip R (xs ++ x ∷ []) zs
+  zip_pushed xs ys zs x y pushed z r = subst (AllZip R (xs ++ x ∷ [])) (sym pushed) (zip_push xs ys x y z r)
+
+module _ {X : Type 0} where
+  -- one more is taken from the list
+  pub order_after : (done rest more all : List X) (x : X) → done ++ rest ≡ all → rest ≡ x ∷ more → done ++ x ∷ [] ++ more ≡ all
+  order_after done rest more all x order step = append_assoc done (x ∷ []) more ∙ (ap (λ l. done ++ l) (sym step) ∙ order)
+
+  -- where there is room for all that is left, there is room for one
+  pub room_for_one : (n cap : ℕ) (rest more : List X) (x : X) → n + length rest ≤ cap → rest ≡ x ∷ more → n < cap
+  room_for_one n cap rest more x room step = let e = ap (λ (l : List X). length l) step in omega (arith, room, e)
+
+  -- and, once one more is in, room for all that is left then
+  pub room_for_more : (n m cap dap : ℕ) (rest more : List X) (x : X) → n + length rest ≤ cap → rest ≡ x ∷ more → m ≡ n + 1 → dap ≡ cap → m + length more ≤ dap
+  room_for_more n m cap dap rest more x room step one same = let e = ap (λ (l : List X). length l) step in omega (arith, room, e, one, same)
+
+module _ {A B C : Type 0} where
+  -- what is said of each of two steps is said of both together
+  pub zip_chain : (P : A → B → Type 0) (Q : B → C → Type 0) (S : A → C → Type 0) → ((x : A) (y : B) (z : C) → P x y → Q y z → S x z) → (xs : List A) (ys : List B) (zs : List C) → AllZip P xs ys → AllZip Q ys zs → AllZip S xs zs
+  zip_chain P Q S f [] [] [] p q = tt
+  zip_chain P Q S f [] [] (z ∷ zs) p q = absurd q
+  zip_chain P Q S f [] (y ∷ ys) zs p q = absurd p
+  zip_chain P Q S f (x ∷ xs) [] zs p q = absurd p
+  zip_chain P Q S f (x ∷ xs) (y ∷ ys) [] p q = absurd q
+  zip_chain P Q S f (x ∷ xs) (y ∷ ys) (z ∷ zs) p q = (f x y z p.0 q.0, zip_chain P Q S f xs ys zs p.1 q.1)
+
+module _ {A B : Type 0} where
+  pub zip_length : (P : A → B → Type 0) (xs : List A) (ys : List B) → AllZip P xs ys → length ys ≡ length xs
+  zip_length P [] [] p = refl
+  zip_length P [] (y ∷ ys) p = absurd p
+  zip_length P (x ∷ xs) [] p = absurd p
+  zip_length P (x ∷ xs) (y ∷ ys) p = let e = zip_length P xs ys p.1 in omega (arith, e)
+
+  -- of what was taken from each
+  pub zip_mapped : (f : A → B) (P : B → B → Type 0) → (xs ys : List A) → AllZip (λ x y. P (f x) (f y)) xs ys → AllZip P (map f xs) (map f ys)
+  zip_mapped f P [] [] p = tt
+  zip_mapped f P [] (y ∷ ys) p = absurd p
+  zip_mapped f P (x ∷ xs) [] p = absurd p
+  zip_mapped f P (x ∷ xs) (y ∷ ys) p = (p.0, zip_mapped f P xs ys p.1)
+
+module _ {H P : Type 0} (of : H → P) (S : P → P → Type 0) (K : H → P → Type 0) (keeps : (h : H) (q : P) → K h q → S (of h) q) where
+  -- what comes back is what was given, as far as it came
+  pub joined_one : (p : P) (s : Started H P) (q : P) → HasBegun of S p s → HasEnded K s q → S p q
+  joined_one p (Running h) q is k = subst (λ x. S x q) is (keeps h q k)
+  joined_one p (Back r) q s is = subst (S p) (sym is) s
+
+  pub joined_all : (ps : List P) (ss : List (Started H P)) (qs : List P) → AllZip (HasBegun of S) ps ss → AllZip (HasEnded K) ss qs → AllZip S ps qs
+  joined_all ps ss qs b e = zip_chain (HasBegun of S) (HasEnded K) S joined_one ps ss qs b e
+
+-- What was begun with a promise of a part was begun with the part.
+pub begun_of : {H P Q : Type 0} (promise : H → Q) (of : Q → P) (Kept : Q → P → Type 0) (S : P → P → Type 0) → ((w : Q) (q : P) → Kept w q → S (of w) q) → (w : Q) (p : P) → of w ≡ p → (s : Started H P)
+    → HasBegun promise Kept w s → HasBegun (λ h. of (promise h)) S p s
+begun_of promise of Kept S f w p is (Running h) e = ap of e ∙ is
+begun_of promise of Kept S f w p is (Back q) k = subst (λ x. S x q) is (f w q k)
+
+-- as many as were taken from
+pub as_many : {A B : Type 0} (f : A → B) (xs : List A) (ys : List B) → map f xs ≡ ys → length xs ≡ length ys
+as_many f xs ys e = sym (length-map xs f) ∙ ap (λ l. length l) e
+
+-- what is said of all that came is said of the whole list, where none is left
+pub all_done : {A B : Type 0} (R : A → B → Type 0) (done rest all : List A) (ys : List B) → done ++ rest ≡ all → length rest ≡ 0 → AllZip R done ys → AllZip R all ys
+all_done R done rest all ys order none z = subst (λ l. AllZip R l ys) (all_of done rest all order (nil_from_length rest none)) z

@@ -1,0 +1,6 @@
+pub mod Crews
+pub mod Steps
+pub mod Acts
+pub mod Runs
+pub mod Backs
+pub mod Sends

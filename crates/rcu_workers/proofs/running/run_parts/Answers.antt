@@ -1,0 +1,100 @@
+use Rattle.std.proofs.Common.{◌≡◌, map, subst, sym, vec_len, arith}
+use mir.Syntax.{of_param}
+use Rattle.std.specs.List.{AllZip}
+use Rattle.rcu_workers.specs.Crews.{HasBegun, HasEnded}
+use Rattle.rcu_workers.specs.Rooms.{AreHalvesFor}
+use Rattle.rcu_workers.specs.Stays.{DriverStays, GroupStays, HandStays}
+use Rattle.rcu_workers.specs.Steps.{PostWorks, ProcessorWorks}
+use Rattle.rcu_workers.proofs.Crews.{as_many, joined_all, joined_one, zip_length, zip_mapped}
+use Rattle.rcu_workers.proofs.running.run_parts.Goals as goal
+
+pub returns : goal.returns
+returns g c = let key_of = g.J.Job.key_of in let gives = g.J.Job.gives in let parts = c.args.parts in
+    let posts = joined_all (λ t. t.promise.0.value) (PostWorks key_of gives) (λ t q. PostWorks key_of gives t.promise.0.value q) (λ t q k. k) c.pair-posts.result.items c.start_posts-posts.result.started.items c.join_all-posts.result.items c.start_posts-posts.ensures c.join_all-posts.ensures in
+    let works = zip_mapped (λ p. p.processor) (ProcessorWorks key_of gives) c.pair-posts.result.items c.join_all-posts.result.items posts in record {
+      control = c.oversee-has_begun.ensures;
+      driver = joined_one (λ t. t.promise.0.value) DriverStays (λ t q. DriverStays t.promise.0.value q) (λ t q k. k) parts.driver c.start_driver-driver.result c.join-driver.result c.start_driver-driver.ensures c.join-driver.ensures;
+      processors = subst (λ ps. AllZip (ProcessorWorks key_of gives) ps c.part-processors.result.processors.items) c.pair-posts.ensures.processors (subst (AllZip (ProcessorWorks key_of gives) (map (λ p. p.processor) c.pair-posts.result.items)) (sym c.part-processors.ensures.processors) works);
+      groups = joined_all (λ t. t.promise.0.value) GroupStays (λ t q. GroupStays t.promise.0.value q) (λ t q k. k) parts.groups.items c.start_groups-groups.result.started.items c.join_all-groups.result.items c.start_groups-groups.ensures c.join_all-groups.ensures;
+      hands = joined_all (λ t. t.promise.0.value) (HandStays key_of gives) (λ t q. HandStays key_of gives t.promise.0.value q) (λ t q k. k) parts.hands.items c.start_hands-hands.result.started.items c.join_all-hands.result.items c.start_hands-hands.ensures c.join_all-hands.ensures;
+    }
+
+pub pair-posts-requires-room-P-Destruct : goal.pair-posts-requires-room-P-Destruct
+pair-posts-requires-room-P-Destruct g c κs within = assumption
+
+pub pair-posts-requires-clause-many : goal.pair-posts-requires-clause-many
+pair-posts-requires-clause-many g c = c.requires.many
+
+pub pair-posts-requires-clause-room : goal.pair-posts-requires-clause-room
+pair-posts-requires-clause-room g c = c.requires.posts
+
+pub start_groups-groups-requires-send-J : goal.start_groups-groups-requires-send-J
+start_groups-groups-requires-send-J g c κs within = record { owned = c.type_bounds.send-J.owned; leaving = c.type_bounds.send-J.leaving }
+
+pub start_groups-groups-requires-send-R : goal.start_groups-groups-requires-send-R
+start_groups-groups-requires-send-R g c κs within = record { owned = c.type_bounds.send-R.owned; leaving = c.type_bounds.send-R.leaving }
+
+pub start_groups-groups-requires-send-S : goal.start_groups-groups-requires-send-S
+start_groups-groups-requires-send-S g c κs within = record { owned = c.type_bounds.send-S.owned; leaving = λ k. c.type_bounds.send-S.leaving (λ _. k (of_param 2)) }
+
+pub start_groups-groups-requires-after_bounds : goal.start_groups-groups-requires-after_bounds
+start_groups-groups-requires-after_bounds g c κs within = let room = c.requires.others.0 in (assumption, omega (arith, room))
+
+pub start_hands-hands-requires-send-J : goal.start_hands-hands-requires-send-J
+start_hands-hands-requires-send-J g c κs within = record { owned = c.type_bounds.send-J.owned; leaving = c.type_bounds.send-J.leaving }
+
+pub start_hands-hands-requires-send-R : goal.start_hands-hands-requires-send-R
+start_hands-hands-requires-send-R g c κs within = record { owned = c.type_bounds.send-R.owned; leaving = c.type_bounds.send-R.leaving }
+
+pub start_hands-hands-requires-send-S : goal.start_hands-hands-requires-send-S
+start_hands-hands-requires-send-S g c κs within = record { owned = c.type_bounds.send-S.owned; leaving = λ k. c.type_bounds.send-S.leaving (λ _. k (of_param 2)) }
+
+pub start_hands-hands-requires-after_bounds : goal.start_hands-hands-requires-after_bounds
+start_hands-hands-requires-after_bounds g c κs within = let room = c.requires.others.1 in (assumption, omega (arith, room))
+
+pub start_posts-posts-requires-send-J : goal.start_posts-posts-requires-send-J
+start_posts-posts-requires-send-J g c κs within = record { owned = c.type_bounds.send-J.owned; leaving = c.type_bounds.send-J.leaving }
+
+pub start_posts-posts-requires-send-W : goal.start_posts-posts-requires-send-W
+start_posts-posts-requires-send-W g c κs within = record { owned = c.type_bounds.send-W.owned; leaving = c.type_bounds.send-W.leaving }
+
+pub start_posts-posts-requires-send-R : goal.start_posts-posts-requires-send-R
+start_posts-posts-requires-send-R g c κs within = record { owned = c.type_bounds.send-R.owned; leaving = c.type_bounds.send-R.leaving }
+
+pub start_posts-posts-requires-send-S : goal.start_posts-posts-requires-send-S
+start_posts-posts-requires-send-S g c κs within = record { owned = c.type_bounds.send-S.owned; leaving = c.type_bounds.send-S.leaving }
+
+pub start_posts-posts-requires-after_bounds : goal.start_posts-posts-requires-after_bounds
+start_posts-posts-requires-after_bounds g c κs within =
+    let many = as_many (λ p. p.processor) c.pair-posts.result.items c.args.parts.processors.items c.pair-posts.ensures.processors in let posts = c.pair-posts.result.ok.0 in let parts = c.args.parts.processors.ok.0 in let room = c.requires.at_posts in (assumption, omega (arith, many, posts, parts, room))
+
+pub join_all-groups-requires-room-P-Promise : goal.join_all-groups-requires-room-P-Promise
+join_all-groups-requires-room-P-Promise g c κs within = assumption
+
+pub join_all-groups-requires-room-T-Destruct : goal.join_all-groups-requires-room-T-Destruct
+join_all-groups-requires-room-T-Destruct g c κs within = assumption
+
+pub join_all-hands-requires-room-P-Promise : goal.join_all-hands-requires-room-P-Promise
+join_all-hands-requires-room-P-Promise g c κs within = assumption
+
+pub join_all-hands-requires-room-T-Destruct : goal.join_all-hands-requires-room-T-Destruct
+join_all-hands-requires-room-T-Destruct g c κs within = assumption
+
+pub join_all-posts-requires-room-P-Promise : goal.join_all-posts-requires-room-P-Promise
+join_all-posts-requires-room-P-Promise g c κs within = assumption
+
+pub join_all-posts-requires-room-T-Destruct : goal.join_all-posts-requires-room-T-Destruct
+join_all-posts-requires-room-T-Destruct g c κs within = assumption
+
+pub part-processors-requires-room-P-Destruct : goal.part-processors-requires-room-P-Destruct
+part-processors-requires-room-P-Destruct g c κs within = assumption
+
+pub part-processors-requires : goal.part-processors-requires
+part-processors-requires g c =
+    let key_of = g.J.Job.key_of in let gives = g.J.Job.gives in
+    let many = as_many (λ p. p.processor) c.pair-posts.result.items c.args.parts.processors.items c.pair-posts.ensures.processors in let posts = c.pair-posts.result.ok.0 in let parts = c.args.parts.processors.ok.0 in
+    let begun = zip_length (HasBegun (λ t. t.promise.0.value) (PostWorks key_of gives)) c.pair-posts.result.items c.start_posts-posts.result.started.items c.start_posts-posts.ensures in
+    let ended = zip_length (HasEnded (λ t q. PostWorks key_of gives t.promise.0.value q)) c.start_posts-posts.result.started.items c.join_all-posts.result.items c.join_all-posts.ensures in
+    let joined = c.join_all-posts.result.ok.0 in
+    let same : vec_len c.args.parts.processors ≡ vec_len c.join_all-posts.result = omega (arith, many, parts, begun, ended, joined) in
+    subst (λ n. AreHalvesFor n c.args.rooms.halves) same c.requires.halves

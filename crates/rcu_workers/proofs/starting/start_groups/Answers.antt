@@ -1,0 +1,34 @@
+use Rattle.std.proofs.Common.{◌≡◌, length, rules, refl, arith}
+use Rattle.std.specs.Vec.{vec_capacity, vec_len}
+use Rattle.rcu_workers.specs.Crews.{HasBegun}
+use Rattle.rcu_workers.specs.Stays.{GroupStays}
+use Rattle.rcu_workers.proofs.Crews.{all_done, order_after, room_for_more, zip_pushed}
+use Rattle.rcu_workers.proofs.starting.start_groups.Goals as goal
+
+pub loop-group-preserved : goal.loop-group-preserved
+loop-group-preserved g c = let l = c.loop-group in let i = l.invariant in let rest = l.group-iterator.rest.items in let more = c.next.new.self.rest.items in
+    record {
+      order = order_after l.yielded rest more c.args.groups.items c.in-Some.group i.order c.in-Some.ensures.steps.0;
+      room = room_for_more (vec_len l.started) (vec_len c.push_reserved.new.self) (vec_capacity l.started) (vec_capacity c.push_reserved.new.self) rest more c.in-Some.group i.room c.in-Some.ensures.steps.0 c.push_reserved.ensures.len c.push_reserved.ensures.capacity;
+      ended = room_for_more (vec_len l.started) (vec_len c.push_reserved.new.self) (vec_capacity c.args.room.ended) (vec_capacity c.args.room.ended) rest more c.in-Some.group i.ended c.in-Some.ensures.steps.0 c.push_reserved.ensures.len refl;
+      started = zip_pushed (HasBegun (λ thread. thread.promise.0.value) GroupStays) l.yielded l.started.items c.push_reserved.new.self.items c.in-Some.group c.start_group.result c.push_reserved.ensures.items i.started c.start_group.ensures;
+    }
+
+pub invariant_of-result : goal.invariant_of-result
+invariant_of-result g c = let i = c.loop-group.invariant in record { empty = c.args.room.empty.1; fits = omega (arith, i.ended) }
+
+pub start_group-requires-send-J : goal.start_group-requires-send-J
+start_group-requires-send-J g c κs within = assumption
+
+pub start_group-requires-send-S : goal.start_group-requires-send-S
+start_group-requires-send-S g c κs within = assumption
+
+pub start_group-requires-send-R : goal.start_group-requires-send-R
+start_group-requires-send-R g c κs within = assumption
+
+pub start_group-requires-after_bounds : goal.start_group-requires-after_bounds
+start_group-requires-after_bounds g c κs within = assumption
+
+pub returns : goal.returns
+returns g c = let l = c.loop-group in let rest = l.group-iterator.rest.items in let none : length rest ≡ 0 = search rules in
+    all_done (HasBegun (λ thread. thread.promise.0.value) GroupStays) l.yielded rest c.args.groups.items l.started.items l.invariant.order none l.invariant.started

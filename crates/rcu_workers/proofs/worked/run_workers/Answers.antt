@@ -1,0 +1,94 @@
+use Rattle.std.proofs.Common.{◌∙◌, refl, subst, sym}
+use Rattle.std.specs.Prelude.{vec_len}
+use mir.Syntax.{of_param}
+use Rattle.rcu_runtime.proofs.Wholes.{continues_itself}
+use Rattle.rcu_runtime.specs.Runtimes.{Continues}
+use Rattle.rcu_workers.specs.Faults.{ComesBack, IsLate}
+use Rattle.rcu_workers.proofs.Backs.{continues_either, early_back, if_err, late_back}
+use Rattle.rcu_workers.proofs.Runs.{worked_continues, worked_whole}
+use Rattle.rcu_workers.proofs.worked.run_workers.Goals as goal
+
+pub put_together-requires-clause-whole : goal.put_together-requires-clause-whole
+put_together-requires-clause-whole g c κs within = (assumption, (assumption, (assumption, c.take_apart-parts.ensures.whole)))
+
+pub returns-in-Err-clause-continues : goal.returns-in-Err-clause-continues
+returns-in-Err-clause-continues g c = subst (Continues c.args.runtime) (sym (c.put_together.ensures ∙ c.take_apart-parts.ensures.parts)) (continues_itself c.args.runtime)
+
+pub returns-in-Err-clause-back : goal.returns-in-Err-clause-back
+returns-in-Err-clause-back g c = early_back (vec_len c.take_apart-parts.result.0.processors) c.len.result c.in-Err.fault c.args.runtime c.put_together.result c.args.workers.items c.args.workers.items c.in-Err.ensures.fault (c.put_together.ensures ∙ c.take_apart-parts.ensures.parts) refl
+
+pub put_together-runtime-requires-clause-whole : goal.put_together-runtime-requires-clause-whole
+put_together-runtime-requires-clause-whole g c κs within = (assumption, (assumption, (assumption, worked_whole g.J.Job.key_of g.J.Job.gives c.take_apart-parts.result.0 c.run_parts-ran.result.parts c.run_parts-ran.ensures c.take_apart-parts.result.1 c.take_apart-parts.ensures.whole)))
+
+pub returns-clause-continues : goal.returns-clause-continues
+returns-clause-continues g c = let apart = c.take_apart-parts in let ran = worked_continues g.J.Job.key_of g.J.Job.gives apart.result.0 c.run_parts-ran.result.parts c.run_parts-ran.ensures apart.ensures.whole.close.one in
+    let on = subst (Continues c.args.runtime) (sym c.put_together-runtime.ensures) (subst (λ x. Continues x c.run_parts-ran.result.parts) apart.ensures.parts ran) in
+    continues_either (λ w. w.runtime) (λ refused. refused.worked.runtime) c.args.runtime c.put_together-runtime.result on c.answer.result c.answer.ensures.continues
+
+pub returns-clause-back : goal.returns-clause-back
+returns-clause-back g c = if_err (λ refused. IsLate refused.fault) (λ refused. ComesBack refused.fault c.args.runtime refused.worked.runtime c.args.workers.items refused.worked.workers.items)
+    (λ refused late. late_back refused.fault c.args.runtime refused.worked.runtime c.args.workers.items refused.worked.workers.items late) c.answer.result c.answer.ensures.fault
+
+pub returns-clause-drained : goal.returns-clause-drained
+returns-clause-drained g c = c.answer.ensures.drained
+
+pub take_apart-parts-requires-send-J : goal.take_apart-parts-requires-send-J
+take_apart-parts-requires-send-J g c κs within = record { owned = c.type_bounds.send-J.owned; leaving = c.type_bounds.send-J.leaving }
+
+pub take_apart-parts-requires-send-J-Receipt : goal.take_apart-parts-requires-send-J-Receipt
+take_apart-parts-requires-send-J-Receipt g c κs within = record { owned = c.type_bounds.send-S.owned; leaving = λ k. c.type_bounds.send-S.leaving (λ _. k (of_param 1)) }
+
+pub put_together-requires-send-J : goal.put_together-requires-send-J
+put_together-requires-send-J g c κs within = record { owned = c.type_bounds.send-J.owned; leaving = c.type_bounds.send-J.leaving }
+
+pub put_together-requires-send-J-Receipt : goal.put_together-requires-send-J-Receipt
+put_together-requires-send-J-Receipt g c κs within = record { owned = c.type_bounds.send-S.owned; leaving = λ k. c.type_bounds.send-S.leaving (λ _. k (of_param 1)) }
+
+pub put_together-runtime-requires-send-J : goal.put_together-runtime-requires-send-J
+put_together-runtime-requires-send-J g c κs within = record { owned = c.type_bounds.send-J.owned; leaving = c.type_bounds.send-J.leaving }
+
+pub put_together-runtime-requires-send-J-Receipt : goal.put_together-runtime-requires-send-J-Receipt
+put_together-runtime-requires-send-J-Receipt g c κs within = record { owned = c.type_bounds.send-S.owned; leaving = λ k. c.type_bounds.send-S.leaving (λ _. k (of_param 1)) }
+
+pub take_apart-parts-requires-after_bounds : goal.take_apart-parts-requires-after_bounds
+take_apart-parts-requires-after_bounds g c κs within = assumption
+
+pub find_room-requires-send-J : goal.find_room-requires-send-J
+find_room-requires-send-J g c κs within = record { owned = c.type_bounds.send-J.owned; leaving = c.type_bounds.send-J.leaving }
+
+pub find_room-requires-send-W : goal.find_room-requires-send-W
+find_room-requires-send-W g c κs within = record { owned = c.type_bounds.send-W.owned; leaving = c.type_bounds.send-W.leaving }
+
+pub find_room-requires-send-J-Receipt : goal.find_room-requires-send-J-Receipt
+find_room-requires-send-J-Receipt g c κs within = record { owned = c.type_bounds.send-S.owned; leaving = λ k. c.type_bounds.send-S.leaving (λ _. k (of_param 2)) }
+
+pub find_room-requires-after_bounds : goal.find_room-requires-after_bounds
+find_room-requires-after_bounds g c κs within = assumption
+
+pub run_parts-ran-requires-send-J : goal.run_parts-ran-requires-send-J
+run_parts-ran-requires-send-J g c κs within = record { owned = c.type_bounds.send-J.owned; leaving = c.type_bounds.send-J.leaving }
+
+pub run_parts-ran-requires-send-W : goal.run_parts-ran-requires-send-W
+run_parts-ran-requires-send-W g c κs within = record { owned = c.type_bounds.send-W.owned; leaving = c.type_bounds.send-W.leaving }
+
+pub run_parts-ran-requires-send-R : goal.run_parts-ran-requires-send-R
+run_parts-ran-requires-send-R g c κs within = record { owned = c.type_bounds.send-R.owned; leaving = c.type_bounds.send-R.leaving }
+
+pub run_parts-ran-requires-send-S : goal.run_parts-ran-requires-send-S
+run_parts-ran-requires-send-S g c κs within = record { owned = c.type_bounds.send-S.owned; leaving = c.type_bounds.send-S.leaving }
+
+pub run_parts-ran-requires-after_bounds : goal.run_parts-ran-requires-after_bounds
+run_parts-ran-requires-after_bounds g c κs within = let room = c.in-Ok.ensures in
+    (assumption, (assumption, (assumption, (sym c.len.ensures ∙ room.many, (room.posts, (room.at_posts, (room.halves, room.others)))))))
+
+pub answer-requires-send-J : goal.answer-requires-send-J
+answer-requires-send-J g c κs within = record { owned = c.type_bounds.send-J.owned; leaving = c.type_bounds.send-J.leaving }
+
+pub answer-requires-send-W : goal.answer-requires-send-W
+answer-requires-send-W g c κs within = record { owned = c.type_bounds.send-W.owned; leaving = c.type_bounds.send-W.leaving }
+
+pub answer-requires-send-J-Receipt : goal.answer-requires-send-J-Receipt
+answer-requires-send-J-Receipt g c κs within = record { owned = c.type_bounds.send-S.owned; leaving = λ k. c.type_bounds.send-S.leaving (λ _. k (of_param 2)) }
+
+pub answer-requires-after_bounds : goal.answer-requires-after_bounds
+answer-requires-after_bounds g c κs within = assumption

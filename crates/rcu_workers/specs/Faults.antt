@@ -1,0 +1,27 @@
+-- What comes back of a run that wasn't made as it was asked for.
+use Rattle.std.specs.Prelude.{◌≡◌, ◌≢◌, ℕ, List}
+use Rattle.rcu_parts.specs.OneOpen.{Parts}
+use Rattle.rcu_workers.specs.declared.fault.WorkersFault.{WorkersFault}
+use Rattle.rcu_workers.specs.declared.fault.WorkersFault.TheVariants.{Memory, OtherNumber, NoThread, NotDrained}
+
+-- nothing was started: there was no memory, or there are more or fewer workers than processors
+abbrev pub IsEarly : ℕ → ℕ → WorkersFault → Type 0
+IsEarly processors workers Memory = Unit {0}
+IsEarly processors workers (OtherNumber n m) = (n ≡ processors) × (m ≡ workers) × (processors ≢ workers)
+IsEarly processors workers NoThread = ⊥
+IsEarly processors workers NotDrained = ⊥
+
+-- threads were started
+abbrev pub IsLate : WorkersFault → Type 0
+IsLate Memory = ⊥
+IsLate (OtherNumber n m) = ⊥
+IsLate NoThread = Unit {0}
+IsLate NotDrained = Unit {0}
+
+module _ {J R W : Type 0} where
+  -- Where nothing was started, the runtime and the workers come back as they were.
+  abbrev pub ComesBack : WorkersFault → Parts J R → Parts J R → List W → List W → Type 0
+  ComesBack Memory old new workers back = (new ≡ old) × (back ≡ workers)
+  ComesBack (OtherNumber n m) old new workers back = (new ≡ old) × (back ≡ workers)
+  ComesBack NoThread old new workers back = Unit {0}
+  ComesBack NotDrained old new workers back = Unit {0}

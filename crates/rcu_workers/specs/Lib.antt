@@ -1,0 +1,7 @@
+pub mod Crews
+pub mod Faults
+pub mod Rooms
+pub mod Runs
+pub mod Stays
+pub mod Steers
+pub mod Steps

@@ -1,0 +1,164 @@
+//! The run of all parts in threads.
+
+ghost use Rattle.std.specs.Prelude.{◌≡◌, vec_len};
+ghost use Rattle.rcu_workers.specs.Rooms.{AreHalvesFor, IsRoomFor};
+ghost use Rattle.rcu_workers.specs.Runs.{HaveWorked};
+ghost use Rattle.rcu_workers.specs.Stays.{ControlStays};
+
+use crate::crew::{join, join_all};
+use crate::pairs::{Halves, pair, part};
+use crate::rooms::Rooms;
+use crate::signals::Signals;
+use crate::starting::{start_driver, start_groups, start_hands, start_posts};
+use crate::steering::{Steering, open, steer};
+use crate::worker::{End, Worker};
+use rcu_control::{Control, Pauses};
+use rcu_jobs::Job;
+use rcu_parts::{AllParts, Parts};
+use std::alloc::Global;
+use std::rt::Clock;
+use std::sync::{Arc, Wait};
+use std::thread::Threads;
+
+/// What a run waits for once every worker has ended, before all threads end.
+#[derive(Clone, Copy, Debug, PartialEq, Eq)]
+pub enum Ending {
+    /// Nothing.
+    AtOnce,
+    /// That all that was accepted has run.
+    AfterBarrier,
+    /// The same, once the runtime is shut: then it is drained.
+    Drained,
+}
+
+/// Waits until so many workers have ended.
+fn wait_for_workers<R: Wait + Clock>(rt: &R, signals: &Signals, many: u64) {
+    let mut pauses = Pauses::new();
+    for _ in rt.forever() {
+        if signals.ended() >= many {
+            return;
+        }
+        pauses.pause(rt);
+    }
+    unreachable!()
+}
+
+/// Shuts, where the runtime is to be drained.
+fn shut_for(control: &mut Control, ending: Ending)
+    ensures { ControlStays control.old control.new }
+{
+    if ending == Ending::Drained {
+        control.shut();
+    }
+}
+
+/// Waits for what the ending waits for.
+fn settle<R: Wait + Clock>(rt: &R, control: &mut Control, ending: Ending)
+    ensures { ControlStays control.old control.new }
+{
+    if ending == Ending::AtOnce {
+        return;
+    }
+    shut_for(control, ending);
+    open(control).wait(rt, control);
+}
+
+/// What is done while all parts run: the workers begin, control is steered, and once all workers have ended comes what the
+/// ending waits for. Where some part has no thread, nothing.
+fn oversee<G: Steering, R: Wait + Clock>(
+    rt: &R,
+    control: &mut Control,
+    signals: &Signals,
+    steering: &mut G,
+    many: u64,
+    ending: Ending,
+) -> bool
+    ensures { ControlStays control.old control.new }
+{
+    if signals.is_over() {
+        return false;
+    }
+    signals.begin();
+    steer(rt, control, steering);
+    wait_for_workers(rt, signals, many);
+    settle(rt, control, ending);
+    true
+}
+
+/// What a run leaves: all parts, the workers and their ends in the order of their processors, and whether each part had a
+/// thread.
+#[derive(Drop)]
+pub(crate) struct Ran<P, W> {
+    pub(crate) parts: P,
+    pub(crate) workers: Vec<W>,
+    pub(crate) ends: Vec<End>,
+    pub(crate) has_begun: bool,
+}
+
+/// Runs all parts, each in a thread of its own, the processors with their workers.
+pub(crate) fn run_parts<
+    J: Job<Receipt = S> + 'static,
+    W: Worker<J> + 'static,
+    R: Threads + Wait + Clock + Copy + Send + 'static,
+    S: Send + Drop + 'static,
+    G: Steering,
+>(
+    rt: &R,
+    parts: Parts<J>,
+    workers: Vec<W>,
+    steering: &mut G,
+    ending: Ending,
+    rooms: Rooms<J, W>,
+) -> Ran<Parts<J>, W>
+    requires many { vec_len workers ≡ vec_len parts.processors }
+    requires posts { IsRoomFor (vec_len parts.processors) rooms.posts }
+    requires at_posts { rooms.at_posts.many ≡ vec_len parts.processors }
+    requires halves { AreHalvesFor (vec_len parts.processors) rooms.halves }
+    requires others { (rooms.groups.many ≡ vec_len parts.groups) × (rooms.hands.many ≡ vec_len parts.hands) }
+    ensures { HaveWorked J.key_of J.gives parts result.parts }
+{
+    let AllParts {
+        processors,
+        driver,
+        groups,
+        hands,
+        mut control,
+    } = parts;
+    let Rooms {
+        signals,
+        posts,
+        at_posts,
+        halves,
+        groups: at_groups,
+        hands: at_hands,
+    } = rooms;
+    let many = workers.len() as u64;
+    let posts = pair(processors, workers, posts);
+    let driver = start_driver(rt, driver, &signals);
+    let groups = start_groups(rt, groups, &signals, at_groups);
+    let hands = start_hands(rt, hands, &signals, at_hands);
+    let posts = start_posts(rt, posts, &signals, at_posts);
+    let has_begun = oversee(rt, &mut control, &signals, steering, many, ending);
+    signals.end();
+    let driver = join(rt, driver);
+    let groups = join_all(rt, groups);
+    let hands = join_all(rt, hands);
+    let posts = join_all(rt, posts);
+    let Halves {
+        processors,
+        workers,
+        ends,
+    } = part(posts, halves);
+    Ran {
+        parts: AllParts {
+            driver,
+            groups,
+            hands,
+            processors,
+            control,
+        },
+        workers,
+        ends,
+        has_begun,
+    }
+}

@@ -1,0 +1,163 @@
+//! A whole runtime in threads, and back.
+
+ghost use Rattle.std.specs.Prelude.{◌≡◌, IfErr, IfOk, IsTrue, MatchResult, vec_len};
+ghost use Rattle.rcu_runtime.specs.Runtimes.{Continues, IsDrained};
+ghost use Rattle.rcu_workers.specs.Rooms.{AreHalvesFor, IsRoomFor};
+ghost use Rattle.rcu_workers.specs.Faults.{ComesBack, IsEarly, IsLate};
+
+use crate::fault::WorkersFault;
+use crate::rooms::Rooms;
+use crate::running::{Ending, Ran, run_parts};
+use crate::steering::Steering;
+use crate::worker::{End, Worker};
+use rcu_jobs::Job;
+use rcu_parts::Parts;
+use rcu_runtime::{Runtime, Whole};
+use std::alloc::Global;
+use std::rt::Clock;
+use std::sync::Wait;
+use std::thread::Threads;
+
+/// What comes back of a run: the runtime, and the workers in the order of their processors.
+#[derive(Drop)]
+pub struct Worked<J: Job, W> {
+    pub runtime: Runtime<J>,
+    pub workers: Vec<W>,
+    /// How each worker ended; empty where nothing was started.
+    pub ends: Vec<End>,
+}
+
+/// What comes back of a run that wasn't made as it was asked for, and why.
+#[derive(Drop)]
+pub struct NotWorked<J: Job, W> {
+    pub fault: WorkersFault,
+    pub worked: Worked<J, W>,
+}
+
+/// The room for a run of these parts with so many workers.
+fn find_room<J: Job, W: Worker<J>>(
+    alloc: Global,
+    parts: &Parts<J>,
+    workers: usize,
+) -> Result<Rooms<J, W>, WorkersFault>
+    ensures many { IfOk result (λ _. workers ≡ vec_len parts.now.processors) }
+    ensures posts { IfOk result (λ rooms. IsRoomFor (vec_len parts.now.processors) rooms.posts) }
+    ensures at_posts { IfOk result (λ rooms. rooms.at_posts.many ≡ vec_len parts.now.processors) }
+    ensures halves { IfOk result (λ rooms. AreHalvesFor (vec_len parts.now.processors) rooms.halves) }
+    ensures others { IfOk result (λ rooms. (rooms.groups.many ≡ vec_len parts.now.groups) × (rooms.hands.many ≡ vec_len parts.now.hands)) }
+    ensures fault { IfErr result (λ fault. IsEarly (vec_len parts.now.processors) workers fault) }
+{
+    let processors = parts.processors.len();
+    if workers != processors {
+        return Err(WorkersFault::OtherNumber {
+            processors: processors as u64,
+            workers: workers as u64,
+        });
+    }
+    let Ok(rooms) = Rooms::new(alloc, parts) else {
+        return Err(WorkersFault::Memory);
+    };
+    Ok(rooms)
+}
+
+/// Whether the runtime is as the ending has it: drained, where that was asked for.
+fn is_settled<J: Job>(runtime: &mut Runtime<J>, ending: Ending) -> bool
+    ensures continues { Continues runtime.old runtime.new }
+    ensures drained { ending ≡ Ending.Drained → IsTrue result → IsDrained runtime.new }
+{
+    match ending {
+        Ending::AtOnce => true,
+        Ending::AfterBarrier => true,
+        Ending::Drained => runtime.drain(0, 0),
+    }
+}
+
+/// What a run answers, where this is what it left.
+fn answer<J: Job, W: Worker<J>>(
+    runtime: Runtime<J>,
+    workers: Vec<W>,
+    ends: Vec<End>,
+    has_begun: bool,
+    ending: Ending,
+) -> Result<Worked<J, W>, NotWorked<J, W>>
+    ensures continues { MatchResult result (λ w. Continues runtime w.runtime) (λ refused. Continues runtime refused.worked.runtime) }
+    ensures fault { IfErr result (λ refused. IsLate refused.fault) }
+    ensures drained { ending ≡ Ending.Drained → IfOk result (λ w. IsDrained w.runtime) }
+{
+    let mut runtime = runtime;
+    if !has_begun {
+        let worked = Worked {
+            runtime,
+            workers,
+            ends,
+        };
+        return Err(NotWorked {
+            fault: WorkersFault::NoThread,
+            worked,
+        });
+    }
+    let is_settled = is_settled(&mut runtime, ending);
+    let worked = Worked {
+        runtime,
+        workers,
+        ends,
+    };
+    if is_settled {
+        return Ok(worked);
+    }
+    Err(NotWorked {
+        fault: WorkersFault::NotDrained,
+        worked,
+    })
+}
+
+/// Runs a runtime in threads: worker `p` says what processor `p` does, in a thread of its own; the driver, each group and
+/// each hand have a thread that makes their turns; and control does in this thread what the steering says. A worker that has
+/// ended leaves its processor to report and tick. Once the steering and all workers have ended, the run waits for what
+/// `ending` asks for, ends all threads and joins them, and the whole runtime comes back, to go on with, to run again or to
+/// close.
+///
+/// # Errors
+///
+/// Want of memory, another number of workers than of processors, or no thread for some part: then no worker made a step. Or
+/// the runtime isn't drained though that was asked for. The runtime and the workers come back.
+pub fn run_workers<
+    J: Job<Receipt = S> + 'static,
+    W: Worker<J> + 'static,
+    R: Threads + Wait + Clock + Copy + Send + 'static,
+    S: Send + Drop + 'static,
+    G: Steering,
+>(
+    rt: &R,
+    alloc: Global,
+    runtime: Runtime<J>,
+    workers: Vec<W>,
+    steering: &mut G,
+    ending: Ending,
+) -> Result<Worked<J, W>, NotWorked<J, W>>
+    ensures continues { MatchResult result (λ worked. Continues runtime worked.runtime) (λ refused. Continues runtime refused.worked.runtime) }
+    ensures back { IfErr result (λ refused. ComesBack refused.fault runtime refused.worked.runtime workers.items refused.worked.workers.items) }
+    ensures drained { ending ≡ Ending.Drained → IfOk result (λ worked. IsDrained worked.runtime) }
+{
+    let (parts, limit) = runtime.take_apart();
+    let rooms = match find_room(alloc, &parts, workers.len()) {
+        Ok(rooms) => rooms,
+        Err(fault) => {
+            let worked = Worked {
+                runtime: Whole::put_together(parts, limit),
+                workers,
+                ends: Vec::new(alloc),
+            };
+            return Err(NotWorked { fault, worked });
+        }
+    };
+    let ran = run_parts(rt, parts, workers, steering, ending, rooms);
+    let Ran {
+        parts,
+        workers,
+        ends,
+        has_begun,
+    } = ran;
+    let runtime = Whole::put_together(parts, limit);
+    answer(runtime, workers, ends, has_begun, ending)
+}
