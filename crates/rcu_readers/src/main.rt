@@ -6,9 +6,10 @@
 mod table;
 mod threads;
 
-use rcu_workers::{Closed, Ending, Order, Runtime, Shape, WorkersFault, open, run_workers};
+use rcu_workers::{Closed, End, Ending, Order, Runtime, Shape, WorkersFault, open, run_workers};
 use std::alloc::{AllocError, Global};
 use std::io;
+use std::process::ExitCode;
 use std::rt::Clock;
 use std::sync::{Arc, Wait};
 use std::thread::Threads;
@@ -35,6 +36,9 @@ enum Fault {
     NoShape,
     #[error("{0}")]
     Workers(#[from] WorkersFault),
+    /// A call was refused.
+    #[error("a worker gave up")]
+    GaveUp,
 }
 
 /// The workers of a run that publishes versions up to `last`.
@@ -70,6 +74,9 @@ fn run_once<R: Threads + Wait + Clock + Print + Copy + Send + 'static>(
         Ok(worked) => worked,
         Err(refused) => return Err(Fault::Workers(refused.fault)),
     };
+    if worked.ends.contains(&End::Failed) {
+        return Err(Fault::GaveUp);
+    }
     for member in &worked.workers {
         println!(rt;
             "{:?}: {} reads, {} of what was let go",
@@ -79,11 +86,22 @@ fn run_once<R: Threads + Wait + Clock + Print + Copy + Send + 'static>(
     Ok(worked.runtime)
 }
 
-/// Both runs, after which the runtime is closed.
+/// Prints how many versions were let go, and how many jobs are handed back.
+fn print_totals(rt: &impl Print, closed: &Closed<Retired>) -> io::Result<()> {
+    let ran = closed.ran.iter().map(|records| records.len());
+    let back = closed.back.iter().map(|jobs| jobs.len());
+    let (ran, back) = (
+        ran.fold(0, usize::saturating_add),
+        back.fold(0, usize::saturating_add),
+    );
+    println!(rt; "{ran} versions were let go, {back} jobs are handed back")
+}
+
+/// Both runs, after which the runtime is closed, and its totals are printed.
 fn run<R: Threads + Wait + Clock + Print + Copy + Send + 'static>(
     rt: &R,
     alloc: Global,
-) -> Result<Closed<Retired>, Fault> {
+) -> Result<(), Fault> {
     let Some(shape) = Shape::new(UPDATER + 1, 1 << UPDATER, 2, 10, 16, 1000) else {
         return Err(Fault::NoShape);
     };
@@ -111,20 +129,18 @@ fn run<R: Threads + Wait + Clock + Print + Copy + Send + 'static>(
         2 * VERSIONS,
         Ending::Drained,
     )?;
-    runtime.close(alloc).map_err(|_| Fault::Memory(AllocError))
+    match runtime.close(alloc) {
+        Ok(closed) => Ok(print_totals(rt, &closed)?),
+        Err(_) => Err(Fault::Memory(AllocError)),
+    }
 }
 
-fn main(rt: HostRuntime) -> io::Result<()> {
+fn main(rt: HostRuntime) -> ExitCode {
     match run(&rt, rt.alloc()) {
-        Ok(closed) => {
-            let ran = closed.ran.iter().map(|records| records.len());
-            let back = closed.back.iter().map(|jobs| jobs.len());
-            let (ran, back) = (
-                ran.fold(0, usize::saturating_add),
-                back.fold(0, usize::saturating_add),
-            );
-            println!(rt; "{ran} versions were let go, {back} jobs are handed back")
+        Ok(()) => ExitCode::SUCCESS,
+        Err(fault) => {
+            let _ = eprintln!(rt; "{fault}");
+            ExitCode::FAILURE
         }
-        Err(fault) => eprintln!(rt; "{fault}"),
     }
 }

@@ -4,7 +4,7 @@ ghost use Rattle.std.specs.Prelude.{◌≡◌};
 
 use rcu_workers::{Job, Reading};
 use std::sync::Arc;
-use std::sync::atomic::{AtomicU64, Ordering};
+use std::sync::atomic::{AtomicBool, AtomicU64, Ordering};
 
 /// How many versions there are at most: the current one, and those that wait for readers.
 const PLACES: usize = 4;
@@ -18,6 +18,7 @@ pub struct Table {
     places: [AtomicU64; PLACES],
     current: AtomicU64,
     published: AtomicU64,
+    given_up: AtomicBool,
 }
 
 impl Table {
@@ -32,6 +33,7 @@ impl Table {
             ],
             current: AtomicU64::new(0),
             published: AtomicU64::new(0),
+            given_up: AtomicBool::new(false),
         }
     }
 
@@ -42,6 +44,16 @@ impl Table {
     /// How many versions were published after the first.
     pub fn published(&self) -> u64 {
         self.published.load(Ordering::SeqCst)
+    }
+
+    /// No more versions are published.
+    pub fn give_up(&self) {
+        self.given_up.store(true, Ordering::SeqCst);
+    }
+
+    /// Whether no more versions are published.
+    pub fn is_given_up(&self) -> bool {
+        self.given_up.load(Ordering::SeqCst)
     }
 
     /// Looks twice at the version that is current. Answers whether it stayed, as it does for a reader.

@@ -26,10 +26,16 @@ pub struct Member {
 }
 
 impl Member {
+    /// Gives up, so that nobody waits for more versions.
+    fn give_up(&self) -> Step<Retired> {
+        self.table.give_up();
+        Step::Fail
+    }
+
     /// Publishes a version, where a place is free, and retires the one before.
     fn publish(&self) -> Step<Retired> {
         let Ok(table) = Arc::try_clone(&self.table) else {
-            return Step::Fail;
+            return self.give_up();
         };
         match table.publish() {
             Some(place) => Step::Call {
@@ -48,7 +54,7 @@ impl Worker<Retired> for Member {
         match (answer, self.role) {
             (Answer::WasRead | Answer::Called(_) | Answer::Paused, _) => Step::Report,
             (Answer::Reported(_), _) => Step::Tick { moment },
-            (Answer::Refused(_), _) => Step::Fail,
+            (Answer::Refused(_), _) => self.give_up(),
             (_, Role::Reads(most)) if self.reads < most => Step::Read,
             (_, Role::Publishes(last)) if self.table.published() < last => self.publish(),
             _ => Step::Done,
@@ -76,6 +82,7 @@ impl Steering for Switcher {
         match reply {
             Reply::Switched(_) => Order::Done,
             _ if self.table.published() >= self.after => self.order,
+            _ if self.table.is_given_up() => Order::Done,
             _ => Order::Pause,
         }
     }
