@@ -2,7 +2,7 @@
 
 ghost use Rattle.std.specs.Prelude.{◌≡◌};
 
-use rcu_runtime::Job;
+use rcu_workers::Job;
 
 /// A job whose key and receipt are its number.
 #[derive(Drop)]
