@@ -86,6 +86,14 @@ fn run_once<R: Threads + Wait + Clock + Print + Copy + Send + 'static>(
     Ok(worked.runtime)
 }
 
+/// Closes a runtime.
+fn close(alloc: Global, runtime: Runtime<Retired>) -> Result<Closed<Retired>, Fault> {
+    match runtime.close(alloc) {
+        Ok(closed) => Ok(closed),
+        Err(_) => Err(Fault::Memory(AllocError)),
+    }
+}
+
 /// Prints how many versions were let go, and how many jobs are handed back.
 fn print_totals(rt: &impl Print, closed: &Closed<Retired>) -> io::Result<()> {
     let ran = closed.ran.iter().map(|records| records.len());
@@ -119,7 +127,7 @@ fn run<R: Threads + Wait + Clock + Print + Copy + Send + 'static>(
         VERSIONS,
         Ending::AfterBarrier,
     )?;
-    switcher.after += VERSIONS;
+    switcher.after = VERSIONS + VERSIONS / 2;
     switcher.order = Order::Offload(UPDATER);
     let runtime = run_once(
         rt,
@@ -129,10 +137,9 @@ fn run<R: Threads + Wait + Clock + Print + Copy + Send + 'static>(
         2 * VERSIONS,
         Ending::Drained,
     )?;
-    match runtime.close(alloc) {
-        Ok(closed) => Ok(print_totals(rt, &closed)?),
-        Err(_) => Err(Fault::Memory(AllocError)),
-    }
+    let closed = close(alloc, runtime)?;
+    print_totals(rt, &closed)?;
+    Ok(())
 }
 
 fn main(rt: HostRuntime) -> ExitCode {
