@@ -24,4 +24,4 @@ returns-in-CallLazy-clause-does g c = let e = c.call_rcu_lazy.ensures in
 
 pub returns-in-Tick-clause-does : goal.returns-in-Tick-clause-does
 returns-in-Tick-clause-does g c = let e = c.tick.ensures in
-    subst (λ s. Does g.J.Job.key_of s (acted.Answers (answer.Ticked c.tick.result)) c.args.processor.now c.tick.new.self) (sym c.in-Tick.is) (record { ticks = e.ticks; few = e.few; fresh = e.fresh; local = e.local; none = e.none })
+    subst (λ s. Does g.J.Job.key_of s (acted.Answers (answer.Ticked c.tick.result)) c.args.processor.now c.tick.new.self) (sym c.in-Tick.is) (record { ticks = e.ticks; few = e.few; first = e.first; fresh = e.fresh; local = e.local; none = e.none })
