@@ -72,7 +72,8 @@ class Crate:
         """What its proof leaves for a run, for the crates above or for C: the program, or the library."""
         if self.is_static:
             return self.folder / "out" / f"lib{self.name}.a"
-        return self.folder / "out" / (self.name if self.is_program else "rlib")
+        # (the folder rlib alone is there of a build that was killed too)
+        return self.folder / "out" / (self.name if self.is_program else f"rlib/{self.name}.rlib/format")
 
     def is_built(self):
         """Whether what was made is there, and no source that it was made from is newer."""

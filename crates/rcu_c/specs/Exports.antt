@@ -11,15 +11,17 @@ use Rattle.rcu_jobs.specs.declared.DriverTurn.{DriverTurn}
 use Rattle.rcu_jobs.specs.declared.DriverTurn.TheVariants.{Spent}
 use Rattle.rcu_lending.specs.Barriers.{PollsPart}
 use Rattle.rcu_lending.specs.Faults.{fault_number}
-use Rattle.rcu_lending.specs.Gathers.{Closes, ClosesAgain, RefusesClose}
-use Rattle.rcu_lending.specs.Opens.{OpensInto}
+use Rattle.rcu_lending.specs.Gathers.{Closes, ClosesAgain, RefusesClose, RefusesEnd}
+use Rattle.rcu_lending.specs.Opens.{OpensInto, RefusesOpen}
 use Rattle.rcu_lending.specs.Others.{DriverTurnsBy}
 use Rattle.rcu_lending.specs.Shows.{OnlyShows}
 use Rattle.rcu_lending.specs.Slots.{OnSlot}
 use Rattle.rcu_lending.specs.declared.fault.Fault.{Fault}
+use Rattle.rcu_lending.specs.declared.fault.Fault.TheVariants.{Memory, Shape as OfShape}
 use Rattle.rcu_lending.specs.declared.part.Part.{Part}
 use Rattle.rcu_lending.specs.declared.slot.PartSlots.{PartSlots}
 use Rattle.rcu_lending.specs.declared.slot.Slot.{Slot}
+use Rattle.rcu_numbers.specs.Limits.{IsWithinLimits}
 use Rattle.rcu_numbers.specs.declared.shape.Shape.{Shape}
 use Rattle.rcu_lists.specs.declared.pace.Kind.{Kind}
 use Rattle.rcu_lists.specs.declared.pace.Kind.TheVariants.{Lazy, Plain}
@@ -61,11 +63,27 @@ pub record OpensBy (settings : Settings) (number : ℕ) (slots : PartSlots) : Ty
   pub is : IsShapeOf settings shape
   pub opens : OpensInto shape number slots
 
+-- Why nothing was opened: a setting is outside its limits, a slot has a part, or memory was refused.
+abbrev pub IsOutside : Settings → Type 0
+IsOutside s = IsWithinLimits s.processors s.offloadable s.stride s.blimit s.qhimark s.limit → ⊥
+
+abbrev pub RefusesOpenBy : Settings → ℕ → PartSlots → Type 0
+RefusesOpenBy settings answer slots = ((answer ≡ fault_number OfShape) × IsOutside settings)
+    ⊎ ((fault : Fault) × (answer ≡ fault_number fault) × RefusesOpen fault slots)
+
+-- Why nothing was let go: the slot is empty, or what it has isn't what is left of a runtime.
+abbrev pub RefusesEndBy : ℕ → Slot → Type 0
+RefusesEndBy answer slot = (fault : Fault) × (answer ≡ fault_number fault) × RefusesEnd fault slot.held.value
+
 -- A close was made, and its answer is told.
 pub record TellsClose (answer : ℕ) (old new : PartSlots) : Type 0 where
   pub result : Result (Unit {0}) Fault
   pub does : Closes result old new ⊎ ClosesAgain result old.control new.control ⊎ RefusesClose result old new
   pub answer_is : answer ≡ answer_of result
+
+-- done, or not for want of memory
+abbrev pub IsDoneUnlessForMemory : ℕ → Type 0
+IsDoneUnlessForMemory answer = (answer ≡ 0) ⊎ (answer ≡ fault_number Memory)
 
 -- 0, or 1 where no further grace period can be numbered, or the number of a fault
 abbrev pub answer_of_turn : Result DriverTurn Fault → ℕ

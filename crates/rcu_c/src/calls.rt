@@ -32,7 +32,8 @@ pub extern "C" fn rcuo_slot_call(
     job: &ForeignJob,
     ticket: &mut TicketWords,
 ) -> u32
-    ensures { Tells (CallsBy (kind_of_call lazy) moment job.now) (λ t. (ticket.new.processor ≡ t.cpu) × (ticket.new.number ≡ t.number)) result slot.old slot.new }
+    ensures tells { Tells (CallsBy (kind_of_call lazy) moment job.now) (λ t. (ticket.new.processor ≡ t.cpu) × (ticket.new.number ≡ t.number)) result slot.old slot.new }
+    ensures stays { result ≢ 0 → ticket.new ≡ ticket.old }
 {
     match slot.call(alloc, kind_of_call(lazy), moment, *job) {
         Ok(Ticket { cpu, number }) => {
@@ -51,6 +52,7 @@ pub extern "C" fn rcuo_slot_call(
 pub extern "C" fn rcuo_slot_quiescent(alloc: Global, slot: &mut Slot, counted: &mut u64) -> u32
     ensures tells { slot.old.reading ≡ 0 → Tells ReportsBy (λ n. counted.new ≡ unwrap_or n 0) result slot.old slot.new }
     ensures reading { slot.old.reading ≢ 0 → Refuses Reading result slot.old slot.new }
+    ensures stays { result ≢ 0 → counted.new ≡ counted.old }
 {
     if slot.reading != 0 {
         return Fault::Reading.number();
@@ -72,7 +74,8 @@ pub extern "C" fn rcuo_slot_begin(
     moment: u64,
     job: &mut ForeignJob,
 ) -> u32
-    ensures { Tells (BeginsBy moment) (λ begun. job.new ≡ begun) result slot.old slot.new }
+    ensures tells { Tells (BeginsBy moment) (λ begun. job.new ≡ begun) result slot.old slot.new }
+    ensures stays { result ≢ 0 → job.new ≡ job.old }
 {
     match slot.begin(alloc, moment) {
         Ok(begun) => {
@@ -97,7 +100,8 @@ pub extern "C" fn rcuo_slot_finish(alloc: Global, slot: &mut Slot) -> u32
 /// `rcuo_accepted`: how many callbacks a processor accepted.
 #[unsafe(no_mangle)]
 pub extern "C" fn rcuo_slot_accepted(alloc: Global, slot: &mut Slot, accepted: &mut u64) -> u32
-    ensures { TellsShown ShowsAccepted (λ n. accepted.new ≡ n) result slot.old slot.new }
+    ensures tells { TellsShown ShowsAccepted (λ n. accepted.new ≡ n) result slot.old slot.new }
+    ensures stays { result ≢ 0 → accepted.new ≡ accepted.old }
 {
     match slot.accepted(alloc) {
         Ok(number) => {
@@ -111,7 +115,8 @@ pub extern "C" fn rcuo_slot_accepted(alloc: Global, slot: &mut Slot, accepted: &
 /// `rcuo_left`: how many calls a processor still accepts at most.
 #[unsafe(no_mangle)]
 pub extern "C" fn rcuo_slot_left(alloc: Global, slot: &mut Slot, left: &mut u64) -> u32
-    ensures { TellsShown ShowsLeft (λ n. left.new ≡ n) result slot.old slot.new }
+    ensures tells { TellsShown ShowsLeft (λ n. left.new ≡ n) result slot.old slot.new }
+    ensures stays { result ≢ 0 → left.new ≡ left.old }
 {
     match slot.left(alloc) {
         Ok(number) => {
@@ -125,7 +130,8 @@ pub extern "C" fn rcuo_slot_left(alloc: Global, slot: &mut Slot, left: &mut u64)
 /// `rcuo_lists`: what a processor shows of its callbacks.
 #[unsafe(no_mangle)]
 pub extern "C" fn rcuo_slot_lists(alloc: Global, slot: &mut Slot, lists: &mut ListWords) -> u32
-    ensures { TellsShown ShowsLists (AreListWords lists.new) result slot.old slot.new }
+    ensures tells { TellsShown ShowsLists (AreListWords lists.new) result slot.old slot.new }
+    ensures stays { result ≢ 0 → lists.new ≡ lists.old }
 {
     match slot.lists(alloc) {
         Ok(shown) => {

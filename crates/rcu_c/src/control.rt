@@ -1,6 +1,6 @@
 //! Calls of control.
 
-ghost use Rattle.std.specs.Prelude.{◌≡◌, ◌<◌, ◌≤◌};
+ghost use Rattle.std.specs.Prelude.{◌≡◌, ◌≢◌, ◌<◌, ◌≤◌};
 ghost use Rattle.std.specs.Int.{from_bool};
 ghost use Rattle.rcu_c.specs.Exports.{Refuses, Tells, TellsPoll};
 ghost use Rattle.rcu_lending.specs.Barriers.{OpensPart};
@@ -25,7 +25,8 @@ pub extern "C" fn rcuo_slot_switch(alloc: Global, slot: &mut Slot, processor: u6
 /// `rcuo_barrier`: opens a barrier.
 #[unsafe(no_mangle)]
 pub extern "C" fn rcuo_slot_barrier(alloc: Global, slot: &mut Slot, barrier: &mut CountWords) -> u32
-    ensures { Tells OpensPart (λ b. (barrier.new.processors ≡ b.counts.n) × (barrier.new.counts ≡ b.counts.counts)) result slot.old slot.new }
+    ensures tells { Tells OpensPart (λ b. (barrier.new.processors ≡ b.counts.n) × (barrier.new.counts ≡ b.counts.counts)) result slot.old slot.new }
+    ensures stays { result ≢ 0 → barrier.new ≡ barrier.old }
 {
     match slot.barrier(alloc) {
         Ok(opened) => {
@@ -47,6 +48,7 @@ pub extern "C" fn rcuo_slot_poll(
     ensures tells { barrier.now.processors ≤ 32
         → TellsPoll barrier.now passed.new result slot.old slot.new }
     ensures foreign { 32 < barrier.now.processors → Refuses Foreign result slot.old slot.new }
+    ensures stays { result ≢ 0 → passed.new ≡ passed.old }
 {
     let Some(counts) = counts_of_words(barrier) else {
         return Fault::Foreign.number();
@@ -63,7 +65,8 @@ pub extern "C" fn rcuo_slot_poll(
 /// `rcuo_shut`: shuts every processor.
 #[unsafe(no_mangle)]
 pub extern "C" fn rcuo_slot_shut(alloc: Global, slot: &mut Slot, counts: &mut CountWords) -> u32
-    ensures { Tells ShutsBy (λ given. (counts.new.processors ≡ given.n) × (counts.new.counts ≡ given.counts)) result slot.old slot.new }
+    ensures tells { Tells ShutsBy (λ given. (counts.new.processors ≡ given.n) × (counts.new.counts ≡ given.counts)) result slot.old slot.new }
+    ensures stays { result ≢ 0 → counts.new ≡ counts.old }
 {
     match slot.shut(alloc) {
         Ok(accepted) => {

@@ -1,8 +1,9 @@
 //! What is left of a runtime that was closed.
 
 ghost use Rattle.std.specs.Prelude.{◌≡◌, ◌≢◌, None};
-ghost use Rattle.rcu_c.specs.Exports.{TellsShown};
+ghost use Rattle.rcu_c.specs.Exports.{RefusesEndBy, TellsShown};
 ghost use Rattle.rcu_c.specs.Words.{AreRecordWords};
+ghost use Rattle.rcu_lending.specs.Gathers.{HasEnds};
 ghost use Rattle.rcu_lending.specs.Shows.{ShowsBack, ShowsRan, ShowsReports};
 
 use crate::words::RecordWords;
@@ -19,7 +20,8 @@ pub extern "C" fn rcuo_slot_record(
     at: u64,
     kept: &mut RecordWords,
 ) -> u32
-    ensures { TellsShown (ShowsRan processor at) (AreRecordWords kept.new) result slot.old slot.new }
+    ensures tells { TellsShown (ShowsRan processor at) (AreRecordWords kept.new) result slot.old slot.new }
+    ensures stays { result ≢ 0 → kept.new ≡ kept.old }
 {
     match slot.ran_at(alloc, processor, at) {
         Ok(
@@ -52,7 +54,8 @@ pub extern "C" fn rcuo_slot_back(
     at: u64,
     job: &mut ForeignJob,
 ) -> u32
-    ensures { TellsShown (ShowsBack processor at) (λ back. job.new ≡ back) result slot.old slot.new }
+    ensures tells { TellsShown (ShowsBack processor at) (λ back. job.new ≡ back) result slot.old slot.new }
+    ensures stays { result ≢ 0 → job.new ≡ job.old }
 {
     match slot.back_at(alloc, processor, at) {
         Ok(back) => {
@@ -71,7 +74,8 @@ pub extern "C" fn rcuo_slot_reports(
     processor: u64,
     reports: &mut u64,
 ) -> u32
-    ensures { TellsShown (ShowsReports processor) (λ many. reports.new ≡ many) result slot.old slot.new }
+    ensures tells { TellsShown (ShowsReports processor) (λ many. reports.new ≡ many) result slot.old slot.new }
+    ensures stays { result ≢ 0 → reports.new ≡ reports.old }
 {
     match slot.reports_of(alloc, processor) {
         Ok(many) => {
@@ -87,6 +91,8 @@ pub extern "C" fn rcuo_slot_reports(
 pub extern "C" fn rcuo_slot_end(alloc: Global, slot: &mut Slot) -> u32
     ensures ended { result ≡ 0 → slot.new.held.value ≡ None }
     ensures refused { result ≢ 0 → slot.new.held.value ≡ slot.old.held.value }
+    ensures was_closed { result ≡ 0 → HasEnds slot.old.held.value }
+    ensures why { result ≢ 0 → RefusesEndBy result slot.old }
 {
     match slot.end(alloc) {
         Ok(()) => 0,

@@ -1,8 +1,8 @@
 //! Open and close.
 
 ghost use Rattle.std.specs.Prelude.{◌≡◌, ◌≢◌};
-ghost use Rattle.rcu_c.specs.Exports.{OpensBy, TellsClose};
-ghost use Rattle.rcu_lending.specs.Gathers.{AreOfTheOpen, StayHeld};
+ghost use Rattle.rcu_c.specs.Exports.{IsDoneUnlessForMemory, OpensBy, RefusesOpenBy, TellsClose};
+ghost use Rattle.rcu_lending.specs.Gathers.{AreOfTheOpen, CanTryClose, StayHeld};
 
 use crate::words::Settings;
 use rcu_lending::{Fault, PartSlots, close_from, open_into};
@@ -19,6 +19,7 @@ pub extern "C" fn rcuo_slot_open(
 ) -> u32
     ensures opened { result ≡ 0 → OpensBy settings.now number slots.new }
     ensures refused { result ≢ 0 → StayHeld slots.old slots.new }
+    ensures why { result ≢ 0 → RefusesOpenBy settings.now result slots.old }
 {
     let Some(shape) = Shape::new(
         settings.processors,
@@ -40,7 +41,8 @@ pub extern "C" fn rcuo_slot_open(
 #[unsafe(no_mangle)]
 pub extern "C" fn rcuo_slot_close(alloc: Global, slots: &mut PartSlots) -> u32
     requires owed { AreOfTheOpen slots.old }
-    ensures { TellsClose result slots.old slots.new }
+    ensures tells { TellsClose result slots.old slots.new }
+    ensures memory { CanTryClose slots.old → IsDoneUnlessForMemory result }
 {
     match close_from(alloc, slots) {
         Ok(()) => 0,

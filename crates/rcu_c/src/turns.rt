@@ -1,6 +1,6 @@
 //! Turns of the driver and of groups.
 
-ghost use Rattle.std.specs.Prelude.{◌≡◌};
+ghost use Rattle.std.specs.Prelude.{◌≡◌, ◌≢◌};
 ghost use Rattle.rcu_c.specs.Exports.{Tells, TellsTurn};
 ghost use Rattle.rcu_lending.specs.Others.{GroupTurnsBy, ReadsHaltBy};
 
@@ -16,7 +16,8 @@ pub extern "C" fn rcuo_slot_driver_turn(
     slot: &mut Slot,
     turn: &mut DriverWords,
 ) -> u32
-    ensures { TellsTurn turn.new result slot.old slot.new }
+    ensures tells { TellsTurn turn.new result slot.old slot.new }
+    ensures stays { result ≢ 0 → turn.new ≡ turn.old }
 {
     match slot.turn_driver(alloc) {
         Ok(DriverTurn::Spent) => Fault::Spent.number(),
@@ -31,7 +32,8 @@ pub extern "C" fn rcuo_slot_driver_turn(
 /// `rcuo_halted`: whether a part sees that the runtime was halted.
 #[unsafe(no_mangle)]
 pub extern "C" fn rcuo_slot_halted(alloc: Global, slot: &mut Slot, halted: &mut bool) -> u32
-    ensures { Tells ReadsHaltBy (λ seen. halted.new ≡ seen) result slot.old slot.new }
+    ensures tells { Tells ReadsHaltBy (λ seen. halted.new ≡ seen) result slot.old slot.new }
+    ensures stays { result ≢ 0 → halted.new ≡ halted.old }
 {
     match slot.is_halted(alloc) {
         Ok(seen) => {
@@ -45,7 +47,8 @@ pub extern "C" fn rcuo_slot_halted(alloc: Global, slot: &mut Slot, halted: &mut 
 /// `rcuo_group_turn`: a turn of a group.
 #[unsafe(no_mangle)]
 pub extern "C" fn rcuo_slot_group_turn(alloc: Global, slot: &mut Slot, turn: &mut GroupWords) -> u32
-    ensures { Tells GroupTurnsBy (λ done. (turn.new.took ≡ done.took) × (turn.new.gave ≡ done.gave) × (turn.new.held ≡ done.held)) result slot.old slot.new }
+    ensures tells { Tells GroupTurnsBy (λ done. (turn.new.took ≡ done.took) × (turn.new.gave ≡ done.gave) × (turn.new.held ≡ done.held)) result slot.old slot.new }
+    ensures stays { result ≢ 0 → turn.new ≡ turn.old }
 {
     match slot.turn_group(alloc) {
         Ok(done) => {

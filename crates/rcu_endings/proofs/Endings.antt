@@ -10,12 +10,12 @@ use Rattle.std.proofs.lemmas.List.Concat.{flat_map-cons}
 use Rattle.std.specs.List.{flat_map}
 use Rattle.std.specs.declared.alloc.Global.{Global}
 use Rattle.std.specs.declared.vec.Vec.{Vec}
-use Rattle.rcu_holdings.specs.Callers.{Holding, held_in, put_by, passed_on}
+use Rattle.rcu_holdings.specs.ProcessorLists.{Holding, held_in, put_by, passed_on}
 use Rattle.rcu_jobs.specs.Records.{Given}
 use Rattle.rcu_jobs.specs.declared.callback.Callback.{Callback}
 use Rattle.rcu_jobs.specs.declared.callback.Record.{Record}
-use Rattle.rcu_lists.specs.Batches.{batch_items}
-use Rattle.rcu_lists.specs.declared.batch.Batch.{Batch}
+use Rattle.rcu_lists.specs.Parcels.{parcel_items}
+use Rattle.rcu_lists.specs.declared.parcel.Parcel.{Parcel}
 use Rattle.rcu_places.specs.Order.{Remaining, between, times}
 use Rattle.rcu_places.specs.Places.{Accepted, Move, Numbered, Placed, claimed_of, moved, numbered, put_of}
 use Rattle.rcu_places.proofs.Moves.{placed_all}
@@ -50,17 +50,17 @@ module _ {J : Type 0} where
   rest_fits xs ys a b t h = let l = length-append xs ys in let f = t.len in let r = t.room in omega arith
 
   -- one batch of a lane
-  pub lane_taken : (b : Batch J) (bs bs' : List (Batch J)) (v w : Vec J Global) (end : List J) → bs ≡ b ∷ bs' → Takes (batch_items b) v w → v.items ++ jobs_of (flat_map batch_items bs) ≡ end
-      → w.items ++ jobs_of (flat_map batch_items bs') ≡ end
+  pub lane_taken : (b : Parcel J) (bs bs' : List (Parcel J)) (v w : Vec J Global) (end : List J) → bs ≡ b ∷ bs' → Takes (parcel_items b) v w → v.items ++ jobs_of (flat_map parcel_items bs) ≡ end
+      → w.items ++ jobs_of (flat_map parcel_items bs') ≡ end
   lane_taken b bs bs' v w end e t h =
-      ap (λ (js : List J). js ++ jobs_of (flat_map batch_items bs')) t.jobs
-      ∙ (append_assoc v.items (jobs_of (batch_items b)) (jobs_of (flat_map batch_items bs'))
-      ∙ (ap (λ (js : List J). v.items ++ js) (sym (map-append (λ (c : Callback J). c.job) (batch_items b) (flat_map batch_items bs')) ∙ sym (ap (λ (l : List (Batch J)). jobs_of (flat_map batch_items l)) e ∙ ap jobs_of (flat_map-cons batch_items b bs'))) ∙ h))
+      ap (λ (js : List J). js ++ jobs_of (flat_map parcel_items bs')) t.jobs
+      ∙ (append_assoc v.items (jobs_of (parcel_items b)) (jobs_of (flat_map parcel_items bs'))
+      ∙ (ap (λ (js : List J). v.items ++ js) (sym (map-append (λ (c : Callback J). c.job) (parcel_items b) (flat_map parcel_items bs')) ∙ sym (ap (λ (l : List (Parcel J)). jobs_of (flat_map parcel_items l)) e ∙ ap jobs_of (flat_map-cons parcel_items b bs'))) ∙ h))
 
-  pub lane_len : (b : Batch J) (bs bs' : List (Batch J)) (v w : Vec J Global) (end : ℕ) → bs ≡ b ∷ bs' → Takes (batch_items b) v w → vec_len v + length (flat_map batch_items bs) ≡ end → vec_len w + length (flat_map batch_items bs') ≡ end
+  pub lane_len : (b : Parcel J) (bs bs' : List (Parcel J)) (v w : Vec J Global) (end : ℕ) → bs ≡ b ∷ bs' → Takes (parcel_items b) v w → vec_len v + length (flat_map parcel_items bs) ≡ end → vec_len w + length (flat_map parcel_items bs') ≡ end
   lane_len b bs bs' v w end e t h =
       let f = t.len in
-      let l = ap (λ (l : List (Batch J)). length (flat_map batch_items l)) e ∙ (ap length (flat_map-cons batch_items b bs') ∙ length-append (batch_items b) (flat_map batch_items bs')) in omega arith
+      let l = ap (λ (l : List (Parcel J)). length (flat_map parcel_items l)) e ∙ (ap length (flat_map-cons parcel_items b bs') ∙ length-append (parcel_items b) (flat_map parcel_items bs')) in omega arith
 
 -- what a processor put is what its hand took, then what the hand holds, the done lane, what the group holds, and the lane
 pub passed_through : {A : Type 0} (put received done drawn taken held out list waiting left done_left : List A) → put ≡ received ++ left → received ≡ done ++ (out ++ (list ++ waiting)) → done ≡ drawn ++ done_left → drawn ≡ taken ++ held
@@ -84,23 +84,23 @@ taken_first put taken rest e = e ∙ ap (λ l. taken ++ l) (sym (not_taken put t
 
 module _ {J : Type 0} where
   -- the callbacks that went over a lane, batch after batch
-  pub lane_split : (put put' drawn drawn' left : List (Batch J)) → put' ≡ put → drawn' ≡ drawn → put' ≡ drawn' ++ left → flat_map batch_items put ≡ flat_map batch_items drawn ++ flat_map batch_items left
+  pub lane_split : (put put' drawn drawn' left : List (Parcel J)) → put' ≡ put → drawn' ≡ drawn → put' ≡ drawn' ++ left → flat_map parcel_items put ≡ flat_map parcel_items drawn ++ flat_map parcel_items left
   lane_split put put' drawn drawn' left p d e =
-      ap (flat_map batch_items) (sym p ∙ (e ∙ ap (λ l. l ++ left) d)) ∙ flat_map-append batch_items drawn left
+      ap (flat_map parcel_items) (sym p ∙ (e ∙ ap (λ l. l ++ left) d)) ∙ flat_map-append parcel_items drawn left
 
   -- what a processor put, through both lanes and the group: pu is what was put and dr what was drawn on its lane, with `le` left there; the
   -- same with a D of the done lane
-  pub passage : (pu pu' dr dr' le puD puD' drD drD' leD : List (Batch J)) (taken held held' out list waiting : List (Callback J)) → pu' ≡ pu → dr' ≡ dr → pu' ≡ dr' ++ le → puD' ≡ puD → drD' ≡ drD → puD' ≡ drD' ++ leD
-      → flat_map batch_items dr ≡ flat_map batch_items puD ++ (out ++ (list ++ waiting)) → flat_map batch_items drD ≡ taken ++ held' → held ≡ held'
-      → (flat_map batch_items pu ≡ taken ++ ((held ++ (flat_map batch_items leD ++ (out ++ list))) ++ (waiting ++ flat_map batch_items le)))
-      × (flat_map batch_items pu ≡ flat_map batch_items drD ++ ((flat_map batch_items leD ++ (out ++ list)) ++ (waiting ++ flat_map batch_items le)))
+  pub passage : (pu pu' dr dr' le puD puD' drD drD' leD : List (Parcel J)) (taken held held' out list waiting : List (Callback J)) → pu' ≡ pu → dr' ≡ dr → pu' ≡ dr' ++ le → puD' ≡ puD → drD' ≡ drD → puD' ≡ drD' ++ leD
+      → flat_map parcel_items dr ≡ flat_map parcel_items puD ++ (out ++ (list ++ waiting)) → flat_map parcel_items drD ≡ taken ++ held' → held ≡ held'
+      → (flat_map parcel_items pu ≡ taken ++ ((held ++ (flat_map parcel_items leD ++ (out ++ list))) ++ (waiting ++ flat_map parcel_items le)))
+      × (flat_map parcel_items pu ≡ flat_map parcel_items drD ++ ((flat_map parcel_items leD ++ (out ++ list)) ++ (waiting ++ flat_map parcel_items le)))
   passage pu pu' dr dr' le puD puD' drD drD' leD taken held held' out list waiting a b c d e f order hand same =
-      passed_through (flat_map batch_items pu) (flat_map batch_items dr) (flat_map batch_items puD) (flat_map batch_items drD) taken held out list waiting (flat_map batch_items le) (flat_map batch_items leD)
+      passed_through (flat_map parcel_items pu) (flat_map parcel_items dr) (flat_map parcel_items puD) (flat_map parcel_items drD) taken held out list waiting (flat_map parcel_items le) (flat_map parcel_items leD)
       (lane_split pu pu' dr dr' le a b c) order (lane_split puD puD' drD drD' leD d e f) (hand ∙ ap (λ (l : List (Callback J)). taken ++ l) (sym same))
 
-  pub lane_room : (b : Batch J) (bs bs' : List (Batch J)) (n cap end whole : ℕ) → bs ≡ b ∷ bs' → n + length (flat_map batch_items bs) ≡ end → cap ≡ whole → end ≤ whole → n + length (batch_items b) ≤ cap
+  pub lane_room : (b : Parcel J) (bs bs' : List (Parcel J)) (n cap end whole : ℕ) → bs ≡ b ∷ bs' → n + length (flat_map parcel_items bs) ≡ end → cap ≡ whole → end ≤ whole → n + length (parcel_items b) ≤ cap
   lane_room b bs bs' n cap end whole e h same fits =
-      let l = ap (λ (l : List (Batch J)). length (flat_map batch_items l)) e ∙ (ap length (flat_map-cons batch_items b bs') ∙ length-append (batch_items b) (flat_map batch_items bs')) in omega arith
+      let l = ap (λ (l : List (Parcel J)). length (flat_map parcel_items l)) e ∙ (ap length (flat_map-cons parcel_items b bs') ∙ length-append (parcel_items b) (flat_map parcel_items bs')) in omega arith
 
   -- room for what was put and not taken, and for what is held
   pub all_fit : (put taken first second held kept : List (Callback J)) (v : Vec J Global) (jobs : ℕ) → v.items ≡ [] → put ≡ taken ++ (first ++ second) → held ≡ kept → length put + length kept ≤ length taken + jobs → jobs ≤ vec_capacity v

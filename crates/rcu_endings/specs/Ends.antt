@@ -1,6 +1,6 @@
 -- How the callbacks of one processor end: docs/specification/promises.md, "Headline on the running parts", close.
 use Rattle.std.specs.Prelude.{◌≡◌, ℕ, ◌+◌, ◌≤◌, List, [], ◌++◌, map, length, take, drop, vec_capacity}
-use Rattle.rcu_holdings.specs.Callers.{Holding, held_in, put_by, passed_on}
+use Rattle.rcu_holdings.specs.ProcessorLists.{Holding, held_in, put_by, passed_on}
 use Rattle.rcu_jobs.specs.Records.{Given}
 use Rattle.rcu_jobs.specs.declared.callback.Callback.{Callback}
 use Rattle.rcu_jobs.specs.declared.callback.Record.{Record}

@@ -1,16 +1,16 @@
 //! The end of one processor.
 
 ghost use Rattle.std.specs.Prelude.{◌≡◌, ℕ, ◌+◌, ◌≤◌, [], ◌++◌, length, drop, vec_capacity};
-ghost use Rattle.rcu_holdings.specs.Callers.{holding, held_in, put_by, rear_of};
+ghost use Rattle.rcu_holdings.specs.ProcessorLists.{holding, held_in, put_by, rear_of};
 ghost use Rattle.rcu_holdings.specs.Helds.{drawn_by, front_of as hands_front, taken_by};
-ghost use Rattle.rcu_holdings.specs.Members.{front_of, rear_of as done_rear};
+ghost use Rattle.rcu_holdings.specs.MemberLists.{front_of, rear_of as done_rear};
 ghost use Rattle.rcu_lanes.specs.Ends.{SameLane};
 ghost use Rattle.rcu_endings.specs.Ends.{EndsWith, HasRoom, left_of};
 ghost use Rattle.rcu_endings.specs.Moving.{jobs_of};
 
 use crate::ended::Ended;
 use crate::moving::{take_drawn, take_lists, take_undrawn};
-use rcu_holdings::{Caller, Held, Member};
+use rcu_holdings::{ProcessorLists, Held, MemberLists};
 use rcu_jobs::{Job, Record};
 use rcu_lanes::rest;
 use rcu_records::merge_records;
@@ -21,24 +21,24 @@ use std::collections::VecDeque;
 ///
 /// The jobs of what the processor put on its lane and the hand didn't take come back, and then those of what it holds.
 pub fn end_offloadable<J: Job>(
-    caller: Caller<J>,
-    member: Member<J>,
+    processor_lists: ProcessorLists<J>,
+    member: MemberLists<J>,
     held: Held<J>,
     own: Vec<Record<J::Receipt>>,
     hands: Vec<Record<J::Receipt>>,
     room: Ended<J, J::Receipt>,
 ) -> Ended<J, J::Receipt>
-    requires lane { SameLane (front_of member) (rear_of caller) }
+    requires lane { SameLane (front_of member) (rear_of processor_lists) }
     requires done_lane { SameLane (hands_front held) (done_rear member) }
-    requires room { (jobs : ℕ) × HasRoom (length own.items + length hands.items) jobs room × (length (put_by (holding caller)) + length (held_in (holding caller)) ≤ length (taken_by held) + jobs) }
-    ensures passed { put_by (holding caller) ≡ taken_by held ++ drop (length (taken_by held)) (put_by (holding caller)) }
-    ensures back { result.back.items ≡ jobs_of (left_of (holding caller) (taken_by held)) }
+    requires room { (jobs : ℕ) × HasRoom (length own.items + length hands.items) jobs room × (length (put_by (holding processor_lists)) + length (held_in (holding processor_lists)) ≤ length (taken_by held) + jobs) }
+    ensures passed { put_by (holding processor_lists) ≡ taken_by held ++ drop (length (taken_by held)) (put_by (holding processor_lists)) }
+    ensures back { result.back.items ≡ jobs_of (left_of (holding processor_lists) (taken_by held)) }
 
     // The records are the first numbers, and the jobs those of the others.
-    ensures ends { EndsWith J.key_of J.gives own.items hands.items (holding caller) (taken_by held) (drawn_by held) result.ran.items result.back.items }
+    ensures ends { EndsWith J.key_of J.gives own.items hands.items (holding processor_lists) (taken_by held) (drawn_by held) result.ran.items result.back.items }
 {
     let (done_front, mut batch) = held.into_parts();
-    let (rear, own_list, mut bypass) = caller.into_parts();
+    let (rear, own_list, mut bypass) = processor_lists.into_parts();
     let (front, done_rear, list, mut drawn, mut out) = member.into_parts();
     let done_lane = rest(done_front, done_rear);
     let lane = rest(front, rear);
@@ -53,18 +53,18 @@ pub fn end_offloadable<J: Job>(
 
 /// Ends a processor that isn't offloadable, which has put nothing on its lane, in the room that was found for its jobs.
 pub fn end_local<J: Job>(
-    caller: Caller<J>,
+    processor_lists: ProcessorLists<J>,
     own: Vec<Record<J::Receipt>>,
     mut back: Vec<J>,
 ) -> Ended<J, J::Receipt>
-    requires none { put_by (holding caller) ≡ [] }
+    requires none { put_by (holding processor_lists) ≡ [] }
     requires no_job { back.items ≡ [] }
-    requires room { length (held_in (holding caller)) ≤ vec_capacity back }
+    requires room { length (held_in (holding processor_lists)) ≤ vec_capacity back }
     ensures ran { result.ran ≡ own }
-    ensures back { result.back.items ≡ jobs_of (held_in (holding caller)) }
-    ensures ends { EndsWith J.key_of J.gives own.items [] (holding caller) [] [] result.ran.items result.back.items }
+    ensures back { result.back.items ≡ jobs_of (held_in (holding processor_lists)) }
+    ensures ends { EndsWith J.key_of J.gives own.items [] (holding processor_lists) [] [] result.ran.items result.back.items }
 {
-    let (_, own_list, mut bypass) = caller.into_parts();
+    let (_, own_list, mut bypass) = processor_lists.into_parts();
     take_lists(&mut bypass, own_list, &mut back);
     Ended { ran: own, back }
 }

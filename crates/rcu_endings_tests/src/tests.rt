@@ -1,14 +1,14 @@
 ghost use Rattle.std.specs.Prelude.{◌≡◌, ◌+◌, ◌<◌, false, length, OnOk};
-ghost use Rattle.rcu_holdings.specs.Callers.{holding, passed_on, put_by, rear_of};
+ghost use Rattle.rcu_holdings.specs.ProcessorLists.{holding, passed_on, put_by, rear_of};
 ghost use Rattle.rcu_holdings.specs.Modes.{is_offloaded};
 ghost use Rattle.rcu_lanes.specs.Ends.{SameRear};
 ghost use Rattle.rcu_numbers.specs.declared.shape.TheConstants.{MOST_CALLBACKS};
 
 use rcu_endings::{Ended, end_local, end_offloadable};
-use rcu_holdings::{Caller, Held, Member, Safe};
+use rcu_holdings::{ProcessorLists, Held, MemberLists, LaneLimits};
 use rcu_jobs::{BoxedJob, Callback, Record};
 use rcu_lanes::ruled_lane;
-use rcu_lists::{Batch, Kind};
+use rcu_lists::{Kind, Parcel};
 use std::alloc::{AllocError, Global};
 use std::test::Fail;
 
@@ -30,14 +30,14 @@ fn job(alloc: Global, number: u64) -> Result<Work, AllocError> {
 }
 
 // Places one more callback, of this number.
-fn call(caller: &mut Caller<Work>, number: u64, job: Work) -> Result<(), AllocError>
+fn call(processor_lists: &mut ProcessorLists<Work>, number: u64, job: Work) -> Result<(), AllocError>
     requires small { number < MOST_CALLBACKS }
-    requires few { length (passed_on (holding caller.old)) < MOST_CALLBACKS }
-    ensures lane { SameRear (rear_of caller.old) (rear_of caller.new) }
-    ensures passed { OnOk result (length (passed_on (holding caller.new)) ≡ length (passed_on (holding caller.old)) + 1) }
-    ensures local { is_offloaded (holding caller.old).mode ≡ false → (is_offloaded (holding caller.new).mode ≡ false) × (put_by (holding caller.new) ≡ put_by (holding caller.old)) }
+    requires few { length (passed_on (holding processor_lists.old)) < MOST_CALLBACKS }
+    ensures lane { SameRear (rear_of processor_lists.old) (rear_of processor_lists.new) }
+    ensures passed { OnOk result (length (passed_on (holding processor_lists.new)) ≡ length (passed_on (holding processor_lists.old)) + 1) }
+    ensures local { is_offloaded (holding processor_lists.old).mode ≡ false → (is_offloaded (holding processor_lists.new).mode ≡ false) × (put_by (holding processor_lists.new) ≡ put_by (holding processor_lists.old)) }
 {
-    caller.reserve()?;
+    processor_lists.reserve()?;
     let callback = Callback {
         cpu: 0,
         number,
@@ -45,19 +45,19 @@ fn call(caller: &mut Caller<Work>, number: u64, job: Work) -> Result<(), AllocEr
         stamp: 0,
         job,
     };
-    caller.place(5, Kind::Plain, callback);
+    processor_lists.place(5, Kind::Plain, callback);
     Ok(())
 }
 
 #[test]
 fn what_a_local_one_holds_comes_back(rt: HostRuntime) -> Result<(), Fail> {
     let alloc = rt.alloc();
-    let (_, rear) = ruled_lane::<Batch<Work>, Safe>(alloc)?;
-    let mut caller = Caller::new(alloc, rear, false, 10000);
-    call(&mut caller, 1, job(alloc, 1)?)?;
-    call(&mut caller, 2, job(alloc, 2)?)?;
+    let (_, rear) = ruled_lane::<Parcel<Work>, LaneLimits>(alloc)?;
+    let mut processor_lists = ProcessorLists::new(alloc, rear, false, 10000)?;
+    call(&mut processor_lists, 1, job(alloc, 1)?)?;
+    call(&mut processor_lists, 2, job(alloc, 2)?)?;
     let own = vec![in alloc; record(0)]?;
-    let ended = end_local::<Work>(caller, own, Vec::with_capacity(alloc, 2)?);
+    let ended = end_local::<Work>(processor_lists, own, Vec::with_capacity(alloc, 2)?);
     assert_eq!(rt; ended.ran.len(), 1);
     assert_eq!(rt; ended.back.len(), 2);
     for (number, job) in (1u64..).zip(ended.back.as_slice()) {
@@ -69,18 +69,18 @@ fn what_a_local_one_holds_comes_back(rt: HostRuntime) -> Result<(), Fail> {
 #[test]
 fn all_places_come_back_in_order(rt: HostRuntime) -> Result<(), Fail> {
     let alloc = rt.alloc();
-    let (front, rear) = ruled_lane::<Batch<Work>, Safe>(alloc)?;
-    let (done_front, done_rear) = ruled_lane::<Batch<Work>, Safe>(alloc)?;
-    let mut caller = Caller::new(alloc, rear, true, 10000);
-    let mut member = Member::new(alloc, front, done_rear);
+    let (front, rear) = ruled_lane::<Parcel<Work>, LaneLimits>(alloc)?;
+    let (done_front, done_rear) = ruled_lane::<Parcel<Work>, LaneLimits>(alloc)?;
+    let mut processor_lists = ProcessorLists::new(alloc, rear, true, 10000)?;
+    let mut member = MemberLists::new(alloc, front, done_rear)?;
     let held = Held::new(alloc, done_front);
-    call(&mut caller, 0, job(alloc, 0)?)?;
-    call(&mut caller, 1, job(alloc, 1)?)?;
+    call(&mut processor_lists, 0, job(alloc, 0)?)?;
+    call(&mut processor_lists, 1, job(alloc, 1)?)?;
     assert_eq!(rt; member.take_in(), 2);
-    call(&mut caller, 2, job(alloc, 2)?)?;
+    call(&mut processor_lists, 2, job(alloc, 2)?)?;
     let room = Ended::with_room(alloc, 0, 3)?;
     let ended = end_offloadable::<Work>(
-        caller,
+        processor_lists,
         member,
         held,
         Vec::new(alloc),

@@ -11,7 +11,7 @@ use Rattle.rcu_numbers.specs.declared.sequence.TheConstants.{GREATEST_NUMBER}
 use Rattle.rcu_lists.specs.Labels.{Label, Done, Numbered, Bare, Labelled, marked, relabel, advanced, given, is_numbered, count, carries, callbacks_of, IsUpTo, MayAccelerate, has_two_below, after_advance, after_accelerate}
 use Rattle.rcu_lists.specs.Stamps.{greater, newest_of}
 use Rattle.rcu_holdings.specs.Aims.{is_up_to, AreUpTo, aim, AreAimed, looked, wanted}
-use Rattle.rcu_holdings.specs.Safe.{IsSafe, AreSafe}
+use Rattle.rcu_holdings.specs.Limits.{IsSafe, AreSafe}
 
 -- labels
 

@@ -12,10 +12,10 @@ use Rattle.rcu_lists.specs.Labels.{Done, Bare, Labelled, marked, count, is_done,
 use Rattle.rcu_lists.specs.Release.{is_any}
 use Rattle.rcu_lists.specs.declared.pace.Kind.{Kind}
 use Rattle.rcu_holdings.specs.Aims.{AreAimed}
-use Rattle.rcu_holdings.specs.Callers.{Holding, passed_on, asked_off}
+use Rattle.rcu_holdings.specs.ProcessorLists.{Holding, passed_on, asked_off}
 use Rattle.rcu_holdings.specs.Modes.{is_offloaded, is_offloading}
 use Rattle.rcu_holdings.specs.Outgoing.{Outgoing, IsReleased, IsReleasedIfAny, poured, kept, is_due_with, is_due_in_tick, in_tick}
-use Rattle.rcu_holdings.specs.Safe.{IsSafe, AreFew, AreSafe}
+use Rattle.rcu_holdings.specs.Limits.{IsSafe, AreFew, AreSafe}
 use Rattle.rcu_holdings.proofs.Aims.{callbacks-append, aimed-left}
 use Rattle.rcu_holdings.proofs.Releases.{released-passes, released-any-passes}
 

@@ -7,8 +7,8 @@ use Rattle.rcu_lanes.specs.declared.ends.TheConstants.{FIRST_SLOTS}
 use Rattle.rcu_lists.specs.Labels.{Done, Bare, Labelled, marked, callbacks_of, count, is_done}
 use Rattle.rcu_lists.specs.declared.batch.TheConstants.{INLINE_PLACES}
 use Rattle.rcu_holdings.specs.Aims.{AreAimed}
-use Rattle.rcu_holdings.specs.Members.{Relay, joined, Draws, TakesIn, Loads, Hands, GivesSome}
-use Rattle.rcu_holdings.specs.Safe.{IsSafe, AreFew, AreSafe}
+use Rattle.rcu_holdings.specs.MemberLists.{Relay, joined, Draws, TakesIn, Loads, Hands, GivesSome}
+use Rattle.rcu_holdings.specs.Limits.{IsSafe, AreFew, AreSafe}
 use Rattle.rcu_holdings.proofs.Aims.{callbacks-append, callbacks-marked, aimed-push}
 use Rattle.rcu_holdings.proofs.Holdings.{few-less}
 

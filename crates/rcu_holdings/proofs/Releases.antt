@@ -1,20 +1,26 @@
 -- How a release changes what goes out.
-use Rattle.std.proofs.Common.{◌≡◌, inl, inr, ℕ, ◌<◌, ◌≤◌, Bool, true, false, List, [], ◌∷◌, ◌++◌, length, refl, sym, ap, ◌∙◌, arith}
-use Rattle.std.proofs.lemmas.List.{append-nil, append_assoc}
+use Rattle.std.proofs.Common.{◌≡◌, inl, inr, ℕ, ◌<◌, ◌≤◌, Bool, true, false, List, [], ◌∷◌, ◌++◌, length, refl, sym, ap, ◌∙◌, ◌+◌, subst, arith}
+use Rattle.std.proofs.lemmas.List.{append-nil, append_assoc, length-append}
 use Rattle.std.specs.List.{flat_map}
-use Rattle.std.specs.Prelude.{nat_lt, IsTrue, ◌↔◌, ◌||◌}
+use Rattle.std.specs.Prelude.{nat_lt, IsTrue, ◌↔◌, ◌||◌, Result, Ok, Err, IsOk, MatchResult}
 use Rattle.std.proofs.lemmas.Bool.{cases_Bool, ltb-true, ltb-false}
 use Rattle.rcu_jobs.specs.declared.callback.Callback.{Callback}
 use Rattle.rcu_lanes.specs.declared.ends.TheConstants.{FIRST_SLOTS}
-use Rattle.rcu_lists.specs.Batches.{batch_items}
-use Rattle.rcu_lists.specs.Release.{is_any, is_late, ticked}
-use Rattle.rcu_lists.specs.declared.batch.Batch.{Batch}
+use Rattle.rcu_lists.specs.Parcels.{parcel_items}
+use Rattle.rcu_lists.specs.Release.{emptied, is_any, is_late, refilled, ticked}
 use Rattle.rcu_lists.specs.declared.pace.Pace.{Pace}
-use Rattle.rcu_holdings.specs.Outgoing.{Outgoing, IsReleased, IsReleasedIfAny, is_due_in_tick}
+use Rattle.rcu_lists.specs.declared.parcel.Parcel.{Parcel}
+use Rattle.rcu_holdings.specs.Outgoing.{Outgoing, IsReleased, IsReleasedIfAny, IsSentOrBack, is_due_in_tick}
 
 -- how much the lane holds for certain
 pub full : (n : ℕ) → (n < FIRST_SLOTS → false ≡ true) → FIRST_SLOTS ≤ n
 full n h = elim (cases_Bool (nat_lt n FIRST_SLOTS)) [ inl e ↦ absurd (let z = h (ltb-true n FIRST_SLOTS e) in cc) | inr e ↦ ltb-false n FIRST_SLOTS e ]
+
+-- the rooms of an outlet suffice for its first slots, once one of them may have been used
+pub rooms-enough : {X U : Type 0} → (r : Result U X) (old new : List X) (item : X) (rooms left : ℕ) → rooms ≤ left + 1 → FIRST_SLOTS ≤ rooms + length old
+    → MatchResult r (λ _. new ≡ old ++ item ∷ []) (λ back. (back ≡ item) × (new ≡ old)) → (length old < FIRST_SLOTS → IsOk r) → FIRST_SLOTS ≤ left + length new
+rooms-enough (Ok u) old new item rooms left less enough put room = let n = ap length put ∙ length-append old (item ∷ []) in omega (arith, less, enough)
+rooms-enough (Err back) old new item rooms left less enough put room = let n = ap length put.1 in let f = full (length old) room in omega (arith, f)
 
 -- whether a list holds something
 pub some-in : {X : Type 0} → (b : Bool) (xs : List X) → IsTrue b ↔ (xs ≡ []) → b ≡ false → is_any xs ≡ true
@@ -48,16 +54,25 @@ module _ {J : Type 0} where
       ap (λ x. outgoing_of x n.batches n.bypass n.pace n.qhimark) put ∙ (ap (λ x. outgoing_of o.put x n.bypass n.pace n.qhimark) batches
       ∙ (ap (λ x. outgoing_of o.put o.batches x n.pace n.qhimark) bypass ∙ (ap (λ x. outgoing_of o.put o.batches o.bypass x n.qhimark) pace ∙ ap (λ x. outgoing_of o.put o.batches o.bypass o.pace x) qhimark)))
 
-  -- one more batch on a lane
-  pub flat-snoc : (bs : List (Batch J)) (b : Batch J) → flat_map batch_items (bs ++ b ∷ []) ≡ flat_map batch_items bs ++ batch_items b
-  flat-snoc [] b = append-nil (batch_items b)
-  flat-snoc (x ∷ bs) b = ap (λ l. batch_items x ++ l) (flat-snoc bs b) ∙ sym (append_assoc (batch_items x) (flat_map batch_items bs) (batch_items b))
+  -- one more parcel on a lane
+  pub flat-snoc : (ps : List (Parcel J)) (p : Parcel J) → flat_map parcel_items (ps ++ p ∷ []) ≡ flat_map parcel_items ps ++ parcel_items p
+  flat-snoc [] p = append-nil (parcel_items p)
+  flat-snoc (x ∷ ps) p = ap (λ l. parcel_items x ++ l) (flat-snoc ps p) ∙ sym (append_assoc (parcel_items x) (flat_map parcel_items ps) (parcel_items p))
 
   -- nothing is lost, and nothing gets ahead
   pub released-passes : (o n : Outgoing J) → IsReleased o n → n.put ++ n.bypass ≡ o.put ++ o.bypass
   released-passes o n h = elim h [
     | inl e ↦ ap (λ (x : Outgoing J). x.put ++ x.bypass) e ∙ append-nil (o.put ++ o.bypass)
     | inr e ↦ ap (λ (x : Outgoing J). x.put ++ x.bypass) e.1
+  ]
+
+  -- what was alone in the list was sent, or is the list again
+  pub released-single : (o m n : Outgoing J) (c : Callback J) → o.bypass ≡ c ∷ [] → m ≡ record o { bypass = []; pace = emptied o.pace } → IsSentOrBack (c ∷ []) m n → IsReleased o n
+  released-single o m n c e f h = elim h [
+    | inl s ↦ inl (s ∙ (ap (λ (x : Outgoing J). record x { put = x.put ++ c ∷ []; batches = x.batches + 1 }) f
+        ∙ ap (λ l. record o { put = o.put ++ l; batches = o.batches + 1; bypass = []; pace = emptied o.pace }) (sym e)))
+    | inr p ↦ inr (subst (λ (x : Outgoing J). FIRST_SLOTS ≤ x.batches) f p.0, p.1 ∙ (ap (λ (x : Outgoing J). record x { bypass = c ∷ []; pace = refilled (c ∷ []) x.pace }) f
+        ∙ ap (λ l. record o { bypass = l; pace = refilled l o.pace }) (sym e)))
   ]
 
   pub released-any-passes : (o n : Outgoing J) → IsReleasedIfAny o n → n.put ++ n.bypass ≡ o.put ++ o.bypass

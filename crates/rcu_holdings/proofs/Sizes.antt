@@ -5,9 +5,9 @@ use denote.RattleType.{RattleType}
 use prog.Memory.{up}
 use Rattle.rcu_lists.specs.contracts.batch.Batch as batch_row
 use Rattle.rcu_lists.specs.contracts.bypass.Bypass as bypass_row
-use Rattle.rcu_holdings.specs.contracts.caller.Caller as caller_row
+use Rattle.rcu_holdings.specs.contracts.processor_lists.ProcessorLists as caller_row
 use Rattle.rcu_holdings.specs.contracts.hand.Held as held_row
-use Rattle.rcu_holdings.specs.contracts.member.Member as member_row
+use Rattle.rcu_holdings.specs.contracts.member_lists.MemberLists as member_row
 
 -- the last field
 pub in_struct : (a off x : ℕ) → up a (off + x) < 9223372036854775808 → x < 9223372036854775808
@@ -28,8 +28,8 @@ member-batch R h = in_struct _ _ _ h
 pub held-batch : (R : RattleType) → FitsInMemory (held_row.the_row R) → FitsInMemory (batch_row.the_row R)
 held-batch R h = in_struct _ _ _ h
 
-pub caller-bypass : (R : RattleType) → FitsInMemory (caller_row.the_row R) → FitsInMemory (bypass_row.the_row R)
-caller-bypass R h = in_struct _ _ _ h
+pub processor_lists-bypass : (R : RattleType) → FitsInMemory (caller_row.the_row R) → FitsInMemory (bypass_row.the_row R)
+processor_lists-bypass R h = in_struct _ _ _ h
 
 pub bypass-batch : (R : RattleType) → FitsInMemory (bypass_row.the_row R) → FitsInMemory (batch_row.the_row R)
 bypass-batch R h = in_third _ _ _ _ _ _ _ _ h

@@ -1,11 +1,11 @@
 // How a processor takes a new callback on: docs/specification/rules.md, "The calls, step by step", call_rcu.
 ghost use Rattle.std.specs.Prelude.{◌≡◌, ◌<◌, true, [], ◌∷◌, ◌++◌, length, IsOk, OnOk};
 ghost use Rattle.rcu_lanes.specs.Ends.{SameRear};
-ghost use Rattle.rcu_holdings.specs.Callers.{holding, rear_of, passed_on, IsReady, Takes};
+ghost use Rattle.rcu_holdings.specs.ProcessorLists.{holding, rear_of, passed_on, IsReady, Takes};
 ghost use Rattle.rcu_holdings.specs.Modes.{is_offloaded};
-ghost use Rattle.rcu_holdings.specs.Safe.{IsSafe};
+ghost use Rattle.rcu_holdings.specs.Limits.{IsSafe};
 
-use crate::caller::Caller;
+use crate::processor_lists::ProcessorLists;
 use crate::sending::hold_or_send;
 use rcu_jobs::{Callback, Mode};
 use rcu_lists::Kind;
@@ -22,7 +22,7 @@ pub(crate) fn in_offloaded(mode: Mode) -> bool
     }
 }
 
-impl<J: Drop> Caller<J> {
+impl<J: Drop> ProcessorLists<J> {
     /// Finds room for one more callback, in the list that it goes to in this mode.
     ///
     /// # Errors
@@ -58,7 +58,7 @@ impl<J: Drop> Caller<J> {
         ensures places { passed_on (holding self.new) ≡ passed_on (holding self.old) ++ callback ∷ [] }
     {
         if in_offloaded(self.mode) {
-            hold_or_send(&mut self.rear, &mut self.bypass, moment, kind, callback);
+            hold_or_send(&mut self.outlet, &mut self.bypass, moment, kind, callback);
         } else {
             self.own.enqueue(callback);
         }

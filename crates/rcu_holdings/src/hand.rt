@@ -6,48 +6,37 @@ ghost use Rattle.rcu_lanes.specs.Ends.{SameFront, items_drawn};
 ghost use Rattle.rcu_lists.specs.Batches.{batch_items};
 ghost use Rattle.rcu_holdings.specs.Ends.{EndsWith};
 ghost use Rattle.rcu_holdings.specs.Lanes.{drawn_calls};
-ghost use Rattle.rcu_holdings.specs.Safe.{AreSafe, IsSafe};
+ghost use Rattle.rcu_holdings.specs.Limits.{AreSafe, IsSafe};
 
-use crate::safe::Safe;
+use crate::fetched::Fetched;
+use crate::lane_ends::Inlet;
+use crate::limits::LaneLimits;
 use rcu_jobs::Callback;
-use rcu_lanes::{Draw, Front};
-use rcu_lists::Batch;
+use rcu_lanes::Front;
+use rcu_lists::{Batch, Parcel};
 use std::alloc::Global;
-
-/// The answer to a fetch.
-#[must_use]
-#[derive(Clone, Copy, Debug, PartialEq, Eq)]
-pub enum Fetched {
-    /// There is a batch, drawn now or held before.
-    Got,
-    /// None was held, and the lane was empty at one moment of the call.
-    Empty,
-    /// None was held, and another step on the lane was in the way.
-    Again,
-}
 
 /// The batch of a hand, and the end of the done lane that it draws from. What was drawn is what was taken, and then
 /// what is held.
-#[derive(Drop)]
 pub struct Held<J> {
-    pub(crate) front: Front<Batch<J>, Safe>,
+    pub(crate) inlet: Inlet<J>,
     pub(crate) batch: Batch<J>,
-    ghost order: { EndsWith (drawn_calls front) (batch_items batch) },
+    ghost order: { EndsWith (drawn_calls inlet.front) (batch_items batch) },
     ghost safe: { AreSafe (batch_items batch) },
 }
 
 impl<J: Drop> Held<J> {
-    ghost use Rattle.rcu_holdings.specs.declared.hand.Fetched.TheVariants.{Got};
+    ghost use Rattle.rcu_holdings.specs.declared.fetched.Fetched.TheVariants.{Got};
     ghost use Rattle.rcu_holdings.specs.Helds.{front_of, drawn_by, held_by, taken_by};
 
     /// A hand that has drawn nothing.
-    pub fn new(alloc: Global, front: Front<Batch<J>, Safe>) -> Held<J>
+    pub fn new(alloc: Global, front: Front<Parcel<J>, LaneLimits>) -> Held<J>
         requires { items_drawn front ≡ [] }
         ensures front { front_of result ≡ front }
         ensures empty { (drawn_by result ≡ []) × (held_by result ≡ []) }
     {
         Held {
-            front,
+            inlet: Inlet::new(front),
             batch: Batch::new(alloc),
         }
     }
@@ -67,14 +56,7 @@ impl<J: Drop> Held<J> {
         if !self.batch.is_empty() {
             return Fetched::Got;
         }
-        match self.front.draw() {
-            Draw::Got(batch) => {
-                self.batch = batch;
-                Fetched::Got
-            }
-            Draw::Empty => Fetched::Empty,
-            Draw::Again => Fetched::Again,
-        }
+        self.inlet.draw_into(&mut self.batch)
     }
 
     /// The first callback.
@@ -98,13 +80,19 @@ impl<J: Drop> Held<J> {
     }
 
     /// The end that it draws from, and the batch.
-    pub fn into_parts(self) -> (Front<Batch<J>, Safe>, Batch<J>)
+    pub fn into_parts(self) -> (Front<Parcel<J>, LaneLimits>, Batch<J>)
         ensures front { result.0 ≡ front_of self }
         ensures batch { batch_items result.1 ≡ held_by self }
         ensures order { drawn_by self ≡ taken_by self ++ held_by self }
         ensures safe { AreSafe (batch_items result.1) }
     {
-        let Held { front, batch } = self;
-        (front, batch)
+        let Held { inlet, batch } = self;
+        (inlet.into_front(), batch)
+    }
+}
+
+impl<J: Drop> Drop for Held<J> {
+    fn drop(self) {
+        let Held { inlet: _, batch: _ } = self;
     }
 }

@@ -5,19 +5,23 @@
 //! The rules stand in docs/specification/rules.md, "Bypass lists", "Groups", "Modes" and "The calls, step by step".
 #![tactic(auto)]
 
-mod caller;
 mod calling;
+mod fetched;
 mod hand;
 mod joining;
+mod lane_ends;
+mod limits;
 mod looking;
-mod member;
+mod member_lists;
+mod processor_lists;
 mod relaying;
-mod safe;
 mod sending;
 mod switching;
 mod viewing;
 
-pub use caller::Caller;
-pub use hand::{Fetched, Held};
-pub use member::{MOST_BATCHES, Member};
-pub use safe::Safe;
+pub use fetched::Fetched;
+pub use hand::Held;
+pub use lane_ends::{Inlet, Outlet};
+pub use limits::LaneLimits;
+pub use member_lists::{MOST_BATCHES, MemberLists};
+pub use processor_lists::ProcessorLists;

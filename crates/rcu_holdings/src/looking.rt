@@ -4,15 +4,15 @@ ghost use Rattle.rcu_jobs.specs.declared.callback.Callback.{Callback};
 ghost use Rattle.rcu_numbers.specs.Numbers.{snap_of};
 ghost use Rattle.rcu_lists.specs.Labels.{Done, Labelled, marked, count, is_done};
 ghost use Rattle.rcu_holdings.specs.Aims.{AreUpTo, wanted};
-ghost use Rattle.rcu_holdings.specs.Callers.{holding, rear_of, held_in, after_look};
-ghost use Rattle.rcu_holdings.specs.Safe.{IsSafe};
+ghost use Rattle.rcu_holdings.specs.ProcessorLists.{holding, rear_of, held_in, after_look};
+ghost use Rattle.rcu_holdings.specs.Limits.{IsSafe};
 
-use crate::caller::Caller;
+use crate::processor_lists::ProcessorLists;
 use crate::viewing::look_at;
 use rcu_jobs::Callback;
 use rcu_numbers::GREATEST_NUMBER;
 
-impl<J: Drop> Caller<J> {
+impl<J: Drop> ProcessorLists<J> {
     /// Advances the own list by the number seen, and accelerates it by `snap` of the greater of that number and the
     /// newest stamp. Answers that where some callback waits for it, and it is to be asked for.
     pub fn look(&mut self, seen: u64) -> Option<u64>

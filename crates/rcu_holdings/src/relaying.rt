@@ -4,18 +4,15 @@ ghost use Rattle.std.proofs.Common.{◌⊎◌};
 ghost use Rattle.rcu_lanes.specs.Ends.{SameFront, SameRear};
 ghost use Rattle.rcu_lists.specs.Batches.{batch_items};
 ghost use Rattle.rcu_lists.specs.Labels.{callbacks_of, count, is_done};
-ghost use Rattle.rcu_holdings.specs.Members.{Relay, relay, front_of, rear_of, joined, Draws, TakesIn, Loads, Hands, Gives, GivesSome};
-ghost use Rattle.rcu_holdings.specs.Safe.{AreSafe};
+ghost use Rattle.rcu_holdings.specs.MemberLists.{Relay, relay, front_of, rear_of, joined, Draws, TakesIn, Loads, Hands, Gives, GivesSome};
 
+use crate::fetched::Fetched;
 use crate::joining::join;
-use crate::member::{MOST_BATCHES, Member};
-use crate::safe::Safe;
-use rcu_jobs::Callback;
-use rcu_lanes::{Draw, Front, Rear};
-use rcu_lists::{Batch, INLINE_PLACES};
-use std::collections::VecDeque;
+use crate::member_lists::{MOST_BATCHES, MemberLists};
+use rcu_lanes::Draw;
+use rcu_lists::INLINE_PLACES;
 
-impl<J: Drop> Member<J> {
+impl<J: Drop> MemberLists<J> {
     /// Draws up to [`MOST_BATCHES`] batches of the member's lane, each joined to the end of next. A batch that waits
     /// joins first; where there is no room for it, nothing is drawn. Answers how many callbacks were drawn.
     pub fn take_in(&mut self) -> u64
@@ -55,13 +52,10 @@ impl<J: Drop> Member<J> {
         ensures draws { result ≡ true → Draws (relay self.old) (relay self.new) }
         ensures none { result ≡ false → relay self.new ≡ relay self.old }
     {
-        match self.front.draw() {
-            Draw::Got(batch) => {
-                self.drawn = batch;
-                true
-            }
-            Draw::Empty => false,
-            Draw::Again => false,
+        match self.inlet.draw_into(&mut self.drawn) {
+            Fetched::Got => true,
+            Fetched::Empty => false,
+            Fetched::Again => false,
         }
     }
 
@@ -103,43 +97,10 @@ impl<J: Drop> Member<J> {
             return 0;
         }
         let gave = self.out.len();
-        match self.rear.put(self.out.take_all()) {
-            Ok(()) => gave,
-            Err(back) => {
-                self.out = back;
-                0
-            }
+        if self.outlet.put_from(&mut self.out) {
+            gave
+        } else {
+            0
         }
-    }
-}
-
-impl<J: Drop> Member<J> {
-    /// The ends of its lanes, the callbacks of its list, the batch that was drawn, and the batch that is to be put.
-    pub fn into_parts(
-        self,
-    ) -> (
-        Front<Batch<J>, Safe>,
-        Rear<Batch<J>, Safe>,
-        VecDeque<Callback<J>>,
-        Batch<J>,
-        Batch<J>,
-    )
-        ensures ends { (result.0 ≡ front_of self) × (result.1 ≡ rear_of self) }
-        ensures list { result.2.items ≡ callbacks_of (relay self).list }
-        ensures drawn { batch_items result.3 ≡ (relay self).drawn }
-        ensures out { batch_items result.4 ≡ (relay self).out }
-
-        // What was drawn is what was put and what comes back, in order.
-        ensures order { (relay self).received ≡ (relay self).put ++ (batch_items result.4 ++ (result.2.items ++ batch_items result.3)) }
-        ensures safe { AreSafe result.2.items × AreSafe (batch_items result.3) × AreSafe (batch_items result.4) }
-    {
-        let Member {
-            front,
-            rear,
-            list,
-            drawn,
-            out,
-        } = self;
-        (front, rear, list.into_callbacks(), drawn, out)
     }
 }

@@ -1,12 +1,12 @@
 // A tick's release of the bypass list, and the modes: docs/specification/rules.md, "Bypass lists" and "Modes".
 ghost use Rattle.std.specs.Prelude.{◌≡◌, ◌/◌, ◌&&◌, ◌||◌, true, false};
 ghost use Rattle.rcu_lanes.specs.Ends.{SameRear};
-ghost use Rattle.rcu_holdings.specs.Callers.{Holding, holding, rear_of, put_by, passed_on, AskedOn, asked_off, Releases};
+ghost use Rattle.rcu_holdings.specs.ProcessorLists.{Holding, holding, rear_of, put_by, passed_on, AskedOn, asked_off, Releases};
 ghost use Rattle.rcu_holdings.specs.Modes.{is_local, is_offloaded, is_offloading, settled};
-ghost use Rattle.rcu_holdings.specs.Safe.{AreBelow};
+ghost use Rattle.rcu_holdings.specs.Limits.{AreBelow};
 
-use crate::caller::Caller;
 use crate::calling::in_offloaded;
+use crate::processor_lists::ProcessorLists;
 use crate::sending::{pour_out, send_in_tick};
 use rcu_jobs::Mode;
 
@@ -31,7 +31,7 @@ fn can_leave(mode: Mode, clear: bool) -> bool
     }
 }
 
-impl<J: Drop> Caller<J> {
+impl<J: Drop> ProcessorLists<J> {
     /// A tick's release of the bypass list: because of its moment, or where the processor is asked to leave
     /// offloading, or where it was urged by a barrier. Outside Offloaded the list is empty, and nothing is released.
     pub fn release(&mut self, moment: u64, leaving: bool, urged: bool)
@@ -40,7 +40,7 @@ impl<J: Drop> Caller<J> {
         ensures releases { Releases moment leaving urged (holding self.old) (holding self.new) }
         ensures places { passed_on (holding self.new) ≡ passed_on (holding self.old) }
     {
-        send_in_tick(&mut self.rear, &mut self.bypass, moment, leaving, urged);
+        send_in_tick(&mut self.outlet, &mut self.bypass, moment, leaving, urged);
     }
 
     /// Heeds what is asked of the processor, which accepted so many callbacks.
@@ -69,7 +69,7 @@ impl<J: Drop> Caller<J> {
         if in_offloaded(self.mode) {
             return;
         }
-        if pour_out(&mut self.own, &mut self.rear, &mut self.bypass) {
+        if pour_out(&mut self.own, &mut self.outlet, &mut self.bypass) {
             self.mode = Mode::Offloaded;
         } else {
             self.mode = Mode::Offloading;

@@ -4,7 +4,7 @@ ghost use Rattle.rcu_lists.specs.Labels.{callbacks_of};
 ghost use Rattle.rcu_lists.specs.Segments.{labelled, advanced_by, SegmentsRoom};
 ghost use Rattle.rcu_lists.specs.Stamps.{greater, newest_of};
 ghost use Rattle.rcu_holdings.specs.Aims.{AreUpTo, AreAimed, looked, wanted};
-ghost use Rattle.rcu_holdings.specs.Safe.{AreSafe};
+ghost use Rattle.rcu_holdings.specs.Limits.{AreSafe};
 
 use rcu_lists::Segments;
 use rcu_numbers::{GREATEST_NUMBER, snap};

@@ -3,7 +3,7 @@ use Rattle.std.proofs.Common.{◌≡◌, ℕ, ◌+◌, ◌<◌, List, [], ◌∷
 use Rattle.std.specs.List.{All}
 use Rattle.std.proofs.lemmas.List.Elements.{All-cons, All-head, All-nil, All-push, All-tail, All-weaker}
 use Rattle.rcu_jobs.specs.declared.callback.Callback.{Callback}
-use Rattle.rcu_holdings.specs.Safe.{AreBelow}
+use Rattle.rcu_holdings.specs.Limits.{AreBelow}
 
 module _ {J : Type 0} where
   -- what is below a number up to some place of a list

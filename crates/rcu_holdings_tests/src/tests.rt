@@ -1,11 +1,11 @@
 ghost use Rattle.std.specs.Prelude.{◌≡◌, ◌≤◌, length};
-ghost use Rattle.rcu_holdings.specs.Callers.{holding, passed_on};
-ghost use Rattle.rcu_holdings.specs.Safe.{AreBelow};
+ghost use Rattle.rcu_holdings.specs.ProcessorLists.{holding, passed_on};
+ghost use Rattle.rcu_holdings.specs.Limits.{AreBelow};
 
-use rcu_holdings::{Caller, Safe};
+use rcu_holdings::{ProcessorLists, LaneLimits};
 use rcu_jobs::{Callback, Lists, Mode};
 use rcu_lanes::{Draw, Front, ruled_lane};
-use rcu_lists::{Batch, Kind};
+use rcu_lists::{Kind, Parcel};
 use std::alloc::Global;
 use std::test::Fail;
 
@@ -15,12 +15,12 @@ const MOST_CALLS: u64 = 1000;
 /// The lists of an offloadable processor that was called so often, and the other end of its lane.
 #[derive(Drop)]
 struct Row {
-    front: Front<Batch<u64>, Safe>,
+    front: Front<Parcel<u64>, LaneLimits>,
     called: u64,
-    caller: Caller<u64>,
+    processor_lists: ProcessorLists<u64>,
     ghost few: { called ≤ 1000 },
-    ghost counted: { length (passed_on (holding caller)) ≡ called },
-    ghost below: { AreBelow called (passed_on (holding caller)) },
+    ghost counted: { length (passed_on (holding processor_lists)) ≡ called },
+    ghost below: { AreBelow called (passed_on (holding processor_lists)) },
 }
 
 impl Row {
@@ -28,10 +28,11 @@ impl Row {
         let Ok((front, rear)) = ruled_lane(alloc) else {
             return None;
         };
+        let processor_lists = ProcessorLists::new(alloc, rear, true, qhimark).ok()?;
         Some(Row {
             front,
             called: 0,
-            caller: Caller::new(alloc, rear, true, qhimark),
+            processor_lists,
         })
     }
 
@@ -41,7 +42,7 @@ impl Row {
         if MOST_CALLS <= number {
             return None;
         }
-        self.caller.reserve().ok()?;
+        self.processor_lists.reserve().ok()?;
         let callback = Callback {
             cpu: 0,
             number,
@@ -49,7 +50,7 @@ impl Row {
             stamp: 0,
             job: number,
         };
-        self.caller.place(moment, kind, callback);
+        self.processor_lists.place(moment, kind, callback);
         self.called += 1;
         Some(())
     }
@@ -64,22 +65,22 @@ impl Row {
 
     /// A tick's release.
     fn release(&mut self, moment: u64, leaving: bool, urged: bool) {
-        self.caller.release(moment, leaving, urged);
+        self.processor_lists.release(moment, leaving, urged);
     }
 
     /// Heeds what is asked.
     fn switch(&mut self, on: bool) {
-        self.caller.switch(on, self.called);
+        self.processor_lists.switch(on, self.called);
     }
 
     /// The turn word was read.
     fn settle(&mut self, turn: u64) {
-        self.caller.settle(turn);
+        self.processor_lists.settle(turn);
     }
 
     /// How many callbacks the bypass list holds.
     fn bypass(&self) -> u64 {
-        match self.caller.lists(self.called) {
+        match self.processor_lists.lists(self.called) {
             Lists::Cpu { bypass, .. } => bypass,
             Lists::Folk { .. } => 0,
         }
@@ -87,7 +88,7 @@ impl Row {
 
     /// How many callbacks of the own list have no number yet.
     fn bare(&self) -> u64 {
-        match self.caller.lists(self.called) {
+        match self.processor_lists.lists(self.called) {
             Lists::Cpu { lengths, .. } => lengths[3],
             Lists::Folk { .. } => 0,
         }
@@ -170,14 +171,14 @@ fn lazy_deoffload(rt: HostRuntime) -> Result<(), Fail> {
     let mut row = Row::new(rt.alloc(), 10000).expect(&rt, "lists");
     row.call(5, Kind::Lazy).expect(&rt, "a call");
     row.switch(false);
-    assert_eq!(rt; row.caller.mode(), Mode::Offloaded);
+    assert_eq!(rt; row.processor_lists.mode(), Mode::Offloaded);
     row.release(5, true, false);
     row.switch(false);
-    assert_eq!(rt; row.caller.mode(), Mode::Deoffloading);
+    assert_eq!(rt; row.processor_lists.mode(), Mode::Deoffloading);
     row.settle(1);
-    assert_eq!(rt; row.caller.mode(), Mode::Deoffloading);
+    assert_eq!(rt; row.processor_lists.mode(), Mode::Deoffloading);
     row.settle(2);
-    assert_eq!(rt; row.caller.mode(), Mode::Local);
+    assert_eq!(rt; row.processor_lists.mode(), Mode::Local);
     Ok(())
 }
 
@@ -186,11 +187,11 @@ fn switch_and_pour(rt: HostRuntime) -> Result<(), Fail> {
     let mut row = Row::new(rt.alloc(), 10000).expect(&rt, "lists");
     row.switch(false);
     row.settle(0);
-    assert_eq!(rt; row.caller.mode(), Mode::Local);
+    assert_eq!(rt; row.processor_lists.mode(), Mode::Local);
     row.call_often(4, 5).expect(&rt, "four calls");
     assert_eq!(rt; row.bare(), 4);
     row.switch(true);
-    assert_eq!(rt; row.caller.mode(), Mode::Offloaded);
+    assert_eq!(rt; row.processor_lists.mode(), Mode::Offloaded);
     assert_eq!(rt; row.bare(), 0);
     assert_eq!(rt; row.bypass(), 0);
     assert_eq!(rt; row.batches(), 1);

@@ -6,7 +6,7 @@ use Rattle.std.proofs.lemmas.List.Elements.{All-append, All-head, All-tail}
 use Rattle.std.proofs.lemmas.Option.{none-some}
 use Rattle.std.specs.Int.{from_bool}
 use Rattle.std.specs.List.{All}
-use Rattle.rcu_lending.specs.Gathers.{AreChecked, AreInPlace, IsInPlace, TakesOut, held_in, lents, parts_of}
+use Rattle.rcu_lending.specs.Gathers.{AreChecked, AreInPlace, BelongsAt, IsInPlace, TakesOut, held_in, lents, parts_of}
 use Rattle.rcu_lending.specs.Parts.{kind_of}
 use Rattle.rcu_lending.specs.declared.part.Lent.{Lent}
 use Rattle.rcu_lending.specs.declared.part.Opening.{Opening}
@@ -99,14 +99,7 @@ checked_more o kind i found held slots d after low stays c place is =
 pub checked_all : (o : Opening) (kind : PartKind) (i found : ℕ) (held now : Helds) → length held ≤ i → IsCheckedTo o kind i found held now → AreChecked o kind found held
 checked_all o kind i found held now end c = subst (λ hs. AreChecked o kind found hs) (take_all i held end) c.checked
 
--- ---- taking out
-
--- the parts of the first i slots are out, and the others are as they were
-pub record IsTakenTo {X : Type 0} (wrap : X → Part) (i : ℕ) (held now : Helds) (out : List X) : Type 0 where
-  pub took : map wrap out ≡ parts_of (take i held)
-  pub rest : (k : ℕ) → i ≤ k → get_or now k None ≡ get_or held k None
-  pub emptied : lents (take i now) ≡ []
-  pub long : length now ≡ length held
+-- ---- what a check that fails shows
 
 -- what is kept of each part is known of one
 pub kind_at : (P : Lent → Type 0) (held : Helds) (i : ℕ) → All P (lents held) → IfSome (get_or held i None) P
@@ -115,6 +108,37 @@ kind_at P (None ∷ hs) zero all = tt
 kind_at P (Some l ∷ hs) zero all = All-head P l (lents hs) all
 kind_at P (None ∷ hs) (suc i) all = kind_at P hs i all
 kind_at P (Some l ∷ hs) (suc i) all = kind_at P hs i (All-tail P l (lents hs) all)
+
+in_place_at : (o : Opening) (j k : ℕ) (held : Helds) → AreInPlace o j held → IsInPlace o (j + k) (get_or held k None)
+in_place_at o j k [] a = tt
+in_place_at o j zero (x ∷ xs) a = subst (λ n. IsInPlace o n x) (omega arith) a.0
+in_place_at o j (suc k) (x ∷ xs) a = subst (λ n. IsInPlace o n (get_or xs k None)) (omega arith) (in_place_at o (suc j) k xs a.1)
+
+belongs_by : (o : Opening) (k : ℕ) (kind : PartKind) (x : Option Lent) → IsInPlace o k x → IfSome x (λ l. kind_of l.part ≡ kind) → IfSome x (BelongsAt o k kind)
+belongs_by o k kind None place is = tt
+belongs_by o k kind (Some l) place is = (is, place.0, place.1)
+
+-- each part of those that are checked belongs where it is
+pub belongs_at : (o : Opening) (kind : PartKind) (many k : ℕ) (held : Helds) → AreChecked o kind many held → IfSome (get_or held k None) (BelongsAt o k kind)
+belongs_at o kind many k held a = belongs_by o k kind (get_or held k None) (subst (λ n. IsInPlace o n (get_or held k None)) (omega arith) (in_place_at o 0 k held a.places)) (kind_at (λ (l : Lent). kind_of l.part ≡ kind) held k a.kinds)
+
+pub belongs_here : (o : Opening) (kind : PartKind) (many i found : ℕ) (held : Helds) (slots : List Slot) (d : Slot) → i < length slots → IsCheckedTo o kind i found held (held_in slots) → AreChecked o kind many held
+    → IfSome (get_or slots i d).held.value (BelongsAt o i kind)
+belongs_here o kind many i found held slots d low c a =
+    subst (λ (x : Option Lent). IfSome x (BelongsAt o i kind)) (ap (λ hs. get_or hs i None) (sym c.same) ∙ get_or-map (λ (s : Slot). s.held.value) slots i d None low) (belongs_at o kind many i held a)
+
+-- so many were found as are wanted
+pub found_all : (o : Opening) (kind : PartKind) (many i found : ℕ) (held now : Helds) → length held ≤ i → IsCheckedTo o kind i found held now → AreChecked o kind many held → found ≡ many
+found_all o kind many i found held now end c a = sym (checked_all o kind i found held now end c).count ∙ a.count
+
+-- ---- taking out
+
+-- the parts of the first i slots are out, and the others are as they were
+pub record IsTakenTo {X : Type 0} (wrap : X → Part) (i : ℕ) (held now : Helds) (out : List X) : Type 0 where
+  pub took : map wrap out ≡ parts_of (take i held)
+  pub rest : (k : ℕ) → i ≤ k → get_or now k None ≡ get_or held k None
+  pub emptied : lents (take i now) ≡ []
+  pub long : length now ≡ length held
 
 -- there is one more than those before it
 pub one_more : (held : Helds) (i : ℕ) (l : Lent) → get_or held i None ≡ Some l → length (lents (take i held)) < length (lents held)

@@ -82,6 +82,10 @@ none_at (None ∷ hs) e zero = refl
 none_at (None ∷ hs) e (suc k) = none_at hs e k
 none_at (Some l ∷ hs) e k = absurd (omega (arith, ap length e))
 
+-- so none is in any of them
+pub none_in : (slots : List Slot) (k : ℕ) (d : Slot) → k < length slots → lents (held_in slots) ≡ [] → (get_or slots k d).held.value ≡ None
+none_in slots k d low none = sym (get_or-map (λ (s : Slot). s.held.value) slots k d None low) ∙ none_at (held_in slots) none k
+
 at_more : (k : ℕ) (xs : Helds) (x : Option Lent) → AreAt k xs → IfSome x (λ l. l.at ≡ k + length xs) → AreAt k (xs ++ x ∷ [])
 at_more k [] x a is = (subst (λ n. IfSome x (λ l. l.at ≡ n)) (omega arith) is, tt)
 at_more k (y ∷ ys) x a is = (a.0, at_more (suc k) ys x a.1 (subst (λ n. IfSome x (λ l. l.at ≡ n)) (omega arith) is))

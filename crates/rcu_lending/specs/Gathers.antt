@@ -1,11 +1,12 @@
 -- What slots have: the parts of one open, each in its place.
-use Rattle.std.specs.Prelude.{◌≡◌, ℕ, suc, Option, Some, None, IfSome, List, [], ◌∷◌, length, map, MatchOption, MatchResult, Result, IsErr, All, ⊤}
+use Rattle.std.specs.Prelude.{◌≡◌, ℕ, suc, true, false, Option, Some, None, IfSome, List, [], ◌∷◌, length, map, MatchOption, MatchResult, Result, IsErr, All, ⊤}
 use Rattle.std.specs.List.{filter_map}
+use Rattle.std.proofs.Common.{◌⊎◌}
 use Rattle.rcu_jobs.specs.declared.answers.Closed.{Closed as Ends}
-use Rattle.rcu_lending.specs.Parts.{kind_of}
+use Rattle.rcu_lending.specs.Parts.{is_closed, kind_of}
 use Rattle.rcu_lending.specs.Processors.{ForeignCpu, HasKey, foreign_key}
 use Rattle.rcu_lending.specs.declared.fault.Fault.{Fault}
-use Rattle.rcu_lending.specs.declared.fault.Fault.TheVariants.{Memory}
+use Rattle.rcu_lending.specs.declared.fault.Fault.TheVariants.{Empty, Memory, Other}
 use Rattle.rcu_lending.specs.declared.job.ForeignJob.{ForeignJob}
 use Rattle.rcu_lending.specs.declared.part.Lent.{Lent}
 use Rattle.rcu_lending.specs.declared.part.Opening.{Opening}
@@ -93,6 +94,14 @@ pub record AreHeld (o : Opening) (parts : ForeignParts) (slots : PartSlots) : Ty
   pub many_groups : length (groups_in parts) ≡ o.groups
   pub many_hands : length (hands_in parts) ≡ o.hands
 
+-- What is left of a runtime that was closed is there; and why a slot has nothing to let go.
+abbrev pub HasEnds : Option Lent → Type 0
+HasEnds held = (l : Lent) × (held ≡ Some l) × (is_closed l.part ≡ true)
+
+abbrev pub RefusesEnd : Fault → Option Lent → Type 0
+RefusesEnd fault None = fault ≡ Empty
+RefusesEnd fault (Some l) = (fault ≡ Other) × (is_closed l.part ≡ false)
+
 -- ---- what the program owes at close
 
 -- what close asks of all parts
@@ -124,6 +133,27 @@ pub record AreReady (o : Opening) (slots : PartSlots) : Type 0 where
   pub processors_are : AreChecked o kind.Processor o.processors (held_in slots.processors)
   pub groups_are : AreChecked o kind.Group o.groups (held_in slots.groups)
   pub hands_are : AreChecked o kind.Hand o.hands (held_in slots.hands)
+
+-- It belongs there: it is of this kind and of this open, for this place.
+abbrev pub BelongsAt : Opening → ℕ → PartKind → Lent → Type 0
+BelongsAt o k kind l = (kind_of l.part ≡ kind) × (l.opening ≡ o) × (l.at ≡ k)
+
+-- No read section is open.
+abbrev pub AreUnread : List Slot → Type 0
+AreUnread slots = All (λ s. s.reading ≡ 0) slots
+
+-- All parts of an open are in their slots, and no read section is open.
+pub record IsAllThere (o : Opening) (slots : PartSlots) : Type 0 where
+  pub ready : AreReady o slots
+  pub control_unread : slots.control.reading ≡ 0
+  pub driver_unread : slots.driver.reading ≡ 0
+  pub processors_unread : AreUnread slots.processors
+  pub groups_unread : AreUnread slots.groups
+  pub hands_unread : AreUnread slots.hands
+
+-- Then a close is refused for want of memory alone; and so where control's slot has the parts after a close for which there was none.
+abbrev pub CanTryClose : PartSlots → Type 0
+CanTryClose slots = ((o : Opening) × IsAllThere o slots) ⊎ HasKind kind.Closing slots.control.held.value
 
 -- What the slots have is what they had.
 pub record StayHeld (old new : PartSlots) : Type 0 where

@@ -1,10 +1,13 @@
 -- What open does: the parts of a new runtime in boxes, and then each in the slot of its place.
 use Rattle.std.specs.Prelude.{◌≡◌, ◌≢◌, ℕ, suc, ◌<◌, ◌≤◌, Option, Some, None, IfSome, List, [], ◌∷◌, length, map, ⊤}
 use Rattle.std.specs.Global.{Box}
+use Rattle.std.proofs.Common.{◌⊎◌}
 use Rattle.rcu_numbers.specs.declared.shape.Shape.{Shape}
-use Rattle.rcu_lending.specs.Gathers.{AreHeld, CanClose, ForeignParts, lent_of}
+use Rattle.rcu_lending.specs.Gathers.{AreHeld, CanClose, ForeignParts, lent_of, lents_in}
 use Rattle.rcu_lending.specs.Processors.{ForeignCpu}
 use Rattle.rcu_lending.specs.Runs.{ForeignHand}
+use Rattle.rcu_lending.specs.declared.fault.Fault.{Fault}
+use Rattle.rcu_lending.specs.declared.fault.Fault.TheVariants.{Full, Memory}
 use Rattle.rcu_lending.specs.declared.job.ForeignJob.{ForeignJob}
 use Rattle.rcu_lending.specs.declared.opening.Boxes.{Boxes}
 use Rattle.rcu_lending.specs.declared.part.Lent.{Lent}
@@ -15,6 +18,18 @@ use Rattle.rcu_lending.specs.declared.slot.PartSlots.{PartSlots}
 use Rattle.rcu_part_group.specs.declared.group.Group.{Group as TheGroup}
 use Rattle.rcu_parts.specs.OneOpen.{groups_in, hands_in, processors_in}
 use Rattle.rcu_parts.specs.Openings.{IsOpened}
+
+-- No slot has a part.
+pub record AreEmpty (slots : PartSlots) : Type 0 where
+  pub control_is : slots.control.held.value ≡ None
+  pub driver_is : slots.driver.held.value ≡ None
+  pub processors_are : lents_in slots.processors ≡ []
+  pub groups_are : lents_in slots.groups ≡ []
+  pub hands_are : lents_in slots.hands ≡ []
+
+-- Why nothing was opened: a slot has a part; or all are empty, and memory was refused.
+abbrev pub RefusesOpen : Fault → PartSlots → Type 0
+RefusesOpen fault slots = ((fault ≡ Full) × (AreEmpty slots → ⊥)) ⊎ ((fault ≡ Memory) × AreEmpty slots)
 
 -- what boxes have
 abbrev pub boxed : List (Box Lent) → List Lent

@@ -1,5 +1,5 @@
 -- Parts of any kind, and what a call on one does.
-use Rattle.std.specs.Prelude.{◌≡◌}
+use Rattle.std.specs.Prelude.{◌≡◌, Bool, true, false}
 use Rattle.rcu_lending.specs.declared.fault.Fault.{Fault}
 use Rattle.rcu_lending.specs.declared.fault.Fault.TheVariants.{Empty, NotRunning, Other, Running}
 use Rattle.rcu_lending.specs.declared.part.Part.{Part}
@@ -56,6 +56,19 @@ kind_of (Control c) = kind.Control
 kind_of (Closing c) = kind.Closing
 kind_of (Closed c) = kind.Other
 kind_of Nothing = kind.Other
+
+-- whether it is what is left of a runtime
+abbrev pub is_closed : Part → Bool
+is_closed (Processor p) = false
+is_closed (RunningProcessor b) = false
+is_closed (Hand h) = false
+is_closed (RunningHand b) = false
+is_closed (Group g) = false
+is_closed (Driver d) = false
+is_closed (Control c) = false
+is_closed (Closing c) = false
+is_closed (Closed c) = true
+is_closed Nothing = false
 
 -- Both are of one kind, and a call made of the one part the other.
 pub record Makes {X : Type 0} (kind : X → Part) (Does : X → X → Type 0) (old new : Part) : Type 0 where

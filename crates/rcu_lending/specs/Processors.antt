@@ -1,6 +1,7 @@
 -- What calls on a processor in a slot do, in the words of the processor's own calls.
-use Rattle.std.specs.Prelude.{◌≡◌, ℕ, Option, Result, MatchResult}
+use Rattle.std.specs.Prelude.{◌≡◌, ◌≢◌, ℕ, Option, Result, MatchResult}
 use Rattle.std.proofs.Common.{◌⊎◌}
+use Rattle.rcu_board.specs.Seats.{SawShut}
 use Rattle.rcu_control.specs.Barriers.{Opens, count_at}
 use Rattle.rcu_control.specs.declared.barrier.Barrier.{Barrier}
 use Rattle.rcu_jobs.specs.declared.answers.Refused.{Refused}
@@ -13,6 +14,7 @@ use Rattle.rcu_lending.specs.declared.part.BegunProcessor.{BegunProcessor}
 use Rattle.rcu_lending.specs.declared.part.Part.{Part}
 use Rattle.rcu_lending.specs.declared.part.Part.TheVariants.{Processor, RunningProcessor}
 use Rattle.rcu_lists.specs.declared.pace.Kind.{Kind}
+use Rattle.rcu_part_processor.specs.Accepting.{IsLimit}
 use Rattle.rcu_part_processor.specs.Calls.{IsAccepted, IsRefusedAs, KeepsAll}
 use Rattle.rcu_part_processor.specs.Processors.{IsSound, SameProcessor, board_of, view_of}
 use Rattle.rcu_part_processor.specs.Running as run
@@ -41,16 +43,19 @@ pub record ReportsOne (counted : Option ℕ) (p q : ForeignCpu) : Type 0 where
   pub lists : KeepsAll p.state q.state
   pub reports : Reports p.state.cpu counted (view_of p.state) (view_of q.state)
 
--- the job was accepted under this ticket
+-- the job was accepted under this ticket, by a processor that wasn't at its limit, nor seen to be shut
 pub record AcceptsOne (kind : Kind) (moment : ℕ) (job : ForeignJob) (t : Ticket) (p q : ForeignCpu) : Type 0 where
   pub kept : KeepsProcessor p q
   pub accepts : IsAccepted moment kind job.key job t p.state q.state
+  pub room : p.state.accepted ≢ p.state.limit
+  pub not_shut : SawShut p.state.cpu (view_of p.state) → ⊥
 
--- the job was refused, and nothing was accepted
+-- the job was refused, and nothing was accepted; at the limit for that reason
 pub record RefusesOne (job : ForeignJob) (refused : Refused ForeignJob) (p q : ForeignCpu) : Type 0 where
   pub kept : KeepsProcessor p q
   pub lists : KeepsAll p.state q.state
   pub why : IsRefusedAs job refused p.state q.state
+  pub full : p.state.accepted ≡ p.state.limit → IsLimit refused
 
 -- a barrier was opened, and nothing else changed
 pub record OpensOne (b : Barrier) (p q : ForeignCpu) : Type 0 where
@@ -76,11 +81,14 @@ pub record ReportsBegun (counted : Option ℕ) (p q : BegunProcessor) : Type 0 w
 pub record AcceptsBegun (kind : Kind) (moment : ℕ) (job : ForeignJob) (t : Ticket) (p q : BegunProcessor) : Type 0 where
   pub kept : KeepsBegun p q
   pub accepts : run.IsAccepted moment kind job.key job t p.processor.state q.processor.state
+  pub room : p.processor.state.accepted ≢ p.processor.state.limit
+  pub not_shut : SawShut p.processor.state.cpu (running_view p.processor.state) → ⊥
 
 pub record RefusesBegun (job : ForeignJob) (refused : Refused ForeignJob) (p q : BegunProcessor) : Type 0 where
   pub kept : KeepsBegun p q
   pub lists : run.KeepsAll p.processor.state q.processor.state
   pub why : run.IsRefusedAs job refused p.processor.state q.processor.state
+  pub full : p.processor.state.accepted ≡ p.processor.state.limit → IsLimit refused
 
 -- ---- by what the slot's part is
 

@@ -4,7 +4,7 @@ use Rattle.std.specs.Global.{Vec}
 use Rattle.std.specs.Option.{ok_or}
 use Rattle.std.specs.declared.result.Result.TheVariants.{Err}
 use Rattle.std.proofs.Common.{◌⊎◌}
-use Rattle.rcu_holdings.specs.Callers.{cpu_lists}
+use Rattle.rcu_holdings.specs.ProcessorLists.{cpu_lists}
 use Rattle.rcu_jobs.specs.declared.Lists.{Lists}
 use Rattle.rcu_jobs.specs.declared.callback.Record.{Record}
 use Rattle.rcu_lending.specs.Parts.{wrong_kind}

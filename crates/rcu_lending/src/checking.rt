@@ -1,7 +1,7 @@
 //! What close tests of slots before it takes anything.
 
-ghost use Rattle.std.specs.Prelude.{◌≡◌, IfOk, IfSome, IfNone, None, is_some};
-ghost use Rattle.rcu_lending.specs.Gathers.{AreChecked, IsInPlace, IsOfOpen, held_in};
+ghost use Rattle.std.specs.Prelude.{◌≡◌, IfErr, IfOk, IfSome, IfNone, None, is_some};
+ghost use Rattle.rcu_lending.specs.Gathers.{AreChecked, AreUnread, BelongsAt, IsInPlace, IsOfOpen, held_in};
 ghost use Rattle.rcu_lending.specs.Parts.{kind_of};
 
 use crate::fault::Fault;
@@ -18,6 +18,7 @@ impl Lent {
     fn belongs(&self, opening: Opening, at: u64, kind: PartKind) -> Result<(), Fault>
         ensures kind { IfOk result (λ _. kind_of self.now.part ≡ kind) }
         ensures place { IfOk result (λ _. (self.now.opening ≡ opening) × (self.now.at ≡ at)) }
+        ensures err { IfErr result (λ _. BelongsAt opening at kind self.now → ⊥) }
     {
         if self.part.kind() != kind {
             return Err(self.part.not_resting());
@@ -45,6 +46,8 @@ pub(crate) fn check_one(
     ensures full { IfOk result (λ full. full ≡ is_some slot.old.held.value) }
     ensures kind { IfOk result (λ _. IfSome slot.old.held.value (λ l. kind_of l.part ≡ kind)) }
     ensures place { IfOk result (λ _. IsInPlace opening at slot.old.held.value) }
+    ensures reading { slot.new.reading ≡ slot.old.reading }
+    ensures err { IfErr result (λ _. slot.old.reading ≡ 0 → IfSome slot.old.held.value (BelongsAt opening at kind) → ⊥) }
 {
     if slot.reading != 0 {
         return Err(Fault::Reading);
@@ -74,6 +77,7 @@ pub(crate) fn check_each(
 ) -> Result<(), Fault>
     ensures stay { held_in slots.new ≡ held_in slots.old }
     ensures checked { IfOk result (λ _. AreChecked opening kind many (held_in slots.old)) }
+    ensures err { IfErr result (λ _. AreUnread slots.old → AreChecked opening kind many (held_in slots.old) → ⊥) }
 {
     let mut found: u64 = 0;
     for place in 0..slots.len() {
@@ -95,6 +99,7 @@ impl Slot {
     /// The open and the kind of the slot's part, if there is one.
     pub(crate) fn peek(&mut self, alloc: Global) -> Option<(Opening, PartKind)>
         ensures stays { self.new.held.value ≡ self.old.held.value }
+        ensures reading { self.new.reading ≡ self.old.reading }
         ensures none { IfNone result (self.old.held.value ≡ None) }
         ensures some { IfSome result (λ t. IsOfOpen t.0 t.1 self.old.held.value) }
     {

@@ -1,8 +1,9 @@
 //! Closing the runtime of some slots.
 
-ghost use Rattle.std.specs.Prelude.{◌≡◌, ◌⊎◌, [], IfOk};
+ghost use Rattle.std.specs.Prelude.{◌≡◌, ◌⊎◌, [], IfErr, IfOk};
 ghost use Rattle.std.specs.Vec.{vec_capacity};
-ghost use Rattle.rcu_lending.specs.Gathers.{AreEmptied, AreHeld, AreOfTheOpen, AreReady, CanClose, Closes, ClosesAgain, OwesAgain, ComesTo, HasKind, HasPart, IsThere, Keeps, RefusesClose, StayHeld};
+ghost use Rattle.rcu_lending.specs.Gathers.{AreEmptied, AreHeld, AreOfTheOpen, AreReady, CanClose, CanTryClose, Closes, ClosesAgain, OwesAgain, ComesTo, HasKind, HasPart, IsAllThere, IsThere, Keeps, RefusesClose, StayHeld};
+ghost use Rattle.rcu_lending.specs.declared.fault.Fault.TheVariants.{Memory};
 ghost use Rattle.rcu_lending.specs.declared.part.Part.TheVariants as part;
 ghost use Rattle.rcu_lending.specs.declared.part.PartKind.TheVariants as kind;
 
@@ -53,6 +54,7 @@ fn check_there(
 ) -> Result<(), Fault>
     ensures stays { slot.new.held.value ≡ slot.old.held.value }
     ensures there { IfOk result (λ _. IsThere opening kind slot.old.held.value) }
+    ensures err { IfErr result (λ _. slot.old.reading ≡ 0 → IsThere opening kind slot.old.held.value → ⊥) }
 {
     match check_one(alloc, slot, opening, 0, kind) {
         Ok(true) => Ok(()),
@@ -69,6 +71,7 @@ fn check_there(
 fn check_all(alloc: Global, slots: &mut PartSlots, opening: Opening) -> Result<(), Fault>
     ensures stay { StayHeld slots.old slots.new }
     ensures ready { IfOk result (λ _. AreReady opening slots.new) }
+    ensures err { IfErr result (λ _. IsAllThere opening slots.old → ⊥) }
 {
     if let Err(fault) = check_there(alloc, &mut slots.control, opening, PartKind::Control) {
         return Err(fault);
@@ -185,7 +188,8 @@ fn close_again(alloc: Global, slot: &mut Slot, closing: Closing<ForeignJob>) -> 
 /// Closes the parts of an open, if all are in their slots.
 fn close_first(alloc: Global, slots: &mut PartSlots, opening: Opening) -> Result<(), Fault>
     requires owed { AreOfTheOpen slots.old }
-    ensures { Closes result slots.old slots.new ⊎ RefusesClose result slots.old slots.new }
+    ensures closes { Closes result slots.old slots.new ⊎ RefusesClose result slots.old slots.new }
+    ensures memory { IsAllThere opening slots.old → IfErr result (λ fault. fault ≡ Memory) }
 {
     if let Err(fault) = check_all(alloc, slots, opening) {
         return Err(fault);
@@ -217,7 +221,8 @@ fn close_kept(alloc: Global, slot: &mut Slot) -> Result<(), Fault>
 /// memory: then no slot has changed, or control's slot has all parts, and the others are empty; a further close tries again.
 pub fn close_from(alloc: Global, slots: &mut PartSlots) -> Result<(), Fault>
     requires owed { AreOfTheOpen slots.old }
-    ensures { Closes result slots.old slots.new ⊎ ClosesAgain result slots.old.control slots.new.control ⊎ RefusesClose result slots.old slots.new }
+    ensures closes { Closes result slots.old slots.new ⊎ ClosesAgain result slots.old.control slots.new.control ⊎ RefusesClose result slots.old slots.new }
+    ensures memory { CanTryClose slots.old → IfErr result (λ fault. fault ≡ Memory) }
 {
     let Some((opening, kind)) = slots.control.peek(alloc) else {
         return Err(Fault::Empty);

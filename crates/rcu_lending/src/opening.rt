@@ -1,8 +1,8 @@
 //! Opening a runtime into slots.
 
-ghost use Rattle.std.specs.Prelude.{◌≡◌, [], IfErr, IfOk, length, true};
+ghost use Rattle.std.specs.Prelude.{◌≡◌, ◌≢◌, [], IfErr, IfOk, length, true, false};
 ghost use Rattle.rcu_lending.specs.Gathers.{StayHeld, held_in, lent_of, lents_in};
-ghost use Rattle.rcu_lending.specs.Opens.{AreAt, AreRising, BoxesAll, OpensBoxes, OpensInto, TakesAt, boxed, lent_groups, lent_hands, lent_processors, places_of};
+ghost use Rattle.rcu_lending.specs.Opens.{AreAt, AreRising, BoxesAll, OpensBoxes, OpensInto, RefusesOpen, TakesAt, boxed, lent_groups, lent_hands, lent_processors, places_of};
 
 use crate::fault::Fault;
 use crate::job::ForeignJob;
@@ -141,6 +141,7 @@ fn put_each(slots: &mut [Slot], boxes: &mut VecDeque<Box<Lent>>)
 /// Whether all slots are empty.
 fn are_empty(slots: &[Slot]) -> bool
     ensures empty { result ≡ true → lents_in slots.now ≡ [] }
+    ensures full { result ≡ false → lents_in slots.now ≢ [] }
 {
     for place in 0..slots.len() {
         if slots[place].is_full() {
@@ -163,6 +164,7 @@ pub fn open_into(
 ) -> Result<(), Fault>
     ensures opened { IfOk result (λ _. OpensInto shape number slots.new) }
     ensures refused { IfErr result (λ _. StayHeld slots.old slots.new) }
+    ensures why { IfErr result (λ fault. RefusesOpen fault slots.old) }
 {
     if slots.control.is_full() || slots.driver.is_full() {
         return Err(Fault::Full);

@@ -3,6 +3,7 @@
 ghost use Rattle.std.specs.Int.{from_bool};
 ghost use Rattle.std.specs.Prelude.{◌≡◌, IfErr, IfOk, None};
 ghost use Rattle.rcu_lending.specs.Barriers.{OpensPart, PollsPart};
+ghost use Rattle.rcu_lending.specs.Gathers.{HasEnds, RefusesEnd};
 ghost use Rattle.rcu_lending.specs.Others.{DriverTurnsBy, GroupTurnsBy, HaltsBy, ReadsHaltBy, ShutsBy, SwitchesPart};
 ghost use Rattle.rcu_lending.specs.Processors.{CallsBy, ReportsBy};
 ghost use Rattle.rcu_lending.specs.Runs.{BeginsBy, FinishesBy};
@@ -325,6 +326,8 @@ impl Slot {
     pub fn end(&mut self, alloc: Global) -> Result<(), Fault>
         ensures err { IfErr result (λ _. self.new.held.value ≡ self.old.held.value) }
         ensures ok { IfOk result (λ _. self.new.held.value ≡ None) }
+        ensures ends { IfOk result (λ _. HasEnds self.old.held.value) }
+        ensures why { IfErr result (λ fault. RefusesEnd fault self.old.held.value) }
     {
         let Some(boxed) = self.take(alloc) else {
             return Err(Fault::Empty);

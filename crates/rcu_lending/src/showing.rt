@@ -2,6 +2,7 @@
 
 ghost use Rattle.std.specs.Prelude.{◌≡◌, slice_get};
 ghost use Rattle.std.specs.Option.{ok_or};
+ghost use Rattle.rcu_lending.specs.Parts.{is_closed};
 ghost use Rattle.rcu_lending.specs.Shows.{ShowsAccepted, ShowsBack, ShowsLeft, ShowsLists, ShowsRan, ShowsReports};
 ghost use Rattle.rcu_lending.specs.declared.fault.Fault.TheVariants.{NoneLeft};
 
@@ -28,7 +29,9 @@ fn record_at(records: &[Record<ForeignJob>], at: usize) -> Result<Record<Foreign
 
 impl Part {
     /// Whether it is what is left of a runtime.
-    pub fn is_closed(&self) -> bool {
+    pub fn is_closed(&self) -> bool
+        ensures { result ≡ is_closed self.now }
+    {
         match self {
             Part::Closed(_) => true,
             _ => false,

@@ -3,6 +3,7 @@ pub mod Bypasses
 pub mod Cut
 pub mod Filled
 pub mod Labels
+pub mod Parcels
 pub mod Release
 pub mod Segments
 pub mod Stamps

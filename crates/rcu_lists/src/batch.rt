@@ -1,6 +1,6 @@
 //! A short list of callbacks, as it goes over a lane.
 
-ghost use Rattle.std.specs.Prelude.{◌≡◌, ℕ, ◌+◌, ◌≤◌, ◌↔◌, [], ◌∷◌, ◌++◌, length, take, drop, IsOk, IsTrue, List, MatchOption, OnOk, OnErr};
+ghost use Rattle.std.specs.Prelude.{◌≡◌, ◌≢◌, ℕ, ◌+◌, ◌≤◌, ◌↔◌, [], ◌∷◌, ◌++◌, length, take, drop, IsOk, IsSome, IsTrue, List, MatchOption, OnOk, OnErr};
 ghost use Rattle.std.specs.VecDeque.{deque_capacity};
 ghost use Rattle.smallvec.specs.SmallVec.{HasRoomFor};
 ghost use Rattle.rcu_lists.specs.Filled.{AreFilled};
@@ -19,9 +19,9 @@ pub const INLINE_PLACES: usize = 16;
 #[derive(Drop)]
 pub struct Batch<J> {
     // An unused inline place wants a default value, so each place is an Option.
-    slots: SmallVec<Option<Callback<J>>, INLINE_PLACES>,
+    pub(crate) slots: SmallVec<Option<Callback<J>>, INLINE_PLACES>,
     // The places before this one were taken, and the others are filled.
-    next: usize,
+    pub(crate) next: usize,
     ghost within: { next ≤ length slots.items },
     ghost full: { AreFilled (drop next slots.items) },
     ghost inline: { INLINE_PLACES ≤ slots.capacity },
@@ -109,6 +109,22 @@ impl<J: Drop> Batch<J> {
         let first = slot.take();
         self.next = next + 1;
         first
+    }
+
+    /// Takes the callback of a batch that holds one alone, and leaves room for sixteen. None where it holds none or more,
+    /// and then nothing has moved.
+    pub fn take_single(&mut self) -> Option<Callback<J>>
+        ensures taken { MatchOption result
+            ((length (batch_items self.old) ≢ 1) × (self.new ≡ self.old))
+            (λ c. (batch_items self.old ≡ c ∷ []) × (batch_items self.new ≡ [])) }
+        ensures room { IsSome result → HasRoom self.new INLINE_PLACES }
+    {
+        if self.len() != 1 {
+            return None;
+        }
+        let single = self.take_first();
+        self.free_places();
+        single
     }
 
     /// Takes all callbacks, in order, and leaves none, with room for sixteen.

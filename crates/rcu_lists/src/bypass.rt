@@ -1,6 +1,6 @@
 //! The list in which an offloaded processor holds its callbacks back.
 
-ghost use Rattle.std.specs.Prelude.{◌≡◌, ◌↔◌, ℕ, ◌+◌, true, false, [], ◌∷◌, ◌++◌, None, IsOk, IsTrue, OnOk, OnErr, length};
+ghost use Rattle.std.specs.Prelude.{◌≡◌, ◌≢◌, ◌↔◌, ℕ, ◌+◌, true, false, [], ◌∷◌, ◌++◌, None, IsOk, IsSome, IsTrue, MatchOption, OnOk, OnErr, length};
 ghost use Rattle.rcu_lists.specs.Batches.{batch_items, HasRoom};
 ghost use Rattle.rcu_lists.specs.declared.batch.TheConstants.{INLINE_PLACES};
 
@@ -160,6 +160,41 @@ impl<J: Drop> Bypass<J> {
     {
         self.pace = self.pace.emptied();
         self.held.take_all()
+    }
+
+    /// Takes the list where it holds one callback alone. None where it holds none or more, and then nothing has moved. The
+    /// last moment and the count stay.
+    pub fn flush_single(&mut self) -> Option<Callback<J>>
+        ensures single { MatchOption result
+            ((length (bypass_items self.old) ≢ 1) × BypassUnchanged self.old self.new)
+            (λ c. (bypass_items self.old ≡ c ∷ []) × (bypass_items self.new ≡ []) × (bypass_pace self.new ≡ emptied (bypass_pace self.old))) }
+        ensures qhimark { bypass_qhimark self.new ≡ bypass_qhimark self.old }
+        ensures room { IsSome result → BypassRoom self.new INLINE_PLACES }
+    {
+        match self.held.take_single() {
+            None => None,
+            Some(single) => {
+                let rested = self.pace.emptied();
+                self.pace = rested;
+                Some(single)
+            }
+        }
+    }
+
+    /// Puts back a callback that was released alone, as a plain one. The last moment and the count stay.
+    pub fn refill_single(&mut self, single: Callback<J>)
+        requires none { bypass_items self.old ≡ [] }
+        ensures items { bypass_items self.new ≡ single ∷ [] }
+        ensures pace { bypass_pace self.new ≡ refilled (single ∷ []) (bypass_pace self.old) }
+        ensures qhimark { bypass_qhimark self.new ≡ bypass_qhimark self.old }
+    {
+        self.held.add(single);
+        self.pace = Pace {
+            last: self.pace.last,
+            direct: self.pace.direct,
+            plain: true,
+            lazy: None,
+        };
     }
 
     /// Puts back what was released, as plain callbacks. The last moment and the count stay.

@@ -13,17 +13,17 @@ use Rattle.rcu_board.specs.declared.view.View.{View}
 use Rattle.rcu_control.proofs.Stepping.{same_again}
 use Rattle.rcu_control.specs.Views.{IsBare, KeepsLists}
 use Rattle.rcu_holdings.specs.Aims.{AreUpTo, is_up_to, aim, wanted, looked as list_looked}
-use Rattle.rcu_holdings.specs.declared.member.TheConstants.{MOST_BATCHES}
-use Rattle.rcu_holdings.specs.Members.{Relay, relay, TakesIn, Gives, Loads, Hands}
+use Rattle.rcu_holdings.specs.declared.member_lists.TheConstants.{MOST_BATCHES}
+use Rattle.rcu_holdings.specs.MemberLists.{Relay, relay, TakesIn, Gives, Loads, Hands}
 use Rattle.rcu_holdings.proofs.Aims.{up-raised, look-needed}
-use Rattle.rcu_holdings.specs.declared.member.Member.{Member}
+use Rattle.rcu_holdings.specs.declared.member_lists.MemberLists.{MemberLists}
 use Rattle.rcu_jobs.specs.declared.callback.Callback.{Callback}
 use Rattle.rcu_lists.specs.Labels.{Labelled, Done, Bare, marked, callbacks_of, carries}
 use Rattle.rcu_numbers.specs.Words.{number_of}
 use Rattle.rcu_part_group.specs.Each.{Each, Sums}
 use Rattle.rcu_part_group.specs.GroupLaw.{AreMembers, IsLawfulGroup, relay_of}
-use Rattle.rcu_part_group.specs.Groups.{GivesTo, IsEmptyFolk, LooksAt, LooksAtAll, PassesOn, SameFolk, SameGroup, TakesFrom, held_of, members_of}
-use Rattle.rcu_part_group.specs.declared.folk.Folk.{Folk}
+use Rattle.rcu_part_group.specs.Groups.{GivesTo, IsEmptyGroupMember, LooksAt, LooksAtAll, PassesOn, SameGroupMember, SameGroup, TakesFrom, held_of, members_of}
+use Rattle.rcu_part_group.specs.declared.members.GroupMember.{GroupMember}
 use Rattle.rcu_part_group.specs.declared.group.GroupState.{GroupState}
 use Rattle.rcu_part_group.proofs.GroupLists.{each_all, each_zip, greatest_upto, zip_map, zip_again, zip_same}
 use Rattle.rcu_board.proofs.Facts.{same_seat}
@@ -85,7 +85,7 @@ module _ {J : Type 0} where
       (h.0, h.1 ∙ ap (λ l. l ++ h.0) k.2, h.2, h.3 ∙ k.1, h.4 ∙ k.0)
 
   -- no more than a processor accepts
-  pub gives_few : (most gave : ℕ) (m n : Member J) → Gives most gave (relay m) (relay n) → gave ≤ 1000000
+  pub gives_few : (most gave : ℕ) (m n : MemberLists J) → Gives most gave (relay m) (relay n) → gave ≤ 1000000
   gives_few most gave m n g = let p = gives_put most gave (relay m) (relay n) g in let r = relay n in
       omega (arith, n.few, ap length n.order, length-append r.put (r.out ++ (callbacks_of r.list ++ r.drawn)), ap length p.1, length-append (relay m).put p.0, p.2)
 
@@ -105,7 +105,7 @@ module _ {J : Type 0} where
   gives_left most gave o n g h = (hands_within most gave g.between n g.hands (loads_within most o g.between g.loads h)).1
 
   -- so much for each member
-  each_within : (blimit : ℕ) (answers : List ℕ) (ms ns : List (Folk J)) → Each (GivesTo blimit) answers ms ns → sum answers ≤ blimit * length ms
+  each_within : (blimit : ℕ) (answers : List ℕ) (ms ns : List (GroupMember J)) → Each (GivesTo blimit) answers ms ns → sum answers ≤ blimit * length ms
   each_within blimit [] [] [] e = omega arith
   each_within blimit [] [] (n ∷ ns) e = absurd e
   each_within blimit [] (m ∷ ms) ns e = absurd e
@@ -114,17 +114,17 @@ module _ {J : Type 0} where
   each_within blimit (a ∷ answers) (m ∷ ms) (n ∷ ns) e = let rest = each_within blimit answers ms ns e.1 in
       omega (arith, rest, e.0.few, sum_by-cons (λ (k : ℕ). k) a answers, mul-suc blimit (length ms))
 
-  pub sums_within : (blimit gave : ℕ) (ms ns : List (Folk J)) → Sums (GivesTo blimit) gave ms ns → gave ≤ blimit * length ms
+  pub sums_within : (blimit gave : ℕ) (ms ns : List (GroupMember J)) → Sums (GivesTo blimit) gave ms ns → gave ≤ blimit * length ms
   sums_within blimit gave ms ns s = let all = each_within blimit s.each ms ns s.elements in omega (arith, all, s.total_is)
 
   -- of the same group, whose members are as many
   pub within_same : (gave : ℕ) (p q : GroupState J) → SameGroup p q → gave ≤ q.blimit * length (members_of q) → gave ≤ p.blimit * length (members_of p)
   within_same gave p q same few = subst (λ (k : ℕ). gave ≤ k * length (members_of p)) same.blimit
-      (subst (λ (k : ℕ). gave ≤ q.blimit * k) (sym (length_all_zip SameFolk (members_of p) (members_of q) same.members)) few)
+      (subst (λ (k : ℕ). gave ≤ q.blimit * k) (sym (length_all_zip SameGroupMember (members_of p) (members_of q) same.members)) few)
 
   -- ---- places
 
-  passes : (m n : Folk J) (got given : List (Callback J)) → (relay_of n).received ≡ (relay_of m).received ++ got → (relay_of n).put ≡ (relay_of m).put ++ given → PassesOn m n
+  passes : (m n : GroupMember J) (got given : List (Callback J)) → (relay_of n).received ≡ (relay_of m).received ++ got → (relay_of n).put ≡ (relay_of m).put ++ given → PassesOn m n
   passes m n got given received put = record {
     got = got;
     given = given;
@@ -134,55 +134,55 @@ module _ {J : Type 0} where
         (sym (append_assoc (relay_of m).put (held_of m) got) ∙ (ap (λ l. l ++ got) (sym m.member.order) ∙ (sym received ∙ (n.member.order ∙ (ap (λ l. l ++ held_of n) put ∙ append_assoc (relay_of m).put given (held_of n))))));
   }
 
-  passes_again : (l m n : Folk J) → PassesOn l m → PassesOn m n → PassesOn l n
+  passes_again : (l m n : GroupMember J) → PassesOn l m → PassesOn m n → PassesOn l n
   passes_again l m n a b = passes l n (a.got ++ b.got) (a.given ++ b.given)
       (b.received ∙ (ap (λ cs. cs ++ b.got) a.received ∙ append_assoc (relay_of l).received a.got b.got))
       (b.put ∙ (ap (λ cs. cs ++ b.given) a.put ∙ append_assoc (relay_of l).put a.given b.given))
 
-  takes_passes : (took : ℕ) (m n : Folk J) → TakesFrom took m n → PassesOn m n
+  takes_passes : (took : ℕ) (m n : GroupMember J) → TakesFrom took m n → PassesOn m n
   takes_passes took m n t = passes m n t.takes.got [] t.takes.received (ap (λ (r : Relay J). r.put) t.takes.others ∙ sym (append-nil (relay_of m).put))
 
-  looks_passes : (seen : ℕ) (wants : Option ℕ) (m n : Folk J) → LooksAt seen wants m n → PassesOn m n
+  looks_passes : (seen : ℕ) (wants : Option ℕ) (m n : GroupMember J) → LooksAt seen wants m n → PassesOn m n
   looks_passes seen wants m n l = passes m n [] [] (ap (λ (r : Relay J). r.received) l.list ∙ sym (append-nil (relay_of m).received)) (ap (λ (r : Relay J). r.put) l.list ∙ sym (append-nil (relay_of m).put))
 
-  gives_passes : (blimit gave : ℕ) (m n : Folk J) → GivesTo blimit gave m n → PassesOn m n
+  gives_passes : (blimit gave : ℕ) (m n : GroupMember J) → GivesTo blimit gave m n → PassesOn m n
   gives_passes blimit gave m n g = let p = gives_put blimit gave (relay_of m) (relay_of n) g.gives in passes m n [] p.0 (p.3 ∙ sym (append-nil (relay_of m).received)) p.1
 
-  pub takes_places : (took : ℕ) (ms ns : List (Folk J)) → Sums TakesFrom took ms ns → AllZip PassesOn ms ns
+  pub takes_places : (took : ℕ) (ms ns : List (GroupMember J)) → Sums TakesFrom took ms ns → AllZip PassesOn ms ns
   takes_places took ms ns s = each_zip TakesFrom PassesOn takes_passes s.each ms ns s.elements
 
-  pub looks_places : (seen : ℕ) (most : Option ℕ) (ms ns : List (Folk J)) → LooksAtAll seen most ms ns → AllZip PassesOn ms ns
+  pub looks_places : (seen : ℕ) (most : Option ℕ) (ms ns : List (GroupMember J)) → LooksAtAll seen most ms ns → AllZip PassesOn ms ns
   looks_places seen most ms ns l = each_zip (LooksAt seen) PassesOn (looks_passes seen) l.wants ms ns l.members
 
-  pub gives_places : (blimit gave : ℕ) (ms ns : List (Folk J)) → Sums (GivesTo blimit) gave ms ns → AllZip PassesOn ms ns
+  pub gives_places : (blimit gave : ℕ) (ms ns : List (GroupMember J)) → Sums (GivesTo blimit) gave ms ns → AllZip PassesOn ms ns
   gives_places blimit gave ms ns s = each_zip (GivesTo blimit) PassesOn (gives_passes blimit) s.each ms ns s.elements
 
   -- ---- the same members
 
-  same_folk_again : (l m n : Folk J) → SameFolk l m → SameFolk m n → SameFolk l n
-  same_folk_again l m n a b = record { cpu = b.cpu ∙ a.cpu; front = b.front ∙ a.front; rear = b.rear ∙ a.rear }
+  same_group_member_again : (l m n : GroupMember J) → SameGroupMember l m → SameGroupMember m n → SameGroupMember l n
+  same_group_member_again l m n a b = record { cpu = b.cpu ∙ a.cpu; front = b.front ∙ a.front; rear = b.rear ∙ a.rear }
 
-  same_folks_again : (ls ms ns : List (Folk J)) → AllZip SameFolk ls ms → AllZip SameFolk ms ns → AllZip SameFolk ls ns
-  same_folks_again ls ms ns a b = zip_again SameFolk same_folk_again ls ms ns a b
+  same_group_members_again : (ls ms ns : List (GroupMember J)) → AllZip SameGroupMember ls ms → AllZip SameGroupMember ms ns → AllZip SameGroupMember ls ns
+  same_group_members_again ls ms ns a b = zip_again SameGroupMember same_group_member_again ls ms ns a b
 
-  pub takes_same : (took : ℕ) (ms ns : List (Folk J)) → Sums TakesFrom took ms ns → AllZip SameFolk ms ns
-  takes_same took ms ns s = each_zip TakesFrom SameFolk (λ n x y r. r.same) s.each ms ns s.elements
+  pub takes_same : (took : ℕ) (ms ns : List (GroupMember J)) → Sums TakesFrom took ms ns → AllZip SameGroupMember ms ns
+  takes_same took ms ns s = each_zip TakesFrom SameGroupMember (λ n x y r. r.same) s.each ms ns s.elements
 
-  pub looks_same : (seen : ℕ) (most : Option ℕ) (ms ns : List (Folk J)) → LooksAtAll seen most ms ns → AllZip SameFolk ms ns
-  looks_same seen most ms ns l = each_zip (LooksAt seen) SameFolk (λ n x y r. r.same) l.wants ms ns l.members
+  pub looks_same : (seen : ℕ) (most : Option ℕ) (ms ns : List (GroupMember J)) → LooksAtAll seen most ms ns → AllZip SameGroupMember ms ns
+  looks_same seen most ms ns l = each_zip (LooksAt seen) SameGroupMember (λ n x y r. r.same) l.wants ms ns l.members
 
-  pub gives_same : (blimit gave : ℕ) (ms ns : List (Folk J)) → Sums (GivesTo blimit) gave ms ns → AllZip SameFolk ms ns
-  gives_same blimit gave ms ns s = each_zip (GivesTo blimit) SameFolk (λ n x y r. r.same) s.each ms ns s.elements
+  pub gives_same : (blimit gave : ℕ) (ms ns : List (GroupMember J)) → Sums (GivesTo blimit) gave ms ns → AllZip SameGroupMember ms ns
+  gives_same blimit gave ms ns s = each_zip (GivesTo blimit) SameGroupMember (λ n x y r. r.same) s.each ms ns s.elements
 
-  members_kept : (ms ns : List (Folk J)) → AllZip SameFolk ms ns → AreMembers ms → AreMembers ns
+  members_kept : (ms ns : List (GroupMember J)) → AllZip SameGroupMember ms ns → AreMembers ms → AreMembers ns
   members_kept ms ns s a = record {
-    few = let f = a.few in omega (arith, length_all_zip SameFolk ms ns s);
-    rising = subst (λ (ps : List ℕ). AllPairs (λ p q. p < q) ps) (sym (zip_map SameFolk (λ (m : Folk J). m.cpu) (λ x y r. r.cpu) ms ns s)) a.rising;
+    few = let f = a.few in omega (arith, length_all_zip SameGroupMember ms ns s);
+    rising = subst (λ (ps : List ℕ). AllPairs (λ p q. p < q) ps) (sym (zip_map SameGroupMember (λ (m : GroupMember J). m.cpu) (λ x y r. r.cpu) ms ns s)) a.rising;
   }
 
   -- ---- over several steps
 
-  pub places_again : (ls ms ns : List (Folk J)) → AllZip PassesOn ls ms → AllZip PassesOn ms ns → AllZip PassesOn ls ns
+  pub places_again : (ls ms ns : List (GroupMember J)) → AllZip PassesOn ls ms → AllZip PassesOn ms ns → AllZip PassesOn ls ns
   places_again ls ms ns a b = zip_again PassesOn passes_again ls ms ns a b
 
   pub same_group_again : (p q r : GroupState J) → SameGroup p q → SameGroup q r → SameGroup p r
@@ -190,32 +190,32 @@ module _ {J : Type 0} where
     part = same_again _ _ _ _ _ _ a.part b.part;
     group = b.group ∙ a.group;
     blimit = b.blimit ∙ a.blimit;
-    members = same_folks_again (members_of p) (members_of q) (members_of r) a.members b.members;
+    members = same_group_members_again (members_of p) (members_of q) (members_of r) a.members b.members;
   }
 
-  pub folks_same : (ms : List (Folk J)) → AllZip SameFolk ms ms
-  folks_same ms = zip_same SameFolk (λ m. record { cpu = refl; front = refl; rear = refl }) ms
+  pub group_members_same : (ms : List (GroupMember J)) → AllZip SameGroupMember ms ms
+  group_members_same ms = zip_same SameGroupMember (λ m. record { cpu = refl; front = refl; rear = refl }) ms
 
-  pub places_same : (ms : List (Folk J)) → AllZip PassesOn ms ms
+  pub places_same : (ms : List (GroupMember J)) → AllZip PassesOn ms ms
   places_same ms = zip_same PassesOn (λ m. record { got = []; given = []; received = sym (append-nil (relay_of m).received); put = sym (append-nil (relay_of m).put); order = append-nil (held_of m) }) ms
 
   pub same_group : (p : GroupState J) → SameGroup p p
-  same_group p = record { part = record { board = refl; seat = same_seat _ }; group = refl; blimit = refl; members = folks_same (members_of p) }
+  same_group p = record { part = record { board = refl; seat = same_seat _ }; group = refl; blimit = refl; members = group_members_same (members_of p) }
 
   -- ---- the law
 
   -- a step on a word that no member waits for
-  pub lawful_later : (n i x : ℕ) (v w : View) (blimit : ℕ) (ms : List (Folk J)) → w ≡ touched i x v → NeverFalls n v w → IsLawfulGroup v blimit ms → IsLawfulGroup w blimit ms
+  pub lawful_later : (n i x : ℕ) (v w : View) (blimit : ℕ) (ms : List (GroupMember J)) → w ≡ touched i x v → NeverFalls n v w → IsLawfulGroup v blimit ms → IsLawfulGroup w blimit ms
   lawful_later n i x v w blimit ms e later l = record {
     bare = record { own = ap (λ (u : View). u.own) e ∙ l.bare.own; claims = ap (λ (u : View). u.claims) e ∙ l.bare.claims; running = ap (λ (u : View). u.running) e ∙ l.bare.running };
     members_are = l.members_are;
-    looked = All-weaker (λ (m : Folk J). (relay_of m).advanced ≤ sight v) (λ (m : Folk J). (relay_of m).advanced ≤ sight w) (λ m le. let b = later.board in omega arith) ms l.looked;
-    needed = All-weaker (λ (m : Folk J). AreUpTo (seen_at v needed_word) (relay_of m).list) (λ (m : Folk J). AreUpTo (seen_at w needed_word) (relay_of m).list)
+    looked = All-weaker (λ (m : GroupMember J). (relay_of m).advanced ≤ sight v) (λ (m : GroupMember J). (relay_of m).advanced ≤ sight w) (λ m le. let b = later.board in omega arith) ms l.looked;
+    needed = All-weaker (λ (m : GroupMember J). AreUpTo (seen_at v needed_word) (relay_of m).list) (λ (m : GroupMember J). AreUpTo (seen_at w needed_word) (relay_of m).list)
         (λ m up. up-raised (seen_at v needed_word) (seen_at w needed_word) (relay_of m).list later.needed up) ms l.needed;
     loaded = l.loaded;
   }
 
-  pub lawful_takes : (v : View) (blimit took : ℕ) (ms ns : List (Folk J)) → Sums TakesFrom took ms ns → IsLawfulGroup v blimit ms → IsLawfulGroup v blimit ns
+  pub lawful_takes : (v : View) (blimit took : ℕ) (ms ns : List (GroupMember J)) → Sums TakesFrom took ms ns → IsLawfulGroup v blimit ms → IsLawfulGroup v blimit ns
   lawful_takes v blimit took ms ns s l = record {
     bare = l.bare;
     members_are = members_kept ms ns (takes_same took ms ns s) l.members_are;
@@ -227,7 +227,7 @@ module _ {J : Type 0} where
         (λ n x y r t h. omega (arith, h, ap (λ (z : Relay J). length z.out) r.takes.others)) s.each ms ns s.elements (always s.each) l.loaded;
   }
 
-  pub lawful_gives : (v : View) (blimit gave : ℕ) (ms ns : List (Folk J)) → Sums (GivesTo blimit) gave ms ns → IsLawfulGroup v blimit ms → IsLawfulGroup v blimit ns
+  pub lawful_gives : (v : View) (blimit gave : ℕ) (ms ns : List (GroupMember J)) → Sums (GivesTo blimit) gave ms ns → IsLawfulGroup v blimit ms → IsLawfulGroup v blimit ns
   lawful_gives v blimit gave ms ns s l = record {
     bare = l.bare;
     members_are = members_kept ms ns (gives_same blimit gave ms ns s) l.members_are;
@@ -240,14 +240,14 @@ module _ {J : Type 0} where
   }
 
   -- what a look makes of one list
-  looks_upto : (seen s t : ℕ) (wants : Option ℕ) (m n : Folk J) → s ≤ t → LooksAt seen wants m n → IfSome wants (λ k. k ≤ t) → AreUpTo s (relay_of m).list → AreUpTo t (relay_of n).list
+  looks_upto : (seen s t : ℕ) (wants : Option ℕ) (m n : GroupMember J) → s ≤ t → LooksAt seen wants m n → IfSome wants (λ k. k ≤ t) → AreUpTo s (relay_of m).list → AreUpTo t (relay_of n).list
   looks_upto seen s t wants m n le l below h =
       let xs = (relay_of m).list in
       let wanted_below : IfSome (wanted seen xs) (λ k. k ≤ t) = subst (λ (o : Option ℕ). IfSome o (λ k. k ≤ t)) l.wants_is below in
       subst (λ (r : Relay J). AreUpTo t r.list) (sym l.list)
       (look-needed seen t xs (wants_upto t (aim seen xs) (carries (aim seen xs) (list_looked seen xs)) wanted_below) (up-raised s t xs le h))
 
-  pub lawful_looks : (r seen : ℕ) (v w : View) (blimit : ℕ) (most : Option ℕ) (ms ns : List (Folk J)) → KeepsLists (looked r v) w → sight w ≡ seen → seen_at v needed_word ≤ seen_at w needed_word
+  pub lawful_looks : (r seen : ℕ) (v w : View) (blimit : ℕ) (most : Option ℕ) (ms ns : List (GroupMember J)) → KeepsLists (looked r v) w → sight w ≡ seen → seen_at v needed_word ≤ seen_at w needed_word
       → IfSome most (λ n. n ≤ seen_at w needed_word) → LooksAtAll seen most ms ns → IsLawfulGroup v blimit ms → IsLawfulGroup w blimit ns
   lawful_looks r seen v w blimit most ms ns k at later below a l = record {
     bare = bare_looked r v w k l.bare;
@@ -262,12 +262,12 @@ module _ {J : Type 0} where
   }
 
   -- before any step
-  pub lawful_first : (v : View) (blimit : ℕ) (ms : List (Folk J)) → IsBare v → AreMembers ms → All (λ (m : Folk J). IsEmptyFolk m) ms → IsLawfulGroup v blimit ms
+  pub lawful_first : (v : View) (blimit : ℕ) (ms : List (GroupMember J)) → IsBare v → AreMembers ms → All (λ (m : GroupMember J). IsEmptyGroupMember m) ms → IsLawfulGroup v blimit ms
   lawful_first v blimit ms bare members empty = record {
     bare = bare;
     members_are = members;
-    looked = All-weaker (λ (m : Folk J). IsEmptyFolk m) (λ (m : Folk J). (relay_of m).advanced ≤ sight v) (λ m e. omega (arith, ap (λ (r : Relay J). r.advanced) e)) ms empty;
-    needed = All-weaker (λ (m : Folk J). IsEmptyFolk m) (λ (m : Folk J). AreUpTo (seen_at v needed_word) (relay_of m).list)
+    looked = All-weaker (λ (m : GroupMember J). IsEmptyGroupMember m) (λ (m : GroupMember J). (relay_of m).advanced ≤ sight v) (λ m e. omega (arith, ap (λ (r : Relay J). r.advanced) e)) ms empty;
+    needed = All-weaker (λ (m : GroupMember J). IsEmptyGroupMember m) (λ (m : GroupMember J). AreUpTo (seen_at v needed_word) (relay_of m).list)
         (λ m e. subst (λ (r : Relay J). AreUpTo (seen_at v needed_word) r.list) (sym e) (All-nil (λ (x : Labelled J). IsTrue (is_up_to (seen_at v needed_word) x.label)))) ms empty;
-    loaded = All-weaker (λ (m : Folk J). IsEmptyFolk m) (λ (m : Folk J). length (relay_of m).out ≤ blimit) (λ m e. omega (arith, ap (λ (r : Relay J). length r.out) e)) ms empty;
+    loaded = All-weaker (λ (m : GroupMember J). IsEmptyGroupMember m) (λ (m : GroupMember J). length (relay_of m).out ≤ blimit) (λ m e. omega (arith, ap (λ (r : Relay J). length r.out) e)) ms empty;
   }

@@ -1,3 +1,2 @@
 pub mod GroupLists
 pub mod GroupTurns
-pub mod Lives

@@ -11,8 +11,8 @@ use Rattle.rcu_board.specs.declared.board.Seat.{Seat}
 use Rattle.rcu_board.specs.declared.view.View.{View}
 use Rattle.rcu_control.specs.Views.{SamePart}
 use Rattle.rcu_holdings.specs.Aims.{wanted}
-use Rattle.rcu_holdings.specs.Members.{front_of, rear_of, TakesIn, after_look, Gives, GivesSome, folk_lists}
-use Rattle.rcu_holdings.specs.declared.member.TheConstants.{MOST_BATCHES}
+use Rattle.rcu_holdings.specs.MemberLists.{front_of, rear_of, TakesIn, after_look, Gives, GivesSome, folk_lists}
+use Rattle.rcu_holdings.specs.declared.member_lists.TheConstants.{MOST_BATCHES}
 use Rattle.rcu_jobs.specs.declared.callback.Callback.{Callback}
 use Rattle.rcu_jobs.specs.declared.turns.GroupTurn.{GroupTurn}
 use Rattle.rcu_jobs.specs.declared.turns.Lists.{Lists}
@@ -21,54 +21,54 @@ use Rattle.rcu_lists.specs.Labels.{callbacks_of}
 use Rattle.rcu_numbers.specs.Words.{Board}
 use Rattle.rcu_numbers.specs.declared.shape.Shape.{Shape}
 use Rattle.rcu_part_group.specs.Each.{Each, Sums, IsGreatest}
-use Rattle.rcu_part_group.specs.GroupLaw.{folks_in, relay_of}
-use Rattle.rcu_part_group.specs.declared.folk.Folk.{Folk}
+use Rattle.rcu_part_group.specs.GroupLaw.{group_members_in, relay_of}
+use Rattle.rcu_part_group.specs.declared.members.GroupMember.{GroupMember}
 use Rattle.rcu_part_group.specs.declared.group.GroupState.{GroupState}
 
 -- ---- one member
 
 module _ {J : Type 0} where
   -- the same member: its processor and the ends of its two lanes
-  pub record SameFolk (m n : Folk J) : Type 0 where
+  pub record SameGroupMember (m n : GroupMember J) : Type 0 where
     pub cpu : n.cpu ≡ m.cpu
     pub front : SameFront (front_of m.member) (front_of n.member)
     pub rear : SameRear (rear_of m.member) (rear_of n.member)
 
   -- so many callbacks were drawn from its lane, and joined its list
-  pub record TakesFrom (took : ℕ) (m n : Folk J) : Type 0 where
-    pub same : SameFolk m n
+  pub record TakesFrom (took : ℕ) (m n : GroupMember J) : Type 0 where
+    pub same : SameGroupMember m n
     pub takes : TakesIn MOST_BATCHES took (relay_of m) (relay_of n)
 
   -- its list was advanced by the number seen, and accelerated, and wants this number if any
-  pub record LooksAt (seen : ℕ) (wants : Option ℕ) (m n : Folk J) : Type 0 where
-    pub same : SameFolk m n
+  pub record LooksAt (seen : ℕ) (wants : Option ℕ) (m n : GroupMember J) : Type 0 where
+    pub same : SameGroupMember m n
     pub list : relay_of n ≡ after_look seen (relay_of m)
     pub wants_is : wants ≡ wanted seen (relay_of m).list
 
   -- the same for each member, and the greatest number wanted
-  pub record LooksAtAll (seen : ℕ) (most : Option ℕ) (olds news : List (Folk J)) : Type 0 where
+  pub record LooksAtAll (seen : ℕ) (most : Option ℕ) (olds news : List (GroupMember J)) : Type 0 where
     pub wants : List (Option ℕ)
     pub members : Each (LooksAt seen) wants olds news
     pub greatest : IsGreatest most wants
 
   -- so many of its done callbacks, at most `blimit`, were put on its done lane; some where up to sixteen are to be put, no
   -- batch waits, and the lane has room for its first batches
-  pub record GivesTo (blimit gave : ℕ) (m n : Folk J) : Type 0 where
-    pub same : SameFolk m n
+  pub record GivesTo (blimit gave : ℕ) (m n : GroupMember J) : Type 0 where
+    pub same : SameGroupMember m n
     pub gives : Gives blimit gave (relay_of m) (relay_of n)
     pub few : gave ≤ blimit
     pub some : GivesSome blimit gave (relay_of m)
 
   -- how many of its callbacks wait in batches, drawn or to be put
-  abbrev pub waiting_of : Folk J → ℕ
+  abbrev pub waiting_of : GroupMember J → ℕ
   waiting_of m = length (relay_of m).drawn + length (relay_of m).out
 
   -- what it holds, in order: what is to be put, the list, and what was drawn
-  abbrev pub held_of : Folk J → List (Callback J)
+  abbrev pub held_of : GroupMember J → List (Callback J)
   held_of m = (relay_of m).out ++ (callbacks_of (relay_of m).list ++ (relay_of m).drawn)
 
   -- The law of places: what it held, and then what was drawn, is what was put and then what it holds, jobs included.
-  pub record PassesOn (m n : Folk J) : Type 0 where
+  pub record PassesOn (m n : GroupMember J) : Type 0 where
     pub got : List (Callback J)
     pub given : List (Callback J)
     pub received : (relay_of n).received ≡ (relay_of m).received ++ got
@@ -76,13 +76,13 @@ module _ {J : Type 0} where
     pub order : held_of m ++ got ≡ given ++ held_of n
 
   -- What is shown for a processor: the list of the member that it is; None where it is none.
-  abbrev pub ShownFor : ℕ → Option Lists → List (Folk J) → Type 0
+  abbrev pub ShownFor : ℕ → Option Lists → List (GroupMember J) → Type 0
   ShownFor p None members = All (λ m. m.cpu ≢ p) members
   ShownFor p (Some shown) members = Any (λ m. (m.cpu ≡ p) × (shown ≡ folk_lists (relay_of m))) members
 
   -- nothing was drawn, put or held
-  abbrev pub IsEmptyFolk : Folk J → Type 0
-  IsEmptyFolk m = relay_of m ≡ record { received = []; draws = 0; drawn = []; list = []; advanced = 0; out = []; put = []; batches = 0 }
+  abbrev pub IsEmptyGroupMember : GroupMember J → Type 0
+  IsEmptyGroupMember m = relay_of m ≡ record { received = []; draws = 0; drawn = []; list = []; advanced = 0; out = []; put = []; batches = 0 }
 
 -- ---- a group
 
@@ -98,15 +98,15 @@ module _ {J : Type 0} where
   abbrev pub group_view : GroupState J → View
   group_view g = view g.seat
 
-  abbrev pub members_of : GroupState J → List (Folk J)
-  members_of g = folks_in g.members
+  abbrev pub members_of : GroupState J → List (GroupMember J)
+  members_of g = group_members_in g.members
 
   -- the same part of the same open: its seat, its number, its limit, and its members
   pub record SameGroup (p q : GroupState J) : Type 0 where
     pub part : SamePart (group_board p) (group_board q) p.seat q.seat
     pub group : q.group ≡ p.group
     pub blimit : q.blimit ≡ p.blimit
-    pub members : AllZip SameFolk (members_of p) (members_of q)
+    pub members : AllZip SameGroupMember (members_of p) (members_of q)
 
   -- batches of each member were drawn, so many callbacks in all
   pub record TakesInAll (took : ℕ) (p q : GroupState J) : Type 0 where
@@ -137,7 +137,7 @@ module _ {J : Type 0} where
     pub held : answer.held ≡ sum_by waiting_of (members_of q)
 
   -- group of a board, with its seat and its members
-  pub record IsNewGroupOf (shape : Shape) (b : Table) (group : ℕ) (s : Seat) (members : List (Folk J)) (g : GroupState J) : Type 0 where
+  pub record IsNewGroupOf (shape : Shape) (b : Table) (group : ℕ) (s : Seat) (members : List (GroupMember J)) (g : GroupState J) : Type 0 where
     pub board : group_board g ≡ b
     pub seat : g.seat ≡ s
     pub group_is : g.group ≡ group

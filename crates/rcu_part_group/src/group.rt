@@ -4,9 +4,9 @@ ghost use Rattle.std.specs.Prelude.{◌≡◌};
 ghost use Rattle.std.specs.Arc.{arc_value};
 ghost use Rattle.rcu_board.specs.Seats.{view, AtBoard};
 ghost use Rattle.rcu_board.specs.declared.board.Role.{Role};
-ghost use Rattle.rcu_part_group.specs.GroupLaw.{IsLawfulGroup, folks_in};
+ghost use Rattle.rcu_part_group.specs.GroupLaw.{IsLawfulGroup, group_members_in};
 
-use crate::folk::Members;
+use crate::members::GroupMembers;
 use rcu_board::{Board, Seat};
 use rcu_jobs::{Job, Lists};
 use rcu_numbers::Shape;
@@ -22,15 +22,14 @@ pub struct GroupState<J> {
     /// How many callbacks of a member a turn gives at most.
     pub(crate) blimit: u64,
     /// In rising order of processors.
-    pub(crate) members: Members<J>,
+    pub(crate) members: GroupMembers<J>,
     ghost here: { AtBoard (arc_value board) seat },
     ghost role: { seat.role ≡ Role.Group group },
-    ghost lawful: { IsLawfulGroup (view seat) blimit (folks_in members) },
+    ghost lawful: { IsLawfulGroup (view seat) blimit (group_members_in members) },
 }
 
 /// The part of a group: it takes what its members release, waits for the grace periods, and gives what is done to their
 /// hands.
-#[derive(Drop)]
 pub struct Group<J: Job> {
     pub(crate) state: GroupState<J>,
 }
@@ -39,7 +38,7 @@ impl<J: Job> Group<J> {
     ghost use Rattle.std.specs.Prelude.{All};
     ghost use Rattle.rcu_board.specs.Opened.{IsNewGroup};
     ghost use Rattle.rcu_part_group.specs.GroupLaw.{AreMembers};
-    ghost use Rattle.rcu_part_group.specs.Groups.{IsEmptyFolk, IsNewGroupOf, ShownFor, members_of};
+    ghost use Rattle.rcu_part_group.specs.Groups.{IsEmptyGroupMember, IsNewGroupOf, ShownFor, members_of};
 
     /// A group of a shape, from its seat and its members, of which nothing has come.
     pub fn new(
@@ -47,12 +46,12 @@ impl<J: Job> Group<J> {
         board: Arc<Board, Global>,
         seat: Seat,
         group: u64,
-        members: Members<J>,
+        members: GroupMembers<J>,
     ) -> Group<J>
         requires seat { IsNewGroup (arc_value board) group seat }
-        requires members { AreMembers (folks_in members) }
-        requires empty { All IsEmptyFolk (folks_in members) }
-        ensures { IsNewGroupOf shape.now (arc_value board) group seat (folks_in members) result.state }
+        requires members { AreMembers (group_members_in members) }
+        requires empty { All IsEmptyGroupMember (group_members_in members) }
+        ensures { IsNewGroupOf shape.now (arc_value board) group seat (group_members_in members) result.state }
     {
         Group {
             state: GroupState {
@@ -78,12 +77,27 @@ impl<J: Job> Group<J> {
     {
         self.state.members.lists(p)
     }
+
+    // Its seat and its members.
+    fn into_inner(self) -> (Seat, GroupMembers<J>)
+        ensures { (result.0 ≡ self.state.seat) × (result.1 ≡ self.state.members) }
+    {
+        let Group {
+            state: GroupState { seat, members, .. },
+        } = self;
+        (seat, members)
+    }
+}
+
+impl<J: Job> Drop for Group<J> {
+    fn drop(self) {
+        let Group { state: _ } = self;
+    }
 }
 
 /// The seat and the members of a group, which ends with it.
-pub fn into_parts<J: Job>(group: Group<J>) -> (Seat, Members<J>)
+pub fn into_parts<J: Job>(group: Group<J>) -> (Seat, GroupMembers<J>)
     ensures { (result.0 ≡ group.state.seat) × (result.1 ≡ group.state.members) }
 {
-    let GroupState { seat, members, .. } = group.state;
-    (seat, members)
+    group.into_inner()
 }

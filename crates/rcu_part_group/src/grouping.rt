@@ -10,16 +10,16 @@ ghost use Rattle.rcu_control.specs.Views.{KeepsLists};
 ghost use Rattle.rcu_numbers.specs.declared.sequence.TheConstants.{GREATEST_NUMBER};
 ghost use Rattle.rcu_numbers.specs.declared.shape.TheConstants.{MOST_CALLBACKS, MOST_PROCESSORS};
 ghost use Rattle.rcu_part_group.specs.Each.{IsGreatest, Sums};
-ghost use Rattle.rcu_part_group.specs.GroupLaw.{AreAdvancedTo, AreLoadedUpTo, AreWaitingTo, folks_in, relay_of};
+ghost use Rattle.rcu_part_group.specs.GroupLaw.{AreAdvancedTo, AreLoadedUpTo, AreWaitingTo, group_members_in, relay_of};
 ghost use Rattle.rcu_part_group.specs.Groups.{AsksFor, GivesTo, GivesToAll, LooksAt, LooksAtAll, LooksOnce, PassesOn, SameGroup, ShownFor, TakesFrom, TakesInAll, TurnsGroup, group_view, members_of, waiting_of};
 
-use crate::folk::{Folk, Members};
 use crate::group::Group;
+use crate::members::{GroupMember, GroupMembers};
 use rcu_board::{Board, Seat, need};
 use rcu_jobs::{GroupTurn, Job, Lists};
-use rcu_part_steps::watch;
+use rcu_part_steps::look_at_number;
 
-impl<J: Drop> Folk<J> {
+impl<J: Drop> GroupMember<J> {
     // Draws what came of the member. Answers how many callbacks.
     fn take_in(&mut self) -> u64
         ensures takes { TakesFrom result self.old self.new }
@@ -66,30 +66,30 @@ fn greatest(first: Option<u64>, second: Option<u64>) -> Option<u64>
     }
 }
 
-impl<J: Drop> Members<J> {
+impl<J: Drop> GroupMembers<J> {
     // Draws what came of all members. Answers how many callbacks.
     fn take_in(&mut self) -> u64
-        requires { length (folks_in self.old) ≤ MOST_PROCESSORS }
-        ensures { Sums TakesFrom result (folks_in self.old) (folks_in self.new) }
+        requires { length (group_members_in self.old) ≤ MOST_PROCESSORS }
+        ensures { Sums TakesFrom result (group_members_in self.old) (group_members_in self.new) }
     {
         let first = self.first.take_in();
         let mut took = 0;
-        for folk in self.others.iter_mut() {
-            took += folk.take_in();
+        for group_member in self.others.iter_mut() {
+            took += group_member.take_in();
         }
         first + took
     }
 
     // Looks at the lists of all members by the number seen. Answers the greatest number that one of them wants.
     fn look(&mut self, seen: u64) -> Option<u64>
-        requires later { AreAdvancedTo seen (folks_in self.old) }
+        requires later { AreAdvancedTo seen (group_members_in self.old) }
         requires small { seen ≤ GREATEST_NUMBER }
-        ensures { LooksAtAll seen result (folks_in self.old) (folks_in self.new) }
+        ensures { LooksAtAll seen result (group_members_in self.old) (group_members_in self.new) }
     {
         let first = self.first.look(seen);
         let mut most = first;
-        for folk in self.others.iter_mut() {
-            let wanted = folk.look(seen);
+        for group_member in self.others.iter_mut() {
+            let wanted = group_member.look(seen);
             most = greatest(most, wanted);
         }
         most
@@ -97,41 +97,41 @@ impl<J: Drop> Members<J> {
 
     // Gives what is done to the hands of all members. Answers how many callbacks.
     fn give(&mut self, blimit: u64) -> u64
-        requires many { length (folks_in self.old) ≤ MOST_PROCESSORS }
-        requires loaded { AreLoadedUpTo blimit (folks_in self.old) }
-        ensures { Sums (GivesTo blimit) result (folks_in self.old) (folks_in self.new) }
+        requires many { length (group_members_in self.old) ≤ MOST_PROCESSORS }
+        requires loaded { AreLoadedUpTo blimit (group_members_in self.old) }
+        ensures { Sums (GivesTo blimit) result (group_members_in self.old) (group_members_in self.new) }
     {
         let first = self.first.give(blimit);
         let mut gave = 0;
-        for folk in self.others.iter_mut() {
-            gave += folk.give(blimit);
+        for group_member in self.others.iter_mut() {
+            gave += group_member.give(blimit);
         }
         first + gave
     }
 
     // How many callbacks of all members wait in batches.
     fn waiting(&self) -> u64
-        requires { length (folks_in self.now) ≤ MOST_PROCESSORS }
-        ensures { result ≡ sum_by waiting_of (folks_in self.now) }
+        requires { length (group_members_in self.now) ≤ MOST_PROCESSORS }
+        ensures { result ≡ sum_by waiting_of (group_members_in self.now) }
     {
         let first = self.first.waiting();
         let mut waiting = 0;
-        for folk in &self.others {
-            waiting += folk.waiting();
+        for group_member in &self.others {
+            waiting += group_member.waiting();
         }
         first + waiting
     }
 
     /// What is shown of the list for processor `p`; None where that isn't a member.
     pub(crate) fn lists(&self, p: u64) -> Option<Lists>
-        ensures { ShownFor p result (folks_in self.now) }
+        ensures { ShownFor p result (group_members_in self.now) }
     {
         if self.first.cpu == p {
             return Some(self.first.member.lists());
         }
-        for folk in &self.others {
-            if folk.cpu == p {
-                return Some(folk.member.lists());
+        for group_member in &self.others {
+            if group_member.cpu == p {
+                return Some(group_member.member.lists());
             }
         }
         None
@@ -170,7 +170,7 @@ impl<J: Job> Group<J> {
         ensures fresh { tally (group_view self.new.state) board_word ≡ tally (group_view self.old.state) board_word + 1 }
     {
         let state = &mut self.state;
-        let seen = watch(&state.board, &mut state.seat).seq();
+        let seen = look_at_number(&state.board, &mut state.seat).seq();
         let most = state.members.look(seen);
         want(&state.board, &mut state.seat, most);
     }

@@ -11,9 +11,9 @@ ghost use Rattle.rcu_part_steps.specs.Begins.{IfRuns, IfStops};
 
 use crate::hand::{Hand, HandState};
 use crate::running::{RunningHand, RunningHandState};
-use rcu_jobs::{Callback, Job, Record, Stop};
+use rcu_jobs::{Job, Record, Stop};
 use rcu_numbers::snap;
-use rcu_part_steps::{Begins, ClaimedCallback, end_claim, take};
+use rcu_part_steps::{Begins, ClaimedCallback, end_claim};
 
 impl<J: Job> Hand<J> {
     // The first of what it holds, where its wait is over at the number of the look and there is room for its record.
@@ -45,58 +45,6 @@ impl<J: Job> Hand<J> {
             return Err(Stop::Memory);
         };
         Ok(claimed)
-    }
-
-    // Wins the claim of the first of what it holds, and hands its job out, or says that it isn't its turn.
-    fn claim(self, claimed: ClaimedCallback) -> Begins<RunningHand<J>, J, Hand<J>>
-        requires seen { sight (hand_view self.state) ≡ claimed.ready }
-        requires next { IsNext claimed.ready claimed self.state }
-        requires small { claimed.number < 1000000 }
-        requires room { vec_len self.state.ran < vec_capacity self.state.ran }
-        ensures same { IfRuns result (λ running _. SameBegun self.state running.state) }
-        ensures stays { IfStops result (λ hand _. SameHand self.state hand.state) }
-        ensures runs { IfRuns result (λ running job. ClaimsFirst claimed.ready self.state running.state job) }
-        ensures lost { IfStops result (λ hand _. Ran 0 1 claimed.ready self.state hand.state) }
-        ensures stops { IfStops result (λ hand stop. StopsAt stop 0 1 claimed.ready hand.state) }
-        ensures counts { IfStops result (λ _ stop. stop ≢ Limit) }
-        ensures keyed { IfRuns result (λ running job. IsKeyed J.key_of running.state job) }
-        ensures sound { IsSoundHand J.key_of J.gives self.state
-            → IfRuns result (λ running _. IsSoundRunning J.key_of J.gives running.state)
-            × IfStops result (λ hand _. IsSoundHand J.key_of J.gives hand.state) }
-    {
-        let HandState {
-            board,
-            mut seat,
-            cpu,
-            blimit,
-            ran,
-            mut held,
-        } = self.state;
-        if !take(&board, &mut seat, cpu, claimed.number) {
-            let state = HandState {
-                board,
-                seat,
-                cpu,
-                blimit,
-                ran,
-                held,
-            };
-            return Begins::Stops(Hand { state }, Stop::Turn);
-        }
-        let Some(callback) = held.take() else {
-            unreachable!()
-        };
-        let Callback { job, .. } = callback;
-        let state = RunningHandState {
-            board,
-            seat,
-            cpu,
-            blimit,
-            ran,
-            claimed,
-            held,
-        };
-        Begins::Runs(RunningHand { state }, job)
     }
 
     /// A turn up to its first claim: one look; where no batch is held, one is drawn; then the first callback is claimed,

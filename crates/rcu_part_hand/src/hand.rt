@@ -7,10 +7,12 @@ ghost use Rattle.rcu_board.specs.declared.board.Role.{Role};
 ghost use Rattle.rcu_holdings.specs.Helds.{taken_by};
 ghost use Rattle.rcu_part_hand.specs.HandLaw.{IsLawfulHand};
 
+use crate::running::{RunningHand, RunningHandState};
 use rcu_board::{Board, Role, Seat};
 use rcu_holdings::Held;
-use rcu_jobs::{Job, Record};
+use rcu_jobs::{Callback, Job, Record, Stop};
 use rcu_numbers::Shape;
+use rcu_part_steps::{Begins, ClaimedCallback, take};
 use std::alloc::Global;
 use std::sync::Arc;
 
@@ -30,7 +32,6 @@ pub struct HandState<J, R> {
 }
 
 /// The hand of an offloadable processor: it runs the callbacks that the group gives it, each under a claim of its number.
-#[derive(Drop)]
 pub struct Hand<J: Job> {
     pub(crate) state: HandState<J, J::Receipt>,
 }
@@ -79,11 +80,89 @@ impl<J: Job> Hand<J> {
     {
         self.state.ran.len()
     }
+
+    // What it has, which ends with it.
+    fn into_inner(self) -> HandState<J, J::Receipt>
+        ensures { result ≡ self.state }
+    {
+        let Hand { state } = self;
+        state
+    }
+}
+
+impl<J: Job> Hand<J> {
+    ghost use Rattle.std.specs.Prelude.{◌≢◌, ◌<◌};
+    ghost use Rattle.std.specs.Vec.{vec_len, vec_capacity};
+    ghost use Rattle.rcu_board.specs.Views.{sight};
+    ghost use Rattle.rcu_jobs.specs.declared.Stop.TheVariants.{Limit};
+    ghost use Rattle.rcu_part_hand.specs.Begins.{SameBegun, IsSoundRunning, IsKeyed, IsNext, ClaimsFirst};
+    ghost use Rattle.rcu_part_hand.specs.Hands.{SameHand, IsSoundHand, Ran, StopsAt, hand_view};
+    ghost use Rattle.rcu_part_steps.specs.Begins.{IfRuns, IfStops};
+
+    /// Wins the claim of the first of what it holds, and hands its job out, or says that it isn't its turn.
+    pub(crate) fn claim(self, claimed: ClaimedCallback) -> Begins<RunningHand<J>, J, Hand<J>>
+        requires seen { sight (hand_view self.state) ≡ claimed.ready }
+        requires next { IsNext claimed.ready claimed self.state }
+        requires small { claimed.number < 1000000 }
+        requires room { vec_len self.state.ran < vec_capacity self.state.ran }
+        ensures same { IfRuns result (λ running _. SameBegun self.state running.state) }
+        ensures stays { IfStops result (λ hand _. SameHand self.state hand.state) }
+        ensures runs { IfRuns result (λ running job. ClaimsFirst claimed.ready self.state running.state job) }
+        ensures lost { IfStops result (λ hand _. Ran 0 1 claimed.ready self.state hand.state) }
+        ensures stops { IfStops result (λ hand stop. StopsAt stop 0 1 claimed.ready hand.state) }
+        ensures counts { IfStops result (λ _ stop. stop ≢ Limit) }
+        ensures keyed { IfRuns result (λ running job. IsKeyed J.key_of running.state job) }
+        ensures sound { IsSoundHand J.key_of J.gives self.state
+            → IfRuns result (λ running _. IsSoundRunning J.key_of J.gives running.state)
+            × IfStops result (λ hand _. IsSoundHand J.key_of J.gives hand.state) }
+    {
+        let Hand {
+            state: HandState {
+                board,
+                mut seat,
+                cpu,
+                blimit,
+                ran,
+                mut held,
+            },
+        } = self;
+        if !take(&board, &mut seat, cpu, claimed.number) {
+            let state = HandState {
+                board,
+                seat,
+                cpu,
+                blimit,
+                ran,
+                held,
+            };
+            return Begins::Stops(Hand { state }, Stop::Turn);
+        }
+        let Some(callback) = held.take() else {
+            unreachable!()
+        };
+        let Callback { job, .. } = callback;
+        let state = RunningHandState {
+            board,
+            seat,
+            cpu,
+            blimit,
+            ran,
+            claimed,
+            held,
+        };
+        Begins::Runs(RunningHand { state }, job)
+    }
+}
+
+impl<J: Job> Drop for Hand<J> {
+    fn drop(self) {
+        let Hand { state: _ } = self;
+    }
 }
 
 /// What a hand's part has, which ends with it.
 pub fn into_state<J: Job>(hand: Hand<J>) -> HandState<J, J::Receipt>
     ensures { result ≡ hand.state }
 {
-    hand.state
+    hand.into_inner()
 }

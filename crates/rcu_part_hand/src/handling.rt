@@ -12,7 +12,7 @@ use crate::hand::Hand;
 use rcu_holdings::Fetched;
 use rcu_jobs::{HandTurn, Job, Stop};
 use rcu_numbers::snap;
-use rcu_part_steps::{run_claimed, take, watch};
+use rcu_part_steps::{look_at_number, run_claimed, take};
 
 impl<J: Job> Hand<J> {
     // Runs the first of what it holds, or says why not. The number `seen` is that of the turn's look.
@@ -78,7 +78,7 @@ impl<J: Job> Hand<J> {
         ensures sound { IsSoundHand J.key_of J.gives self.old.state → IsSoundHand J.key_of J.gives self.new.state }
     {
         let state = &mut self.state;
-        watch(&state.board, &mut state.seat).seq()
+        look_at_number(&state.board, &mut state.seat).seq()
     }
 
     // Draws a batch where none is held. Answers why nothing can run, if so.

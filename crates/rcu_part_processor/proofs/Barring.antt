@@ -14,7 +14,7 @@ use Rattle.rcu_control.specs.Views.{IsNoneOf, Untouched}
 use Rattle.rcu_control.specs.declared.barrier.Barrier.{Barrier}
 use Rattle.rcu_control.proofs.Stepping.{untouched, untouched_again}
 use Rattle.rcu_holdings.specs.Aims.{AreUpTo}
-use Rattle.rcu_holdings.specs.Callers.{Holding, put_by}
+use Rattle.rcu_holdings.specs.ProcessorLists.{Holding, put_by}
 use Rattle.rcu_jobs.specs.declared.Counts.{Counts}
 use Rattle.rcu_jobs.specs.declared.callback.Record.{Record}
 use Rattle.rcu_part_steps.specs.Changes.{Tells}

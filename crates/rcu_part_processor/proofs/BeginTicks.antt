@@ -3,7 +3,7 @@ use Rattle.std.proofs.Common.{◌≡◌, ℕ, true, false, ap, sym, ◌∙◌, r
 use Rattle.rcu_board.specs.Views.{seen_at}
 use Rattle.rcu_board.specs.Words.{turns_word}
 use Rattle.rcu_board.specs.declared.view.View.{View}
-use Rattle.rcu_holdings.specs.Callers.{Holding}
+use Rattle.rcu_holdings.specs.ProcessorLists.{Holding}
 use Rattle.rcu_jobs.specs.declared.Stop.{Stop}
 use Rattle.rcu_part_steps.specs.Begins.{claimed_as}
 use Rattle.rcu_part_steps.specs.Changes.{Claims, StepsOnly}

@@ -11,7 +11,7 @@ use Rattle.rcu_board.specs.Words.{needed_word}
 use Rattle.rcu_board.specs.declared.board.Board.{Board}
 use Rattle.rcu_board.specs.declared.view.View.{View}
 use Rattle.rcu_holdings.specs.Aims.{AreUpTo, is_up_to}
-use Rattle.rcu_holdings.specs.Callers.{Holding, held_in, put_by}
+use Rattle.rcu_holdings.specs.ProcessorLists.{Holding, held_in, put_by}
 use Rattle.rcu_lists.specs.Labels.{Labelled, callbacks_of}
 use Rattle.rcu_jobs.specs.declared.callback.Callback.{Callback}
 use Rattle.rcu_jobs.specs.declared.callback.Record.{Record}

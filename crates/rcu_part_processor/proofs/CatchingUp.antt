@@ -9,7 +9,7 @@ use Rattle.rcu_board.specs.declared.board.Seat.{Seat}
 use Rattle.rcu_board.specs.declared.view.View.{View}
 use Rattle.rcu_board.proofs.Facts.{seen-touched, words-at}
 use Rattle.rcu_holdings.specs.Aims.{AreUpTo}
-use Rattle.rcu_holdings.specs.Callers.{Holding, after_look, held_in, passed_on, put_by}
+use Rattle.rcu_holdings.specs.ProcessorLists.{Holding, after_look, held_in, passed_on, put_by}
 use Rattle.rcu_jobs.specs.declared.callback.Callback.{Callback}
 use Rattle.rcu_jobs.specs.declared.callback.Record.{Record}
 use Rattle.rcu_part_steps.specs.Changes.{Tells}

@@ -1,8 +1,8 @@
 -- A callback run in two steps is one run of a tick.
 use Rattle.std.proofs.Common.{◌≡◌, ℕ, ◌+◌, List, [], ◌∷◌, ◌++◌, ap, sym, ◌∙◌, subst}
 use Rattle.rcu_board.specs.Words.{turns_word}
-use Rattle.rcu_holdings.specs.Callers.{Holding, holding}
-use Rattle.rcu_holdings.specs.declared.caller.Caller.{Caller}
+use Rattle.rcu_holdings.specs.ProcessorLists.{Holding, holding}
+use Rattle.rcu_holdings.specs.declared.processor_lists.ProcessorLists.{ProcessorLists}
 use Rattle.rcu_jobs.specs.declared.callback.Record.{Record}
 use Rattle.rcu_lists.specs.Labels.{Done, marked}
 use Rattle.rcu_records.specs.Records.{numbered_record}
@@ -21,7 +21,7 @@ module _ {J R : Type 0} where
   pub ran_in_two_steps : (seen : ℕ) (p q : ProcessorState J R) → RunsInTwoSteps seen p q → NeverFallsBack p q → RanDone 1 1 seen p q
   ran_in_two_steps seen p q r later =
       let c = r.claims in let f = r.finishes in let b = r.between in let kept = record_with r.receipt b.claimed in
-      let lists : lists_of q ≡ running_lists b = ap (λ (x : Caller J). holding x) f.lists in
+      let lists : lists_of q ≡ running_lists b = ap (λ (x : ProcessorLists J). holding x) f.lists in
       done_one seen p q c.first kept
       (c.done ∙ ap (λ (h : Holding J). marked Done (c.first ∷ []) ++ h.own) (sym lists))
       (lists ∙ (c.others ∙ ap (λ (h : Holding J). record (lists_of p) { own = h.own }) (sym lists)))

@@ -12,8 +12,8 @@ use Rattle.rcu_board.specs.declared.view.Accepted.{Accepted as Entry}
 use Rattle.rcu_board.specs.declared.view.Claim.{Claim}
 use Rattle.rcu_board.specs.declared.view.View.{View}
 use Rattle.rcu_holdings.specs.Aims.{AreUpTo}
-use Rattle.rcu_holdings.specs.Callers.{Holding, held_in, put_by, passed_on}
-use Rattle.rcu_holdings.specs.Safe.{AreBelow}
+use Rattle.rcu_holdings.specs.ProcessorLists.{Holding, held_in, put_by, passed_on}
+use Rattle.rcu_holdings.specs.Limits.{AreBelow}
 use Rattle.rcu_holdings.proofs.Aims.{up-raised}
 use Rattle.rcu_jobs.specs.declared.callback.Callback.{Callback}
 use Rattle.rcu_jobs.specs.declared.callback.Record.{Record}

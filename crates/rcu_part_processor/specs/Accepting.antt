@@ -6,9 +6,9 @@ use Rattle.rcu_board.specs.Seats.{view}
 use Rattle.rcu_board.specs.Words.{accepts_word, bits_of}
 use Rattle.rcu_board.specs.declared.board.Seat.{Seat}
 use Rattle.rcu_board.specs.declared.view.View.{View}
-use Rattle.rcu_holdings.specs.Callers.{IsReady, Takes, holding}
+use Rattle.rcu_holdings.specs.ProcessorLists.{IsReady, Takes, holding}
 use Rattle.rcu_holdings.specs.Modes.{is_offloaded}
-use Rattle.rcu_holdings.specs.declared.caller.Caller.{Caller}
+use Rattle.rcu_holdings.specs.declared.processor_lists.ProcessorLists.{ProcessorLists}
 use Rattle.rcu_jobs.specs.declared.answers.Refused.{Refused}
 use Rattle.rcu_jobs.specs.declared.answers.Refused.TheVariants.{Limit, Memory, Closed}
 use Rattle.rcu_jobs.specs.declared.answers.Ticket.{Ticket}
@@ -26,15 +26,15 @@ pub record Accepting (J R : Type 0) : Type 0 where
   pub limit : ℕ
   pub accepted : ℕ
   pub view : View
-  pub lists : Caller J
+  pub lists : ProcessorLists J
   pub records : List (Record R)
 
 -- the pieces of a processor that a call is given, without its records
-abbrev pub pieces : {J : Type 0} → ℕ → ℕ → ℕ → Seat → Caller J → Accepting J (Unit {0})
+abbrev pub pieces : {J : Type 0} → ℕ → ℕ → ℕ → Seat → ProcessorLists J → Accepting J (Unit {0})
 pieces cpu limit count seat lists = record { cpu = cpu; limit = limit; accepted = count; view = view seat; lists = lists; records = [] }
 
 -- One more callback wants memory: the list that it goes to in this mode has no room, which an empty bypass list always has.
-pub record WantsMemory {J : Type 0} (lists : Caller J) : Type 0 where
+pub record WantsMemory {J : Type 0} (lists : ProcessorLists J) : Type 0 where
   pub full : IsReady lists → ⊥
   pub some : is_offloaded (holding lists).mode ≡ true → (holding lists).outgoing.bypass ≢ []
 

@@ -4,14 +4,14 @@ use Rattle.rcu_numbers.specs.declared.shape.Shape.{Shape}
 use Rattle.rcu_board.specs.Opened.{is_offloadable}
 use Rattle.rcu_board.specs.declared.board.Board.{Board}
 use Rattle.rcu_board.specs.declared.board.Seat.{Seat}
-use Rattle.rcu_holdings.specs.Callers.{holding, put_by}
+use Rattle.rcu_holdings.specs.ProcessorLists.{holding, put_by}
 use Rattle.rcu_holdings.specs.Modes.{first_mode}
-use Rattle.rcu_holdings.specs.declared.caller.Caller.{Caller}
+use Rattle.rcu_holdings.specs.declared.processor_lists.ProcessorLists.{ProcessorLists}
 use Rattle.rcu_part_processor.specs.Processors.{board_of, seat_of, records_of}
 use Rattle.rcu_part_processor.specs.declared.processor.ProcessorState.{ProcessorState}
 
 -- nothing was put on the lane, nothing is held, and no look was made; an offloadable processor is Offloaded, else it is Local
-pub record IsEmpty {J : Type 0} (offloadable : Bool) (lists : Caller J) : Type 0 where
+pub record IsEmpty {J : Type 0} (offloadable : Bool) (lists : ProcessorLists J) : Type 0 where
   pub mode : (holding lists).mode ≡ first_mode offloadable
   pub put : put_by (holding lists) ≡ []
   pub bypass : (holding lists).outgoing.bypass ≡ []
@@ -19,7 +19,7 @@ pub record IsEmpty {J : Type 0} (offloadable : Bool) (lists : Caller J) : Type 0
   pub looked : (holding lists).advanced ≡ 0
 
 -- processor cpu of a board, with its seat and its lists: it accepted nothing
-pub record IsNew {J R : Type 0} (shape : Shape) (b : Board) (cpu : ℕ) (s : Seat) (lists : Caller J) (p : ProcessorState J R) : Type 0 where
+pub record IsNew {J R : Type 0} (shape : Shape) (b : Board) (cpu : ℕ) (s : Seat) (lists : ProcessorLists J) (p : ProcessorState J R) : Type 0 where
   pub board : board_of p ≡ b
   pub seat : seat_of p ≡ s
   pub lists_are : p.lists ≡ lists

@@ -6,16 +6,16 @@ use Rattle.rcu_board.specs.declared.board.Board.{Board}
 use Rattle.rcu_board.specs.declared.board.Seat.{Seat}
 use Rattle.rcu_board.specs.declared.view.View.{View}
 use Rattle.rcu_control.specs.Views.{SamePart}
-use Rattle.rcu_holdings.specs.Callers.{Holding, holding, passed_on, rear_of}
-use Rattle.rcu_holdings.specs.declared.safe.Safe.{Safe}
+use Rattle.rcu_holdings.specs.ProcessorLists.{Holding, holding, passed_on, rear_of}
+use Rattle.rcu_holdings.specs.declared.limits.LaneLimits.{LaneLimits}
 use Rattle.rcu_jobs.specs.Records.{Given}
 use Rattle.rcu_jobs.specs.declared.answers.Refused.{Refused}
 use Rattle.rcu_jobs.specs.declared.answers.Ticket.{Ticket}
 use Rattle.rcu_jobs.specs.declared.callback.Record.{Record}
 use Rattle.rcu_lanes.specs.Ends.{SameRear}
 use Rattle.rcu_lanes.specs.declared.ends.Rear.{Rear}
-use Rattle.rcu_lists.specs.declared.batch.Batch.{Batch}
 use Rattle.rcu_lists.specs.declared.pace.Kind.{Kind}
+use Rattle.rcu_lists.specs.declared.parcel.Parcel.{Parcel}
 use Rattle.rcu_part_steps.specs.Places.{AreKeyed}
 use Rattle.rcu_part_processor.specs.Accepting.{Accepting, Accepts, AcceptsNone, Refuses}
 use Rattle.rcu_part_processor.specs.Processors.{board_of}
@@ -26,7 +26,7 @@ use Rattle.rcu_part_processor.specs.declared.running.RunningProcessorState.{Runn
 pub record Identity (J : Type 0) : Type 0 where
   pub board : Board
   pub seat : Seat
-  pub rear : Rear (Batch J) Safe
+  pub rear : Rear (Parcel J) LaneLimits
   pub cpu : ℕ
   pub offloadable : Bool
   pub limit : ℕ

@@ -7,9 +7,9 @@ use Rattle.rcu_board.specs.Views.{seen_at, tally}
 use Rattle.rcu_board.specs.Words.{asks_word, bits_of, board_word, needed_word, turns_word, urge_word}
 use Rattle.rcu_board.specs.declared.view.View.{View}
 use Rattle.rcu_holdings.specs.Aims.{wanted}
-use Rattle.rcu_holdings.specs.Callers.{Holding, Releases, AskedOn, after_look, asked_off, put_by}
+use Rattle.rcu_holdings.specs.ProcessorLists.{Holding, Releases, AskedOn, after_look, asked_off, put_by}
 use Rattle.rcu_holdings.specs.Modes.{is_deoffloading, is_local, is_offloaded, settled}
-use Rattle.rcu_holdings.specs.Safe.{AreBelow}
+use Rattle.rcu_holdings.specs.Limits.{AreBelow}
 use Rattle.rcu_jobs.specs.declared.Stop.{Stop}
 use Rattle.rcu_jobs.specs.declared.Stop.TheVariants.{Limit, Again, Empty, Turn, Memory}
 use Rattle.rcu_jobs.specs.declared.Ticked.{Ticked}

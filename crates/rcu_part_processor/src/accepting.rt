@@ -3,7 +3,7 @@
 ghost use Rattle.std.specs.Prelude.{◌≡◌, ◌<◌, ◌≤◌, Bool, IfOk, IfErr, IsErr, List, None, length};
 ghost use Rattle.rcu_board.specs.Seats.{view, AtBoard, SameSeat, SawShut, accepted_of, fresh_of};
 ghost use Rattle.rcu_board.specs.declared.board.Role.{Role};
-ghost use Rattle.rcu_holdings.specs.Callers.{holding, passed_on, rear_of};
+ghost use Rattle.rcu_holdings.specs.ProcessorLists.{holding, passed_on, rear_of};
 ghost use Rattle.rcu_lanes.specs.Ends.{SameRear};
 ghost use Rattle.rcu_part_processor.specs.Accepting.{Accepts, AcceptsNone, Refuses, IsLimit, pieces};
 ghost use Rattle.rcu_part_processor.specs.Lawful.{HasPlaces, StaysLocal};
@@ -11,10 +11,10 @@ ghost use Rattle.rcu_part_steps.specs.Places.{AreKeyed};
 ghost use Rattle.rcu_places.specs.Places.{Numbered};
 
 use rcu_board::{Board, Role, Seat};
-use rcu_holdings::Caller;
+use rcu_holdings::ProcessorLists;
 use rcu_jobs::{Callback, Job, Refused, Ticket};
 use rcu_lists::Kind;
-use rcu_part_steps::enter;
+use rcu_part_steps::accept_and_stamp;
 
 /// What a call asks of processor `cpu`, which accepts at most `limit` callbacks.
 #[derive(Drop)]
@@ -30,7 +30,7 @@ pub(crate) struct Request<J> {
 pub(crate) fn accept_job<J: Job>(
     board: &Board,
     seat: &mut Seat,
-    lists: &mut Caller<J>,
+    lists: &mut ProcessorLists<J>,
     accepted: &mut u64,
     request: Request<J>,
 ) -> Result<Ticket, Refused<J>>
@@ -72,7 +72,7 @@ pub(crate) fn accept_job<J: Job>(
         return Err(Refused::Memory(job));
     };
     let key = job.key();
-    let Some(word) = enter(board, seat, cpu, number, key) else {
+    let Some(word) = accept_and_stamp(board, seat, cpu, number, key) else {
         return Err(Refused::Closed(job));
     };
     *accepted = number + 1;

@@ -12,8 +12,8 @@ ghost use Rattle.rcu_part_steps.specs.Begins.{IfRuns, IfStops};
 
 use crate::processor::{Processor, ProcessorState};
 use crate::running::{RunningProcessor, RunningProcessorState};
-use rcu_jobs::{Callback, Job, Record, Stop};
-use rcu_part_steps::{Begins, ClaimedCallback, end_claim, take};
+use rcu_jobs::{Job, Record, Stop};
+use rcu_part_steps::{Begins, ClaimedCallback, end_claim};
 
 impl<J: Job> Processor<J> {
     // The first callback of done, where there is room for its record.
@@ -42,68 +42,6 @@ impl<J: Job> Processor<J> {
             return Err(Stop::Memory);
         };
         Ok(claimed)
-    }
-
-    // Wins the claim of the first callback of done, and hands its job out, or says that it isn't its turn.
-    fn claim(self, claimed: ClaimedCallback) -> Begins<RunningProcessor<J>, J, Processor<J>>
-        requires seen { (sight (view_of self.state) ≡ claimed.ready) × ((lists_of self.state).advanced ≡ claimed.ready) }
-        requires next { IsNext claimed.ready claimed self.state }
-        requires small { claimed.number < 1000000 }
-        requires room { vec_len self.state.ran < vec_capacity self.state.ran }
-        ensures same { IfRuns result (λ running _. SameBegun self.state running.state) }
-        ensures stays { IfStops result (λ processor _. SameProcessor self.state processor.state) }
-        ensures runs { IfRuns result (λ running job. ClaimsFirst claimed.ready self.state running.state job) }
-        ensures lost { IfStops result (λ processor _. RanDone 0 1 claimed.ready self.state processor.state) }
-        ensures stops { IfStops result (λ processor stop. StopsTick stop 0 1 processor.state) }
-        ensures counts { IfStops result (λ _ stop. stop ≢ Limit) }
-        ensures count { IfStops result (λ processor _. processor.state.accepted ≡ self.state.accepted) }
-        ensures keyed { IsSound J.key_of J.gives self.state → IfRuns result (λ running job. J.key_of job ≡ running.state.claimed.key) }
-        ensures sound { IsSound J.key_of J.gives self.state
-            → IfRuns result (λ running _. IsSoundRunning J.key_of J.gives running.state)
-            × IfStops result (λ processor _. IsSound J.key_of J.gives processor.state) }
-    {
-        let ProcessorState {
-            board,
-            mut seat,
-            cpu,
-            offloadable,
-            limit,
-            blimit,
-            accepted,
-            ran,
-            mut lists,
-        } = self.state;
-        if !take(&board, &mut seat, cpu, claimed.number) {
-            let state = ProcessorState {
-                board,
-                seat,
-                cpu,
-                offloadable,
-                limit,
-                blimit,
-                accepted,
-                ran,
-                lists,
-            };
-            return Begins::Stops(Processor { state }, Stop::Turn);
-        }
-        let Some(callback) = lists.take() else {
-            unreachable!()
-        };
-        let Callback { job, .. } = callback;
-        let state = RunningProcessorState {
-            board,
-            seat,
-            cpu,
-            offloadable,
-            limit,
-            blimit,
-            accepted,
-            ran,
-            claimed,
-            lists,
-        };
-        Begins::Runs(RunningProcessor { state }, job)
     }
 
     // Claims the first callback of done, or says why not. The number `seen` is that of the begin's look.

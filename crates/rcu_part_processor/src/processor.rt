@@ -4,14 +4,16 @@ ghost use Rattle.std.specs.Prelude.{◌≡◌, ◌<◌, ◌≤◌, true};
 ghost use Rattle.std.specs.Arc.{arc_value};
 ghost use Rattle.rcu_board.specs.Seats.{view, AtBoard};
 ghost use Rattle.rcu_board.specs.declared.board.Role.{Role};
-ghost use Rattle.rcu_holdings.specs.Callers.{holding};
+ghost use Rattle.rcu_holdings.specs.ProcessorLists.{holding};
 ghost use Rattle.rcu_numbers.specs.Words.{owes_of};
 ghost use Rattle.rcu_part_processor.specs.Lawful.{IsLawful, StaysLocal};
 
+use crate::running::{RunningProcessor, RunningProcessorState};
 use rcu_board::{Board, Role, Seat};
-use rcu_holdings::Caller;
-use rcu_jobs::{Job, Record};
+use rcu_holdings::ProcessorLists;
+use rcu_jobs::{Callback, Job, Record, Stop};
 use rcu_numbers::Shape;
+use rcu_part_steps::{Begins, ClaimedCallback, take};
 use std::alloc::Global;
 use std::sync::Arc;
 
@@ -32,7 +34,7 @@ pub struct ProcessorState<J, R> {
     pub accepted: u64,
     /// What it ran itself.
     pub ran: Vec<Record<R>>,
-    pub lists: Caller<J>,
+    pub lists: ProcessorLists<J>,
     ghost here: { AtBoard (arc_value board) seat },
     ghost role: { seat.role ≡ Role.Processor cpu },
     ghost there: { cpu < (arc_value board).processors },
@@ -43,7 +45,6 @@ pub struct ProcessorState<J, R> {
 }
 
 /// One processor: it accepts callbacks, reports quiescent states, and runs the callbacks of its own list in its tick.
-#[derive(Drop)]
 pub struct Processor<J: Job> {
     pub(crate) state: ProcessorState<J, J::Receipt>,
 }
@@ -61,7 +62,7 @@ impl<J: Job> Processor<J> {
         board: Arc<Board, Global>,
         seat: Seat,
         cpu: u64,
-        lists: Caller<J>,
+        lists: ProcessorLists<J>,
     ) -> Processor<J>
         requires seat { IsNewProcessor (arc_value board) cpu seat }
         requires there { cpu < (arc_value board).processors }
@@ -104,11 +105,104 @@ impl<J: Job> Processor<J> {
     {
         self.state.ran.len()
     }
+
+    // What it has, which ends with it.
+    fn into_inner(self) -> ProcessorState<J, J::Receipt>
+        ensures { result ≡ self.state }
+    {
+        let Processor { state } = self;
+        state
+    }
+}
+
+impl<J: Job> Processor<J> {
+    ghost use Rattle.std.specs.Prelude.{◌≢◌};
+    ghost use Rattle.std.specs.Vec.{vec_len, vec_capacity};
+    ghost use Rattle.rcu_board.specs.Views.{sight};
+    ghost use Rattle.rcu_jobs.specs.declared.Stop.TheVariants.{Limit};
+    ghost use Rattle.rcu_part_processor.specs.Begins.{IsNext, ClaimsFirst};
+    ghost use Rattle.rcu_part_processor.specs.Processors.{SameProcessor, IsSound, lists_of, view_of};
+    ghost use Rattle.rcu_part_processor.specs.Running.{SameBegun, IsSoundRunning};
+    ghost use Rattle.rcu_part_processor.specs.Ticks.{RanDone, StopsTick};
+    ghost use Rattle.rcu_part_steps.specs.Begins.{IfRuns, IfStops};
+
+    /// Wins the claim of the first callback of done, and hands its job out, or says that it isn't its turn.
+    pub(crate) fn claim(
+        self,
+        claimed: ClaimedCallback,
+    ) -> Begins<RunningProcessor<J>, J, Processor<J>>
+        requires seen { (sight (view_of self.state) ≡ claimed.ready) × ((lists_of self.state).advanced ≡ claimed.ready) }
+        requires next { IsNext claimed.ready claimed self.state }
+        requires small { claimed.number < 1000000 }
+        requires room { vec_len self.state.ran < vec_capacity self.state.ran }
+        ensures same { IfRuns result (λ running _. SameBegun self.state running.state) }
+        ensures stays { IfStops result (λ processor _. SameProcessor self.state processor.state) }
+        ensures runs { IfRuns result (λ running job. ClaimsFirst claimed.ready self.state running.state job) }
+        ensures lost { IfStops result (λ processor _. RanDone 0 1 claimed.ready self.state processor.state) }
+        ensures stops { IfStops result (λ processor stop. StopsTick stop 0 1 processor.state) }
+        ensures counts { IfStops result (λ _ stop. stop ≢ Limit) }
+        ensures count { IfStops result (λ processor _. processor.state.accepted ≡ self.state.accepted) }
+        ensures keyed { IsSound J.key_of J.gives self.state → IfRuns result (λ running job. J.key_of job ≡ running.state.claimed.key) }
+        ensures sound { IsSound J.key_of J.gives self.state
+            → IfRuns result (λ running _. IsSoundRunning J.key_of J.gives running.state)
+            × IfStops result (λ processor _. IsSound J.key_of J.gives processor.state) }
+    {
+        let Processor {
+            state: ProcessorState {
+                board,
+                mut seat,
+                cpu,
+                offloadable,
+                limit,
+                blimit,
+                accepted,
+                ran,
+                mut lists,
+            },
+        } = self;
+        if !take(&board, &mut seat, cpu, claimed.number) {
+            let state = ProcessorState {
+                board,
+                seat,
+                cpu,
+                offloadable,
+                limit,
+                blimit,
+                accepted,
+                ran,
+                lists,
+            };
+            return Begins::Stops(Processor { state }, Stop::Turn);
+        }
+        let Some(callback) = lists.take() else {
+            unreachable!()
+        };
+        let Callback { job, .. } = callback;
+        let state = RunningProcessorState {
+            board,
+            seat,
+            cpu,
+            offloadable,
+            limit,
+            blimit,
+            accepted,
+            ran,
+            claimed,
+            lists,
+        };
+        Begins::Runs(RunningProcessor { state }, job)
+    }
+}
+
+impl<J: Job> Drop for Processor<J> {
+    fn drop(self) {
+        let Processor { state: _ } = self;
+    }
 }
 
 /// What a processor's part has, which ends with it.
 pub fn into_state<J: Job>(processor: Processor<J>) -> ProcessorState<J, J::Receipt>
     ensures { result ≡ processor.state }
 {
-    processor.state
+    processor.into_inner()
 }

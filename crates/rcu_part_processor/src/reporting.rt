@@ -1,14 +1,14 @@
 //! Read sections, and the reports that end them.
 
 ghost use Rattle.std.specs.Prelude.{◌≡◌};
-ghost use Rattle.rcu_holdings.specs.Callers.{cpu_lists};
+ghost use Rattle.rcu_holdings.specs.ProcessorLists.{cpu_lists};
 ghost use Rattle.rcu_part_processor.specs.Calls.{KeepsAll};
 ghost use Rattle.rcu_part_processor.specs.Processors.{SameProcessor, IsSound, lists_of, view_of};
 ghost use Rattle.rcu_part_steps.specs.Reports.{Reports};
 
 use crate::processor::Processor;
 use rcu_jobs::{Job, Lists};
-use rcu_part_steps::tell;
+use rcu_part_steps::report_quiescent_state;
 
 /// A read section of a processor. While it lives no call on `&mut` of the processor compiles, so it reports no quiescent
 /// state.
@@ -31,7 +31,7 @@ impl<J: Job> Processor<J> {
         ensures sound { IsSound J.key_of J.gives self.old.state → IsSound J.key_of J.gives self.new.state }
     {
         let state = &mut self.state;
-        tell(&state.board, &mut state.seat, state.cpu)
+        report_quiescent_state(&state.board, &mut state.seat, state.cpu)
     }
 
     /// What is shown of the processor's lists.

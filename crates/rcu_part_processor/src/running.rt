@@ -5,16 +5,16 @@ ghost use Rattle.std.specs.Arc.{arc_value};
 ghost use Rattle.std.specs.Vec.{vec_len, vec_capacity};
 ghost use Rattle.rcu_board.specs.Seats.{view, AtBoard, SawShut};
 ghost use Rattle.rcu_board.specs.declared.board.Role.{Role};
-ghost use Rattle.rcu_holdings.specs.Callers.{holding};
+ghost use Rattle.rcu_holdings.specs.ProcessorLists.{holding};
 ghost use Rattle.rcu_numbers.specs.Words.{owes_of};
 ghost use Rattle.rcu_part_processor.specs.Lawful.{IsRunningProcessor, StaysLocal};
 
 use crate::accepting::{Request, accept_job};
 use rcu_board::{Board, Role, Seat};
-use rcu_holdings::Caller;
+use rcu_holdings::ProcessorLists;
 use rcu_jobs::{Job, Lists, Record, Refused, Ticket};
 use rcu_lists::Kind;
-use rcu_part_steps::{ClaimedCallback, tell};
+use rcu_part_steps::{ClaimedCallback, report_quiescent_state};
 use std::alloc::Global;
 use std::sync::Arc;
 
@@ -37,7 +37,7 @@ pub struct RunningProcessorState<J, R> {
     pub ran: Vec<Record<R>>,
     /// The callback whose claim runs.
     pub claimed: ClaimedCallback,
-    pub lists: Caller<J>,
+    pub lists: ProcessorLists<J>,
     ghost here: { AtBoard (arc_value board) seat },
     ghost role: { seat.role ≡ Role.Processor cpu },
     ghost there: { cpu < (arc_value board).processors },
@@ -58,7 +58,7 @@ pub struct RunningProcessor<J: Job> {
 
 impl<J: Job> RunningProcessor<J> {
     ghost use Rattle.std.specs.Prelude.{IfOk, IfErr, IsErr};
-    ghost use Rattle.rcu_holdings.specs.Callers.{cpu_lists};
+    ghost use Rattle.rcu_holdings.specs.ProcessorLists.{cpu_lists};
     ghost use Rattle.rcu_lists.specs.declared.pace.Kind.TheVariants.{Plain, Lazy};
     ghost use Rattle.rcu_part_processor.specs.Accepting.{IsLimit};
     ghost use Rattle.rcu_part_processor.specs.Running.{SameRunning, IsAccepted, KeepsAll, IsRefusedAs, IsSoundRunning, running_lists, running_view};
@@ -109,7 +109,7 @@ impl<J: Job> RunningProcessor<J> {
         ensures sound { IsSoundRunning J.key_of J.gives self.old.state → IsSoundRunning J.key_of J.gives self.new.state }
     {
         let state = &mut self.state;
-        tell(&state.board, &mut state.seat, state.cpu)
+        report_quiescent_state(&state.board, &mut state.seat, state.cpu)
     }
 
     /// Accepts a job, as [`call_rcu`](crate::Processor::call_rcu) does.

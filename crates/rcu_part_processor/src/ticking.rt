@@ -11,7 +11,7 @@ ghost use Rattle.rcu_part_steps.specs.Stops.{StopsInTime};
 use crate::processor::Processor;
 use rcu_board::{asked, heard, need, turn_of};
 use rcu_jobs::{Job, Mode, Stop, Ticked};
-use rcu_part_steps::{run_claimed, take, watch};
+use rcu_part_steps::{look_at_number, run_claimed, take};
 
 /// Whether the turn word is read in a tick.
 fn is_leaving(mode: Mode) -> bool
@@ -33,7 +33,7 @@ impl<J: Job> Processor<J> {
         ensures sound { IsSound J.key_of J.gives self.old.state → IsSound J.key_of J.gives self.new.state }
     {
         let state = &mut self.state;
-        let seen = watch(&state.board, &mut state.seat).seq();
+        let seen = look_at_number(&state.board, &mut state.seat).seq();
         if let Some(number) = state.lists.look(seen) {
             need(&state.board, &mut state.seat, number);
         }

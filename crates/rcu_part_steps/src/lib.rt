@@ -9,4 +9,4 @@ mod steps;
 
 pub use begins::{Begins, ClaimedCallback};
 pub use running::run_claimed;
-pub use steps::{end_claim, enter, take, tell, watch};
+pub use steps::{end_claim, accept_and_stamp, take, report_quiescent_state, look_at_number};

@@ -15,7 +15,7 @@ use rcu_board::{Board, Claimed, Seat, accept, claim, finish, look, report};
 use rcu_numbers::BoardWord;
 
 /// Accepts one callback more, and then looks, which gives its stamp. None where the processor was shut.
-pub fn enter(board: &Board, seat: &mut Seat, cpu: u64, count: u64, key: u64) -> Option<BoardWord>
+pub fn accept_and_stamp(board: &Board, seat: &mut Seat, cpu: u64, count: u64, key: u64) -> Option<BoardWord>
     requires board { AtBoard board.now seat.old }
     requires role { seat.old.role ≡ Role.Processor cpu }
     requires count { length (accepted_of (view seat.old)) ≡ count }
@@ -34,7 +34,7 @@ pub fn enter(board: &Board, seat: &mut Seat, cpu: u64, count: u64, key: u64) -> 
 }
 
 /// Reports a quiescent state. Answers the number of the grace period that counted it.
-pub fn tell(board: &Board, seat: &mut Seat, cpu: u64) -> Option<u64>
+pub fn report_quiescent_state(board: &Board, seat: &mut Seat, cpu: u64) -> Option<u64>
     requires board { AtBoard board.now seat.old }
     requires role { seat.old.role ≡ Role.Processor cpu }
     requires there { cpu < 32 }
@@ -51,7 +51,7 @@ pub fn tell(board: &Board, seat: &mut Seat, cpu: u64) -> Option<u64>
 }
 
 /// Looks at the number, by a seat that has no processor's lists.
-pub fn watch(board: &Board, seat: &mut Seat) -> BoardWord
+pub fn look_at_number(board: &Board, seat: &mut Seat) -> BoardWord
     requires board { AtBoard board.now seat.old }
     ensures same { SameSeat seat.old seat.new }
     ensures view { view seat.new ≡ looked (bits_of result) (view seat.old) }

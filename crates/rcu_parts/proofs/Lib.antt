@@ -11,5 +11,4 @@ pub mod Grouped
 pub mod Zips
 pub mod Making
 pub mod Whole
-pub mod Sizes
 pub mod Draining

@@ -15,7 +15,7 @@ use Rattle.rcu_endings.specs.Ends.{HasRoom}
 use Rattle.rcu_endings.specs.declared.ended.Ended.{Ended}
 use Rattle.rcu_gathering.specs.Parts.{HandPart, IsAtRest, IsSoundPart, accepted_entry, accepted_list, claim_of, hand_ran, hand_taken}
 use Rattle.rcu_gathering.proofs.Lists.{all_cons, all_head, all_none, all_tail}
-use Rattle.rcu_holdings.specs.Callers.{Holding, held_in, put_by}
+use Rattle.rcu_holdings.specs.ProcessorLists.{Holding, held_in, put_by}
 use Rattle.rcu_jobs.specs.declared.callback.Record.{Record}
 use Rattle.rcu_numbers.specs.Numbers.{snap_of}
 use Rattle.rcu_places.proofs.Moves.{placed_all}

@@ -5,12 +5,12 @@ use Rattle.std.proofs.lemmas.List.Sums.{sum_by-cons}
 use Rattle.std.proofs.lemmas.Slice.Zip.{AllZip-long}
 use Rattle.rcu_board.specs.declared.board.Board.{Board}
 use Rattle.rcu_gathering.proofs.Lists.{all_cons, all_head, all_none, all_tail}
-use Rattle.rcu_part_group.specs.Groups.{SameFolk, SameGroup, group_board, group_view, members_of}
+use Rattle.rcu_part_group.specs.Groups.{SameGroupMember, SameGroup, group_board, group_view, members_of}
 use Rattle.rcu_part_hand.specs.Hands.{SameHand, hand_board, hand_view}
 use Rattle.rcu_parts.specs.OneOpen.{AreOfOneOpen, AreProcessorsFrom, HasHand, HasMember, Parts, groups_in, hands_in, members_in, offloadable_in, parts_board, processors_in}
 use Rattle.rcu_part_processor.specs.Processors.{SameProcessor, view_of}
 use Rattle.rcu_parts.specs.SameParts.{AreSameParts}
-use Rattle.rcu_part_group.specs.declared.folk.Folk.{Folk}
+use Rattle.rcu_part_group.specs.declared.members.GroupMember.{GroupMember}
 use Rattle.rcu_part_group.specs.declared.group.Group.{Group}
 use Rattle.rcu_part_hand.specs.declared.hand.Hand.{Hand}
 use Rattle.rcu_part_processor.specs.declared.processor.Processor.{Processor}
@@ -70,16 +70,16 @@ module _ {J R : Type 0} where
   offloadable_stay (p ∷ ps) [] z = absurd z
   offloadable_stay (p ∷ ps) (q ∷ qs) z = offloadable_first p q ps qs p.state.offloadable refl z.0 (offloadable_stay ps qs z.1)
 
-  members_stay : (gs hs : List (Group J R)) → AllZip (λ g h. SameGroup g.state h.state) gs hs → AllZip SameFolk (members_in gs) (members_in hs)
+  members_stay : (gs hs : List (Group J R)) → AllZip (λ g h. SameGroup g.state h.state) gs hs → AllZip SameGroupMember (members_in gs) (members_in hs)
   members_stay [] [] z = tt
   members_stay [] (h ∷ hs) z = absurd z
   members_stay (g ∷ gs) [] z = absurd z
-  members_stay (g ∷ gs) (h ∷ hs) z = zip_append SameFolk (members_of g.state) (members_in gs) (members_of h.state) (members_in hs) z.0.members (members_stay gs hs z.1)
+  members_stay (g ∷ gs) (h ∷ hs) z = zip_append SameGroupMember (members_of g.state) (members_in gs) (members_of h.state) (members_in hs) z.0.members (members_stay gs hs z.1)
 
-  member_stays : (p q : Processor J R) (m n : Folk J) → Same p q → SameFolk m n → HasMember p m → HasMember q n
+  member_stays : (p q : Processor J R) (m n : GroupMember J) → Same p q → SameGroupMember m n → HasMember p m → HasMember q n
   member_stays p q m n s t h = record { cpu = t.cpu ∙ (h.cpu ∙ sym s.cpu); lane = t.front ∙ (h.lane ∙ sym s.lane) }
 
-  hand_stays : (m n : Folk J) (h i : Hand J R) → SameFolk m n → SameHand h.state i.state → HasHand m h → HasHand n i
+  hand_stays : (m n : GroupMember J) (h i : Hand J R) → SameGroupMember m n → SameHand h.state i.state → HasHand m h → HasHand n i
   hand_stays m n h i t s has = record { cpu = s.cpu ∙ (has.cpu ∙ sym t.cpu); lane = s.lane ∙ (has.lane ∙ sym t.rear) }
 
   pub stay_same : (old new : Parts J R) → AreSameParts old new → AreOfOneOpen old → AreOfOneOpen new
@@ -92,8 +92,8 @@ module _ {J R : Type 0} where
         as_many = AllZip-long Same (processors_in old) (processors_in new) s.processors ∙ (one.as_many ∙ ap (λ c. c.processors) (sym b));
         groups = all_zipped (λ (g : Group J R). group_board g.state ≡ parts_board old) (λ g. group_board g.state ≡ parts_board new) (λ g h. SameGroup g.state h.state) (λ g h t e. t.part.board ∙ (e ∙ sym b)) (groups_in old) (groups_in new) s.groups one.groups;
         hands = all_zipped (λ (h : Hand J R). hand_board h.state ≡ parts_board old) (λ h. hand_board h.state ≡ parts_board new) (λ h i. SameHand h.state i.state) (λ h i t e. t.part.board ∙ (e ∙ sym b)) (hands_in old) (hands_in new) s.hands one.hands;
-        members = both_zipped HasMember Same SameFolk member_stays (offloadable_in (processors_in old)) (offloadable_in (processors_in new)) (members_in (groups_in old)) (members_in (groups_in new)) (offloadable_stay (processors_in old) (processors_in new) s.processors) members one.members;
-        running = both_zipped HasHand SameFolk (λ h i. SameHand h.state i.state) hand_stays (members_in (groups_in old)) (members_in (groups_in new)) (hands_in old) (hands_in new) members s.hands one.running;
+        members = both_zipped HasMember Same SameGroupMember member_stays (offloadable_in (processors_in old)) (offloadable_in (processors_in new)) (members_in (groups_in old)) (members_in (groups_in new)) (offloadable_stay (processors_in old) (processors_in new) s.processors) members one.members;
+        running = both_zipped HasHand SameGroupMember (λ h i. SameHand h.state i.state) hand_stays (members_in (groups_in old)) (members_in (groups_in new)) (hands_in old) (hands_in new) members s.hands one.running;
         weighs =
             let c = s.control.seat.weight in
             let d = s.driver.seat.weight in

@@ -12,14 +12,14 @@ use Rattle.rcu_board.specs.declared.board.Board.{Board}
 use Rattle.rcu_board.specs.declared.open.Seats.{Seats}
 use Rattle.rcu_board.specs.declared.view.View.{View}
 use Rattle.rcu_control.specs.Views.{IsBare}
-use Rattle.rcu_holdings.specs.Callers.{Holding, rear_of}
-use Rattle.rcu_holdings.specs.declared.safe.Safe.{Safe}
+use Rattle.rcu_holdings.specs.ProcessorLists.{Holding, rear_of}
+use Rattle.rcu_holdings.specs.declared.limits.LaneLimits.{LaneLimits}
 use Rattle.rcu_jobs.specs.Records.{Given}
 use Rattle.rcu_jobs.specs.declared.callback.Callback.{Callback}
 use Rattle.rcu_jobs.specs.declared.callback.Record.{Record}
 use Rattle.rcu_lanes.specs.Ends.{IsNewLane, items_drawn}
 use Rattle.rcu_lanes.specs.declared.ends.Front.{Front}
-use Rattle.rcu_lists.specs.declared.batch.Batch.{Batch}
+use Rattle.rcu_lists.specs.declared.parcel.Parcel.{Parcel}
 use Rattle.rcu_numbers.specs.declared.shape.Shape.{Shape}
 use Rattle.rcu_part_group.specs.GroupLaw.{cpus_of}
 use Rattle.rcu_part_group.specs.Groups.{group_board, group_view}
@@ -28,7 +28,7 @@ use Rattle.rcu_parts.specs.OneOpen.{AreProcessorsFrom, HasMember, offloadable_in
 use Rattle.rcu_parts.specs.Openings.{AreFirstProcessors, AreFronts, IsFirstGroup, IsFirstHand, IsFirstProcessor, fronts_of}
 use Rattle.rcu_part_steps.specs.Places.{AreKeyed}
 use Rattle.rcu_part_processor.specs.Processors.{IsSound, view_of}
-use Rattle.rcu_part_group.specs.declared.folk.Folk.{Folk}
+use Rattle.rcu_part_group.specs.declared.members.GroupMember.{GroupMember}
 use Rattle.rcu_part_group.specs.declared.group.Group.{Group}
 use Rattle.rcu_part_hand.specs.declared.hand.Hand.{Hand}
 use Rattle.rcu_part_processor.specs.declared.processor.Processor.{Processor}
@@ -89,23 +89,23 @@ module _ {J R : Type 0} (shape : Shape) (b : Board) where
   groups_here ks gs h = zip_all (IsFirstGroup shape b) (λ (g : Group J R). group_board g.state ≡ b) (λ k p f. f.part.board) ks gs h
 
 module _ {J R : Type 0} where
-  abbrev LeadsTo : Processor J R → Front (Batch J) Safe → Type 0
+  abbrev LeadsTo : Processor J R → Front (Parcel J) LaneLimits → Type 0
   LeadsTo p front = IsNewLane front (rear_of p.state.lists)
 
-  pub none_drawn : (ps : List (Processor J R)) (fronts : List (Front (Batch J) Safe)) → AreFronts ps fronts → All (λ (f : Front (Batch J) Safe). items_drawn f ≡ []) fronts
-  none_drawn ps fronts h = zip_all LeadsTo (λ (f : Front (Batch J) Safe). items_drawn f ≡ []) (λ p f r. r.none_drawn) (offloadable_in ps) fronts h
+  pub none_drawn : (ps : List (Processor J R)) (fronts : List (Front (Parcel J) LaneLimits)) → AreFronts ps fronts → All (λ (f : Front (Parcel J) LaneLimits). items_drawn f ≡ []) fronts
+  none_drawn ps fronts h = zip_all LeadsTo (λ (f : Front (Parcel J) LaneLimits). items_drawn f ≡ []) (λ p f r. r.none_drawn) (offloadable_in ps) fronts h
 
-  pub many_fronts : (ps : List (Processor J R)) (fronts : List (Front (Batch J) Safe)) (ks : List ℕ) → AreFronts ps fronts → map (λ (q : Processor J R). q.state.cpu) (offloadable_in ps) ≡ ks → length fronts ≡ length ks
+  pub many_fronts : (ps : List (Processor J R)) (fronts : List (Front (Parcel J) LaneLimits)) (ks : List ℕ) → AreFronts ps fronts → map (λ (q : Processor J R). q.state.cpu) (offloadable_in ps) ≡ ks → length fronts ≡ length ks
   many_fronts ps fronts ks h e = AllZip-long LeadsTo (offloadable_in ps) fronts h ∙ sym (length-map (offloadable_in ps) (λ (q : Processor J R). q.state.cpu)) ∙ ap (λ (l : List ℕ). length l) e
 
-  linked : (ps : List (Processor J R)) (ms : List (Folk J)) → AllZip LeadsTo ps (fronts_of ms) → map (λ (q : Processor J R). q.state.cpu) ps ≡ cpus_of ms → AllZip HasMember ps ms
+  linked : (ps : List (Processor J R)) (ms : List (GroupMember J)) → AllZip LeadsTo ps (fronts_of ms) → map (λ (q : Processor J R). q.state.cpu) ps ≡ cpus_of ms → AllZip HasMember ps ms
   linked [] [] h e = tt
   linked [] (m ∷ ms) h e = absurd h
   linked (p ∷ ps) [] h e = absurd h
   linked (p ∷ ps) (m ∷ ms) h e = (record { cpu = ap (λ (l : List ℕ). slice_index_or l 0 0) (sym e); lane = h.0.one_lane }, linked ps ms h.1 (ap (λ (l : List ℕ). drop 1 l) e))
 
   -- each offloadable processor has its member, to which its lane leads
-  pub have_members : (ps : List (Processor J R)) (fronts : List (Front (Batch J) Safe)) (ms all : List (Folk J)) (ks : List ℕ) → AreFronts ps fronts → map (λ (q : Processor J R). q.state.cpu) (offloadable_in ps) ≡ ks
+  pub have_members : (ps : List (Processor J R)) (fronts : List (Front (Parcel J) LaneLimits)) (ms all : List (GroupMember J)) (ks : List ℕ) → AreFronts ps fronts → map (λ (q : Processor J R). q.state.cpu) (offloadable_in ps) ≡ ks
       → fronts_of ms ≡ fronts → cpus_of ms ≡ ks → all ≡ ms → AllZip HasMember (offloadable_in ps) all
   have_members ps fronts ms all ks h e f at same = subst (AllZip HasMember (offloadable_in ps)) (sym same)
       (linked (offloadable_in ps) ms (subst (AllZip LeadsTo (offloadable_in ps)) (sym f) h) (e ∙ sym at))

@@ -33,7 +33,7 @@ use Rattle.rcu_parts.specs.OneOpen.{AreOfOneOpen, AreProcessorsFrom, AreSoundPar
 use Rattle.rcu_part_processor.specs.Processors.{view_of}
 use Rattle.rcu_parts.specs.Rooms.{FitsAll, FitsCpu}
 use Rattle.rcu_parts.specs.declared.ending.Ending.{Ending}
-use Rattle.rcu_part_group.specs.declared.folk.Folk.{Folk}
+use Rattle.rcu_part_group.specs.declared.members.GroupMember.{GroupMember}
 use Rattle.rcu_part_group.specs.declared.group.Group.{Group}
 use Rattle.rcu_part_hand.specs.declared.hand.Hand.{Hand}
 use Rattle.rcu_part_processor.specs.declared.processor.Processor.{Processor}
@@ -162,7 +162,7 @@ module _ {J R : Type 0} where
   weighs_all parts last es one same e = ap weight e ∙ (gather_weight (control_view parts.control) (other_views parts ++ seats_of es) ∙ whole_weight parts es one same)
 
   -- all processors are left
-  pub first_ready : (parts : Parts J R) (room : Room J R) (ms : List (Folk J)) (hs : List (Hand J R)) (rs : List (Ended J R)) (x : Ending J R) → AreOfOneOpen parts → FitsAll (processors_in parts) (hands_in parts) room
+  pub first_ready : (parts : Parts J R) (room : Room J R) (ms : List (GroupMember J)) (hs : List (Hand J R)) (rs : List (Ended J R)) (x : Ending J R) → AreOfOneOpen parts → FitsAll (processors_in parts) (hands_in parts) room
       → board_at x ≡ parts_board parts → GatheredAt (board_at x) x.all → (all_view x).running ≡ [] → ms ≡ members_in (groups_in parts) → hs ≡ hands_in parts → rs ≡ room.ends.items → x.ran ≡ room.ran → x.back ≡ room.back
       → IsReady 0 (processors_in parts) ms hs rs x
   first_ready parts room ms hs rs x one fits board at rests members hands rooms ran back = record {

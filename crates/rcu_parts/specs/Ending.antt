@@ -17,7 +17,7 @@ use Rattle.rcu_part_hand.specs.Hands.{hand_board}
 use Rattle.rcu_parts.specs.OneOpen.{AreProcessorsFrom, HasHand, HasMember, offloadable_in}
 use Rattle.rcu_parts.specs.Rooms.{FitsCpu}
 use Rattle.rcu_parts.specs.declared.ending.Ending.{Ending}
-use Rattle.rcu_part_group.specs.declared.folk.Folk.{Folk}
+use Rattle.rcu_part_group.specs.declared.members.GroupMember.{GroupMember}
 use Rattle.rcu_part_hand.specs.declared.hand.Hand.{Hand}
 use Rattle.rcu_part_processor.specs.declared.processor.Processor.{Processor}
 
@@ -51,7 +51,7 @@ module _ {J R : Type 0} where
   all_back x = map (λ v. v.items) x.back.items
 
   -- These processors, k, k + 1, .., are left, and these members, hands and rooms are theirs.
-  pub record IsReady (k : ℕ) (rest : List (Processor J R)) (members : List (Folk J)) (hands : List (Hand J R)) (rooms : List (Ended J R)) (x : Ending J R) : Type 0 where
+  pub record IsReady (k : ℕ) (rest : List (Processor J R)) (members : List (GroupMember J)) (hands : List (Hand J R)) (rooms : List (Ended J R)) (x : Ending J R) : Type 0 where
     pub at : GatheredAt (board_at x) x.all
     pub rests : (all_view x).running ≡ []
     pub processors : AreProcessorsFrom k (board_at x) rest

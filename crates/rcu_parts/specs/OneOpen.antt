@@ -4,14 +4,14 @@ use Rattle.std.specs.List.{AllZip, filter, flat_map}
 use Rattle.rcu_board.specs.Plays.{all_seats}
 use Rattle.rcu_board.specs.declared.board.Board.{Board}
 use Rattle.rcu_control.specs.Parts.{control_board, control_view, driver_board, driver_view}
-use Rattle.rcu_holdings.specs.Callers.{rear_of}
+use Rattle.rcu_holdings.specs.ProcessorLists.{rear_of}
 use Rattle.rcu_holdings.specs.Helds.{front_of as hands_front}
-use Rattle.rcu_holdings.specs.Members.{front_of, rear_of as done_rear}
+use Rattle.rcu_holdings.specs.MemberLists.{front_of, rear_of as done_rear}
 use Rattle.rcu_lanes.specs.Ends.{SameLane}
 use Rattle.rcu_part_group.specs.Groups.{group_board, group_view, members_of}
 use Rattle.rcu_part_hand.specs.Hands.{IsSoundHand, hand_board, hand_view}
 use Rattle.rcu_part_processor.specs.Processors.{IsSound, board_of, view_of}
-use Rattle.rcu_part_group.specs.declared.folk.Folk.{Folk}
+use Rattle.rcu_part_group.specs.declared.members.GroupMember.{GroupMember}
 use Rattle.rcu_part_group.specs.declared.group.Group.{Group}
 use Rattle.rcu_part_hand.specs.declared.hand.Hand.{Hand}
 use Rattle.rcu_parts.specs.declared.parts.AllParts.{AllParts}
@@ -35,7 +35,7 @@ module _ {J R : Type 0} where
   parts_board parts = control_board parts.control
 
   -- the members of all groups, in order
-  abbrev pub members_in : List (Group J R) → List (Folk J)
+  abbrev pub members_in : List (Group J R) → List (GroupMember J)
   members_in groups = flat_map (λ g. members_of g.state) groups
 
   -- the processors that are offloadable, in order
@@ -48,12 +48,12 @@ module _ {J R : Type 0} where
   AreProcessorsFrom k b (p ∷ ps) = (board_of p.state ≡ b) × (p.state.cpu ≡ k) × AreProcessorsFrom (suc k) b ps
 
   -- A group has this processor as this member, to which its lane leads.
-  pub record HasMember (p : Processor J R) (m : Folk J) : Type 0 where
+  pub record HasMember (p : Processor J R) (m : GroupMember J) : Type 0 where
     pub cpu : m.cpu ≡ p.state.cpu
     pub lane : SameLane (front_of m.member) (rear_of p.state.lists)
 
   -- This member's done lane leads to this hand.
-  pub record HasHand (m : Folk J) (h : Hand J R) : Type 0 where
+  pub record HasHand (m : GroupMember J) (h : Hand J R) : Type 0 where
     pub cpu : h.state.cpu ≡ m.cpu
     pub lane : SameLane (hands_front h.state.held) (done_rear m.member)
 

@@ -6,22 +6,20 @@ use Rattle.rcu_board.specs.Opened.{IsNew as IsNewSeat}
 use Rattle.rcu_board.specs.declared.board.Board.{Board}
 use Rattle.rcu_board.specs.declared.board.Role.TheVariants.{Control, Driver}
 use Rattle.rcu_control.specs.Parts.{control_seat, driver_seat, driver_view}
-use Rattle.rcu_holdings.specs.Callers.{Holding, rear_of}
-use Rattle.rcu_holdings.specs.Members.{front_of}
-use Rattle.rcu_holdings.specs.Modes.{first_mode}
-use Rattle.rcu_holdings.specs.declared.safe.Safe.{Safe}
+use Rattle.rcu_holdings.specs.ProcessorLists.{first_holding, rear_of}
+use Rattle.rcu_holdings.specs.MemberLists.{front_of}
+use Rattle.rcu_holdings.specs.declared.limits.LaneLimits.{LaneLimits}
 use Rattle.rcu_lanes.specs.Ends.{IsNewLane}
 use Rattle.rcu_lanes.specs.declared.ends.Front.{Front}
-use Rattle.rcu_lists.specs.Release.{beginning}
-use Rattle.rcu_lists.specs.declared.batch.Batch.{Batch}
+use Rattle.rcu_lists.specs.declared.parcel.Parcel.{Parcel}
 use Rattle.rcu_numbers.specs.declared.shape.Shape.{Shape}
 use Rattle.rcu_part_group.specs.GroupLaw.{cpus_of}
-use Rattle.rcu_part_group.specs.Groups.{IsEmptyFolk, IsNewGroupOf, members_of}
+use Rattle.rcu_part_group.specs.Groups.{IsEmptyGroupMember, IsNewGroupOf, members_of}
 use Rattle.rcu_part_hand.specs.Hands.{IsNewHandOf, hand_drawn, hand_held}
 use Rattle.rcu_parts.specs.OneOpen.{Parts, groups_in, hands_in, offloadable_in, parts_board, processors_in}
 use Rattle.rcu_part_processor.specs.Opened.{IsNew}
 use Rattle.rcu_part_processor.specs.Processors.{lists_of, seat_of}
-use Rattle.rcu_part_group.specs.declared.folk.Folk.{Folk}
+use Rattle.rcu_part_group.specs.declared.members.GroupMember.{GroupMember}
 use Rattle.rcu_part_group.specs.declared.group.Group.{Group}
 use Rattle.rcu_part_hand.specs.declared.hand.Hand.{Hand}
 use Rattle.rcu_part_processor.specs.declared.processor.Processor.{Processor}
@@ -30,22 +28,11 @@ use Rattle.rcu_part_processor.specs.declared.processor.Processor.{Processor}
 abbrev pub is_member : ℕ → ℕ → ℕ → ℕ → Bool
 is_member mask stride g p = is_offloadable mask p && (p / stride == g)
 
-module _ {J : Type 0} where
-  -- A processor's lists at first: all are empty, and its bypass list has made no release.
-  abbrev pub first_lists : Bool → ℕ → Holding J
-  first_lists offloadable qhimark = record {
-    mode = first_mode offloadable;
-    left = 0;
-    own = [];
-    advanced = 0;
-    outgoing = record { put = []; batches = 0; bypass = []; pace = beginning; qhimark = qhimark };
-  }
-
 module _ {J R : Type 0} where
   -- Processor k of a board: its seat has made no step, its lists are empty, and it has accepted nothing.
   pub record IsFirstProcessor (shape : Shape) (b : Board) (k : ℕ) (p : Processor J R) : Type 0 where
     pub seat : IsNewProcessor b k (seat_of p.state)
-    pub lists : lists_of p.state ≡ first_lists (is_offloadable b.offloadable k) shape.qhimark
+    pub lists : lists_of p.state ≡ first_holding (is_offloadable b.offloadable k) shape.qhimark
     pub part : IsNew shape b k (seat_of p.state) p.state.lists p.state
 
   -- The hand of processor k of a board: its seat has made no step, and it has drawn and run nothing.
@@ -58,7 +45,7 @@ module _ {J R : Type 0} where
   pub record IsFirstGroup (shape : Shape) (b : Board) (g : ℕ) (group : Group J R) : Type 0 where
     pub seat : IsNewGroup b g group.state.seat
     pub members : cpus_of (members_of group.state) ≡ numbers_where (is_member b.offloadable shape.stride g) 0 b.processors
-    pub empty : All IsEmptyFolk (members_of group.state)
+    pub empty : All IsEmptyGroupMember (members_of group.state)
     pub part : IsNewGroupOf shape b g group.state.seat (members_of group.state) group.state
 
   -- There is one for each processor from 0 on, each offloadable one has a hand, and each group with an offloadable member is
@@ -85,26 +72,26 @@ module _ {J R : Type 0} where
   -- ---- parts that aren't whole yet
 
   -- the other end of each offloadable processor's lane, in order
-  abbrev pub AreFronts : List (Processor J R) → List (Front (Batch J) Safe) → Type 0
+  abbrev pub AreFronts : List (Processor J R) → List (Front (Parcel J) LaneLimits) → Type 0
   AreFronts ps fronts = AllZip (λ p front. IsNewLane front (rear_of p.state.lists)) (offloadable_in ps) fronts
 
 module _ {J : Type 0} where
   -- the ends that the group draws from, in the order of the members
-  abbrev pub fronts_of : List (Folk J) → List (Front (Batch J) Safe)
+  abbrev pub fronts_of : List (GroupMember J) → List (Front (Parcel J) LaneLimits)
   fronts_of members = map (λ m. front_of m.member) members
 
   -- The first of a list isn't in this group.
-  abbrev pub BeginsOutside : ℕ → ℕ → List (Folk J) → Type 0
+  abbrev pub BeginsOutside : ℕ → ℕ → List (GroupMember J) → Type 0
   BeginsOutside stride g [] = Unit {0}
   BeginsOutside stride g (m ∷ ms) = m.cpu / stride ≢ g
 
   -- The first is a member of this group, and is taken; or it isn't, or there is none.
-  abbrev pub TakesMember : ℕ → ℕ → Option (Folk J) → List (Folk J) → List (Folk J) → Type 0
+  abbrev pub TakesMember : ℕ → ℕ → Option (GroupMember J) → List (GroupMember J) → List (GroupMember J) → Type 0
   TakesMember stride g (Some m) old new = (m.cpu / stride ≡ g) × (old ≡ m ∷ new)
   TakesMember stride g None old new = (new ≡ old) × BeginsOutside stride g old
 
   -- All that are of this group were taken off the front.
-  pub record TakesMembers (stride g : ℕ) (taken old new : List (Folk J)) : Type 0 where
+  pub record TakesMembers (stride g : ℕ) (taken old new : List (GroupMember J)) : Type 0 where
     pub order : old ≡ taken ++ new
     pub inside : All (λ m. m.cpu / stride ≡ g) taken
     pub outside : BeginsOutside stride g new

@@ -4,7 +4,7 @@ use Rattle.std.specs.List.{AllZip}
 use Rattle.rcu_endings.specs.Ends.{HasRoom}
 use Rattle.rcu_endings.specs.declared.ended.Ended.{Ended}
 use Rattle.rcu_gathering.specs.Parts.{CpuPart, hand_ran, hand_taken}
-use Rattle.rcu_holdings.specs.Callers.{held_in, put_by}
+use Rattle.rcu_holdings.specs.ProcessorLists.{held_in, put_by}
 use Rattle.rcu_parts.specs.AtClose.{cpu_parts}
 use Rattle.rcu_part_hand.specs.declared.hand.Hand.{Hand}
 use Rattle.rcu_part_processor.specs.declared.processor.Processor.{Processor}

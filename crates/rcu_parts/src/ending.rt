@@ -13,7 +13,7 @@ use rcu_board::{Board, Gathered, Seat, merge};
 use rcu_endings::{Ended, end_local, end_offloadable};
 use rcu_gathering::closing;
 use rcu_jobs::{Closed, Job, Record};
-use rcu_part_group::Folk;
+use rcu_part_group::GroupMember;
 use rcu_part_hand::{Hand, HandState};
 use rcu_part_processor::{Processor, ProcessorState};
 use std::alloc::Global;
@@ -57,7 +57,7 @@ impl<J: Job> Ending<J> {
     fn end_each(
         &mut self,
         processors: Vec<Processor<J>>,
-        mut members: VecDeque<Folk<J>>,
+        mut members: VecDeque<GroupMember<J>>,
         mut hands: VecDeque<Hand<J>>,
         mut rooms: VecDeque<Ended<J, J::Receipt>>,
     )
@@ -75,7 +75,7 @@ impl<J: Job> Ending<J> {
     fn end_one(
         &mut self,
         processor: Processor<J>,
-        members: &mut VecDeque<Folk<J>>,
+        members: &mut VecDeque<GroupMember<J>>,
         hands: &mut VecDeque<Hand<J>>,
         rooms: &mut VecDeque<Ended<J, J::Receipt>>,
     )
@@ -119,15 +119,15 @@ impl<J: Job> Ending<J> {
     fn end_with_hand(
         &mut self,
         processor: Processor<J>,
-        folk: Folk<J>,
+        group_member: GroupMember<J>,
         hand: Hand<J>,
         room: Ended<J, J::Receipt>,
     )
         requires may { MayEnd self.old }
         requires board { board_of processor.state ≡ board_at self.old }
         requires hand_board { hand_board hand.state ≡ board_at self.old }
-        requires member { HasMember processor folk }
-        requires hand { HasHand folk hand }
+        requires member { HasMember processor group_member }
+        requires hand { HasHand group_member hand }
         requires room { FitsCpu (cpu_part processor (Some (hand_part hand))) room }
         ensures goes_on { GoesOn self.old self.new }
         ensures ends { EndsOne J.key_of J.gives (cpu_part processor (Some (hand_part hand))) self.old self.new }
@@ -146,7 +146,7 @@ impl<J: Job> Ending<J> {
         } = rcu_part_hand::into_state(hand);
         self.take_in(seat);
         self.take_in(hands_seat);
-        self.keep(end_offloadable::<J>(lists, folk.member, held, ran, hands, room));
+        self.keep(end_offloadable::<J>(lists, group_member.into_lists(), held, ran, hands, room));
     }
 
     /// Takes in a seat whose claims have ended.

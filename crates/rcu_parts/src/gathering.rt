@@ -14,14 +14,14 @@ use rcu_board::{Board, Gathered, merge};
 use rcu_gathering::{reports_by, settle};
 use rcu_jobs::Job;
 use rcu_numbers::BoardWord;
-use rcu_part_group::{Folk, Group, into_parts};
+use rcu_part_group::{Group, GroupMember, into_parts};
 
 /// Takes in the seat of a group, whose members join the others. There is room.
 fn gather_group<J: Job>(
     board: &Board,
     all: &mut Gathered,
     group: Group<J>,
-    members: &mut Vec<Folk<J>>,
+    members: &mut Vec<GroupMember<J>>,
 )
     requires all { GatheredAt board.now all.old }
     requires rests { (gathered_view all.old).running ≡ [] }
@@ -34,12 +34,12 @@ fn gather_group<J: Job>(
     ensures len { vec_len members.new ≡ vec_len members.old + length (members_of group.state) }
     ensures room { vec_capacity members.new ≡ vec_capacity members.old }
 {
-    let (seat, folks) = into_parts(group);
-    let (first, others) = folks.into_parts();
+    let (seat, group_members) = into_parts(group);
+    let (first, others) = group_members.into_parts();
     merge(board, all, seat);
     members.push_reserved(first);
-    for folk in others {
-        members.push_reserved(folk);
+    for group_member in others {
+        members.push_reserved(group_member);
     }
 }
 
@@ -48,8 +48,8 @@ pub(crate) fn gather_groups<J: Job>(
     board: &Board,
     all: &mut Gathered,
     groups: Vec<Group<J>>,
-    mut members: Vec<Folk<J>>,
-) -> Vec<Folk<J>>
+    mut members: Vec<GroupMember<J>>,
+) -> Vec<GroupMember<J>>
     requires all { GatheredAt board.now all.old }
     requires rests { (gathered_view all.old).running ≡ [] }
     requires board { All (λ g. group_board g.state ≡ board.now) groups.items }

@@ -16,7 +16,7 @@ pub use laws::{drained, same_parts};
 pub use opening::open;
 pub use parts::{AllParts, Parts};
 pub use rcu_control::{Barrier, Control, Driver, ReadsTurns};
-pub use rcu_part_group::{Folk, Group, Members};
+pub use rcu_part_group::{Group, GroupMember, GroupMembers};
 pub use rcu_part_hand::{Hand, RunningHand};
 pub use rcu_part_processor::{Processor, Reading, RunningProcessor};
 pub use rcu_part_steps::{Begins, ClaimedCallback};

@@ -4,24 +4,24 @@ ghost use Rattle.std.specs.Prelude.{◌≡◌, ◌/◌, ◌<◌, [], ◌∷◌, 
 ghost use Rattle.std.specs.Arc.{arc_value};
 ghost use Rattle.std.specs.List.{AllZip};
 ghost use Rattle.rcu_board.specs.Opened.{InOrder, IsNewGroup, IsNewHand, IsNewProcessor, SeatForEach, has_offloadable, is_offloadable, numbers_where};
-ghost use Rattle.rcu_holdings.specs.Callers.{holding, rear_of};
-ghost use Rattle.rcu_holdings.specs.Members.{front_of};
+ghost use Rattle.rcu_holdings.specs.ProcessorLists.{first_holding, holding, rear_of};
+ghost use Rattle.rcu_holdings.specs.MemberLists.{front_of};
 ghost use Rattle.rcu_lanes.specs.Ends.{IsNewLane, items_drawn};
-ghost use Rattle.rcu_part_group.specs.GroupLaw.{cpus_of, folks_in};
-ghost use Rattle.rcu_part_group.specs.Groups.{IsEmptyFolk};
+ghost use Rattle.rcu_part_group.specs.GroupLaw.{cpus_of, group_members_in};
+ghost use Rattle.rcu_part_group.specs.Groups.{IsEmptyGroupMember};
 ghost use Rattle.rcu_parts.specs.OneOpen.{AreOfOneOpen, AreSoundParts, HasHand, members_in};
-ghost use Rattle.rcu_parts.specs.Openings.{AreFirstGroups, AreFirstHands, AreFirstProcessors, AreFronts, IsFirstHand, IsFirstProcessor, IsOpened, first_lists, fronts_of, TakesMember, TakesMembers};
-ghost use Rattle.rcu_part_group.specs.declared.folk.Folk.{Folk};
+ghost use Rattle.rcu_parts.specs.Openings.{AreFirstGroups, AreFirstHands, AreFirstProcessors, AreFronts, IsFirstHand, IsFirstProcessor, IsOpened, fronts_of, TakesMember, TakesMembers};
+ghost use Rattle.rcu_part_group.specs.declared.members.GroupMember.{GroupMember};
 
 use crate::parts::{AllParts, Parts};
 use rcu_board::{Board, Role, Seat, Seats, open_board};
 use rcu_control::{Control, Driver};
-use rcu_holdings::{Caller, Held, Member, Safe};
+use rcu_holdings::{Held, LaneLimits, MemberLists, ProcessorLists};
 use rcu_jobs::Job;
 use rcu_lanes::{Front, ruled_lane};
-use rcu_lists::Batch;
+use rcu_lists::Parcel;
 use rcu_numbers::Shape;
-use rcu_part_group::{Folk, Group, Members};
+use rcu_part_group::{Group, GroupMember, GroupMembers};
 use rcu_part_hand::Hand;
 use rcu_part_processor::Processor;
 use std::alloc::{AllocError, Global};
@@ -33,12 +33,13 @@ fn open_lists<J: Drop>(
     alloc: Global,
     offloadable: bool,
     qhimark: u64,
-) -> Result<(Caller<J>, Front<Batch<J>, Safe>), AllocError>
-    ensures lists { IfOk result (λ t. holding t.0 ≡ first_lists offloadable qhimark) }
+) -> Result<(ProcessorLists<J>, Front<Parcel<J>, LaneLimits>), AllocError>
+    ensures lists { IfOk result (λ t. holding t.0 ≡ first_holding offloadable qhimark) }
     ensures lane { IfOk result (λ t. IsNewLane t.1 (rear_of t.0)) }
 {
-    let (front, rear) = ruled_lane::<Batch<J>, Safe>(alloc)?;
-    Ok((Caller::new(alloc, rear, offloadable, qhimark), front))
+    let (front, rear) = ruled_lane::<Parcel<J>, LaneLimits>(alloc)?;
+    let lists = ProcessorLists::new(alloc, rear, offloadable, qhimark)?;
+    Ok((lists, front))
 }
 
 /// A processor's part, and the other end of its lane.
@@ -48,7 +49,7 @@ fn open_processor<J: Job>(
     board: &Arc<Board, Global>,
     seat: Seat,
     cpu: u64,
-) -> Result<(Processor<J>, Front<Batch<J>, Safe>), AllocError>
+) -> Result<(Processor<J>, Front<Parcel<J>, LaneLimits>), AllocError>
     requires seat { IsNewProcessor (arc_value board.now) cpu seat }
     requires there { cpu < (arc_value board.now).processors }
     ensures processor { IfOk result (λ t. IsFirstProcessor shape.now (arc_value board.now) cpu t.0) }
@@ -66,7 +67,7 @@ fn open_processors<J: Job>(
     shape: &Shape,
     board: &Arc<Board, Global>,
     seats: Vec<Seat>,
-) -> Result<(Vec<Processor<J>>, VecDeque<Front<Batch<J>, Safe>>), AllocError>
+) -> Result<(Vec<Processor<J>>, VecDeque<Front<Parcel<J>, LaneLimits>>), AllocError>
     requires seats { InOrder (IsNewProcessor (arc_value board.now)) 0 seats.items }
     requires many { length seats.items ≡ (arc_value board.now).processors }
     ensures processors { IfOk result (λ t. AreFirstProcessors shape.now (arc_value board.now) t.0.items) }
@@ -93,20 +94,20 @@ fn open_hand<J: Job>(
     board: &Arc<Board, Global>,
     seat: Seat,
     cpu: u64,
-    front: Front<Batch<J>, Safe>,
-) -> Result<(Folk<J>, Hand<J>), AllocError>
+    front: Front<Parcel<J>, LaneLimits>,
+) -> Result<(GroupMember<J>, Hand<J>), AllocError>
     requires seat { IsNewHand (arc_value board.now) cpu seat }
     requires front { items_drawn front ≡ [] }
-    ensures folk { IfOk result (λ t. (t.0.cpu ≡ cpu) × (front_of t.0.member ≡ front) × IsEmptyFolk t.0) }
+    ensures group_member { IfOk result (λ t. (t.0.cpu ≡ cpu) × (front_of t.0.member ≡ front) × IsEmptyGroupMember t.0) }
     ensures hand { IfOk result (λ t. IsFirstHand shape.now (arc_value board.now) cpu t.1) }
     ensures lane { IfOk result (λ t. HasHand t.0 t.1) }
 {
-    let (done_front, done_rear) = ruled_lane::<Batch<J>, Safe>(alloc)?;
+    let (done_front, done_rear) = ruled_lane::<Parcel<J>, LaneLimits>(alloc)?;
     let own = Arc::try_clone(board)?;
-    let member = Member::new(alloc, front, done_rear);
+    let member = MemberLists::new(alloc, front, done_rear)?;
     let held = Held::new(alloc, done_front);
     let hand = Hand::new(alloc, shape, own, seat, cpu, held);
-    Ok((Folk { cpu, member }, hand))
+    Ok((GroupMember { cpu, member }, hand))
 }
 
 /// The members and the hands of all offloadable processors.
@@ -115,18 +116,18 @@ fn open_hands<J: Job>(
     shape: &Shape,
     board: &Arc<Board, Global>,
     seats: Vec<Seat>,
-    mut fronts: VecDeque<Front<Batch<J>, Safe>>,
-) -> Result<(VecDeque<Folk<J>>, Vec<Hand<J>>), AllocError>
+    mut fronts: VecDeque<Front<Parcel<J>, LaneLimits>>,
+) -> Result<(VecDeque<GroupMember<J>>, Vec<Hand<J>>), AllocError>
     requires seats { SeatForEach (IsNewHand (arc_value board.now)) (numbers_where (is_offloadable (arc_value board.now).offloadable) 0 (arc_value board.now).processors) seats.items }
     requires many { length fronts.items ≡ length seats.items }
     requires fronts { All (λ front. items_drawn front ≡ []) fronts.items }
     ensures cpus { IfOk result (λ t. cpus_of t.0.items ≡ numbers_where (is_offloadable (arc_value board.now).offloadable) 0 (arc_value board.now).processors) }
     ensures fronts { IfOk result (λ t. fronts_of t.0.items ≡ fronts.items) }
-    ensures empty { IfOk result (λ t. All IsEmptyFolk t.0.items) }
+    ensures empty { IfOk result (λ t. All IsEmptyGroupMember t.0.items) }
     ensures hands { IfOk result (λ t. AreFirstHands shape.now (arc_value board.now) t.1.items) }
     ensures lanes { IfOk result (λ t. AllZip HasHand t.0.items t.1.items) }
 {
-    let mut folks = VecDeque::new(alloc);
+    let mut group_members = VecDeque::new(alloc);
     let mut hands = Vec::new(alloc);
     for seat in seats {
         let Role::Hand(cpu) = seat.role() else {
@@ -135,41 +136,45 @@ fn open_hands<J: Job>(
         let Some(front) = fronts.pop_front() else {
             unreachable!()
         };
-        let (folk, hand) = open_hand(alloc, shape, board, seat, cpu, front)?;
-        folks.push_back(folk)?;
+        let (group_member, hand) = open_hand(alloc, shape, board, seat, cpu, front)?;
+        group_members.push_back(group_member)?;
         hands.push(hand)?;
     }
-    Ok((folks, hands))
+    Ok((group_members, hands))
 }
 
 /// Takes the first if it is of this group, where `stride` neighbours make a group.
-fn take_member<J: Drop>(folks: &mut VecDeque<Folk<J>>, stride: u64, group: u64) -> Option<Folk<J>>
+fn take_member<J: Drop>(
+    group_members: &mut VecDeque<GroupMember<J>>,
+    stride: u64,
+    group: u64,
+) -> Option<GroupMember<J>>
     requires { 0 < stride }
-    ensures { TakesMember stride group result folks.old.items folks.new.items }
+    ensures { TakesMember stride group result group_members.old.items group_members.new.items }
 {
-    if folks.front()?.cpu / stride != group {
+    if group_members.front()?.cpu / stride != group {
         return None;
     }
-    folks.pop_front()
+    group_members.pop_front()
 }
 
 /// Takes the members of a group off the front, the first of which is one.
 fn take_members<J: Drop>(
     alloc: Global,
-    folks: &mut VecDeque<Folk<J>>,
+    group_members: &mut VecDeque<GroupMember<J>>,
     stride: u64,
     group: u64,
-) -> Result<Members<J>, AllocError>
+) -> Result<GroupMembers<J>, AllocError>
     requires stride { 0 < stride }
-    requires first { (m : Folk J) × (ms : List (Folk J)) × (folks.old.items ≡ m ∷ ms) × (m.cpu / stride ≡ group) }
-    ensures { IfOk result (λ members. TakesMembers stride group (folks_in members) folks.old.items folks.new.items) }
+    requires first { (m : GroupMember J) × (ms : List (GroupMember J)) × (group_members.old.items ≡ m ∷ ms) × (m.cpu / stride ≡ group) }
+    ensures { IfOk result (λ members. TakesMembers stride group (group_members_in members) group_members.old.items group_members.new.items) }
 {
-    let Some(first) = folks.pop_front() else {
+    let Some(first) = group_members.pop_front() else {
         unreachable!()
     };
-    let mut members = Members::new(alloc, first);
-    while let Some(folk) = take_member(folks, stride, group) {
-        members.push(folk)?;
+    let mut members = GroupMembers::new(alloc, first);
+    while let Some(group_member) = take_member(group_members, stride, group) {
+        members.push(group_member)?;
     }
     Ok(members)
 }
@@ -180,13 +185,13 @@ fn open_groups<J: Job>(
     shape: &Shape,
     board: &Arc<Board, Global>,
     seats: Vec<Seat>,
-    mut folks: VecDeque<Folk<J>>,
+    mut group_members: VecDeque<GroupMember<J>>,
 ) -> Result<Vec<Group<J>>, AllocError>
     requires seats { SeatForEach (IsNewGroup (arc_value board.now)) (numbers_where (has_offloadable (arc_value board.now).offloadable shape.now.stride (arc_value board.now).processors) 0 (arc_value board.now).processors) seats.items }
-    requires cpus { cpus_of folks.items ≡ numbers_where (is_offloadable (arc_value board.now).offloadable) 0 (arc_value board.now).processors }
-    requires empty { All IsEmptyFolk folks.items }
+    requires cpus { cpus_of group_members.items ≡ numbers_where (is_offloadable (arc_value board.now).offloadable) 0 (arc_value board.now).processors }
+    requires empty { All IsEmptyGroupMember group_members.items }
     ensures groups { IfOk result (λ groups. AreFirstGroups shape.now (arc_value board.now) groups.items) }
-    ensures members { IfOk result (λ groups. members_in groups.items ≡ folks.items) }
+    ensures members { IfOk result (λ groups. members_in groups.items ≡ group_members.items) }
 {
     let mut groups = Vec::new(alloc);
     for seat in seats {
@@ -194,7 +199,7 @@ fn open_groups<J: Job>(
             unreachable!()
         };
         let own = Arc::try_clone(board)?;
-        let members = take_members(alloc, &mut folks, shape.stride, number)?;
+        let members = take_members(alloc, &mut group_members, shape.stride, number)?;
         groups.push(Group::new(shape, own, seat, number, members))?;
     }
     Ok(groups)
@@ -222,8 +227,8 @@ pub fn open<J: Job>(alloc: Global, shape: Shape) -> Result<Parts<J>, AllocError>
     let board = Arc::new(alloc, board)?;
     let driver = Driver::new(Arc::try_clone(&board)?, driver);
     let (processors, fronts) = open_processors(alloc, &shape, &board, processors)?;
-    let (folks, hands) = open_hands(alloc, &shape, &board, hands, fronts)?;
-    let groups = open_groups(alloc, &shape, &board, groups, folks)?;
+    let (group_members, hands) = open_hands(alloc, &shape, &board, hands, fronts)?;
+    let groups = open_groups(alloc, &shape, &board, groups, group_members)?;
     Ok(AllParts {
         processors,
         driver,

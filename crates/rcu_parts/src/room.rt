@@ -8,7 +8,7 @@ ghost use Rattle.rcu_parts.specs.Rooms.{FitsAll, FitsCpu};
 
 use rcu_endings::Ended;
 use rcu_jobs::{Job, Record};
-use rcu_part_group::Folk;
+use rcu_part_group::GroupMember;
 use rcu_part_hand::Hand;
 use rcu_part_processor::Processor;
 use std::alloc::{AllocError, Global};
@@ -21,7 +21,7 @@ pub(crate) struct Room<J: Job> {
     pub(crate) back: Vec<Vec<J>>,
     pub(crate) reports: Vec<u64>,
     /// For the members of all groups.
-    pub(crate) members: Vec<Folk<J>>,
+    pub(crate) members: Vec<GroupMember<J>>,
 }
 
 impl<J: Job> Room<J> {

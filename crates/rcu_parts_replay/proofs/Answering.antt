@@ -1,5 +1,5 @@
 -- What the calls of the parts answer, as the lines of the commands say it.
-use Rattle.std.proofs.Common.{◌≡◌, ◌≢◌, ℕ, ◌≤◌, List, All, Result, Ok, Err, IfOk, IfErr, false, if◌then◌else◌, nat_lt, arith, refl, subst, sym}
+use Rattle.std.proofs.Common.{◌≡◌, ◌≢◌, ℕ, ◌≤◌, ◌<◌, List, All, Result, Ok, Err, IfOk, IfErr, true, false, if◌then◌else◌, nat_lt, arith, refl, subst, sym}
 use Rattle.std.proofs.lemmas.Bool.Decides.{nat_tests}
 use Rattle.rcu_jobs.specs.declared.answers.Refused.{Refused}
 use Rattle.rcu_jobs.specs.declared.answers.Ticket.{Ticket}
@@ -22,6 +22,13 @@ module _ {J R : Type 0} (key_of : J → ℕ) (v : Verb) (moment : ℕ) (job : J)
   pub call_made : (r : Result Ticket (Refused J)) (p q : Processor J R) (kind : Kind) → kind ≡ kind_of v → IfOk r (λ t. IsAccepted moment kind (key_of job) job t p.state q.state) → IfErr r (λ _. KeepsAll p.state q.state)
       → IfErr r (λ e. IsRefusedAs job e p.state q.state) → Calls key_of v moment job r p q
   call_made r p q kind is ok keeps refused = answered r p q (subst (λ k. IfOk r (λ t. IsAccepted moment k (key_of job) job t p.state q.state)) is ok) keeps refused
+
+-- a hand's turn of a processor that isn't offloadable
+pub hand_of_local : {J R : Type 0} (n cpu : ℕ) (hs : List (Hand J R)) (l : Line) → cpu < n → All (λ h. h.state.cpu ≢ cpu) hs → l ≡ refused_by verb.Hand cpu 5 → IsHand n cpu l hs hs
+hand_of_local n cpu hs l within none is =
+    let t : nat_lt cpu n ≡ true = grind (arith, nat_tests) in
+    let e : refused_by verb.Hand cpu 5 ≡ refused_by verb.Hand cpu (if nat_lt cpu n then 5 else 6) = rw t in
+    subst (λ x. IsHand n cpu x hs hs) (sym is) (none, e, refl)
 
 -- a hand's turn of a processor that isn't there
 pub no_hand : {J R : Type 0} (n cpu : ℕ) (hs : List (Hand J R)) (l : Line) → n ≤ cpu → All (λ h. h.state.cpu ≢ cpu) hs → l ≡ refused_by verb.Hand cpu 6 → IsHand n cpu l hs hs

@@ -3,7 +3,7 @@ use Rattle.std.proofs.Common.{◌≡◌, ℕ, suc, ◌+◌, ◌<◌, get_or, tak
 use Rattle.std.proofs.lemmas.List.{length-take, take_more}
 use Rattle.std.proofs.lemmas.Result.{on_ok_weaker}
 use Rattle.std.specs.Io.KnownBytes.{Appends}
-use Rattle.rcu_holdings.specs.Callers.{cpu_lists}
+use Rattle.rcu_holdings.specs.ProcessorLists.{cpu_lists}
 use Rattle.rcu_part_processor.specs.Processors.{lists_of}
 use Rattle.rcu_part_group.specs.declared.group.Group.{Group}
 use Rattle.rcu_part_processor.specs.declared.processor.Processor.{Processor}
@@ -31,9 +31,9 @@ module _ {J R : Type 0} (groups : List (Group J R)) where
     own_alone none = (lists_line k own ++ [], (None, none, ap (λ l. lists_line k l ++ []) is), subst (Appends a b) (sym (append-nil (lists_line k own))) first)
 
     -- which a group has
-    pub own_and_group : {E : Type 0} (r : Result (Unit {0}) E) (c : Option (List ℕ)) (folk : Lists) → ShownIn k (Some folk) groups → OnOk r (Appends b c (lists_line k folk)) → OnOk r ((text : List ℕ) × ShowsOne k p groups text × Appends a c text)
-    own_and_group r c folk some h = on_ok_weaker {Q = (text : List ℕ) × ShowsOne k p groups text × Appends a c text} r
-        (λ second. (lists_line k own ++ lists_line k folk, (Some folk, some, ap (λ l. lists_line k l ++ lists_line k folk) is), Appends-append a b c (lists_line k own) (lists_line k folk) first second)) h
+    pub own_and_group : {E : Type 0} (r : Result (Unit {0}) E) (c : Option (List ℕ)) (group_member : Lists) → ShownIn k (Some group_member) groups → OnOk r (Appends b c (lists_line k group_member)) → OnOk r ((text : List ℕ) × ShowsOne k p groups text × Appends a c text)
+    own_and_group r c group_member some h = on_ok_weaker {Q = (text : List ℕ) × ShowsOne k p groups text × Appends a c text} r
+        (λ second. (lists_line k own ++ lists_line k group_member, (Some group_member, some, ap (λ l. lists_line k l ++ lists_line k group_member) is), Appends-append a b c (lists_line k own) (lists_line k group_member) first second)) h
 
   -- one processor more than the first so many, and all of them
   pub one_shown : (ps : List (Processor J R)) (n : ℕ) (p : Processor J R) → n < length ps → p ≡ get_or ps n p → (a b c : Option (List ℕ)) → (text : List ℕ) × ShowsFrom 0 (take n ps) groups text × Appends a b text

@@ -6,7 +6,7 @@ use Rattle.rcu_control.specs.Barriers.{OpensBy, PollsBy}
 use Rattle.rcu_control.specs.Control.{Shuts, SwitchesBy}
 use Rattle.rcu_control.specs.Driving.{DrivesBy}
 use Rattle.rcu_control.specs.declared.barrier.Barrier.{Barrier}
-use Rattle.rcu_holdings.specs.Callers.{cpu_lists}
+use Rattle.rcu_holdings.specs.ProcessorLists.{cpu_lists}
 use Rattle.rcu_jobs.specs.Refusals.{number_of, switch_number}
 use Rattle.rcu_jobs.specs.declared.SwitchFault.{SwitchFault}
 use Rattle.rcu_jobs.specs.declared.Passed.{Passed}
@@ -143,7 +143,7 @@ module _ {J R : Type 0} where
 
   -- the lines of processor k: of its own lists, and of those in its group if it has one
   abbrev pub ShowsOne : ℕ → Processor J R → List (Group J R) → List ℕ → Type 0
-  ShowsOne k p groups text = (folk : Option Lists) × ShownIn k folk groups × (text ≡ lists_line k (cpu_lists p.state.accepted (lists_of p.state)) ++ group_line k folk)
+  ShowsOne k p groups text = (group_member : Option Lists) × ShownIn k group_member groups × (text ≡ lists_line k (cpu_lists p.state.accepted (lists_of p.state)) ++ group_line k group_member)
 
   -- the lines of the processors k, k + 1, ..
   unfoldable pub ShowsFrom : ℕ → List (Processor J R) → List (Group J R) → List ℕ → Type 0

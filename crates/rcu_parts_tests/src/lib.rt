@@ -2,7 +2,8 @@
 //! its tests once more.
 #![tactic(auto)]
 
-pub mod opening;
+#[cfg(test)]
+mod opening;
 #[cfg(test)]
 mod tests;
 #[cfg(test)]

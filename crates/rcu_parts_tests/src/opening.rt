@@ -1,5 +1,4 @@
-//! A runtime of one processor, as most tests open it. It is no test itself, so that this crate drops parts without its tests
-//! too, and its answers to what their drops ask belong to it.
+//! A runtime of one processor, as most tests open it.
 
 use rcu_control::{Control, Driver};
 use rcu_jobs::BoxedJob;

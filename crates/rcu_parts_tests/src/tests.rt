@@ -1,4 +1,4 @@
-ghost use Rattle.std.specs.Prelude.{◌≡◌, [], ◌∷◌, IfSome};
+ghost use Rattle.std.specs.Prelude.{◌≡◌, [], ◌∷◌, IfOk, IfSome};
 ghost use Rattle.rcu_board.specs.Opened.{AreNew, IsNewHand, IsNewProcessor, is_offloadable};
 ghost use Rattle.rcu_board.specs.Roles.{MayNeed, cpu_of_role};
 ghost use Rattle.rcu_board.specs.Seats.{view, AtBoard};
@@ -10,10 +10,10 @@ ghost use Rattle.rcu_part_processor.specs.Opened.{IsEmpty};
 use crate::opening::{AllOfOne, one_processor, open_one};
 use rcu_board::{Board, Role, Seat, Seats, need, open_board};
 use rcu_control::{Control, Driver};
-use rcu_holdings::{Caller, Held, Safe};
+use rcu_holdings::{ProcessorLists, Held, LaneLimits};
 use rcu_jobs::{BoxedJob, HandTurn, Lists, Mode, Refused, Stop, Ticked, Ticket};
 use rcu_lanes::{Rear, ruled_lane};
-use rcu_lists::Batch;
+use rcu_lists::Parcel;
 use rcu_numbers::Shape;
 use rcu_parts::{Hand, Processor};
 use std::alloc::{AllocError, Global};
@@ -65,13 +65,13 @@ fn take_apart(shape: Shape, board: &Board, seats: Seats) -> Option<OneOfEach>
 fn no_lists(
     alloc: Global,
     board: &Board,
-    rear: Rear<Batch<BoxedJob<0>>, Safe>,
+    rear: Rear<Parcel<BoxedJob<0>>, LaneLimits>,
     qhimark: u64,
-) -> Caller<BoxedJob<0>>
+) -> Result<ProcessorLists<BoxedJob<0>>, AllocError>
     requires { items_put rear ≡ [] }
-    ensures { IsEmpty (is_offloadable board.now.offloadable 0) result }
+    ensures { IfOk result (IsEmpty (is_offloadable board.now.offloadable 0)) }
 {
-    Caller::new(alloc, rear, board.is_offloadable(0), qhimark)
+    ProcessorLists::new(alloc, rear, board.is_offloadable(0), qhimark)
 }
 
 pub(crate) fn job(alloc: Global, key: u64) -> Result<BoxedJob<0>, AllocError> {
@@ -144,7 +144,9 @@ fn run_by_hand(alloc: Global) -> Option<[HandTurn; 3]> {
         return None;
     };
     let held = Held::new(alloc, front);
-    let lists = no_lists(alloc, &board, rear, shape.qhimark);
+    let Ok(lists) = no_lists(alloc, &board, rear, shape.qhimark) else {
+        return None;
+    };
     let mut driver = Driver::new(Arc::try_clone(&board).ok()?, driver);
     let mut hand: Hand<BoxedJob<0>> = Hand::new(
         alloc,

@@ -6,3 +6,4 @@ pub mod AllTurns
 pub mod Firsts
 pub mod Seen
 pub mod Drains
+pub mod Settles

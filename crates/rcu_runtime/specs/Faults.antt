@@ -2,6 +2,8 @@
 use Rattle.std.specs.Prelude.{ℕ, Result}
 use Rattle.std.specs.declared.result.Result.TheVariants.{Ok, Err}
 use Rattle.rcu_jobs.specs.Refusals as refusals
+use Rattle.rcu_jobs.specs.declared.BarrierFault.{BarrierFault}
+use Rattle.rcu_jobs.specs.declared.BarrierFault.TheVariants as barrier_fault
 use Rattle.rcu_jobs.specs.declared.answers.Refused.{Refused as Refusal}
 use Rattle.rcu_jobs.specs.declared.answers.Ticket.{Ticket}
 use Rattle.rcu_runtime.specs.declared.fault.NotCalled.{NotCalled}
@@ -20,3 +22,9 @@ module _ {J : Type 0} where
   abbrev pub given_back : Result Ticket (Refusal J) → Result Ticket (NotCalled J)
   given_back (Ok t) = Ok t
   given_back (Err refused) = Err (Refused refused)
+
+-- the number of the refusal of a barrier
+abbrev pub barrier_number : BarrierFault → ℕ
+barrier_number barrier_fault.Memory = 2
+barrier_number (barrier_fault.NoProcessor cpu) = 6
+barrier_number (barrier_fault.Ahead cpu count) = 7

@@ -4,3 +4,4 @@ pub mod Turns
 pub mod Ends
 pub mod Faults
 pub mod Passing
+pub mod Settled

@@ -3,19 +3,23 @@
 //! its job type and its calls, and nothing else.
 #![tactic(auto)]
 
+mod any_fault;
 mod apart;
 mod calling;
 mod closing;
 mod draining;
+mod ending;
 mod fault;
 mod laws;
 mod opening;
 mod runtime;
 mod seeing;
+mod settling;
 mod steering;
 mod turning;
 mod whole;
 
+pub use any_fault::AnyFault;
 pub use closing::Closing;
 pub use fault::{NoProcessor, NotCalled, OtherBarrier};
 pub use laws::{continues_again, continues_itself};

@@ -8,7 +8,7 @@ use rcu_jobs::{Job, Lists};
 use rcu_parts::{AllParts, Group, Hand, Processor, Reading};
 
 impl<J: Job> Whole<AllParts<Processor<J>, Group<J>, Hand<J>>> {
-    ghost use Rattle.rcu_holdings.specs.Callers.{cpu_lists};
+    ghost use Rattle.rcu_holdings.specs.ProcessorLists.{cpu_lists};
     ghost use Rattle.rcu_part_processor.specs.Processors.{lists_of};
     ghost use Rattle.rcu_parts.specs.OneOpen.{processors_in};
     ghost use Rattle.rcu_runtime.specs.Calls.{IsNone, OfProcessor};

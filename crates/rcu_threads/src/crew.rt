@@ -1,6 +1,6 @@
 //! Threads that were started together, and are joined together.
 
-ghost use Rattle.std.specs.Prelude.{◌≡◌, IfOk, Some, None};
+ghost use Rattle.std.specs.Prelude.{◌≡◌, ◌⊎◌, [], IfErr, IfOk, Some, None, is_none};
 ghost use Rattle.std.specs.List.{AllZip};
 
 use crate::fault::ThreadsFault;
@@ -29,17 +29,15 @@ impl<H: Drop> Crew<H> {
 
     /// The threads that could be made.
     pub fn partial(threads: Vec<H>) -> Crew<H>
-        ensures { result.fault ≡ Some ThreadsFault.CannotRun }
+        ensures { (result.threads ≡ threads) × (result.fault ≡ Some ThreadsFault.CannotRun) }
     {
-        Crew {
-            threads,
-            fault: Some(ThreadsFault::CannotRun),
-        }
+        let fault = Some(ThreadsFault::CannotRun);
+        Crew { threads, fault }
     }
 
     /// No thread, for want of memory.
     pub fn none(alloc: Global) -> Crew<H>
-        ensures { result.fault ≡ Some ThreadsFault.Memory }
+        ensures { (result.threads.items ≡ []) × (result.fault ≡ Some ThreadsFault.Memory) }
     {
         Crew {
             threads: Vec::new(alloc),
@@ -50,7 +48,9 @@ impl<H: Drop> Crew<H> {
 
 impl<H> Crew<H> {
     /// Whether every part has a thread.
-    pub fn is_whole(&self) -> bool {
+    pub fn is_whole(&self) -> bool
+        ensures { result ≡ is_none self.now.fault }
+    {
         self.fault.is_none()
     }
 }
@@ -66,6 +66,7 @@ pub fn join_all<T: Send + Drop, P: Promise<T>, R: Threads>(
 ) -> Result<Vec<T>, ThreadsFault>
     ensures whole { IfOk result (λ _. crew.fault ≡ None) }
     ensures kept { IfOk result (λ parts. AllZip (λ h part. P.kept_by h.promise part) crew.threads.items parts.items) }
+    ensures why { IfErr result (λ fault. (crew.fault ≡ Some fault) ⊎ (fault ≡ ThreadsFault.Memory)) }
 {
     let Crew { threads, fault } = crew;
     match thread::join_promised(rt, threads) {

@@ -6,7 +6,7 @@ pub take_batch-requires : goal.take_batch-requires
 take_batch-requires g c = (assumption, first_fits _ _ (batch_items c.args.bypass.now) c.args.own.items c.requires)
 
 pub take_list-requires : goal.take_list-requires
-take_list-requires g c = rest_fits (batch_items c.args.bypass.now) c.args.own.items _ _ c.take_batch.ensures c.requires
+take_list-requires g c = rest_fits (batch_items c.args.bypass.now) c.args.own.items _ _ c.take_batch.ensures.takes c.requires
 
 pub returns : goal.returns
-returns g c = takes_then (batch_items c.args.bypass.now) c.args.own.items _ _ _ c.take_batch.ensures c.take_list.ensures
+returns g c = takes_then (batch_items c.args.bypass.now) c.args.own.items _ _ _ c.take_batch.ensures.takes c.take_list.ensures

@@ -5,17 +5,15 @@ use Rattle.std.proofs.lemmas.List.Elements.{All-append}
 use Rattle.rcu_lists.specs.Bypasses.{bypass_items}
 use Rattle.rcu_lists.specs.Labels.{callbacks_of}
 use Rattle.rcu_lists.specs.Segments.{labelled}
-use Rattle.rcu_lists.specs.contracts.batch.Batch as batch_row
 use Rattle.rcu_lists.specs.contracts.bypass.Bypass as bypass_row
 use Rattle.rcu_holdings.specs.Lanes.{put_calls}
-use Rattle.rcu_holdings.specs.Safe.{AreFew, AreSafe, IsSafe}
+use Rattle.rcu_holdings.specs.Limits.{AreFew, AreSafe, IsSafe}
 use Rattle.rcu_holdings.proofs.sending.pour_out.Goals as goal
 
 pub send_if_any-requires : goal.send_if_any-requires
 send_if_any-requires g c =
-    let b : FitsInMemory (batch_row.the_row (param 0 g.row.J)) = assumption in
     let h : FitsInMemory (bypass_row.the_row (param 0 g.row.J)) = assumption in
-    (b, (h, (subst AreSafe (sym c.in-Ok.ensures.moved) (All-append IsSafe (bypass_items c.args.bypass.now) (callbacks_of (labelled c.args.own.now)) c.requires.safe c.requires.own), subst (λ l. AreFew (put_calls c.args.rear.now ++ l)) (sym c.in-Ok.ensures.moved) c.requires.few)))
+    (h, (subst AreSafe (sym c.in-Ok.ensures.moved) (All-append IsSafe (bypass_items c.args.bypass.now) (callbacks_of (labelled c.args.own.now)) c.requires.safe c.requires.own), subst (λ l. AreFew (put_calls c.args.outlet.now.rear ++ l)) (sym c.in-Ok.ensures.moved) c.requires.few))
 
 pub returns-in-Err-clause-safe : goal.returns-in-Err-clause-safe
 returns-in-Err-clause-safe g c = subst AreSafe (sym c.in-Err.ensures.refused.1.items) c.requires.safe

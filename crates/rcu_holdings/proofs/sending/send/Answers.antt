@@ -1,54 +1,34 @@
-use Rattle.std.proofs.Common.{inl, inr, sym, ap, ◌∙◌, ◌++◌, length, subst}
-use Rattle.std.proofs.lemmas.List.{length-append}
-use Rattle.std.specs.List.{flat_map}
-use Rattle.rcu_lanes.specs.Ends.{items_put}
-use Rattle.rcu_lists.specs.Batches.{batch_items}
-use Rattle.rcu_lists.specs.Bypasses.{bypass_pace}
-use Rattle.rcu_lists.specs.Release.{refilled}
-use Rattle.rcu_lists.specs.declared.pace.Pace.{Pace}
+use Rattle.std.proofs.Common.{refl, sym, ◌∷◌, [], ◌++◌, subst}
+use Rattle.std.proofs.lemmas.List.Elements.{All-head}
+use Rattle.rcu_jobs.specs.declared.callback.Callback.{Callback}
+use Rattle.rcu_lists.specs.Release.{emptied}
 use Rattle.rcu_holdings.specs.Lanes.{put_calls}
-use Rattle.rcu_holdings.specs.Outgoing.{outgoing, sent, sent_back}
-use Rattle.rcu_holdings.specs.Safe.{AreFew, AreSafe, IsSafe}
-use Rattle.rcu_holdings.proofs.Releases.{same_outgoing, flat-snoc, full}
-use Rattle.std.proofs.lemmas.List.Elements.{All-nil}
+use Rattle.rcu_holdings.specs.Outgoing.{Outgoing, outgoing, IsReleased}
+use Rattle.rcu_holdings.specs.Limits.{IsSafe, AreFew, AreSafe}
+use Rattle.rcu_holdings.proofs.Releases.{same_outgoing, released-single}
 use Rattle.rcu_holdings.proofs.sending.send.Goals as goal
 
-pub put-requires : goal.put-requires
-put-requires g c = record {
-  safe = subst AreSafe (sym c.flush-batch.ensures.all) c.requires.safe;
-  few = subst (λ l. AreFew (put_calls c.args.rear.now ++ l)) (sym c.flush-batch.ensures.all) c.requires.few;
-}
+pub send_single-requires : goal.send_single-requires
+send_single-requires g c = let s = c.in-Some.ensures.single in
+    (assumption, (s.1, (All-head IsSafe c.in-Some.callback [] (subst AreSafe s.0 c.requires.safe), subst (λ l. AreFew (put_calls c.args.outlet.now.rear ++ l)) s.0 c.requires.few)))
 
-pub returns-in-Ok-clause-released : goal.returns-in-Ok-clause-released
-returns-in-Ok-clause-released g c =
-    let o = outgoing c.args.rear.now c.args.bypass.now in
-    inl (same_outgoing (sent o) (outgoing c.put.new.self c.flush-batch.new.self)
-    (ap (flat_map batch_items) c.in-Ok.ensures.put ∙ (flat-snoc (items_put c.args.rear.now) c.flush-batch.result ∙ ap (λ l. put_calls c.args.rear.now ++ l) c.flush-batch.ensures.all))
-    (ap length c.in-Ok.ensures.put ∙ length-append (items_put c.args.rear.now) _)
-    c.flush-batch.ensures.none c.flush-batch.ensures.pace c.flush-batch.ensures.qhimark)
+pub returns-in-Some-clause-released : goal.returns-in-Some-clause-released
+returns-in-Some-clause-released g c =
+    let o = outgoing c.args.outlet.now.rear c.args.bypass.now in
+    let s = c.in-Some.ensures.single in
+    let m = outgoing c.args.outlet.now.rear c.flush_single.new.self in
+    released-single o m (outgoing c.send_single.new.outlet.rear c.send_single.new.bypass) c.in-Some.callback s.0
+        (same_outgoing (record o { bypass = []; pace = emptied o.pace }) m refl refl s.1 s.2 c.in-Some.ensures.qhimark)
+        c.send_single.ensures.released
 
-pub returns-in-Err-clause-released : goal.returns-in-Err-clause-released
-returns-in-Err-clause-released g c =
-    let o = outgoing c.args.rear.now c.args.bypass.now in
-    let items = ap batch_items c.in-Err.ensures.put.0 ∙ c.flush-batch.ensures.all in
-    inr (
-      full (length (items_put c.args.rear.now)) c.in-Err.ensures.room,
-      same_outgoing (sent_back o) (outgoing c.put.new.self c.refill.new.self)
-          (ap (flat_map batch_items) c.in-Err.ensures.put.1)
-          (ap length c.in-Err.ensures.put.1)
-          (c.refill.ensures.items ∙ items)
-          (c.refill.ensures.pace ∙ (ap (λ l. refilled l (bypass_pace c.flush-batch.new.self)) items ∙ ap (λ (p : Pace). refilled o.bypass p) c.flush-batch.ensures.pace))
-          (c.refill.ensures.qhimark ∙ c.flush-batch.ensures.qhimark),
-    )
+pub send_all-requires : goal.send_all-requires
+send_all-requires g c = let same = sym c.in-None.ensures.single.1.items in
+    (assumption, (subst AreSafe same c.requires.safe, subst (λ l. AreFew (put_calls c.args.outlet.now.rear ++ l)) same c.requires.few))
 
-pub returns-in-Err-clause-safe : goal.returns-in-Err-clause-safe
-returns-in-Err-clause-safe g c = subst AreSafe (sym (c.refill.ensures.items ∙ (ap batch_items c.in-Err.ensures.put.0 ∙ c.flush-batch.ensures.all))) c.requires.safe
-
-pub flush-batch-requires : goal.flush-batch-requires
-flush-batch-requires g c = assumption
-
-pub put-requires-room-L-Rule : goal.put-requires-room-L-Rule
-put-requires-room-L-Rule g c κs within = assumption
-
-pub returns-in-Ok-clause-safe : goal.returns-in-Ok-clause-safe
-returns-in-Ok-clause-safe g c = subst AreSafe (sym c.flush-batch.ensures.none) (All-nil IsSafe)
+pub returns-in-None-clause-released : goal.returns-in-None-clause-released
+returns-in-None-clause-released g c =
+    let o = outgoing c.args.outlet.now.rear c.args.bypass.now in
+    let same = c.in-None.ensures.single.1 in
+    subst (λ (x : Outgoing g.row.J.Denot). IsReleased x (outgoing c.send_all.new.outlet.rear c.send_all.new.bypass))
+        (same_outgoing o (outgoing c.args.outlet.now.rear c.flush_single.new.self) refl refl same.items same.pace same.qhimark)
+        c.send_all.ensures.released

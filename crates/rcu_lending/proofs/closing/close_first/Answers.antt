@@ -5,8 +5,8 @@ use Rattle.rcu_lending.proofs.closing.close_first.Goals as goal
 pub close_parts-requires-clause-owed : goal.close_parts-requires-clause-owed
 close_parts-requires-clause-owed c = c.requires.owed.first c.args.opening c.take_all-parts.result (held_back c.check_all.ensures.stay c.take_all-parts.ensures.held)
 
-pub returns : goal.returns
-returns c = let e = c.take_all-parts.ensures.emptied in inl (record {
+pub returns-clause-closes : goal.returns-clause-closes
+returns-clause-closes c = let e = c.take_all-parts.ensures.emptied in inl (record {
   opening = c.args.opening;
   parts = c.take_all-parts.result;
   held = held_back c.check_all.ensures.stay c.take_all-parts.ensures.held;

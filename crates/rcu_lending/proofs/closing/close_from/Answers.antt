@@ -20,11 +20,11 @@ close_kept-requires-clause-owed c = λ l closing is part. c.requires.owed.again 
 pub close_first-requires : goal.close_first-requires
 close_first-requires c = record { owed = owed_still (looked_at c.args.slots.now c.peek.new.self c.peek.ensures.stays) c.requires.owed }
 
-pub returns-in-Closing : goal.returns-in-Closing
-returns-in-Closing c = inr (inl (closes_again_from c.peek.ensures.stays c.close_kept.ensures))
+pub returns-in-Closing-clause-closes : goal.returns-in-Closing-clause-closes
+returns-in-Closing-clause-closes c = inr (inl (closes_again_from c.peek.ensures.stays c.close_kept.ensures))
 
-pub returns-in-Control : goal.returns-in-Control
-returns-in-Control c = elim (closes_from_old (looked_at c.args.slots.now c.peek.new.self c.peek.ensures.stays) c.close_first.ensures) [
+pub returns-in-Control-clause-closes : goal.returns-in-Control-clause-closes
+returns-in-Control-clause-closes c = elim (closes_from_old (looked_at c.args.slots.now c.peek.new.self c.peek.ensures.stays) c.close_first.ensures.closes) [
   | inl x ↦ inl x
   | inr y ↦ inr (inr y)
 ]

@@ -2,7 +2,7 @@ use Rattle.std.proofs.Common.{◌≡◌, true, false, ℕ, ◌+◌, ◌*◌, ◌
 use Rattle.rcu_board.specs.Plays.{looked, accepted}
 use Rattle.rcu_board.specs.Seats.{view}
 use Rattle.rcu_board.specs.Words.{accepts_word, bits_of}
-use Rattle.rcu_holdings.specs.Callers.{Holding, holding, Takes, passed_on}
+use Rattle.rcu_holdings.specs.ProcessorLists.{Holding, holding, Takes, passed_on}
 use Rattle.rcu_jobs.specs.declared.callback.Callback.{Callback}
 use Rattle.rcu_part_steps.specs.Changes.{Enters}
 use Rattle.rcu_part_steps.specs.Places.{AreKeyed}
@@ -25,7 +25,7 @@ place-requires g c = (
 
 pub returns-clause-places : goal.returns-clause-places
 returns-clause-places g c claimed has =
-    let r = c.args.request in let n = c.args.accepted.now in let e = c.in-Some.ensures in let v = view c.args.seat.now in let w = view c.enter.new.seat in
+    let r = c.args.request in let n = c.args.accepted.now in let e = c.in-Some.ensures in let v = view c.args.seat.now in let w = view c.accept_and_stamp.new.seat in
     let x : Callback g.row.J.Denot = record { cpu = r.cpu; number = n; key = c.key-key.result; stamp = c.seq.result; job = r.job } in
     let h = holding c.args.lists.now in let h' = holding c.place.new.self in
     let takes : Takes r.moment r.kind x h h' = subst (λ (o : Holding g.row.J.Denot). Takes r.moment r.kind x o h') c.in-Ok.ensures.same c.place.ensures.takes in
@@ -102,31 +102,31 @@ returns-in_default-clause-local g c offloadable local = subst (λ (h : Holding g
 pub returns-in_default-clause-keyed : goal.returns-in_default-clause-keyed
 returns-in_default-clause-keyed g c keyed = subst (λ (h : Holding g.row.J.Denot). AreKeyed g.J.Job.key_of (passed_on h)) (sym c.in_default.ensures.same) keyed
 
-pub enter-requires-clause-small : goal.enter-requires-clause-small
-enter-requires-clause-small g c = let small = c.requires.small in let low = c.if-number-limit.false in omega arith
+pub accept_and_stamp-requires-clause-small : goal.accept_and_stamp-requires-clause-small
+accept_and_stamp-requires-clause-small g c = let small = c.requires.small in let low = c.if-number-limit.false in omega arith
 
-pub returns-in_default-enter-clause-lane : goal.returns-in_default-enter-clause-lane
-returns-in_default-enter-clause-lane g c = same_lane c.args.lists.now c.reserve.new.self c.in-Ok.ensures.rear
+pub returns-in_default-accept_and_stamp-clause-lane : goal.returns-in_default-accept_and_stamp-clause-lane
+returns-in_default-accept_and_stamp-clause-lane g c = same_lane c.args.lists.now c.reserve.new.self c.in-Ok.ensures.rear
 
-pub returns-in_default-enter-clause-err : goal.returns-in_default-enter-clause-err
-returns-in_default-enter-clause-err g c = record { count = refl; lists = c.in-Ok.ensures.same; records = refl }
+pub returns-in_default-accept_and_stamp-clause-err : goal.returns-in_default-accept_and_stamp-clause-err
+returns-in_default-accept_and_stamp-clause-err g c = record { count = refl; lists = c.in-Ok.ensures.same; records = refl }
 
-pub returns-in_default-enter-clause-refused : goal.returns-in_default-enter-clause-refused
-returns-in_default-enter-clause-refused g c = (refl, c.in_default-enter.ensures.shut)
+pub returns-in_default-accept_and_stamp-clause-refused : goal.returns-in_default-accept_and_stamp-clause-refused
+returns-in_default-accept_and_stamp-clause-refused g c = (refl, c.in_default-accept_and_stamp.ensures.shut)
 
-pub returns-in_default-enter-clause-full : goal.returns-in_default-enter-clause-full
-returns-in_default-enter-clause-full g c = λ full. absurd (below_isnt c.args.accepted.now c.args.request.limit c.if-number-limit.false full)
+pub returns-in_default-accept_and_stamp-clause-full : goal.returns-in_default-accept_and_stamp-clause-full
+returns-in_default-accept_and_stamp-clause-full g c = λ full. absurd (below_isnt c.args.accepted.now c.args.request.limit c.if-number-limit.false full)
 
-pub returns-in_default-enter-clause-claims : goal.returns-in_default-enter-clause-claims
-returns-in_default-enter-clause-claims g c = let k = c.in_default-enter.ensures.keeps in (k.claims, k.running)
+pub returns-in_default-accept_and_stamp-clause-claims : goal.returns-in_default-accept_and_stamp-clause-claims
+returns-in_default-accept_and_stamp-clause-claims g c = let k = c.in_default-accept_and_stamp.ensures.keeps in (k.claims, k.running)
 
-pub returns-in_default-enter-clause-places : goal.returns-in_default-enter-clause-places
-returns-in_default-enter-clause-places g c claimed has = let e = c.in_default-enter.ensures in
-    subst (λ (h : Holding g.row.J.Denot). HasPlaces c.args.accepted.now (view c.enter.new.seat) claimed h) (sym c.in-Ok.ensures.same)
-    (places_by_keeps c.args.accepted.now _ (view c.args.seat.now) (view c.enter.new.seat) claimed (holding c.args.lists.now) e.keeps (e.same.later c.args.board.now c.requires.board) has)
+pub returns-in_default-accept_and_stamp-clause-places : goal.returns-in_default-accept_and_stamp-clause-places
+returns-in_default-accept_and_stamp-clause-places g c claimed has = let e = c.in_default-accept_and_stamp.ensures in
+    subst (λ (h : Holding g.row.J.Denot). HasPlaces c.args.accepted.now (view c.accept_and_stamp.new.seat) claimed h) (sym c.in-Ok.ensures.same)
+    (places_by_keeps c.args.accepted.now _ (view c.args.seat.now) (view c.accept_and_stamp.new.seat) claimed (holding c.args.lists.now) e.keeps (e.same.later c.args.board.now c.requires.board) has)
 
-pub returns-in_default-enter-clause-local : goal.returns-in_default-enter-clause-local
-returns-in_default-enter-clause-local g c offloadable local = subst (λ (h : Holding g.row.J.Denot). StaysLocal offloadable h) (sym c.in-Ok.ensures.same) local
+pub returns-in_default-accept_and_stamp-clause-local : goal.returns-in_default-accept_and_stamp-clause-local
+returns-in_default-accept_and_stamp-clause-local g c offloadable local = subst (λ (h : Holding g.row.J.Denot). StaysLocal offloadable h) (sym c.in-Ok.ensures.same) local
 
-pub returns-in_default-enter-clause-keyed : goal.returns-in_default-enter-clause-keyed
-returns-in_default-enter-clause-keyed g c keyed = subst (λ (h : Holding g.row.J.Denot). AreKeyed g.J.Job.key_of (passed_on h)) (sym c.in-Ok.ensures.same) keyed
+pub returns-in_default-accept_and_stamp-clause-keyed : goal.returns-in_default-accept_and_stamp-clause-keyed
+returns-in_default-accept_and_stamp-clause-keyed g c keyed = subst (λ (h : Holding g.row.J.Denot). AreKeyed g.J.Job.key_of (passed_on h)) (sym c.in-Ok.ensures.same) keyed

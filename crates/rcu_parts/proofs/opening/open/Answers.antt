@@ -13,14 +13,13 @@ use Rattle.rcu_board.specs.declared.board.Seat.{Seat}
 use Rattle.rcu_board.specs.declared.view.View.{View}
 use Rattle.rcu_control.specs.Parts.{control_board}
 use Rattle.rcu_holdings.proofs.Sizes.{in_struct}
-use Rattle.rcu_lists.specs.contracts.batch.Batch as batch
 use Rattle.rcu_parts.specs.OneOpen.{HasHand, members_in}
 use Rattle.rcu_parts.specs.Openings.{AreFirstGroups, AreFirstHands, AreFirstProcessors}
-use Rattle.rcu_part_group.specs.contracts.folk.Folk as folk
+use Rattle.rcu_part_group.specs.contracts.members.GroupMember as group_member
 use Rattle.rcu_part_group.specs.contracts.group.Group as group
 use Rattle.rcu_part_hand.specs.contracts.hand.Hand as hand
 use Rattle.rcu_part_processor.specs.contracts.processor.Processor as processor
-use Rattle.rcu_part_group.specs.declared.folk.Folk.{Folk}
+use Rattle.rcu_part_group.specs.declared.members.GroupMember.{GroupMember}
 use Rattle.rcu_parts.proofs.Whole.{all_weigh, are_in_order, as_many, groups_here, groups_of_board, groups_weigh, hands_here, hands_of_board, hands_sound, hands_weigh, have_members, is_bare, many_fronts, none_drawn, offloadable_cpus, processors_sound, processors_weigh}
 use Rattle.rcu_parts.proofs.Zips.{as_many_seats}
 use Rattle.rcu_parts.proofs.opening.open.Given.{Over}
@@ -36,18 +35,15 @@ group_fits g c = assumption
 hand_fits : (g : Over) (c : goal.After-board-3-1 g) → FitsInMemory (hand.the_row (param 0 g.row.J) (param 1 g.row.J-Receipt))
 hand_fits g c = assumption
 
-folk_fits : (g : Over) (c : goal.After-board-3-1 g) → FitsInMemory (folk.the_row (param 0 g.row.J))
-folk_fits g c = let h = group_fits g c in in_struct _ _ _ (in_struct _ _ _ (in_struct _ _ _ h))
-
-batch_fits : (g : Over) (c : goal.After-board-3-1 g) → FitsInMemory (batch.the_row (param 0 g.row.J))
-batch_fits g c = let h = hand_fits g c in in_struct _ _ _ (in_struct _ _ _ (in_struct _ _ _ h))
+group_member_fits : (g : Over) (c : goal.After-board-3-1 g) → FitsInMemory (group_member.the_row (param 0 g.row.J))
+group_member_fits g c = let h = group_fits g c in in_struct _ _ _ (in_struct _ _ _ (in_struct _ _ _ h))
 
 pub open_processors-requires-after_bounds : goal.open_processors-requires-after_bounds
 open_processors-requires-after_bounds g c κs within = let shape = c.args.shape in let s = c.in_ok-board.seats in let e = c.in_ok-board-2.ensures.ok in let b = arc_value c.in_ok-board-2.board in
     let new = subst (λ (x : Board). AreNew shape x s) (sym e) c.in_ok-board.ensures.seats in
     let many : b.processors ≡ shape.processors = ap (λ (x : Board). x.processors) e ∙ c.in_ok-board.ensures.shape.0 in
     let mask : b.offloadable ≡ shape.offloadable = ap (λ (x : Board). x.offloadable) e ∙ c.in_ok-board.ensures.shape.1 in
-    (processor_fits g c, (batch_fits g c, (new.processors, new.as_many ∙ sym many)))
+    (processor_fits g c, (new.processors, new.as_many ∙ sym many))
 
 pub open_hands-requires-after_bounds : goal.open_hands-requires-after_bounds
 open_hands-requires-after_bounds g c κs within = let shape = c.args.shape in let s = c.in_ok-board.seats in let e = c.in_ok-board-2.ensures.ok in let b = arc_value c.in_ok-board-2.board in
@@ -57,7 +53,7 @@ open_hands-requires-after_bounds g c κs within = let shape = c.args.shape in le
     let ps = c.in_ok-processors.processors.items in let first = c.in_ok-processors.ensures.processors in let fronts = c.in_ok-processors.ensures.fronts in
     let ks = numbers_where (is_offloadable b.offloadable) 0 b.processors in let cpus = offloadable_cpus shape b 0 b.processors ps first in
     let start = c.before.before.before.before.before in let seats = hands_of_board shape b s new many mask in
-    (batch_fits g start, (folk_fits g start, (hand_fits g start, (seats, (many_fronts ps c.in_ok-processors.fronts.items ks fronts cpus ∙ sym (as_many_seats (IsNewHand b) ks s.hands.items seats), none_drawn ps c.in_ok-processors.fronts.items fronts)))))
+    (group_member_fits g start, (hand_fits g start, (seats, (many_fronts ps c.in_ok-processors.fronts.items ks fronts cpus ∙ sym (as_many_seats (IsNewHand b) ks s.hands.items seats), none_drawn ps c.in_ok-processors.fronts.items fronts))))
 
 pub open_groups-requires-after_bounds : goal.open_groups-requires-after_bounds
 open_groups-requires-after_bounds g c κs within = let shape = c.args.shape in let s = c.in_ok-board.seats in let e = c.in_ok-board-2.ensures.ok in let b = arc_value c.in_ok-board-2.board in
@@ -65,7 +61,7 @@ open_groups-requires-after_bounds g c κs within = let shape = c.args.shape in l
     let many : b.processors ≡ shape.processors = ap (λ (x : Board). x.processors) e ∙ c.in_ok-board.ensures.shape.0 in
     let mask : b.offloadable ≡ shape.offloadable = ap (λ (x : Board). x.offloadable) e ∙ c.in_ok-board.ensures.shape.1 in
     let start = c.before.before.before.before.before.before.before.before.before.before in
-    (folk_fits g start, (group_fits g start, (groups_of_board shape b s new many mask, (c.in_ok-folks.ensures.cpus, c.in_ok-folks.ensures.empty))))
+    (group_member_fits g start, (group_fits g start, (groups_of_board shape b s new many mask, (c.in_ok-group_members.ensures.cpus, c.in_ok-group_members.ensures.empty))))
 
 pub new-requires-2-clause-here : goal.new-requires-2-clause-here
 new-requires-2-clause-here g c = c.in_ok-board.ensures.seats.control.board ∙ ap (λ (x : Board). x.words.table.shared.table_id) (sym c.in_ok-board-2.ensures.ok)
@@ -85,7 +81,7 @@ returns-clause-opened g c = let shape = c.args.shape in let s = c.in_ok-board.se
       many = ap (λ (x : Board). x.processors) (sym at) ∙ many;
       mask = ap (λ (x : Board). x.offloadable) (sym at) ∙ mask;
       processors = subst (λ (x : Board). AreFirstProcessors shape x c.in_ok-processors.processors.items) at c.in_ok-processors.ensures.processors;
-      hands = subst (λ (x : Board). AreFirstHands shape x c.in_ok-folks.hands.items) at c.in_ok-folks.ensures.hands;
+      hands = subst (λ (x : Board). AreFirstHands shape x c.in_ok-group_members.hands.items) at c.in_ok-group_members.ensures.hands;
       groups = subst (λ (x : Board). AreFirstGroups shape x c.in_ok-groups.groups.items) at c.in_ok-groups.ensures.groups;
       control = subst (λ (t : Seat). IsNewSeat (control_board c.new-2.result) Control 1 false true [] t) (sym c.new-2.ensures.seat) (subst (λ (x : Board). IsNewSeat x Control 1 false true [] s.control) at new.control);
       driver = subst (λ (t : Seat). IsNewSeat (control_board c.new-2.result) Driver (view t).weight true false [] t) (sym c.new-driver.ensures.seat)
@@ -101,7 +97,7 @@ returns-clause-one g c = let shape = c.args.shape in let s = c.in_ok-board.seats
     let ks = numbers_where (is_offloadable b.offloadable) 0 b.processors in let cpus = offloadable_cpus shape b 0 b.processors ps first in
     let at : b ≡ control_board c.new-2.result = sym c.new-2.ensures.board in let top = control_board c.new-2.result in
     let here = subst (λ (x : Board). AreFirstProcessors shape x ps) at first in
-    let hands = subst (λ (x : Board). AreFirstHands shape x c.in_ok-folks.hands.items) at c.in_ok-folks.ensures.hands in
+    let hands = subst (λ (x : Board). AreFirstHands shape x c.in_ok-group_members.hands.items) at c.in_ok-group_members.ensures.hands in
     let groups = subst (λ (x : Board). AreFirstGroups shape x c.in_ok-groups.groups.items) at c.in_ok-groups.ensures.groups in
     let cs = numbers_where (is_offloadable top.offloadable) 0 top.processors in let gs = numbers_where (has_offloadable top.offloadable shape.stride top.processors) 0 top.processors in
     let atop = subst (λ (x : Board). AreNew shape x s) at new in let n : top.processors ≡ shape.processors = ap (λ (x : Board). x.processors) (sym at) ∙ many in let o : top.offloadable ≡ shape.offloadable = ap (λ (x : Board). x.offloadable) (sym at) ∙ mask in record {
@@ -109,22 +105,22 @@ returns-clause-one g c = let shape = c.args.shape in let s = c.in_ok-board.seats
       processors = are_in_order shape top 0 top.processors ps here;
       as_many = as_many shape top ps here;
       groups = groups_here shape top gs c.in_ok-groups.groups.items groups;
-      hands = hands_here shape top cs c.in_ok-folks.hands.items hands;
-      members = have_members ps c.in_ok-processors.fronts.items c.in_ok-folks.folks.items (members_in c.in_ok-groups.groups.items) ks fronts cpus c.in_ok-folks.ensures.fronts c.in_ok-folks.ensures.cpus c.in_ok-groups.ensures.members;
-      running = subst (λ (ms : List (Folk g.row.J.Denot)). AllZip HasHand ms c.in_ok-folks.hands.items) (sym c.in_ok-groups.ensures.members) c.in_ok-folks.ensures.lanes;
+      hands = hands_here shape top cs c.in_ok-group_members.hands.items hands;
+      members = have_members ps c.in_ok-processors.fronts.items c.in_ok-group_members.group_members.items (members_in c.in_ok-groups.groups.items) ks fronts cpus c.in_ok-group_members.ensures.fronts c.in_ok-group_members.ensures.cpus c.in_ok-groups.ensures.members;
+      running = subst (λ (ms : List (GroupMember g.row.J.Denot)). AllZip HasHand ms c.in_ok-group_members.hands.items) (sym c.in_ok-groups.ensures.members) c.in_ok-group_members.ensures.lanes;
       weighs = all_weigh _ _ _ _ _ (length s.processors.items) (length s.hands.items) (length s.groups.items) (all_seats - length s.processors.items - length s.hands.items - length s.groups.items - 1) all_seats
           (ap (λ (t : Seat). (view t).weight) c.new-2.ensures.seat ∙ ap (λ (v : View). v.weight) new.control.first_view)
           (ap (λ (t : Seat). (view t).weight) c.new-driver.ensures.seat ∙ ap (λ (v : View). v.weight) new.driver.first_view)
           (groups_weigh shape top gs c.in_ok-groups.groups.items groups ∙ sym (as_many_seats (IsNewGroup top) gs s.groups.items (groups_of_board shape top s atop n o)))
           (processors_weigh shape top _ ps here ∙ as_many shape top ps here ∙ n ∙ sym new.as_many)
-          (hands_weigh shape top cs c.in_ok-folks.hands.items hands ∙ sym (as_many_seats (IsNewHand top) cs s.hands.items (hands_of_board shape top s atop n o)))
+          (hands_weigh shape top cs c.in_ok-group_members.hands.items hands ∙ sym (as_many_seats (IsNewHand top) cs s.hands.items (hands_of_board shape top s atop n o)))
           new.weighs;
     }
 
 pub returns-clause-sound : goal.returns-clause-sound
 returns-clause-sound g c = let b = arc_value c.in_ok-board-2.board in record {
   processors = processors_sound c.args.shape b g.J.Job.key_of g.J.Job.gives _ c.in_ok-processors.processors.items c.in_ok-processors.ensures.processors;
-  hands = hands_sound c.args.shape b g.J.Job.key_of g.J.Job.gives _ c.in_ok-folks.hands.items c.in_ok-folks.ensures.hands;
+  hands = hands_sound c.args.shape b g.J.Job.key_of g.J.Job.gives _ c.in_ok-group_members.hands.items c.in_ok-group_members.ensures.hands;
 }
 
 pub returns-in_err-board : goal.returns-in_err-board
@@ -139,8 +135,8 @@ returns-in_err-try_clone g c = let e = c.from_residual-in_err-try_clone.ensures 
 pub returns-in_err-processors : goal.returns-in_err-processors
 returns-in_err-processors g c = let e = c.from_residual-in_err-processors.ensures in record { opened = if_ok_never _ _ e; one = if_ok_never _ _ e; sound = if_ok_never _ _ e }
 
-pub returns-in_err-folks : goal.returns-in_err-folks
-returns-in_err-folks g c = let e = c.from_residual-in_err-folks.ensures in record { opened = if_ok_never _ _ e; one = if_ok_never _ _ e; sound = if_ok_never _ _ e }
+pub returns-in_err-group_members : goal.returns-in_err-group_members
+returns-in_err-group_members g c = let e = c.from_residual-in_err-group_members.ensures in record { opened = if_ok_never _ _ e; one = if_ok_never _ _ e; sound = if_ok_never _ _ e }
 
 pub returns-in_err-groups : goal.returns-in_err-groups
 returns-in_err-groups g c = let e = c.from_residual-in_err-groups.ensures in record { opened = if_ok_never _ _ e; one = if_ok_never _ _ e; sound = if_ok_never _ _ e }
@@ -157,8 +153,8 @@ open_hands-requires-send-J g c κs within = c.type_bounds.send-J
 pub open_hands-requires-send-J-Receipt : goal.open_hands-requires-send-J-Receipt
 open_hands-requires-send-J-Receipt g c κs within = c.type_bounds.send-J-Receipt
 
-pub drop-processors-requires-in_err-folks-room-T-Destruct : goal.drop-processors-requires-in_err-folks-room-T-Destruct
-drop-processors-requires-in_err-folks-room-T-Destruct g c κs within = assumption
+pub drop-processors-requires-in_err-group_members-room-T-Destruct : goal.drop-processors-requires-in_err-group_members-room-T-Destruct
+drop-processors-requires-in_err-group_members-room-T-Destruct g c κs within = assumption
 
 pub open_groups-requires-send-J : goal.open_groups-requires-send-J
 open_groups-requires-send-J g c κs within = c.type_bounds.send-J

@@ -7,13 +7,13 @@ use Rattle.std.proofs.lemmas.List.{length-map, nil_from_length}
 use Rattle.rcu_board.specs.Opened.{IsNewGroup, SeatForEach, has_offloadable, numbers_where}
 use Rattle.rcu_board.specs.declared.board.Board.{Board}
 use Rattle.rcu_holdings.proofs.Sizes.{in_struct}
-use Rattle.rcu_part_group.specs.GroupLaw.{cpus_of, folks_in}
+use Rattle.rcu_part_group.specs.GroupLaw.{cpus_of, group_members_in}
 use Rattle.rcu_parts.specs.OneOpen.{members_in}
 use Rattle.rcu_parts.specs.Openings.{IsFirstGroup}
-use Rattle.rcu_part_group.specs.contracts.folk.Folk as folk
-use Rattle.rcu_part_group.specs.contracts.folk.Members as members
+use Rattle.rcu_part_group.specs.contracts.members.GroupMember as group_member
+use Rattle.rcu_part_group.specs.contracts.members.GroupMembers as members
 use Rattle.rcu_part_group.specs.contracts.group.Group as group
-use Rattle.rcu_part_group.specs.declared.folk.Folk.{Folk}
+use Rattle.rcu_part_group.specs.declared.members.GroupMember.{GroupMember}
 use Rattle.rcu_part_group.specs.declared.group.Group.{Group}
 use Rattle.rcu_parts.proofs.Grouped.{are_members, group_begins, group_taken}
 use Rattle.rcu_parts.proofs.Making.{empty_parts, group_made, group_of_role, grouped_more, groups_more}
@@ -26,8 +26,8 @@ use Rattle.rcu_parts.proofs.opening.open_groups.Goals as goal
 group_fits : (g : Over) (c : goal.After-into_iter-seat-iterator g) → FitsInMemory (group.the_row (param 0 g.row.J) (param 1 g.row.J-Receipt))
 group_fits g c = assumption
 
-folk_fits : (g : Over) (c : goal.After-into_iter-seat-iterator g) → FitsInMemory (folk.the_row (param 0 g.row.J))
-folk_fits g c = assumption
+group_member_fits : (g : Over) (c : goal.After-into_iter-seat-iterator g) → FitsInMemory (group_member.the_row (param 0 g.row.J))
+group_member_fits g c = assumption
 
 members_fits : (g : Over) (c : goal.After-into_iter-seat-iterator g) → FitsInMemory (members.the_row (param 0 g.row.J))
 members_fits g c = let h = group_fits g c in in_struct _ _ _ (in_struct _ _ _ h)
@@ -39,7 +39,7 @@ loop-seat-init g c = let b = arc_value c.args.board.now in let stride = c.args.s
   all = refl;
   seats = search rules;
   grouped = subst (AreGrouped b.offloadable stride b.processors gs) (sym c.requires.cpus) (all_groups b.offloadable stride b.processors (let w = c.args.shape.now.within.group in omega (arith, w)));
-  members = ap (λ (l : List (Group g.row.J.Denot g.row.J-Receipt.Denot)). members_in l ++ c.args.folks.items) c.new-groups.ensures.items;
+  members = ap (λ (l : List (Group g.row.J.Denot g.row.J-Receipt.Denot)). members_in l ++ c.args.group_members.items) c.new-groups.ensures.items;
   empty = c.requires.empty;
   groups = search rules;
 }
@@ -52,25 +52,25 @@ pub take_members-requires : goal.take_members-requires
 take_members-requires g c = let b = arc_value c.args.board.now in let P = IsNewGroup b in let i = c.loop-seat.invariant in
     let t = seat_and_rest P i.left c.in-Some.seat c.next.new.self.rest.items (subst (SeatForEach P i.left) c.in-Some.ensures.steps.0 i.seats) in
     let same : t.0 ≡ c.in-Group.number = ap group_of_role (sym t.3.who ∙ sym c.role.ensures ∙ c.in-Group.is) in
-    let grouped = subst (λ (l : List ℕ). AreGrouped b.offloadable c.args.shape.now.stride b.processors l (cpus_of c.loop-seat.folks.items)) (t.2 ∙ ap (λ (k : ℕ). k ∷ t.1) same) i.grouped in
-    let begins = group_begins b.offloadable c.args.shape.now.stride b.processors c.in-Group.number t.1 c.loop-seat.folks.items grouped in
+    let grouped = subst (λ (l : List ℕ). AreGrouped b.offloadable c.args.shape.now.stride b.processors l (cpus_of c.loop-seat.group_members.items)) (t.2 ∙ ap (λ (k : ℕ). k ∷ t.1) same) i.grouped in
+    let begins = group_begins b.offloadable c.args.shape.now.stride b.processors c.in-Group.number t.1 c.loop-seat.group_members.items grouped in
     let start = c.before.before.before.before.before.before.before.before.before.before.before in
-    (folk_fits g start, (members_fits g start, ((let w = c.args.shape.now.within.group in omega (arith, w)), begins)))
+    (group_member_fits g start, (members_fits g start, ((let w = c.args.shape.now.within.group in omega (arith, w)), begins)))
 
 pub new-requires-after_bounds : goal.new-requires-after_bounds
 new-requires-after_bounds g c κs within = let b = arc_value c.args.board.now in let P = IsNewGroup b in let i = c.loop-seat.invariant in let stride = c.args.shape.now.stride in let number = c.in-Group.number in
     let t = seat_and_rest P i.left c.in-Some.seat c.next.new.self.rest.items (subst (SeatForEach P i.left) c.in-Some.ensures.steps.0 i.seats) in
     let same : t.0 ≡ number = ap group_of_role (sym t.3.who ∙ sym c.role.ensures ∙ c.in-Group.is) in
-    let grouped = subst (λ (l : List ℕ). AreGrouped b.offloadable stride b.processors l (cpus_of c.loop-seat.folks.items)) (t.2 ∙ ap (λ (k : ℕ). k ∷ t.1) same) i.grouped in
-    let took = c.in_ok-members.ensures in let ms = folks_in c.in_ok-members.members in let rest = c.take_members.new.folks.items in
-    let of = group_taken b.offloadable stride b.processors number t.1 ms c.loop-seat.folks.items rest grouped took in
+    let grouped = subst (λ (l : List ℕ). AreGrouped b.offloadable stride b.processors l (cpus_of c.loop-seat.group_members.items)) (t.2 ∙ ap (λ (k : ℕ). k ∷ t.1) same) i.grouped in
+    let took = c.in_ok-members.ensures in let ms = group_members_in c.in_ok-members.members in let rest = c.take_members.new.group_members.items in
+    let of = group_taken b.offloadable stride b.processors number t.1 ms c.loop-seat.group_members.items rest grouped took in
     let start = c.before.before.before.before.before.before.before.before.before.before.before.before.before.before.before in (
       members_fits g start,
       (
         group_fits g start,
         (
           subst (λ (x : Board). IsNewGroup x number c.in-Some.seat) (sym c.in_ok-own.ensures) (subst (λ (k : ℕ). P k c.in-Some.seat) same t.3),
-          (are_members b.offloadable stride b.processors number ms b.few of.0, (empty_parts ms c.loop-seat.folks.items rest took.order i.empty).0),
+          (are_members b.offloadable stride b.processors number ms b.few of.0, (empty_parts ms c.loop-seat.group_members.items rest took.order i.empty).0),
         ),
       ),
     )
@@ -80,10 +80,10 @@ loop-seat-preserved g c = let b = arc_value c.args.board.now in let P = IsNewGro
     let t = seat_and_rest P i.left c.in-Some.seat c.next.new.self.rest.items (subst (SeatForEach P i.left) c.in-Some.ensures.steps.0 i.seats) in
     let same : t.0 ≡ number = ap group_of_role (sym t.3.who ∙ sym c.role.ensures ∙ c.in-Group.is) in
     let next : i.left ≡ number ∷ t.1 = t.2 ∙ ap (λ (k : ℕ). k ∷ t.1) same in
-    let grouped = subst (λ (l : List ℕ). AreGrouped b.offloadable stride b.processors l (cpus_of c.loop-seat.folks.items)) next i.grouped in
-    let took = c.in_ok-members.ensures in let ms = folks_in c.in_ok-members.members in let rest = c.take_members.new.folks.items in
-    let of = group_taken b.offloadable stride b.processors number t.1 ms c.loop-seat.folks.items rest grouped took in
-    let empty = empty_parts ms c.loop-seat.folks.items rest took.order i.empty in let made = c.new.ensures in
+    let grouped = subst (λ (l : List ℕ). AreGrouped b.offloadable stride b.processors l (cpus_of c.loop-seat.group_members.items)) next i.grouped in
+    let took = c.in_ok-members.ensures in let ms = group_members_in c.in_ok-members.members in let rest = c.take_members.new.group_members.items in
+    let of = group_taken b.offloadable stride b.processors number t.1 ms c.loop-seat.group_members.items rest grouped took in
+    let empty = empty_parts ms c.loop-seat.group_members.items rest took.order i.empty in let made = c.new.ensures in
     let first = group_made c.args.shape.now (arc_value c.in_ok-own.own) b number c.in-Some.seat ms c.new.result c.in_ok-own.ensures (subst (λ (k : ℕ). P k c.in-Some.seat) same t.3) of.0 empty.0 made in
     let e = c.in_ok-push.ensures.items in record {
       done = i.done ++ number ∷ [];
@@ -91,15 +91,15 @@ loop-seat-preserved g c = let b = arc_value c.args.board.now in let P = IsNewGro
       all = append_assoc i.done (number ∷ []) t.1 ∙ ap (λ (l : List ℕ). i.done ++ l) (sym next) ∙ i.all;
       seats = t.4;
       grouped = of.1;
-      members = grouped_more c.loop-seat.groups.items c.push.new.self.items c.new.result ms c.loop-seat.folks.items rest c.args.folks.items i.members took.order made.members_are e;
+      members = grouped_more c.loop-seat.groups.items c.push.new.self.items c.new.result ms c.loop-seat.group_members.items rest c.args.group_members.items i.members took.order made.members_are e;
       empty = empty.1;
       groups = groups_more c.args.shape.now b i.done number c.loop-seat.groups.items c.push.new.self.items c.new.result i.groups first e;
     }
 
-over : (g : Over) (c : goal.After-drop-folks-2 g) → length c.loop-seat.seat-iterator.rest.items ≡ 0
+over : (g : Over) (c : goal.After-drop-group_members-2 g) → length c.loop-seat.seat-iterator.rest.items ≡ 0
 over g c = search rules
 
-none : (g : Over) (c : goal.After-drop-folks-2 g) → c.loop-seat.invariant.left ≡ []
+none : (g : Over) (c : goal.After-drop-group_members-2 g) → c.loop-seat.invariant.left ≡ []
 none g c = seats_over (IsNewGroup (arc_value c.args.board.now)) c.loop-seat.invariant.left c.loop-seat.seat-iterator.rest.items c.loop-seat.invariant.seats (over g c)
 
 pub returns-clause-groups : goal.returns-clause-groups
@@ -108,9 +108,9 @@ returns-clause-groups g c = let i = c.loop-seat.invariant in let b = arc_value c
 
 pub returns-clause-members : goal.returns-clause-members
 returns-clause-members g c = let i = c.loop-seat.invariant in let b = arc_value c.args.board.now in
-    let left = subst (λ (gs : List ℕ). AreGrouped b.offloadable c.args.shape.now.stride b.processors gs (cpus_of c.loop-seat.folks.items)) (none g c) i.grouped in
-    all_of (members_in c.loop-seat.groups.items) c.loop-seat.folks.items c.args.folks.items i.members
-    (nil_from_length c.loop-seat.folks.items (sym (length-map c.loop-seat.folks.items (λ (m : Folk g.row.J.Denot). m.cpu)) ∙ ap (λ (l : List ℕ). length l) left))
+    let left = subst (λ (gs : List ℕ). AreGrouped b.offloadable c.args.shape.now.stride b.processors gs (cpus_of c.loop-seat.group_members.items)) (none g c) i.grouped in
+    all_of (members_in c.loop-seat.groups.items) c.loop-seat.group_members.items c.args.group_members.items i.members
+    (nil_from_length c.loop-seat.group_members.items (sym (length-map c.loop-seat.group_members.items (λ (m : GroupMember g.row.J.Denot). m.cpu)) ∙ ap (λ (l : List ℕ). length l) left))
 
 pub returns-in_err-own : goal.returns-in_err-own
 returns-in_err-own g c = let e = c.from_residual.ensures in record { groups = if_ok_never _ _ e; members = if_ok_never _ _ e }
@@ -127,14 +127,14 @@ unreachable-unreachable g c = c.unreachable.result
 pub drop-groups-requires-room-T-Destruct : goal.drop-groups-requires-room-T-Destruct
 drop-groups-requires-room-T-Destruct g c κs within = assumption
 
-pub drop-folks-requires-room-T-Destruct : goal.drop-folks-requires-room-T-Destruct
-drop-folks-requires-room-T-Destruct g c κs within = assumption
+pub drop-group_members-requires-room-T-Destruct : goal.drop-group_members-requires-room-T-Destruct
+drop-group_members-requires-room-T-Destruct g c κs within = assumption
 
 pub drop-groups-requires-in_err-members-room-T-Destruct : goal.drop-groups-requires-in_err-members-room-T-Destruct
 drop-groups-requires-in_err-members-room-T-Destruct g c κs within = assumption
 
-pub drop-folks-requires-in_err-members-room-T-Destruct : goal.drop-folks-requires-in_err-members-room-T-Destruct
-drop-folks-requires-in_err-members-room-T-Destruct g c κs within = assumption
+pub drop-group_members-requires-in_err-members-room-T-Destruct : goal.drop-group_members-requires-in_err-members-room-T-Destruct
+drop-group_members-requires-in_err-members-room-T-Destruct g c κs within = assumption
 
 pub new-requires-send-J : goal.new-requires-send-J
 new-requires-send-J g c κs within = c.type_bounds.send-J
@@ -148,8 +148,8 @@ from_residual-requires-in_err-push-room-F-From g c κs within = assumption
 pub drop-groups-requires-in_err-push-room-T-Destruct : goal.drop-groups-requires-in_err-push-room-T-Destruct
 drop-groups-requires-in_err-push-room-T-Destruct g c κs within = assumption
 
-pub drop-folks-requires-in_err-push-room-T-Destruct : goal.drop-folks-requires-in_err-push-room-T-Destruct
-drop-folks-requires-in_err-push-room-T-Destruct g c κs within = assumption
+pub drop-group_members-requires-in_err-push-room-T-Destruct : goal.drop-group_members-requires-in_err-push-room-T-Destruct
+drop-group_members-requires-in_err-push-room-T-Destruct g c κs within = assumption
 
-pub drop-folks-requires-2-room-T-Destruct : goal.drop-folks-requires-2-room-T-Destruct
-drop-folks-requires-2-room-T-Destruct g c κs within = assumption
+pub drop-group_members-requires-2-room-T-Destruct : goal.drop-group_members-requires-2-room-T-Destruct
+drop-group_members-requires-2-room-T-Destruct g c κs within = assumption

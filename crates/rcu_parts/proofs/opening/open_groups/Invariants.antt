@@ -4,7 +4,7 @@ use Rattle.std.specs.Arc.{arc_value}
 use Rattle.std.specs.List.{AllZip}
 use Rattle.rcu_board.specs.Opened.{IsNewGroup, SeatForEach, has_offloadable, numbers_where}
 use Rattle.rcu_part_group.specs.GroupLaw.{cpus_of}
-use Rattle.rcu_part_group.specs.Groups.{IsEmptyFolk}
+use Rattle.rcu_part_group.specs.Groups.{IsEmptyGroupMember}
 use Rattle.rcu_parts.specs.OneOpen.{members_in}
 use Rattle.rcu_parts.specs.Openings.{IsFirstGroup}
 use Rattle.rcu_parts.proofs.Splitting.{AreGrouped}
@@ -16,8 +16,8 @@ invariant-loop-seat g l = record {
   left : List ℕ;
   all : done ++ left ≡ numbers_where (has_offloadable (arc_value l.board).offloadable l.shape.stride (arc_value l.board).processors) 0 (arc_value l.board).processors;
   seats : SeatForEach (IsNewGroup (arc_value l.board)) left l.seat-iterator.rest.items;
-  grouped : AreGrouped (arc_value l.board).offloadable l.shape.stride (arc_value l.board).processors left (cpus_of l.folks.items);
-  members : members_in l.groups.items ++ l.folks.items ≡ l.fn.folks.items;
-  empty : All IsEmptyFolk l.folks.items;
+  grouped : AreGrouped (arc_value l.board).offloadable l.shape.stride (arc_value l.board).processors left (cpus_of l.group_members.items);
+  members : members_in l.groups.items ++ l.group_members.items ≡ l.fn.group_members.items;
+  empty : All IsEmptyGroupMember l.group_members.items;
   groups : AllZip (IsFirstGroup l.shape (arc_value l.board)) done l.groups.items;
 }

@@ -9,43 +9,38 @@ use Rattle.std.proofs.lemmas.List.Elements.{All-head, All-nil, All-push, All-tai
 use Rattle.rcu_board.specs.Opened.{IsNewHand, SeatForEach, is_offloadable, numbers_where}
 use Rattle.rcu_board.specs.Roles.{cpu_of_role}
 use Rattle.rcu_board.specs.declared.board.Seat.{Seat}
-use Rattle.rcu_holdings.specs.declared.safe.Safe.{Safe}
+use Rattle.rcu_holdings.specs.declared.limits.LaneLimits.{LaneLimits}
 use Rattle.rcu_lanes.specs.Ends.{items_drawn}
 use Rattle.rcu_lanes.specs.declared.ends.Front.{Front}
-use Rattle.rcu_lists.specs.contracts.batch.Batch as batch
-use Rattle.rcu_lists.specs.declared.batch.Batch.{Batch}
+use Rattle.rcu_lists.specs.declared.parcel.Parcel.{Parcel}
 use Rattle.rcu_part_group.specs.GroupLaw.{cpus_of}
-use Rattle.rcu_part_group.specs.Groups.{IsEmptyFolk}
+use Rattle.rcu_part_group.specs.Groups.{IsEmptyGroupMember}
 use Rattle.rcu_parts.specs.Openings.{IsFirstHand, fronts_of}
-use Rattle.rcu_part_group.specs.contracts.folk.Folk as folk
+use Rattle.rcu_part_group.specs.contracts.members.GroupMember as group_member
 use Rattle.rcu_part_hand.specs.contracts.hand.Hand as hand
-use Rattle.rcu_part_group.specs.declared.folk.Folk.{Folk}
+use Rattle.rcu_part_group.specs.declared.members.GroupMember.{GroupMember}
 use Rattle.rcu_parts.proofs.Making.{hands_more, made_more}
 use Rattle.rcu_parts.proofs.Zips.{all_of, seat_and_rest, seats_over}
 use Rattle.rcu_parts.proofs.opening.open_hands.Given.{Over}
 use Rattle.rcu_lists.proofs.Outcomes.{if_ok_never}
 use Rattle.rcu_parts.proofs.Passing.{never_popped}
-use Rattle.rcu_holdings.proofs.Sizes.{in_places}
 use Rattle.rcu_parts.proofs.opening.open_hands.Goals as goal
 
 hand_fits : (g : Over) (c : goal.After-into_iter-seat-iterator g) → FitsInMemory (hand.the_row (param 0 g.row.J) (param 1 g.row.J-Receipt))
 hand_fits g c = assumption
 
-folk_fits : (g : Over) (c : goal.After-into_iter-seat-iterator g) → FitsInMemory (folk.the_row (param 0 g.row.J))
-folk_fits g c = assumption
-
-batch_fits : (g : Over) (c : goal.After-into_iter-seat-iterator g) → FitsInMemory (batch.the_row (param 0 g.row.J))
-batch_fits g c = assumption
+group_member_fits : (g : Over) (c : goal.After-into_iter-seat-iterator g) → FitsInMemory (group_member.the_row (param 0 g.row.J))
+group_member_fits g c = assumption
 
 pub loop-seat-init : goal.loop-seat-init
-loop-seat-init g c = let b = arc_value c.args.board.now in let ks = numbers_where (is_offloadable b.offloadable) 0 b.processors in let none = c.new-folks.ensures.items in record {
+loop-seat-init g c = let b = arc_value c.args.board.now in let ks = numbers_where (is_offloadable b.offloadable) 0 b.processors in let none = c.new-group_members.ensures.items in record {
   left = ks;
-  all = ap (λ (l : List (Folk g.row.J.Denot)). cpus_of l ++ ks) none;
+  all = ap (λ (l : List (GroupMember g.row.J.Denot)). cpus_of l ++ ks) none;
   seats = search rules;
   many = search rules;
   drawn = c.requires.fronts;
-  fronts = ap (λ (l : List (Folk g.row.J.Denot)). fronts_of l ++ c.args.fronts.items) none;
-  empty = subst (All IsEmptyFolk) (sym none) (All-nil IsEmptyFolk);
+  fronts = ap (λ (l : List (GroupMember g.row.J.Denot)). fronts_of l ++ c.args.fronts.items) none;
+  empty = subst (All IsEmptyGroupMember) (sym none) (All-nil IsEmptyGroupMember);
   hands = search rules;
   lanes = search rules;
 }
@@ -59,16 +54,13 @@ open_hand-requires-after_bounds g c κs within = let P = IsNewHand (arc_value c.
     let t = seat_and_rest P i.left c.in-Some.seat c.next.new.self.rest.items (subst (SeatForEach P i.left) c.in-Some.ensures.steps.0 i.seats) in
     let same : t.0 ≡ c.in-Hand.cpu = ap cpu_of_role (sym t.3.who ∙ sym c.role.ensures ∙ c.in-Hand.is) in
     let start = c.before.before.before.before.before.before.before.before.before.before in
-    let drawn = λ (f : Front (Batch g.row.J.Denot) Safe). items_drawn f ≡ [] in (
-      batch_fits g start,
+    let drawn = λ (f : Front (Parcel g.row.J.Denot) LaneLimits). items_drawn f ≡ [] in (
+      group_member_fits g start,
       (
-        folk_fits g start,
+        hand_fits g start,
         (
-          hand_fits g start,
-          (
-            subst (λ (k : ℕ). P k c.in-Some.seat) same t.3,
-            All-head drawn c.in-Some-pop_front.front c.pop_front.new.self.items (subst (All drawn) c.in-Some-pop_front.ensures.items i.drawn),
-          ),
+          subst (λ (k : ℕ). P k c.in-Some.seat) same t.3,
+          All-head drawn c.in-Some-pop_front.front c.pop_front.new.self.items (subst (All drawn) c.in-Some-pop_front.ensures.items i.drawn),
         ),
       ),
     )
@@ -77,17 +69,17 @@ pub loop-seat-preserved : goal.loop-seat-preserved
 loop-seat-preserved g c = let b = arc_value c.args.board.now in let P = IsNewHand b in let i = c.loop-seat.invariant in let ks = numbers_where (is_offloadable b.offloadable) 0 b.processors in
     let t = seat_and_rest P i.left c.in-Some.seat c.next.new.self.rest.items (subst (SeatForEach P i.left) c.in-Some.ensures.steps.0 i.seats) in
     let same : c.in-Hand.cpu ≡ t.0 = ap cpu_of_role (sym c.in-Hand.is ∙ c.role.ensures ∙ t.3.who) in
-    let drawn = λ (f : Front (Batch g.row.J.Denot) Safe). items_drawn f ≡ [] in
-    let cut = c.in-Some-pop_front.ensures.items in let folk = c.in_ok-folk.folk in let e = c.in_ok-push_back.ensures.items in let made = c.in_ok-folk.ensures in
-    let m = made_more ks c.args.fronts.items t.0 c.in-Hand.cpu i.left t.1 c.in-Some-pop_front.front c.loop-seat.fronts.items c.pop_front.new.self.items folk c.loop-seat.folks.items c.push_back.new.self.items i.all i.fronts t.2 cut made.folk.0 same made.folk.1 e in
-    let h = hands_more c.args.shape.now b c.in-Hand.cpu folk c.loop-seat.folks.items c.push_back.new.self.items c.in_ok-folk.hand c.loop-seat.hands.items c.push.new.self.items i.hands i.lanes made.folk.0 made.hand made.lane e c.in_ok-push.ensures.items in record {
+    let drawn = λ (f : Front (Parcel g.row.J.Denot) LaneLimits). items_drawn f ≡ [] in
+    let cut = c.in-Some-pop_front.ensures.items in let group_member = c.in_ok-group_member.group_member in let e = c.in_ok-push_back.ensures.items in let made = c.in_ok-group_member.ensures in
+    let m = made_more ks c.args.fronts.items t.0 c.in-Hand.cpu i.left t.1 c.in-Some-pop_front.front c.loop-seat.fronts.items c.pop_front.new.self.items group_member c.loop-seat.group_members.items c.push_back.new.self.items i.all i.fronts t.2 cut made.group_member.0 same made.group_member.1 e in
+    let h = hands_more c.args.shape.now b c.in-Hand.cpu group_member c.loop-seat.group_members.items c.push_back.new.self.items c.in_ok-group_member.hand c.loop-seat.hands.items c.push.new.self.items i.hands i.lanes made.group_member.0 made.hand made.lane e c.in_ok-push.ensures.items in record {
       left = t.1;
       all = m.cpus;
       seats = t.4;
-      many = let x = ap (λ (l : List (Front (Batch g.row.J.Denot) Safe)). length l) cut in let y = ap (λ (l : List Seat). length l) c.in-Some.ensures.steps.0 in let z = i.many in omega (arith, x, y, z);
+      many = let x = ap (λ (l : List (Front (Parcel g.row.J.Denot) LaneLimits)). length l) cut in let y = ap (λ (l : List Seat). length l) c.in-Some.ensures.steps.0 in let z = i.many in omega (arith, x, y, z);
       drawn = All-tail drawn c.in-Some-pop_front.front c.pop_front.new.self.items (subst (All drawn) cut i.drawn);
       fronts = m.fronts_are;
-      empty = subst (All IsEmptyFolk) (sym e) (All-push IsEmptyFolk c.loop-seat.folks.items folk i.empty made.folk.2);
+      empty = subst (All IsEmptyGroupMember) (sym e) (All-push IsEmptyGroupMember c.loop-seat.group_members.items group_member i.empty made.group_member.2);
       hands = h.0;
       lanes = h.1;
     }
@@ -95,21 +87,21 @@ loop-seat-preserved g c = let b = arc_value c.args.board.now in let P = IsNewHan
 over : (g : Over) (c : goal.After-drop-fronts-2 g) → length c.loop-seat.seat-iterator.rest.items ≡ 0
 over g c = search rules
 
-cpus : (g : Over) (c : goal.After-drop-fronts-2 g) → cpus_of c.loop-seat.folks.items ≡ numbers_where (is_offloadable (arc_value c.args.board.now).offloadable) 0 (arc_value c.args.board.now).processors
-cpus g c = let i = c.loop-seat.invariant in all_of (cpus_of c.loop-seat.folks.items) i.left (numbers_where (is_offloadable (arc_value c.args.board.now).offloadable) 0 (arc_value c.args.board.now).processors) i.all
+cpus : (g : Over) (c : goal.After-drop-fronts-2 g) → cpus_of c.loop-seat.group_members.items ≡ numbers_where (is_offloadable (arc_value c.args.board.now).offloadable) 0 (arc_value c.args.board.now).processors
+cpus g c = let i = c.loop-seat.invariant in all_of (cpus_of c.loop-seat.group_members.items) i.left (numbers_where (is_offloadable (arc_value c.args.board.now).offloadable) 0 (arc_value c.args.board.now).processors) i.all
     (seats_over (IsNewHand (arc_value c.args.board.now)) i.left c.loop-seat.seat-iterator.rest.items i.seats (over g c))
 
 pub returns-clause-cpus : goal.returns-clause-cpus
 returns-clause-cpus g c = cpus g c
 
 pub returns-clause-fronts : goal.returns-clause-fronts
-returns-clause-fronts g c = let i = c.loop-seat.invariant in all_of (fronts_of c.loop-seat.folks.items) c.loop-seat.fronts.items c.args.fronts.items i.fronts (nil_from_length c.loop-seat.fronts.items (i.many ∙ over g c))
+returns-clause-fronts g c = let i = c.loop-seat.invariant in all_of (fronts_of c.loop-seat.group_members.items) c.loop-seat.fronts.items c.args.fronts.items i.fronts (nil_from_length c.loop-seat.fronts.items (i.many ∙ over g c))
 
 pub returns-clause-hands : goal.returns-clause-hands
 returns-clause-hands g c = subst (λ (ks : List ℕ). AllZip (IsFirstHand c.args.shape.now (arc_value c.args.board.now)) ks c.loop-seat.hands.items) (cpus g c) c.loop-seat.invariant.hands
 
-pub returns-in_err-folk : goal.returns-in_err-folk
-returns-in_err-folk g c = let e = c.from_residual.ensures in record { cpus = if_ok_never _ _ e; fronts = if_ok_never _ _ e; empty = if_ok_never _ _ e; hands = if_ok_never _ _ e; lanes = if_ok_never _ _ e }
+pub returns-in_err-group_member : goal.returns-in_err-group_member
+returns-in_err-group_member g c = let e = c.from_residual.ensures in record { cpus = if_ok_never _ _ e; fronts = if_ok_never _ _ e; empty = if_ok_never _ _ e; hands = if_ok_never _ _ e; lanes = if_ok_never _ _ e }
 
 pub returns-in_err-push_back : goal.returns-in_err-push_back
 returns-in_err-push_back g c = let e = c.from_residual-in_err-push_back.ensures in record { cpus = if_ok_never _ _ e; fronts = if_ok_never _ _ e; empty = if_ok_never _ _ e; hands = if_ok_never _ _ e; lanes = if_ok_never _ _ e }
@@ -135,50 +127,17 @@ open_hand-requires-send-J-Receipt g c κs within = c.type_bounds.send-J-Receipt
 pub drop-hands-requires-room-T-Destruct : goal.drop-hands-requires-room-T-Destruct
 drop-hands-requires-room-T-Destruct g c κs within = assumption
 
-pub drop-folks-requires-room-T-Destruct : goal.drop-folks-requires-room-T-Destruct
-drop-folks-requires-room-T-Destruct g c κs within = assumption
-
-pub drop-fronts-requires-room-T-Destruct : goal.drop-fronts-requires-room-T-Destruct
-drop-fronts-requires-room-T-Destruct g c κs within = assumption
-
-pub drop-fronts-requires-room-T-Destruct-2 : goal.drop-fronts-requires-room-T-Destruct-2
-drop-fronts-requires-room-T-Destruct-2 g c κs within = assumption
+pub drop-group_members-requires-room-T-Destruct : goal.drop-group_members-requires-room-T-Destruct
+drop-group_members-requires-room-T-Destruct g c κs within = assumption
 
 pub from_residual-requires-in_err-push_back-room-F-From : goal.from_residual-requires-in_err-push_back-room-F-From
 from_residual-requires-in_err-push_back-room-F-From g c κs within = assumption
 
-pub drop-hand-requires-in_err-push_back-3-room-T-Destruct : goal.drop-hand-requires-in_err-push_back-3-room-T-Destruct
-drop-hand-requires-in_err-push_back-3-room-T-Destruct g c κs within = assumption
-
-pub drop-hand-requires-in_err-push_back-3-room-T-Destruct-2 : goal.drop-hand-requires-in_err-push_back-3-room-T-Destruct-2
-drop-hand-requires-in_err-push_back-3-room-T-Destruct-2 g c κs within = assumption
-
-pub drop-hand-requires-in_err-push_back-3-room-T-Destruct-3 : goal.drop-hand-requires-in_err-push_back-3-room-T-Destruct-3
-drop-hand-requires-in_err-push_back-3-room-T-Destruct-3 g c κs within = assumption
-
-pub drop-hand-requires-in_err-push_back-4-room-S-Destruct : goal.drop-hand-requires-in_err-push_back-4-room-S-Destruct
-drop-hand-requires-in_err-push_back-4-room-S-Destruct g c κs within = assumption
-
-pub drop-hand-requires-in_err-push_back-4-room-V-Destruct : goal.drop-hand-requires-in_err-push_back-4-room-V-Destruct
-drop-hand-requires-in_err-push_back-4-room-V-Destruct g c κs within = assumption
-
-pub drop-hand-requires-in_err-push_back-4-room-V-Destruct-2 : goal.drop-hand-requires-in_err-push_back-4-room-V-Destruct-2
-drop-hand-requires-in_err-push_back-4-room-V-Destruct-2 g c κs within = assumption
-
-pub array_drop-hand-requires : goal.array_drop-hand-requires
-array_drop-hand-requires g c = let fits : FitsInMemory (batch.the_row (param 0 g.row.J)) = assumption in in_places _ _ _ _ _ _ _ _ _ _ _ _ _ _ _ _ _ _ fits
-
 pub drop-hands-requires-in_err-push_back-room-T-Destruct : goal.drop-hands-requires-in_err-push_back-room-T-Destruct
 drop-hands-requires-in_err-push_back-room-T-Destruct g c κs within = assumption
 
-pub drop-folks-requires-in_err-push_back-room-T-Destruct : goal.drop-folks-requires-in_err-push_back-room-T-Destruct
-drop-folks-requires-in_err-push_back-room-T-Destruct g c κs within = assumption
-
-pub drop-fronts-requires-in_err-push_back-room-T-Destruct : goal.drop-fronts-requires-in_err-push_back-room-T-Destruct
-drop-fronts-requires-in_err-push_back-room-T-Destruct g c κs within = assumption
-
-pub drop-fronts-requires-in_err-push_back-room-T-Destruct-2 : goal.drop-fronts-requires-in_err-push_back-room-T-Destruct-2
-drop-fronts-requires-in_err-push_back-room-T-Destruct-2 g c κs within = assumption
+pub drop-group_members-requires-in_err-push_back-room-T-Destruct : goal.drop-group_members-requires-in_err-push_back-room-T-Destruct
+drop-group_members-requires-in_err-push_back-room-T-Destruct g c κs within = assumption
 
 pub from_residual-requires-in_err-push-room-F-From : goal.from_residual-requires-in_err-push-room-F-From
 from_residual-requires-in_err-push-room-F-From g c κs within = assumption
@@ -186,23 +145,14 @@ from_residual-requires-in_err-push-room-F-From g c κs within = assumption
 pub drop-hands-requires-in_err-push-room-T-Destruct : goal.drop-hands-requires-in_err-push-room-T-Destruct
 drop-hands-requires-in_err-push-room-T-Destruct g c κs within = assumption
 
-pub drop-folks-requires-in_err-push-room-T-Destruct : goal.drop-folks-requires-in_err-push-room-T-Destruct
-drop-folks-requires-in_err-push-room-T-Destruct g c κs within = assumption
-
-pub drop-fronts-requires-in_err-push-room-T-Destruct : goal.drop-fronts-requires-in_err-push-room-T-Destruct
-drop-fronts-requires-in_err-push-room-T-Destruct g c κs within = assumption
-
-pub drop-fronts-requires-in_err-push-room-T-Destruct-2 : goal.drop-fronts-requires-in_err-push-room-T-Destruct-2
-drop-fronts-requires-in_err-push-room-T-Destruct-2 g c κs within = assumption
-
-pub drop-fronts-requires-2-room-T-Destruct : goal.drop-fronts-requires-2-room-T-Destruct
-drop-fronts-requires-2-room-T-Destruct g c κs within = assumption
-
-pub drop-fronts-requires-2-room-T-Destruct-2 : goal.drop-fronts-requires-2-room-T-Destruct-2
-drop-fronts-requires-2-room-T-Destruct-2 g c κs within = assumption
+pub drop-group_members-requires-in_err-push-room-T-Destruct : goal.drop-group_members-requires-in_err-push-room-T-Destruct
+drop-group_members-requires-in_err-push-room-T-Destruct g c κs within = assumption
 
 pub returns-clause-empty : goal.returns-clause-empty
 returns-clause-empty g c = c.loop-seat.invariant.empty
 
 pub returns-clause-lanes : goal.returns-clause-lanes
 returns-clause-lanes g c = c.loop-seat.invariant.lanes
+
+pub drop-hand-requires : goal.drop-hand-requires
+drop-hand-requires g c = let h : FitsInMemory (hand.the_row (param 0 g.row.J) (param 1 g.row.J-Receipt)) = assumption in h

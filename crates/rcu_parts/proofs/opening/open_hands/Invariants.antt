@@ -5,7 +5,7 @@ use Rattle.std.specs.List.{AllZip}
 use Rattle.rcu_board.specs.Opened.{IsNewHand, SeatForEach, is_offloadable, numbers_where}
 use Rattle.rcu_lanes.specs.Ends.{items_drawn}
 use Rattle.rcu_part_group.specs.GroupLaw.{cpus_of}
-use Rattle.rcu_part_group.specs.Groups.{IsEmptyFolk}
+use Rattle.rcu_part_group.specs.Groups.{IsEmptyGroupMember}
 use Rattle.rcu_parts.specs.OneOpen.{HasHand}
 use Rattle.rcu_parts.specs.Openings.{IsFirstHand, fronts_of}
 use Rattle.rcu_parts.proofs.opening.open_hands.Given as goal
@@ -13,12 +13,12 @@ use Rattle.rcu_parts.proofs.opening.open_hands.Given as goal
 abbrev pub invariant-loop-seat : goal.invariant-loop-seat
 invariant-loop-seat g l = record {
   left : List ℕ;
-  all : cpus_of l.folks.items ++ left ≡ numbers_where (is_offloadable (arc_value l.board).offloadable) 0 (arc_value l.board).processors;
+  all : cpus_of l.group_members.items ++ left ≡ numbers_where (is_offloadable (arc_value l.board).offloadable) 0 (arc_value l.board).processors;
   seats : SeatForEach (IsNewHand (arc_value l.board)) left l.seat-iterator.rest.items;
   many : length l.fronts.items ≡ length l.seat-iterator.rest.items;
   drawn : All (λ front. items_drawn front ≡ []) l.fronts.items;
-  fronts : fronts_of l.folks.items ++ l.fronts.items ≡ l.fn.fronts.items;
-  empty : All IsEmptyFolk l.folks.items;
-  hands : AllZip (IsFirstHand l.shape (arc_value l.board)) (cpus_of l.folks.items) l.hands.items;
-  lanes : AllZip HasHand l.folks.items l.hands.items;
+  fronts : fronts_of l.group_members.items ++ l.fronts.items ≡ l.fn.fronts.items;
+  empty : All IsEmptyGroupMember l.group_members.items;
+  hands : AllZip (IsFirstHand l.shape (arc_value l.board)) (cpus_of l.group_members.items) l.hands.items;
+  lanes : AllZip HasHand l.group_members.items l.hands.items;
 }

@@ -3,7 +3,6 @@ use Rattle.std.specs.Arc.{arc_value}
 use Rattle.std.specs.Mem.{FitsInMemory}
 use denote.Param.{param}
 use Rattle.rcu_board.specs.Opened.{InOrder, IsNewProcessor}
-use Rattle.rcu_lists.specs.contracts.batch.Batch as batch
 use Rattle.rcu_parts.specs.Openings.{IsFirstProcessor}
 use Rattle.rcu_part_processor.specs.contracts.processor.Processor as row
 use Rattle.rcu_part_processor.proofs.Beginnings.{offloads_at}
@@ -18,16 +17,13 @@ use Rattle.rcu_parts.proofs.opening.open_processors.Goals as goal
 fits : (g : Over) (c : goal.After-into_iter-seat-iterator g) → FitsInMemory (row.the_row (param 0 g.row.J) (param 1 g.row.J-Receipt))
 fits g c = assumption
 
-batch_fits : (g : Over) (c : goal.After-into_iter-seat-iterator g) → FitsInMemory (batch.the_row (param 0 g.row.J))
-batch_fits g c = assumption
-
 pub loop-seat-init : goal.loop-seat-init
 loop-seat-init g c = search rules
 
 pub open_processor-requires-after_bounds : goal.open_processor-requires-after_bounds
 open_processor-requires-after_bounds g c κs within = let i = c.loop-seat.invariant in let e = c.loop-seat.processors.ok.0 in let r = c.len-cpu.ensures in
     let t = seat_taken (IsNewProcessor (arc_value c.args.board.now)) (length c.loop-seat.processors.items) (arc_value c.args.board.now).processors c.len-cpu.result c.loop-seat.seat-iterator.rest.items c.in-Some.seat c.next.new.self.rest.items i.seats i.many (omega (arith, e, r)) c.in-Some.ensures.steps.0 in
-    let start = c.before.before.before.before.before.before in (fits g start, (batch_fits g start, (t.0, t.1)))
+    let start = c.before.before.before.before.before.before in (fits g start, (t.0, t.1))
 
 longer : {X : Type 0} (xs ys : List X) (x : X) → ys ≡ xs ++ x ∷ [] → length ys ≡ suc (length xs)
 longer xs ys x e = let a = ap (λ l. length l) e in let b = length-append xs (x ∷ []) in omega (arith, a, b)
@@ -75,41 +71,11 @@ open_processor-requires-send-J g c κs within = c.type_bounds.send-J
 pub open_processor-requires-send-J-Receipt : goal.open_processor-requires-send-J-Receipt
 open_processor-requires-send-J-Receipt g c κs within = c.type_bounds.send-J-Receipt
 
-pub drop-fronts-requires-room-T-Destruct : goal.drop-fronts-requires-room-T-Destruct
-drop-fronts-requires-room-T-Destruct g c κs within = assumption
-
-pub drop-fronts-requires-room-T-Destruct-2 : goal.drop-fronts-requires-room-T-Destruct-2
-drop-fronts-requires-room-T-Destruct-2 g c κs within = assumption
-
 pub drop-processors-requires-room-T-Destruct : goal.drop-processors-requires-room-T-Destruct
 drop-processors-requires-room-T-Destruct g c κs within = assumption
 
 pub from_residual-requires-in_err-push-room-F-From : goal.from_residual-requires-in_err-push-room-F-From
 from_residual-requires-in_err-push-room-F-From g c κs within = assumption
-
-pub drop-front-requires-room-T-Destruct : goal.drop-front-requires-room-T-Destruct
-drop-front-requires-room-T-Destruct g c κs within = assumption
-
-pub drop-front-requires-room-T-Destruct-2 : goal.drop-front-requires-room-T-Destruct-2
-drop-front-requires-room-T-Destruct-2 g c κs within = assumption
-
-pub drop-front-requires-room-T-Destruct-3 : goal.drop-front-requires-room-T-Destruct-3
-drop-front-requires-room-T-Destruct-3 g c κs within = assumption
-
-pub drop-front-requires-in_err-push-room-S-Destruct : goal.drop-front-requires-in_err-push-room-S-Destruct
-drop-front-requires-in_err-push-room-S-Destruct g c κs within = assumption
-
-pub drop-front-requires-in_err-push-room-V-Destruct : goal.drop-front-requires-in_err-push-room-V-Destruct
-drop-front-requires-in_err-push-room-V-Destruct g c κs within = assumption
-
-pub drop-front-requires-in_err-push-room-V-Destruct-2 : goal.drop-front-requires-in_err-push-room-V-Destruct-2
-drop-front-requires-in_err-push-room-V-Destruct-2 g c κs within = assumption
-
-pub drop-fronts-requires-in_err-push-room-T-Destruct : goal.drop-fronts-requires-in_err-push-room-T-Destruct
-drop-fronts-requires-in_err-push-room-T-Destruct g c κs within = assumption
-
-pub drop-fronts-requires-in_err-push-room-T-Destruct-2 : goal.drop-fronts-requires-in_err-push-room-T-Destruct-2
-drop-fronts-requires-in_err-push-room-T-Destruct-2 g c κs within = assumption
 
 pub drop-processors-requires-in_err-push-room-T-Destruct : goal.drop-processors-requires-in_err-push-room-T-Destruct
 drop-processors-requires-in_err-push-room-T-Destruct g c κs within = assumption
@@ -118,36 +84,6 @@ pub is_offloadable-requires : goal.is_offloadable-requires
 is_offloadable-requires g c = let i = c.loop-seat.invariant in let b = arc_value c.args.board.now in let ok = c.loop-seat.processors.ok.0 in let r = c.len-cpu.ensures in let ps = c.loop-seat.processors.items in
     let same : c.len-cpu.result ≡ length ps = omega (arith, ok, r) in
     below _ _ _ (seat_taken (IsNewProcessor b) (length ps) b.processors c.len-cpu.result c.loop-seat.seat-iterator.rest.items c.in-Some.seat c.next.new.self.rest.items i.seats i.many same c.in-Some.ensures.steps.0).1 b.few
-
-pub drop-front-requires-then-not-is_offloadable-room-T-Destruct : goal.drop-front-requires-then-not-is_offloadable-room-T-Destruct
-drop-front-requires-then-not-is_offloadable-room-T-Destruct g c κs within = assumption
-
-pub drop-front-requires-then-not-is_offloadable-room-T-Destruct-2 : goal.drop-front-requires-then-not-is_offloadable-room-T-Destruct-2
-drop-front-requires-then-not-is_offloadable-room-T-Destruct-2 g c κs within = assumption
-
-pub drop-front-requires-then-not-is_offloadable-room-T-Destruct-3 : goal.drop-front-requires-then-not-is_offloadable-room-T-Destruct-3
-drop-front-requires-then-not-is_offloadable-room-T-Destruct-3 g c κs within = assumption
-
-pub drop-front-requires-then-not-is_offloadable-2-room-S-Destruct : goal.drop-front-requires-then-not-is_offloadable-2-room-S-Destruct
-drop-front-requires-then-not-is_offloadable-2-room-S-Destruct g c κs within = assumption
-
-pub drop-front-requires-then-not-is_offloadable-2-room-V-Destruct : goal.drop-front-requires-then-not-is_offloadable-2-room-V-Destruct
-drop-front-requires-then-not-is_offloadable-2-room-V-Destruct g c κs within = assumption
-
-pub drop-front-requires-then-not-is_offloadable-2-room-V-Destruct-2 : goal.drop-front-requires-then-not-is_offloadable-2-room-V-Destruct-2
-drop-front-requires-then-not-is_offloadable-2-room-V-Destruct-2 g c κs within = assumption
-
-pub from_residual-requires-in_err-push_back-room-F-From : goal.from_residual-requires-in_err-push_back-room-F-From
-from_residual-requires-in_err-push_back-room-F-From g c κs within = assumption
-
-pub from_residual-requires-in_err-push_back-room-F-From-2 : goal.from_residual-requires-in_err-push_back-room-F-From-2
-from_residual-requires-in_err-push_back-room-F-From-2 g c κs within = assumption
-
-pub drop-fronts-requires-in_err-push_back-room-T-Destruct : goal.drop-fronts-requires-in_err-push_back-room-T-Destruct
-drop-fronts-requires-in_err-push_back-room-T-Destruct g c κs within = assumption
-
-pub drop-fronts-requires-in_err-push_back-room-T-Destruct-2 : goal.drop-fronts-requires-in_err-push_back-room-T-Destruct-2
-drop-fronts-requires-in_err-push_back-room-T-Destruct-2 g c κs within = assumption
 
 pub drop-processors-requires-in_err-push_back-room-T-Destruct : goal.drop-processors-requires-in_err-push_back-room-T-Destruct
 drop-processors-requires-in_err-push_back-room-T-Destruct g c κs within = assumption

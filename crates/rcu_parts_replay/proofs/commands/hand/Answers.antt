@@ -2,12 +2,15 @@ use Rattle.std.proofs.Common.{arith, refl}
 use Rattle.rcu_part_group.proofs.GroupLists.{zip_same}
 use Rattle.rcu_part_hand.proofs.HandRuns.{same_hand}
 use Rattle.rcu_part_hand.specs.Hands.{IsSoundHand, SameHand}
-use Rattle.rcu_parts_replay.proofs.Answering.{no_hand}
+use Rattle.rcu_parts_replay.proofs.Answering.{hand_of_local, no_hand}
 use Rattle.rcu_parts_replay.proofs.Changing.{all_changed, zip_changed}
 use Rattle.rcu_parts_replay.proofs.commands.hand.Goals as goal
 
 pub returns-then-cpu-n-clause-same : goal.returns-then-cpu-n-clause-same
 returns-then-cpu-n-clause-same g c = zip_same (λ h i. SameHand h.state i.state) (λ h. same_hand h.state) c.args.hands.now.items
+
+pub returns-then-cpu-n-clause-line : goal.returns-then-cpu-n-clause-line
+returns-then-cpu-n-clause-line g c = hand_of_local c.args.n c.args.cpu c.args.hands.now.items c.not_offloadable.result (omega arith) c.in_default.ensures.none c.not_offloadable.ensures
 
 pub returns-in_default-clause-line : goal.returns-in_default-clause-line
 returns-in_default-clause-line g c = no_hand c.args.n c.args.cpu c.args.hands.now.items c.no_such.result (omega arith) c.in_default.ensures.none c.no_such.ensures

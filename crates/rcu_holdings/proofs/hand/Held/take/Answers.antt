@@ -13,7 +13,7 @@ invariant_of-self g c =
     let xs = batch_items s.batch in
     let ys = batch_items c.take_first.new.self in
     record {
-      order = ends-of (before_end (drawn_calls s.front) xs ++ option_to_list c.take_first.result) (drawn_calls s.front) ys (all-taken c.take_first.result (drawn_calls s.front) xs ys s.order c.take_first.ensures);
+      order = ends-of (before_end (drawn_calls s.inlet.front) xs ++ option_to_list c.take_first.result) (drawn_calls s.inlet.front) ys (all-taken c.take_first.result (drawn_calls s.inlet.front) xs ys s.order c.take_first.ensures);
       safe = rest-safe c.take_first.result xs ys c.take_first.ensures s.safe;
     }
 
@@ -22,7 +22,7 @@ returns-clause-taken g c =
     let s = c.args.self.now in
     let xs = batch_items s.batch in
     let ys = batch_items c.take_first.new.self in
-    before-of (before_end (drawn_calls s.front) xs ++ option_to_list c.take_first.result) (drawn_calls s.front) ys (all-taken c.take_first.result (drawn_calls s.front) xs ys s.order c.take_first.ensures)
+    before-of (before_end (drawn_calls s.inlet.front) xs ++ option_to_list c.take_first.result) (drawn_calls s.inlet.front) ys (all-taken c.take_first.result (drawn_calls s.inlet.front) xs ys s.order c.take_first.ensures)
 
 pub returns-clause-safe : goal.returns-clause-safe
 returns-clause-safe g c = head-safe c.take_first.result (batch_items c.args.self.now.batch) (batch_items c.take_first.new.self) c.take_first.ensures c.args.self.now.safe

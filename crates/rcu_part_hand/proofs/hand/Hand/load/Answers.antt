@@ -4,7 +4,7 @@ use Rattle.rcu_holdings.proofs.Sizes.{in_struct}
 use denote.Param.{param}
 use Rattle.std.specs.Mem.{FitsInMemory}
 use Rattle.rcu_holdings.specs.Helds.{drawn_by, held_by}
-use Rattle.rcu_holdings.specs.declared.hand.Fetched.TheVariants.{Got, Empty, Again}
+use Rattle.rcu_holdings.specs.declared.fetched.Fetched.TheVariants.{Got, Empty, Again}
 use Rattle.rcu_part_hand.proofs.HandRuns.{fetched, hand_sound_drawn}
 use Rattle.rcu_board.specs.Seats.{view}
 use Rattle.rcu_jobs.specs.declared.callback.Callback.{Callback}

@@ -1,7 +1,7 @@
 use Rattle.std.proofs.Common.{◌∙◌, ap, arith, sym, refl, subst}
 use Rattle.rcu_board.specs.Seats.{view}
 use Rattle.rcu_board.specs.declared.board.Board.{Board}
-use Rattle.rcu_holdings.specs.Callers.{holding}
+use Rattle.rcu_holdings.specs.ProcessorLists.{holding}
 use Rattle.rcu_part_processor.proofs.Barring.{opens_law, own_is_exact}
 use Rattle.std.specs.Arc.{arc_value}
 use Rattle.rcu_part_processor.proofs.Standing.{stands}

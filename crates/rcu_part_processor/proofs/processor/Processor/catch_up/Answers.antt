@@ -8,7 +8,7 @@ use Rattle.rcu_board.specs.Views.{seen_at}
 use Rattle.rcu_board.specs.Words.{bits_of, needed_word}
 use Rattle.rcu_board.specs.declared.view.View.{View}
 use Rattle.rcu_holdings.specs.Aims.{wanted}
-use Rattle.rcu_holdings.specs.Callers.{Holding, holding}
+use Rattle.rcu_holdings.specs.ProcessorLists.{Holding, holding}
 use Rattle.rcu_holdings.proofs.Aims.{up-raised}
 use Rattle.rcu_holdings.proofs.Sizes.{in_struct}
 use Rattle.rcu_part_processor.specs.contracts.processor.Processor as row
@@ -22,12 +22,12 @@ use Rattle.rcu_part_processor.proofs.processor.Processor.catch_up.Goals as goal
 
 pub look-requires : goal.look-requires
 look-requires g c = let h : FitsInMemory (row.the_row (param 0 g.row.J) (param 1 g.row.J-Receipt)) = assumption in
-    let s = c.args.self.now.state in let e = c.watch.ensures in let z = s.lawful.looked in let y = (e.same.later (arc_value s.board) s.here).board in
+    let s = c.args.self.now.state in let e = c.look_at_number.ensures in let z = s.lawful.looked in let y = (e.same.later (arc_value s.board) s.here).board in
     (in_struct _ _ _ (in_struct _ _ _ h), (omega (arith, e.sight.0, c.seq-seen.ensures.same), omega (arith, e.sight.1, c.seq-seen.ensures.same)))
 
 pub invariant_of-state : goal.invariant_of-state
-invariant_of-state g c = let s = c.args.self.now.state in let e = c.watch.ensures in let n = c.need.ensures in let l = c.in-Some.ensures in
-    let u = view c.watch.new.seat in let w = view c.need.new.seat in let y = n.same.later (arc_value s.board) (e.same.table ∙ s.here) in let z = e.same.later (arc_value s.board) s.here in record {
+invariant_of-state g c = let s = c.args.self.now.state in let e = c.look_at_number.ensures in let n = c.need.ensures in let l = c.in-Some.ensures in
+    let u = view c.look_at_number.new.seat in let w = view c.need.new.seat in let y = n.same.later (arc_value s.board) (e.same.table ∙ s.here) in let z = e.same.later (arc_value s.board) s.here in record {
       here = n.same.table ∙ (e.same.table ∙ s.here);
       role = n.same.role ∙ (e.same.role ∙ s.role);
       there = s.there;
@@ -35,15 +35,15 @@ invariant_of-state g c = let s = c.args.self.now.state in let e = c.watch.ensure
       local = caught_local c.seq-seen.result s.offloadable (holding s.lists) (holding c.look.new.self) l.list s.local;
       small = s.small;
       lawful = caught_law s.cpu s.accepted c.seq-seen.result (view s.seat) w s.ran.items (holding s.lists) (holding c.look.new.self)
-          (tells_again (view s.seat) u w (tells_looked (bits_of c.watch.result) (view s.seat) u s.lawful.stamped e.view) (tells_touched needed_word (max c.need.result c.in-Some.number) u w n.view))
+          (tells_again (view s.seat) u w (tells_looked (bits_of c.look_at_number.result) (view s.seat) u s.lawful.stamped e.view) (tells_touched needed_word (max c.need.result c.in-Some.number) u w n.view))
           l.list l.places (let a = y.board in omega (arith, a, e.sight.0, c.seq-seen.ensures.same))
           (l.needed (seen_at w needed_word) (up-raised (seen_at (view s.seat) needed_word) (seen_at w needed_word) (holding s.lists).own (let a = y.needed in let b = z.needed in omega arith) s.lawful.needed)
-          (asked_for (arc_value s.board) c.watch.new.seat c.need.result c.in-Some.number w (e.same.table ∙ s.here) n.view)) s.lawful;
+          (asked_for (arc_value s.board) c.look_at_number.new.seat c.need.result c.in-Some.number w (e.same.table ∙ s.here) n.view)) s.lawful;
     }
 
 pub invariant_of-state-in_default : goal.invariant_of-state-in_default
-invariant_of-state-in_default g c = let s = c.args.self.now.state in let e = c.watch.ensures in let l = c.in_default.ensures in
-    let w = view c.watch.new.seat in let z = e.same.later (arc_value s.board) s.here in record {
+invariant_of-state-in_default g c = let s = c.args.self.now.state in let e = c.look_at_number.ensures in let l = c.in_default.ensures in
+    let w = view c.look_at_number.new.seat in let z = e.same.later (arc_value s.board) s.here in record {
       here = e.same.table ∙ s.here;
       role = e.same.role ∙ s.role;
       there = s.there;
@@ -51,34 +51,34 @@ invariant_of-state-in_default g c = let s = c.args.self.now.state in let e = c.w
       local = caught_local c.seq-seen.result s.offloadable (holding s.lists) (holding c.look.new.self) l.list s.local;
       small = s.small;
       lawful = caught_law s.cpu s.accepted c.seq-seen.result (view s.seat) w s.ran.items (holding s.lists) (holding c.look.new.self)
-          (tells_looked (bits_of c.watch.result) (view s.seat) w s.lawful.stamped e.view)
+          (tells_looked (bits_of c.look_at_number.result) (view s.seat) w s.lawful.stamped e.view)
           l.list l.places (omega (arith, e.sight.0, c.seq-seen.ensures.same))
           (l.needed (seen_at w needed_word) (up-raised (seen_at (view s.seat) needed_word) (seen_at w needed_word) (holding s.lists).own z.needed s.lawful.needed) tt) s.lawful;
     }
 
 pub returns-in-Some-clause-catches_up : goal.returns-in-Some-clause-catches_up
-returns-in-Some-clause-catches_up g c = let s = c.args.self.now.state in let e = c.watch.ensures in let n = c.need.ensures in let l = c.in-Some.ensures in record {
-  word = c.watch.result;
+returns-in-Some-clause-catches_up g c = let s = c.args.self.now.state in let e = c.look_at_number.ensures in let n = c.need.ensures in let l = c.in-Some.ensures in record {
+  word = c.look_at_number.result;
   number = c.seq-seen.ensures.same;
-  asks = asks_one (wanted c.seq-seen.result (holding s.lists).own) c.need.result c.in-Some.number (looked (bits_of c.watch.result) (view s.seat)) (view c.need.new.seat) (sym l.wanted)
+  asks = asks_one (wanted c.seq-seen.result (holding s.lists).own) c.need.result c.in-Some.number (looked (bits_of c.look_at_number.result) (view s.seat)) (view c.need.new.seat) (sym l.wanted)
       (n.view ∙ ap (λ (v : View). touched needed_word (max c.need.result c.in-Some.number) v) e.view);
   lists = l.list;
   records = refl;
 }
 
 pub returns-in-Some-clause-sight : goal.returns-in-Some-clause-sight
-returns-in-Some-clause-sight g c = let s = c.args.self.now.state in let e = c.watch.ensures in let n = c.need.ensures in
-    (sight_touched needed_word (max c.need.result c.in-Some.number) (view c.watch.new.seat) (view c.need.new.seat) (λ z. absurd (omega (arith, z))) n.view ∙ (sym e.sight.0 ∙ sym c.seq-seen.ensures.same), ap (λ (h : Holding g.row.J.Denot). h.advanced) c.in-Some.ensures.list)
+returns-in-Some-clause-sight g c = let s = c.args.self.now.state in let e = c.look_at_number.ensures in let n = c.need.ensures in
+    (sight_touched needed_word (max c.need.result c.in-Some.number) (view c.look_at_number.new.seat) (view c.need.new.seat) (λ z. absurd (omega (arith, z))) n.view ∙ (sym e.sight.0 ∙ sym c.seq-seen.ensures.same), ap (λ (h : Holding g.row.J.Denot). h.advanced) c.in-Some.ensures.list)
 
 pub returns-in-Some-clause-sound : goal.returns-in-Some-clause-sound
 returns-in-Some-clause-sound g c = let s = c.args.self.now.state in let l = c.in-Some.ensures in
     sound_moved g.J.Job.key_of g.J.Job.gives s _ (caught_passes c.seq-seen.result (holding s.lists) (holding c.look.new.self) l.list l.places) refl
 
 pub returns-in_default-clause-catches_up : goal.returns-in_default-clause-catches_up
-returns-in_default-clause-catches_up g c = let s = c.args.self.now.state in let e = c.watch.ensures in let l = c.in_default.ensures in record {
-  word = c.watch.result;
+returns-in_default-clause-catches_up g c = let s = c.args.self.now.state in let e = c.look_at_number.ensures in let l = c.in_default.ensures in record {
+  word = c.look_at_number.result;
   number = c.seq-seen.ensures.same;
-  asks = asks_none (wanted c.seq-seen.result (holding s.lists).own) (looked (bits_of c.watch.result) (view s.seat)) (view c.watch.new.seat) (sym l.wanted) e.view;
+  asks = asks_none (wanted c.seq-seen.result (holding s.lists).own) (looked (bits_of c.look_at_number.result) (view s.seat)) (view c.look_at_number.new.seat) (sym l.wanted) e.view;
   lists = l.list;
   records = refl;
 }
@@ -87,20 +87,20 @@ pub returns-in_default-clause-sound : goal.returns-in_default-clause-sound
 returns-in_default-clause-sound g c = let s = c.args.self.now.state in let l = c.in_default.ensures in
     sound_moved g.J.Job.key_of g.J.Job.gives s _ (caught_passes c.seq-seen.result (holding s.lists) (holding c.look.new.self) l.list l.places) refl
 
-pub watch-requires : goal.watch-requires
-watch-requires g c = let s = c.args.self.now.state in record { board = stands (arc_value s.board) c.deref.result.now s.seat c.deref.ensures s.here }
+pub look_at_number-requires : goal.look_at_number-requires
+look_at_number-requires g c = let s = c.args.self.now.state in record { board = stands (arc_value s.board) c.deref.result.now s.seat c.deref.ensures s.here }
 
 pub need-requires-clause-board : goal.need-requires-clause-board
-need-requires-clause-board g c = let s = c.args.self.now.state in stands (arc_value s.board) c.deref-in-Some.result.now c.watch.new.seat c.deref-in-Some.ensures (c.watch.ensures.same.table ∙ s.here)
+need-requires-clause-board g c = let s = c.args.self.now.state in stands (arc_value s.board) c.deref-in-Some.result.now c.look_at_number.new.seat c.deref-in-Some.ensures (c.look_at_number.ensures.same.table ∙ s.here)
 
 pub need-requires-clause-who : goal.need-requires-clause-who
-need-requires-clause-who g c = subst MayNeed (sym (c.watch.ensures.same.role ∙ c.args.self.now.state.role)) tt
+need-requires-clause-who g c = subst MayNeed (sym (c.look_at_number.ensures.same.role ∙ c.args.self.now.state.role)) tt
 
 pub returns-in-Some-clause-same : goal.returns-in-Some-clause-same
-returns-in-Some-clause-same g c = let s = c.args.self.now.state in record { part = record { board = refl; seat = same_seat_again s.seat c.watch.new.seat c.need.new.seat c.watch.ensures.same c.need.ensures.same }; lane = same_lane s.lists c.look.new.self c.in-Some.ensures.rear; cpu = refl; offloadable = refl; limit = refl; blimit = refl }
+returns-in-Some-clause-same g c = let s = c.args.self.now.state in record { part = record { board = refl; seat = same_seat_again s.seat c.look_at_number.new.seat c.need.new.seat c.look_at_number.ensures.same c.need.ensures.same }; lane = same_lane s.lists c.look.new.self c.in-Some.ensures.rear; cpu = refl; offloadable = refl; limit = refl; blimit = refl }
 
 pub returns-in_default-clause-same : goal.returns-in_default-clause-same
-returns-in_default-clause-same g c = record { part = record { board = refl; seat = c.watch.ensures.same }; lane = same_lane c.args.self.now.state.lists c.look.new.self c.in_default.ensures.rear; cpu = refl; offloadable = refl; limit = refl; blimit = refl }
+returns-in_default-clause-same g c = record { part = record { board = refl; seat = c.look_at_number.ensures.same }; lane = same_lane c.args.self.now.state.lists c.look.new.self c.in_default.ensures.rear; cpu = refl; offloadable = refl; limit = refl; blimit = refl }
 
 pub returns-in_default-clause-sight : goal.returns-in_default-clause-sight
-returns-in_default-clause-sight g c = (sym c.watch.ensures.sight.0 ∙ sym c.seq-seen.ensures.same, ap (λ (h : Holding g.row.J.Denot). h.advanced) c.in_default.ensures.list)
+returns-in_default-clause-sight g c = (sym c.look_at_number.ensures.sight.0 ∙ sym c.seq-seen.ensures.same, ap (λ (h : Holding g.row.J.Denot). h.advanced) c.in_default.ensures.list)

@@ -7,7 +7,7 @@ use denote.Param.{param}
 use Rattle.rcu_board.specs.Roles.{MayClaim, cpu_of_role}
 use Rattle.rcu_board.specs.Seats.{NeverFalls, view}
 use Rattle.rcu_holdings.specs.Aims.{AreUpTo, is_up_to}
-use Rattle.rcu_holdings.specs.Callers.{Holding, held_in, holding, put_by}
+use Rattle.rcu_holdings.specs.ProcessorLists.{Holding, held_in, holding, put_by}
 use Rattle.rcu_holdings.proofs.Sizes.{in_struct}
 use Rattle.rcu_jobs.specs.declared.Stop.TheVariants.{Limit, Turn}
 use Rattle.rcu_lists.specs.Labels.{Done, Labelled}

@@ -2,7 +2,7 @@ use Rattle.std.proofs.Common.{[], ◌∷◌, ◌++◌, ◌∙◌, refl}
 use Rattle.std.specs.Mem.{FitsInMemory}
 use denote.Param.{param}
 use Rattle.rcu_board.specs.Seats.{view}
-use Rattle.rcu_holdings.specs.Callers.{holding}
+use Rattle.rcu_holdings.specs.ProcessorLists.{holding}
 use Rattle.rcu_holdings.proofs.Sizes.{in_struct}
 use Rattle.rcu_records.specs.Records.{numbered_records}
 use Rattle.rcu_part_steps.specs.Begins.{number_that_runs}

@@ -3,7 +3,7 @@ use Rattle.std.specs.Arc.{arc_value}
 use Rattle.rcu_board.specs.Roles.{cpu_of_role}
 use Rattle.rcu_board.specs.Seats.{view}
 use Rattle.rcu_board.specs.Words.{turns_word}
-use Rattle.rcu_holdings.specs.Callers.{holding}
+use Rattle.rcu_holdings.specs.ProcessorLists.{holding}
 use Rattle.rcu_part_steps.specs.Changes.{StepsOnly}
 use Rattle.rcu_part_processor.proofs.Claiming.{finished_law, given_finished}
 use Rattle.rcu_part_processor.proofs.running.RunningProcessor.finish.Goals as goal

@@ -8,7 +8,7 @@ use Rattle.rcu_board.specs.Seats.{view, AtBoard}
 use Rattle.rcu_board.specs.Views.{joined}
 use Rattle.rcu_endings.specs.Ends.{EndsWith}
 use Rattle.rcu_holdings.proofs.Sizes.{in_struct}
-use Rattle.rcu_holdings.specs.Callers.{held_in, holding}
+use Rattle.rcu_holdings.specs.ProcessorLists.{held_in, holding}
 use Rattle.rcu_parts.specs.AtClose.{cpu_part}
 use Rattle.rcu_parts.specs.Ending.{all_back, all_ran, all_view, board_at}
 use Rattle.rcu_part_processor.specs.Processors.{board_of}

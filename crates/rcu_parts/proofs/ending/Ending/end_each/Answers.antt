@@ -2,7 +2,7 @@ use Rattle.std.proofs.Common.{length, arith}
 use Rattle.std.specs.Mem.{FitsInMemory}
 use Rattle.std.proofs.lemmas.List.{nil_from_length}
 use denote.Param.{param}
-use Rattle.rcu_part_group.specs.contracts.folk.Folk as folk_row
+use Rattle.rcu_part_group.specs.contracts.members.GroupMember as group_member_row
 use Rattle.rcu_part_hand.specs.contracts.hand.Hand as hand_row
 use Rattle.rcu_part_processor.specs.contracts.processor.Processor as row
 use Rattle.rcu_parts.proofs.OneByOne.{all_ended, none_ended, now_first, one_more_ended}
@@ -17,7 +17,7 @@ next-requires-room-T-Destruct g c κs within = let h : FitsInMemory (row.the_row
 pub end_one-requires-clause-ready : goal.end_one-requires-clause-ready
 end_one-requires-clause-ready g c κs within =
     let h : FitsInMemory (row.the_row (param 0 g.row.J) (param 1 g.row.J-Receipt)) = assumption in
-    let m : FitsInMemory (folk_row.the_row (param 0 g.row.J)) = assumption in
+    let m : FitsInMemory (group_member_row.the_row (param 0 g.row.J)) = assumption in
     let k : FitsInMemory (hand_row.the_row (param 0 g.row.J) (param 1 g.row.J-Receipt)) = assumption in
     let s = c.loop-processor.invariant in
     (h, (m, (k, (length s.ends, c.next.new.self.rest.items, now_first (length s.ends) _ c.in-Some.processor _ _ _ _ _ s.ready c.in-Some.ensures.steps.0))))

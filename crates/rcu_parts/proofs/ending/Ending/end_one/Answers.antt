@@ -5,7 +5,7 @@ use Rattle.rcu_gathering.specs.Parts.{HandPart}
 use Rattle.rcu_parts.specs.AtClose.{cpu_part}
 use Rattle.rcu_parts.specs.Ending.{EndsOne, board_at}
 use Rattle.rcu_part_hand.specs.Hands.{hand_board}
-use Rattle.rcu_part_group.specs.contracts.folk.Folk as folk_row
+use Rattle.rcu_part_group.specs.contracts.members.GroupMember as group_member_row
 use Rattle.rcu_part_hand.specs.contracts.hand.Hand as hand_row
 use Rattle.rcu_part_processor.specs.contracts.processor.Processor as row
 use Rattle.rcu_parts.proofs.OneByOne.{first_board, first_has_hand, first_member, first_of_hands, first_room, may_end, none_for, one_for, others_are, ready_alone, ready_with, same_after, some_hand, some_member, some_room}
@@ -35,7 +35,7 @@ returns-then-not-is_offloadable-clause-ready g c k rest i =
 pub end_with_hand-requires-after_bounds : goal.end_with_hand-requires-after_bounds
 end_with_hand-requires-after_bounds g c κs within =
     let h : FitsInMemory (row.the_row (param 0 g.row.J) (param 1 g.row.J-Receipt)) = assumption in
-    let m : FitsInMemory (folk_row.the_row (param 0 g.row.J)) = assumption in
+    let m : FitsInMemory (group_member_row.the_row (param 0 g.row.J)) = assumption in
     let q : FitsInMemory (hand_row.the_row (param 0 g.row.J) (param 1 g.row.J-Receipt)) = assumption in
     let r = c.requires.ready in
     let p = c.args.processor in

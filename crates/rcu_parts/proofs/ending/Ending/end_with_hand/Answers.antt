@@ -7,15 +7,15 @@ use Rattle.rcu_board.specs.Seats.{view, AtBoard}
 use Rattle.rcu_board.specs.Views.{joined}
 use Rattle.rcu_endings.specs.Ends.{EndsWith, HasRoom}
 use Rattle.rcu_holdings.proofs.Sizes.{in_struct}
-use Rattle.rcu_holdings.specs.Callers.{held_in, holding, put_by, rear_of}
+use Rattle.rcu_holdings.specs.ProcessorLists.{held_in, holding, put_by, rear_of}
 use Rattle.rcu_holdings.specs.Helds.{drawn_by, front_of as hands_front, taken_by}
-use Rattle.rcu_holdings.specs.Members.{front_of, rear_of as done_rear}
+use Rattle.rcu_holdings.specs.MemberLists.{front_of, rear_of as done_rear}
 use Rattle.rcu_lanes.specs.Ends.{SameLane}
 use Rattle.rcu_parts.specs.AtClose.{cpu_part, hand_part}
 use Rattle.rcu_parts.specs.Ending.{all_back, all_ran, all_view, board_at}
 use Rattle.rcu_part_hand.specs.Hands.{hand_board}
 use Rattle.rcu_part_processor.specs.Processors.{board_of}
-use Rattle.rcu_part_group.specs.contracts.folk.Folk as folk_row
+use Rattle.rcu_part_group.specs.contracts.members.GroupMember as group_member_row
 use Rattle.rcu_part_hand.specs.contracts.hand.Hand as hand_row
 use Rattle.rcu_part_processor.specs.contracts.processor.Processor as row
 use Rattle.rcu_parts.proofs.Resting.{both_long, rests_with, still_rests}
@@ -28,8 +28,8 @@ use Rattle.rcu_parts.proofs.ending.Ending.end_with_hand.Goals as goal
 processor_fits : (g : Over) (c : Start g) → FitsInMemory (row.the_row (param 0 g.row.J) (param 1 g.row.J-Receipt))
 processor_fits g c = assumption
 
-folk_fits : (g : Over) (c : Start g) → FitsInMemory (folk_row.the_row (param 0 g.row.J))
-folk_fits g c = assumption
+group_member_fits : (g : Over) (c : Start g) → FitsInMemory (group_member_row.the_row (param 0 g.row.J))
+group_member_fits g c = assumption
 
 hand_fits : (g : Over) (c : Start g) → FitsInMemory (hand_row.the_row (param 0 g.row.J) (param 1 g.row.J-Receipt))
 hand_fits g c = assumption
@@ -37,19 +37,19 @@ hand_fits g c = assumption
 pub end_offloadable-requires-after_bounds : goal.end_offloadable-requires-after_bounds
 end_offloadable-requires-after_bounds g c κs within =
     let r = c.requires.room in
-    let m = c.args.folk.member in
     let s = sym c.into_state-seat.ensures in
     let t = sym c.into_state-hands_seat.ensures in
-    let start = c.before.before.before.before.before.before.before.before.before in (
+    let u = sym c.into_lists.ensures in
+    let start = c.before.before.before.before.before.before.before.before.before.before in (
       in_struct _ _ _ (in_struct _ _ _ (processor_fits g start)),
       (
-        in_struct _ _ _ (folk_fits g start),
+        in_struct _ _ _ (group_member_fits g start),
         (
           in_struct _ _ _ (in_struct _ _ _ (hand_fits g start)),
           (
-            subst (λ p. SameLane (front_of m) (rear_of p.lists)) s c.requires.member.lane,
+            subst₂ (λ m p. SameLane (front_of m) (rear_of p.lists)) u s c.requires.member.lane,
             (
-              subst (λ h. SameLane (hands_front h.held) (done_rear m)) t c.requires.hand.lane,
+              subst₂ (λ h m. SameLane (hands_front h.held) (done_rear m)) t u c.requires.hand.lane,
               (
                 r.jobs,
                 subst₂ (λ p h. HasRoom (length p.ran.items + length h.ran.items) r.jobs c.args.room) s t r.empty,
@@ -87,6 +87,9 @@ into_state-seat-requires-after_bounds g c κs within = (processor_fits g c, in_s
 
 pub into_state-hands_seat-requires-after_bounds : goal.into_state-hands_seat-requires-after_bounds
 into_state-hands_seat-requires-after_bounds g c κs within = (hand_fits g c.before.before, in_struct _ _ _ (hand_fits g c.before.before))
+
+pub into_lists-requires : goal.into_lists-requires
+into_lists-requires g c = let h = group_member_fits g c.before.before.before.before.before.before.before.before.before in (h, in_struct _ _ _ h)
 
 pub take_in-requires-clause-at : goal.take_in-requires-clause-at
 take_in-requires-clause-at g c κs within = c.requires.may.at

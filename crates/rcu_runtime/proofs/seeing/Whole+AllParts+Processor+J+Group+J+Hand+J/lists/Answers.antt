@@ -1,5 +1,5 @@
 use Rattle.std.proofs.Common.{◌∙◌, ap, sym}
-use Rattle.rcu_holdings.specs.Callers.{cpu_lists}
+use Rattle.rcu_holdings.specs.ProcessorLists.{cpu_lists}
 use Rattle.rcu_part_processor.specs.Processors.{lists_of}
 use Rattle.rcu_runtime.proofs.Seen.{of_weaker}
 use Rattle.rcu_runtime.proofs.seeing.Whole+AllParts+Processor+J+Group+J+Hand+J.lists.Goals as goal

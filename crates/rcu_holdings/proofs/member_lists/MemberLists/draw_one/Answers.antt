@@ -1,0 +1,51 @@
+use Rattle.std.proofs.Common.{◌≡◌, ◌≢◌, ◌++◌, true, false, ap, sym, ◌∙◌, refl, length}
+use Rattle.std.specs.List.{flat_map}
+use Rattle.rcu_lists.specs.Batches.{batch_items}
+use Rattle.rcu_lists.specs.Labels.{callbacks_of}
+use Rattle.rcu_lists.specs.Parcels.{parcel_items}
+use Rattle.rcu_lists.specs.Segments.{labelled}
+use Rattle.rcu_holdings.specs.Lanes.{put_calls, drawn_calls}
+use Rattle.rcu_holdings.specs.MemberLists.{relay}
+use Rattle.rcu_holdings.specs.declared.fetched.Fetched.TheVariants.{Got, Empty, Again}
+use Rattle.rcu_holdings.proofs.Fetches.{fetched-drawn, fetched-few, fetched-safe}
+use Rattle.rcu_holdings.proofs.Relays.{drawn-waits}
+use Rattle.rcu_holdings.proofs.member_lists.MemberLists.draw_one.Goals as goal
+
+pub invariant_of-self : goal.invariant_of-self
+invariant_of-self g c =
+    let s = c.args.self.now in
+    let d = c.draw_into.ensures in
+    let r = c.draw_into.result in
+    let batch = batch_items c.draw_into.new.batch in
+    let old = drawn_calls s.inlet.front in
+    let new = drawn_calls c.draw_into.new.self.front in
+    record {
+      order = fetched-drawn r old new batch (λ e. (d.drawn e).0) (λ n. ap (flat_map parcel_items) (d.none n).0) (λ n. (d.none n).1)
+          ∙ drawn-waits old (put_calls s.outlet.rear) (batch_items s.out) (callbacks_of (labelled s.list)) batch (batch_items s.drawn) c.requires s.order;
+      drawn_safe = fetched-safe r batch (λ e. (d.allowed e).0) (λ n. (d.none n).1);
+      list_safe = s.list_safe;
+      out_safe = s.out_safe;
+      few = fetched-few r old new (λ e. (d.allowed e).1) (λ n. ap (flat_map parcel_items) (d.none n).0) s.few;
+      aimed = s.aimed;
+    }
+
+pub returns-in-Got-clause-draws : goal.returns-in-Got-clause-draws
+returns-in-Got-clause-draws g c = λ _. let d = c.in-Got.ensures.drawn refl in record { received = d.0; one = d.1; others = refl }
+
+pub returns-in-Empty-clause-draws : goal.returns-in-Empty-clause-draws
+returns-in-Empty-clause-draws g c = λ (e : false ≡ true). absurd cc
+
+pub returns-in-Empty-clause-none : goal.returns-in-Empty-clause-none
+returns-in-Empty-clause-none g c = λ _.
+    let r = relay c.args.self.now in
+    let n = c.in-Empty.ensures.none (λ e. absurd cc) in
+    ap (λ items. record r { received = flat_map parcel_items items; draws = length items; drawn = batch_items c.draw_into.new.batch }) n.0 ∙ ap (λ l. record r { drawn = l }) (n.1 ∙ sym c.requires)
+
+pub returns-in-Again-clause-draws : goal.returns-in-Again-clause-draws
+returns-in-Again-clause-draws g c = λ (e : false ≡ true). absurd cc
+
+pub returns-in-Again-clause-none : goal.returns-in-Again-clause-none
+returns-in-Again-clause-none g c = λ _.
+    let r = relay c.args.self.now in
+    let n = c.in-Again.ensures.none (λ e. absurd cc) in
+    ap (λ items. record r { received = flat_map parcel_items items; draws = length items; drawn = batch_items c.draw_into.new.batch }) n.0 ∙ ap (λ l. record r { drawn = l }) (n.1 ∙ sym c.requires)

@@ -1,0 +1,11 @@
+use Rattle.std.proofs.Common.{sym, subst}
+use Rattle.rcu_holdings.specs.Limits.{AreSafe}
+use denote.Param.{param}
+use Rattle.rcu_holdings.proofs.Sizes.{bypass-batch, processor_lists-bypass, in_places}
+use Rattle.rcu_holdings.proofs.processor_lists.ProcessorLists.into_parts.Goals as goal
+
+pub returns-clause-safe : goal.returns-clause-safe
+returns-clause-safe g c = (subst AreSafe (sym c.into_callbacks.ensures) c.args.self.own_safe, subst AreSafe (sym c.flush-released.ensures.all) c.args.self.safe)
+
+pub array_drop-bypass-requires : goal.array_drop-bypass-requires
+array_drop-bypass-requires g c = in_places _ _ _ _ _ _ _ _ _ _ _ _ _ _ _ _ _ _ (bypass-batch (param 0 g.row.J) (processor_lists-bypass (param 0 g.row.J) assumption))

@@ -1,0 +1,25 @@
+use Rattle.std.proofs.Common.{sym, ap, ◌∙◌, subst}
+use Rattle.std.proofs.lemmas.List.Elements.{All-nil}
+use Rattle.std.specs.List.{flat_map}
+use Rattle.rcu_lanes.specs.Ends.{items_put}
+use Rattle.rcu_lists.specs.Bypasses.{bypass_items}
+use Rattle.rcu_lists.specs.Labels.{callbacks_of}
+use Rattle.rcu_lists.specs.Parcels.{parcel_items}
+use Rattle.rcu_lists.specs.Segments.{labelled, advanced_by}
+use Rattle.rcu_holdings.specs.Lanes.{put_calls}
+use Rattle.rcu_holdings.specs.Modes.{is_deoffloading}
+use Rattle.rcu_holdings.specs.Limits.{AreSafe, IsSafe}
+use Rattle.rcu_holdings.proofs.Holdings.{all-of-none, aimed-none, none-few}
+use Rattle.rcu_holdings.proofs.Modes.{first-stays}
+use Rattle.rcu_holdings.proofs.processor_lists.ProcessorLists.new.Goals as goal
+
+pub invariant_of-result : goal.invariant_of-result
+invariant_of-result g c = record {
+  bypassing = λ _. c.new-2.ensures.list;
+  alone = λ _. c.new-3.ensures.items;
+  safe = subst AreSafe (sym c.new-3.ensures.items) (All-nil IsSafe);
+  own_safe = all-of-none (labelled c.new-2.result) c.new-2.ensures.list;
+  few = none-few (put_calls c.in_ok-outlet.outlet.rear) (bypass_items c.new-3.result) (callbacks_of (labelled c.new-2.result)) (ap (flat_map parcel_items) (ap items_put c.in_ok-outlet.ensures.rear ∙ c.requires)) c.new-3.ensures.items (ap callbacks_of c.new-2.ensures.list);
+  aimed = aimed-none (advanced_by c.new-2.result) (labelled c.new-2.result) c.new-2.ensures.list;
+  before = λ e. absurd (first-stays c.args.offloadable (ap is_deoffloading (sym c.first_mode.ensures) ∙ e));
+}

@@ -1,0 +1,61 @@
+use Rattle.std.proofs.Common.{◌++◌, ◌≡◌, true, false, sym, ◌∙◌, List, subst}
+use Rattle.rcu_lists.specs.Bypasses.{bypass_items, BypassRoom}
+use Rattle.rcu_lists.specs.Labels.{Labelled, callbacks_of}
+use Rattle.rcu_lists.specs.Segments.{labelled, advanced_by, SegmentsRoom}
+use Rattle.rcu_holdings.specs.Aims.{AreAimed}
+use Rattle.rcu_holdings.specs.Lanes.{put_calls}
+use Rattle.rcu_holdings.specs.Modes.{is_offloaded}
+use Rattle.rcu_holdings.specs.Limits.{AreFew, AreSafe}
+use Rattle.rcu_holdings.proofs.Holdings.{on-ok}
+use Rattle.rcu_holdings.proofs.Releases.{other}
+use denote.Param.{param}
+use Rattle.rcu_holdings.proofs.Sizes.{processor_lists-bypass}
+use Rattle.rcu_holdings.proofs.processor_lists.ProcessorLists.reserve.Goals as goal
+
+pub invariant_of-self : goal.invariant_of-self
+invariant_of-self g c =
+    let s = c.args.self.now in
+    let e = c.reserve.ensures.same.items in
+    record { bypassing = s.bypassing; alone = λ f. e ∙ s.alone f; safe = subst AreSafe (sym e) s.safe; own_safe = s.own_safe; few = subst (λ l. AreFew (put_calls s.outlet.rear ++ (l ++ callbacks_of (labelled s.own)))) (sym e) s.few; aimed = s.aimed; before = s.before }
+
+pub invariant_of-self-else-in_offloaded : goal.invariant_of-self-else-in_offloaded
+invariant_of-self-else-in_offloaded g c =
+    let s = c.args.self.now in
+    let e = c.reserve-else-in_offloaded.ensures.same.list in
+    let ys = labelled c.reserve-else-in_offloaded.new.self in
+    record {
+      bypassing = λ f. e ∙ s.bypassing f;
+      alone = s.alone;
+      safe = s.safe;
+      own_safe = subst (λ (ws : List (Labelled g.row.J.Denot)). AreSafe (callbacks_of ws)) (sym e) s.own_safe;
+      few = subst (λ (ws : List (Labelled g.row.J.Denot)). AreFew (put_calls s.outlet.rear ++ (bypass_items s.bypass ++ callbacks_of ws))) (sym e) s.few;
+      aimed = subst (λ n. AreAimed n ys) (sym c.reserve-else-in_offloaded.ensures.same.advanced) (subst (AreAimed (advanced_by s.own)) (sym e) s.aimed);
+      before = s.before;
+    }
+
+pub returns-then-in_offloaded-clause-found : goal.returns-then-in_offloaded-clause-found
+returns-then-in_offloaded-clause-found g c =
+    let s = c.args.self.now in
+    let on : is_offloaded s.mode ≡ true = sym c.in_offloaded.ensures ∙ c.if-in_offloaded.true in
+    on-ok c.reserve.result (BypassRoom c.reserve.new.self 1) _ (λ r. (λ _. r, λ e. absurd (other (is_offloaded s.mode) on e))) c.reserve.ensures.found
+
+pub returns-then-in_offloaded-clause-had : goal.returns-then-in_offloaded-clause-had
+returns-then-in_offloaded-clause-had g c = λ r. c.reserve.ensures.had (r.0 (sym c.in_offloaded.ensures ∙ c.if-in_offloaded.true))
+
+pub returns-else-in_offloaded-clause-found : goal.returns-else-in_offloaded-clause-found
+returns-else-in_offloaded-clause-found g c =
+    let s = c.args.self.now in
+    let off : is_offloaded s.mode ≡ false = sym c.in_offloaded.ensures ∙ c.if-in_offloaded.false in
+    on-ok c.reserve-else-in_offloaded.result (SegmentsRoom c.reserve-else-in_offloaded.new.self 1) _ (λ r. (λ e. absurd (other (is_offloaded s.mode) e off), λ _. r)) c.reserve-else-in_offloaded.ensures.found
+
+pub returns-else-in_offloaded-clause-had : goal.returns-else-in_offloaded-clause-had
+returns-else-in_offloaded-clause-had g c = λ r. c.reserve-else-in_offloaded.ensures.had (r.1 (sym c.in_offloaded.ensures ∙ c.if-in_offloaded.false))
+
+pub returns-then-in_offloaded-clause-none : goal.returns-then-in_offloaded-clause-none
+returns-then-in_offloaded-clause-none g c = λ _ e. c.reserve.ensures.none e
+
+pub returns-else-in_offloaded-clause-none : goal.returns-else-in_offloaded-clause-none
+returns-else-in_offloaded-clause-none g c = λ on _. absurd (other (is_offloaded c.args.self.now.mode) on (sym c.in_offloaded.ensures ∙ c.if-in_offloaded.false))
+
+pub reserve-requires : goal.reserve-requires
+reserve-requires g c = processor_lists-bypass (param 0 g.row.J) assumption

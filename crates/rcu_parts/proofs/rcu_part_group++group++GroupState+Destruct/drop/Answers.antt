@@ -1,8 +1,0 @@
-use Rattle.std.specs.Mem.{FitsInMemory}
-use denote.Param.{param}
-use Rattle.rcu_holdings.proofs.Sizes.{in_struct}
-use Rattle.rcu_part_group.specs.contracts.group.GroupState as row
-use Rattle.rcu_parts.proofs.rcu_part_group++group++GroupState+Destruct.drop.Goals as goal
-
-pub drop-requires-3 : goal.drop-requires-3
-drop-requires-3 g c = let h : FitsInMemory (row.the_row (param 0 g.row.J)) = assumption in in_struct _ _ _ h

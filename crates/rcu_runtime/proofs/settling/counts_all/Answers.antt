@@ -1,0 +1,15 @@
+use Rattle.std.proofs.Common.{◌∙◌, ◌<◌, ◌≤◌, ap, arith, get_or, length, refl, subst}
+use Rattle.rcu_runtime.proofs.Settles.{one_more_counted}
+use Rattle.rcu_runtime.proofs.settling.counts_all.Goals as goal
+
+pub loop-processor-preserved : goal.loop-processor-preserved
+loop-processor-preserved g c = let i = c.loop-processor.processor-index in
+    one_more_counted c.args.counts.now i c.args.processors.now.items c.processor-item.result
+    (subst (λ x. i < length x) c.deref-processor-items.ensures.value c.loop-processor-test.true)
+    (c.processor-item.is ∙ ap (λ x. get_or x i c.processor-item.result) c.deref-processor-items.ensures.value)
+    (c.if-not-counts_own.ensures refl) c.loop-processor.invariant
+
+pub returns : goal.returns
+returns g c = λ _ k d low. let i = c.loop-processor.processor-index in
+    let done = subst (λ x. length x ≤ i) c.deref-processor-items.ensures.value c.loop-processor-test.false in
+    c.loop-processor.invariant k d (omega (arith, low, done))

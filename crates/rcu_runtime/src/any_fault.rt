@@ -1,0 +1,88 @@
+//! One type for all that can go wrong in a program over a runtime.
+
+ghost use Rattle.std.specs.Prelude.{◌≡◌};
+ghost use Rattle.rcu_jobs.specs.Refusals.{switch_number};
+ghost use Rattle.rcu_runtime.specs.Faults.{barrier_number, number_of};
+
+use crate::fault::{NoProcessor, NotCalled, OtherBarrier};
+use rcu_jobs::{BarrierFault, SwitchFault};
+use std::alloc::AllocError;
+use std::{fmt, io};
+use thiserror::Error;
+
+/// What `?` makes of the fault of any call on a runtime, of want of memory, and of a failed read or write; for programs that
+/// hand it up to their `main`. The job that a refused call hands back is let go then: where it is to be kept, match on the
+/// call's own fault.
+#[derive(Drop, Error)]
+pub enum AnyFault {
+    #[error("no memory")]
+    Memory(#[from(alloc)] AllocError),
+    #[error("cannot read or write: {0}")]
+    Io(#[from] io::Error),
+    /// [`Shape::new`](crate::Shape::new) has none.
+    #[error("no shape of these numbers")]
+    NoShape,
+    #[error("{0}")]
+    NoProcessor(#[from] NoProcessor),
+    #[error("{0}")]
+    OtherBarrier(#[from] OtherBarrier),
+    /// By its number: docs/specification/surface.md, "Refusals by number".
+    #[error("refusal {0}")]
+    Refused(u64),
+    /// The turns that were to be made are over, and some callback that the barrier counts hasn't run.
+    #[error("the barrier has not passed")]
+    NotPassed,
+    /// A run in threads came to its end, and some callback hasn't run.
+    #[error("not all that was accepted has run")]
+    NotDrained,
+    /// Some part of a run in threads could not have one.
+    #[error("no thread for each part")]
+    NoThread,
+    /// There is another number of workers than of processors.
+    #[error("{workers} workers for {processors} processors")]
+    OtherNumber { processors: u64, workers: u64 },
+    /// What the program itself found.
+    #[error("{0}")]
+    Own(&'static str),
+}
+
+/// The same words as `Display`, so that a `main` that returns it ends with them.
+impl fmt::Debug for AnyFault {
+    fn fmt<W: fmt::Write>(&self, f: &mut fmt::Formatter<W>) -> fmt::Result {
+        write!(f, "{self}")
+    }
+}
+
+impl<J: Drop> From<NotCalled<J>> for AnyFault {
+    ghost use Rattle.rcu_runtime.specs.declared.any_fault.AnyFault.TheVariants.{Refused};
+
+    ghost from_gives = { λ not_called fault. fault ≡ Refused (number_of not_called) };
+
+    fn from(not_called: NotCalled<J>) -> AnyFault {
+        AnyFault::Refused(not_called.number())
+    }
+}
+
+impl From<SwitchFault> for AnyFault {
+    ghost use Rattle.rcu_runtime.specs.declared.any_fault.AnyFault.TheVariants.{Refused};
+
+    ghost from_gives = { λ refused fault. fault ≡ Refused (switch_number refused) };
+
+    fn from(refused: SwitchFault) -> AnyFault {
+        AnyFault::Refused(refused.number())
+    }
+}
+
+impl From<BarrierFault> for AnyFault {
+    ghost use Rattle.rcu_runtime.specs.declared.any_fault.AnyFault.TheVariants.{Refused};
+
+    ghost from_gives = { λ refused fault. fault ≡ Refused (barrier_number refused) };
+
+    fn from(refused: BarrierFault) -> AnyFault {
+        AnyFault::Refused(match refused {
+            BarrierFault::Memory => 2,
+            BarrierFault::NoProcessor(_) => 6,
+            BarrierFault::Ahead { .. } => 7,
+        })
+    }
+}

@@ -1,0 +1,80 @@
+//! Waiting, by turns of all parts, until what was accepted has run.
+
+ghost use Rattle.std.specs.Prelude.{◌≡◌, All, IfOk, IsTrue};
+ghost use Rattle.rcu_runtime.specs.Settled.{IsCounted};
+
+use crate::any_fault::AnyFault;
+use crate::whole::Whole;
+use rcu_jobs::{Counts, Job, Passed};
+use rcu_parts::{AllParts, Barrier, Group, Hand, Processor};
+
+/// Whether these counts have all that a processor accepted.
+fn counts_own<J: Job>(processor: &Processor<J>, counts: &Counts) -> bool
+    ensures { IsTrue result → IsCounted counts.now processor.now }
+{
+    let cpu = processor.cpu();
+    if cpu >= counts.n {
+        return false;
+    }
+    let count = counts.counts[cpu as usize];
+    processor.accepted() <= count
+}
+
+/// Whether these counts have all that each processor accepted.
+fn counts_all<J: Job>(processors: &Vec<Processor<J>>, counts: &Counts) -> bool
+    ensures { IsTrue result → All (IsCounted counts.now) processors.now.items }
+{
+    for processor in processors {
+        if !counts_own(processor, counts) {
+            return false;
+        }
+    }
+    true
+}
+
+impl<J: Job> Whole<AllParts<Processor<J>, Group<J>, Hand<J>>> {
+    ghost use Rattle.rcu_runtime.specs.Runtimes.{Continues, accepted_in};
+    ghost use Rattle.rcu_runtime.specs.Settled.{HasPassed, HasRunAll};
+
+    /// Makes turns of all parts at this moment, at most so many, until the barrier has passed.
+    ///
+    /// # Errors
+    ///
+    /// `NotPassed` where it hasn't by then; `OtherBarrier` where another runtime opened it.
+    pub fn turn_until_passed(
+        &mut self,
+        barrier: &Barrier,
+        moment: u64,
+        turns: u64,
+    ) -> Result<Passed, AnyFault>
+        ensures continues { Continues self.old self.new }
+        ensures passed { IfOk result (λ passed. HasPassed barrier.now.counts passed self.new) }
+        ensures none { accepted_in self.new ≡ accepted_in self.old }
+    {
+        for _ in 0..turns {
+            if let Some(passed) = self.poll(barrier)? {
+                return Ok(passed);
+            }
+            self.turn_all(moment);
+        }
+        match self.poll(barrier)? {
+            Some(passed) => Ok(passed),
+            None => Err(AnyFault::NotPassed),
+        }
+    }
+
+    /// Whether all that was accepted so far has run: a barrier for it passes at once. Makes no turn.
+    pub fn has_run_all(&mut self) -> bool
+        ensures continues { Continues self.old self.new }
+        ensures run { IsTrue result → HasRunAll self.new }
+        ensures none { accepted_in self.new ≡ accepted_in self.old }
+    {
+        let Ok(barrier) = self.barrier(&[]) else {
+            return false;
+        };
+        let Ok(Some(passed)) = self.poll(&barrier) else {
+            return false;
+        };
+        counts_all(&self.parts.processors, &passed.counts)
+    }
+}
