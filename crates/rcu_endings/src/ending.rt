@@ -10,7 +10,7 @@ ghost use Rattle.rcu_endings.specs.Moving.{jobs_of};
 
 use crate::ended::Ended;
 use crate::moving::{take_drawn, take_lists, take_undrawn};
-use rcu_holdings::{ProcessorLists, Held, MemberLists};
+use rcu_holdings::{Held, MemberLists, ProcessorLists};
 use rcu_jobs::{Job, Record};
 use rcu_lanes::rest;
 use rcu_records::merge_records;

@@ -36,7 +36,11 @@ fn take_list<J: Drop>(list: VecDeque<Callback<J>>, jobs: &mut Vec<J>)
 
 /// Takes the jobs of the parcels that a lane still has, each by way of a batch that holds nothing, behind the others.
 /// There is room.
-fn take_lane<J: Drop>(mut lane: Rest<Parcel<J>, LaneLimits>, batch: &mut Batch<J>, jobs: &mut Vec<J>)
+fn take_lane<J: Drop>(
+    mut lane: Rest<Parcel<J>, LaneLimits>,
+    batch: &mut Batch<J>,
+    jobs: &mut Vec<J>,
+)
     requires none { batch_items batch.old ≡ [] }
     requires room { vec_len jobs.old + length (flat_map parcel_items (items_left lane)) ≤ vec_capacity jobs.old }
     ensures { Takes (flat_map parcel_items (items_left lane)) jobs.old jobs.new }

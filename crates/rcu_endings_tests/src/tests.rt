@@ -5,7 +5,7 @@ ghost use Rattle.rcu_lanes.specs.Ends.{SameRear};
 ghost use Rattle.rcu_numbers.specs.declared.shape.TheConstants.{MOST_CALLBACKS};
 
 use rcu_endings::{Ended, end_local, end_offloadable};
-use rcu_holdings::{ProcessorLists, Held, MemberLists, LaneLimits};
+use rcu_holdings::{Held, LaneLimits, MemberLists, ProcessorLists};
 use rcu_jobs::{BoxedJob, Callback, Record};
 use rcu_lanes::ruled_lane;
 use rcu_lists::{Kind, Parcel};
@@ -30,7 +30,11 @@ fn job(alloc: Global, number: u64) -> Result<Work, AllocError> {
 }
 
 // Places one more callback, of this number.
-fn call(processor_lists: &mut ProcessorLists<Work>, number: u64, job: Work) -> Result<(), AllocError>
+fn call(
+    processor_lists: &mut ProcessorLists<Work>,
+    number: u64,
+    job: Work,
+) -> Result<(), AllocError>
     requires small { number < MOST_CALLBACKS }
     requires few { length (passed_on (holding processor_lists.old)) < MOST_CALLBACKS }
     ensures lane { SameRear (rear_of processor_lists.old) (rear_of processor_lists.new) }

@@ -71,8 +71,11 @@ module _ {J : Type 0} where
   released-single o m n c e f h = elim h [
     | inl s ↦ inl (s ∙ (ap (λ (x : Outgoing J). record x { put = x.put ++ c ∷ []; batches = x.batches + 1 }) f
         ∙ ap (λ l. record o { put = o.put ++ l; batches = o.batches + 1; bypass = []; pace = emptied o.pace }) (sym e)))
-    | inr p ↦ inr (subst (λ (x : Outgoing J). FIRST_SLOTS ≤ x.batches) f p.0, p.1 ∙ (ap (λ (x : Outgoing J). record x { bypass = c ∷ []; pace = refilled (c ∷ []) x.pace }) f
-        ∙ ap (λ l. record o { bypass = l; pace = refilled l o.pace }) (sym e)))
+    | inr p ↦ inr (
+      subst (λ (x : Outgoing J). FIRST_SLOTS ≤ x.batches) f p.0,
+      p.1 ∙ (ap (λ (x : Outgoing J). record x { bypass = c ∷ []; pace = refilled (c ∷ []) x.pace }) f
+          ∙ ap (λ l. record o { bypass = l; pace = refilled l o.pace }) (sym e)),
+    )
   ]
 
   pub released-any-passes : (o n : Outgoing J) → IsReleasedIfAny o n → n.put ++ n.bypass ≡ o.put ++ o.bypass

@@ -126,7 +126,8 @@ impl<J: Drop> MemberLists<J> {
             drawn,
             out,
         } = self;
-        (inlet.into_front(), outlet.into_rear(), list.into_callbacks(), drawn, out)
+        let (front, rear) = (inlet.into_front(), outlet.into_rear());
+        (front, rear, list.into_callbacks(), drawn, out)
     }
 }
 

@@ -2,7 +2,7 @@ ghost use Rattle.std.specs.Prelude.{◌≡◌, ◌≤◌, length};
 ghost use Rattle.rcu_holdings.specs.ProcessorLists.{holding, passed_on};
 ghost use Rattle.rcu_holdings.specs.Limits.{AreBelow};
 
-use rcu_holdings::{ProcessorLists, LaneLimits};
+use rcu_holdings::{LaneLimits, ProcessorLists};
 use rcu_jobs::{Callback, Lists, Mode};
 use rcu_lanes::{Draw, Front, ruled_lane};
 use rcu_lists::{Kind, Parcel};

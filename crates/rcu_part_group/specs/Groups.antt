@@ -11,7 +11,7 @@ use Rattle.rcu_board.specs.declared.board.Seat.{Seat}
 use Rattle.rcu_board.specs.declared.view.View.{View}
 use Rattle.rcu_control.specs.Views.{SamePart}
 use Rattle.rcu_holdings.specs.Aims.{wanted}
-use Rattle.rcu_holdings.specs.MemberLists.{front_of, rear_of, TakesIn, after_look, Gives, GivesSome, folk_lists}
+use Rattle.rcu_holdings.specs.MemberLists.{front_of, rear_of, TakesIn, after_look, Gives, GivesSome, folk_lists, nothing_relayed}
 use Rattle.rcu_holdings.specs.declared.member_lists.TheConstants.{MOST_BATCHES}
 use Rattle.rcu_jobs.specs.declared.callback.Callback.{Callback}
 use Rattle.rcu_jobs.specs.declared.turns.GroupTurn.{GroupTurn}
@@ -82,7 +82,7 @@ module _ {J : Type 0} where
 
   -- nothing was drawn, put or held
   abbrev pub IsEmptyGroupMember : GroupMember J → Type 0
-  IsEmptyGroupMember m = relay_of m ≡ record { received = []; draws = 0; drawn = []; list = []; advanced = 0; out = []; put = []; batches = 0 }
+  IsEmptyGroupMember m = relay_of m ≡ nothing_relayed
 
 -- ---- a group
 

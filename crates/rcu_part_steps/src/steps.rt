@@ -15,7 +15,13 @@ use rcu_board::{Board, Claimed, Seat, accept, claim, finish, look, report};
 use rcu_numbers::BoardWord;
 
 /// Accepts one callback more, and then looks, which gives its stamp. None where the processor was shut.
-pub fn accept_and_stamp(board: &Board, seat: &mut Seat, cpu: u64, count: u64, key: u64) -> Option<BoardWord>
+pub fn accept_and_stamp(
+    board: &Board,
+    seat: &mut Seat,
+    cpu: u64,
+    count: u64,
+    key: u64,
+) -> Option<BoardWord>
     requires board { AtBoard board.now seat.old }
     requires role { seat.old.role ≡ Role.Processor cpu }
     requires count { length (accepted_of (view seat.old)) ≡ count }

@@ -10,7 +10,7 @@ ghost use Rattle.rcu_part_processor.specs.Opened.{IsEmpty};
 use crate::opening::{AllOfOne, one_processor, open_one};
 use rcu_board::{Board, Role, Seat, Seats, need, open_board};
 use rcu_control::{Control, Driver};
-use rcu_holdings::{ProcessorLists, Held, LaneLimits};
+use rcu_holdings::{Held, LaneLimits, ProcessorLists};
 use rcu_jobs::{BoxedJob, HandTurn, Lists, Mode, Refused, Stop, Ticked, Ticket};
 use rcu_lanes::{Rear, ruled_lane};
 use rcu_lists::Parcel;

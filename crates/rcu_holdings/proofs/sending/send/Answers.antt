@@ -18,8 +18,8 @@ returns-in-Some-clause-released g c =
     let s = c.in-Some.ensures.single in
     let m = outgoing c.args.outlet.now.rear c.flush_single.new.self in
     released-single o m (outgoing c.send_single.new.outlet.rear c.send_single.new.bypass) c.in-Some.callback s.0
-        (same_outgoing (record o { bypass = []; pace = emptied o.pace }) m refl refl s.1 s.2 c.in-Some.ensures.qhimark)
-        c.send_single.ensures.released
+    (same_outgoing (record o { bypass = []; pace = emptied o.pace }) m refl refl s.1 s.2 c.in-Some.ensures.qhimark)
+    c.send_single.ensures.released
 
 pub send_all-requires : goal.send_all-requires
 send_all-requires g c = let same = sym c.in-None.ensures.single.1.items in
@@ -30,5 +30,5 @@ returns-in-None-clause-released g c =
     let o = outgoing c.args.outlet.now.rear c.args.bypass.now in
     let same = c.in-None.ensures.single.1 in
     subst (λ (x : Outgoing g.row.J.Denot). IsReleased x (outgoing c.send_all.new.outlet.rear c.send_all.new.bypass))
-        (same_outgoing o (outgoing c.args.outlet.now.rear c.flush_single.new.self) refl refl same.items same.pace same.qhimark)
-        c.send_all.ensures.released
+    (same_outgoing o (outgoing c.args.outlet.now.rear c.flush_single.new.self) refl refl same.items same.pace same.qhimark)
+    c.send_all.ensures.released

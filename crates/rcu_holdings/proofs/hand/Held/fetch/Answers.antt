@@ -15,7 +15,7 @@ draw_into-requires g c = (held-batch (param 0 g.row.J) assumption, c.is_empty.en
 pub invariant_of-self : goal.invariant_of-self
 invariant_of-self g c = let d = c.draw_into.ensures in record {
   order = ends-of (drawn_calls c.args.self.now.inlet.front) (drawn_calls c.draw_into.new.self.front) (batch_items c.draw_into.new.batch) (fetched-drawn c.draw_into.result (drawn_calls c.args.self.now.inlet.front) (drawn_calls c.draw_into.new.self.front) (batch_items c.draw_into.new.batch)
-        (λ e. (c.draw_into.ensures.drawn e).0) (λ n. ap (flat_map parcel_items) (c.draw_into.ensures.none n).0) (λ n. (c.draw_into.ensures.none n).1));
+      (λ e. (c.draw_into.ensures.drawn e).0) (λ n. ap (flat_map parcel_items) (c.draw_into.ensures.none n).0) (λ n. (c.draw_into.ensures.none n).1));
   safe = fetched-safe c.draw_into.result (batch_items c.draw_into.new.batch) (λ e. (d.allowed e).0) (λ n. (d.none n).1);
 }
 
@@ -24,7 +24,7 @@ returns-clause-held g c = λ n. absurd (n (c.is_empty.ensures.0 c.if-not-is_empt
 
 pub returns-clause-drawn : goal.returns-clause-drawn
 returns-clause-drawn g c = λ _. fetched-drawn c.draw_into.result (drawn_calls c.args.self.now.inlet.front) (drawn_calls c.draw_into.new.self.front) (batch_items c.draw_into.new.batch)
-        (λ e. (c.draw_into.ensures.drawn e).0) (λ n. ap (flat_map parcel_items) (c.draw_into.ensures.none n).0) (λ n. (c.draw_into.ensures.none n).1)
+    (λ e. (c.draw_into.ensures.drawn e).0) (λ n. ap (flat_map parcel_items) (c.draw_into.ensures.none n).0) (λ n. (c.draw_into.ensures.none n).1)
 
 pub returns-clause-none : goal.returns-clause-none
 returns-clause-none g c = λ n. (c.is_empty.ensures.0 c.if-not-is_empty.false, (c.draw_into.ensures.none n).1)
@@ -32,7 +32,7 @@ returns-clause-none g c = λ n. (c.is_empty.ensures.0 c.if-not-is_empty.false, (
 pub returns-clause-taken : goal.returns-clause-taken
 returns-clause-taken g c =
     before-drawn (drawn_calls c.args.self.now.inlet.front) (batch_items c.args.self.now.batch) (drawn_calls c.draw_into.new.self.front) (batch_items c.draw_into.new.batch) (c.is_empty.ensures.0 c.if-not-is_empty.false) (fetched-drawn c.draw_into.result (drawn_calls c.args.self.now.inlet.front) (drawn_calls c.draw_into.new.self.front) (batch_items c.draw_into.new.batch)
-        (λ e. (c.draw_into.ensures.drawn e).0) (λ n. ap (flat_map parcel_items) (c.draw_into.ensures.none n).0) (λ n. (c.draw_into.ensures.none n).1))
+    (λ e. (c.draw_into.ensures.drawn e).0) (λ n. ap (flat_map parcel_items) (c.draw_into.ensures.none n).0) (λ n. (c.draw_into.ensures.none n).1))
 
 pub is_empty-requires : goal.is_empty-requires
 is_empty-requires g c = held-batch (param 0 g.row.J) assumption
