@@ -188,19 +188,14 @@ fn main(rt: HostRuntime) -> Result<(), AnyFault> {
     let (current, closed) = run_once(&rt, rt.alloc())?;
     for (cpu, records) in closed.ran.iter().enumerate() {
         for record in records {
-            let (number, ready) = (record.number, record.ready);
-            println!(rt;
-                "processor {cpu} ran call {number} at {ready}: {:?}",
-                record.receipt
-            )?;
+            let (number, ready, freed) = (record.number, record.ready, record.receipt);
+            println!(rt; "processor {cpu} ran call {number} at {ready}: {freed:?}")?;
         }
     }
     for (cpu, jobs) in closed.back.iter().enumerate() {
         for Retired(version) in jobs {
-            println!(rt;
-                "processor {cpu} hands back generation {}",
-                version.generation
-            )?;
+            let generation = version.generation;
+            println!(rt; "processor {cpu} hands back generation {generation}")?;
         }
     }
     println!(rt; "the table is at generation {}", current.generation)?;

@@ -4,18 +4,14 @@
 #![tactic(auto)]
 
 mod table;
-mod threads;
 
-use rcu_workers::{Closed, End, Ending, Order, Runtime, Shape, WorkersFault, open, run_workers};
+use rcu_workers::{
+    Answer, AnyFault, Closed, End, Ending, Order, Reading, Reply, Shape, Steering, Step, Worker,
+    open, run_workers,
+};
 use std::alloc::{AllocError, Global};
-use std::io;
-use std::process::ExitCode;
-use std::rt::Clock;
-use std::sync::{Arc, Wait};
-use std::thread::Threads;
+use std::sync::Arc;
 use table::{Retired, Table};
-use thiserror::Error;
-use threads::{Member, Role, Switcher};
 
 /// The updater's processor, which is the last one and offloadable; the others read.
 const UPDATER: u64 = 3;
@@ -25,129 +21,129 @@ const READS: u64 = 2000;
 
 const VERSIONS: u64 = 250;
 
-/// Why a run ended early.
-#[derive(Debug, Drop, Error)]
-enum Fault {
-    #[error("no memory")]
-    Memory(#[from(alloc)] AllocError),
-    #[error("cannot write: {0}")]
-    Write(#[from] io::Error),
-    #[error("no shape of these numbers")]
-    NoShape,
-    #[error("{0}")]
-    Workers(#[from] WorkersFault),
-    /// A call was refused.
-    #[error("a worker gave up")]
-    GaveUp,
+/// How often a worker read, and how many reads saw what was let go.
+#[derive(Clone, Copy, Debug, PartialEq, Eq)]
+struct Seen {
+    reads: u64,
+    torn: u64,
+}
+
+/// A reader or the updater, with what it counts.
+#[derive(Drop)]
+struct Member {
+    table: Arc<Table>,
+    /// How often it is to read, and up to which version it then publishes.
+    reads: u64,
+    last: u64,
+    /// The worker's clock: how many steps it made.
+    moment: u64,
+    seen: Seen,
+}
+
+impl Member {
+    /// Gives up, so that nobody waits for more versions.
+    fn give_up(&self) -> Step<Retired> {
+        self.table.end();
+        Step::Fail
+    }
+
+    /// Publishes a version, where a place is free, and retires the one before.
+    fn publish(&self) -> Step<Retired> {
+        let Ok(table) = Arc::try_clone(&self.table) else {
+            return self.give_up();
+        };
+        let Some(place) = table.publish() else {
+            return Step::Pause;
+        };
+        let (moment, job) = (self.moment, Retired { table, place });
+        Step::Call { moment, job }
+    }
+}
+
+impl Worker<Retired> for Member {
+    fn step(&mut self, answer: Answer<Retired>) -> Step<Retired> {
+        self.moment = self.moment.saturating_add(1);
+        let moment = self.moment;
+        match answer {
+            Answer::WasRead | Answer::Called(_) | Answer::Paused => Step::Report,
+            Answer::Reported(_) => Step::Tick { moment },
+            Answer::Refused(_) => self.give_up(),
+            _ if self.seen.reads < self.reads => Step::Read,
+            _ if self.table.published() < self.last => self.publish(),
+            _ => Step::Done,
+        }
+    }
+
+    fn read(&mut self, section: &Reading<'_, Retired>) {
+        self.seen.reads = self.seen.reads.saturating_add(1);
+        if !self.table.read(section) {
+            self.seen.torn = self.seen.torn.saturating_add(1);
+        }
+    }
+}
+
+/// Gives an order once so many versions were published.
+#[derive(Drop)]
+struct Switcher {
+    table: Arc<Table>,
+    after: u64,
+    order: Order,
+}
+
+impl Steering for Switcher {
+    fn order(&mut self, reply: Reply) -> Order {
+        match reply {
+            Reply::Switched(_) => Order::Done,
+            _ if self.table.published() >= self.after => self.order,
+            _ => Order::Pause,
+        }
+    }
 }
 
 /// The workers of a run that publishes versions up to `last`.
 fn members(alloc: Global, table: &Arc<Table>, last: u64) -> Result<Vec<Member>, AllocError> {
     let mut members = Vec::new(alloc);
-    for cpu in 0..=UPDATER {
+    let readers = [(READS, 0); UPDATER as usize];
+    for (reads, last) in readers.into_iter().chain([(0, last)]) {
         members.push(Member {
-            role: if cpu == UPDATER {
-                Role::Publishes(last)
-            } else {
-                Role::Reads(READS)
-            },
             table: Arc::try_clone(table)?,
+            reads,
+            last,
             moment: 0,
-            reads: 0,
-            torn: 0,
+            seen: Seen { reads: 0, torn: 0 },
         })?;
     }
     Ok(members)
 }
 
-/// One run. Prints what the workers saw.
-fn run_once<R: Threads + Wait + Clock + Print + Copy + Send + 'static>(
-    rt: &R,
-    alloc: Global,
-    runtime: Runtime<Retired>,
-    switcher: &mut Switcher,
-    last: u64,
-    ending: Ending,
-) -> Result<Runtime<Retired>, Fault> {
-    let members = members(alloc, &switcher.table, last)?;
-    let worked = match run_workers(rt, alloc, runtime, members, switcher, ending) {
-        Ok(worked) => worked,
-        Err(refused) => return Err(Fault::Workers(refused.fault)),
-    };
-    if worked.ends.contains(&End::Failed) {
-        return Err(Fault::GaveUp);
-    }
-    for member in &worked.workers {
-        println!(rt;
-            "{:?}: {} reads, {} of what was let go",
-            member.role, member.reads, member.torn
-        )?;
-    }
-    Ok(worked.runtime)
-}
-
-/// Closes a runtime.
-fn close(alloc: Global, runtime: Runtime<Retired>) -> Result<Closed<Retired>, Fault> {
-    match runtime.close(alloc) {
-        Ok(closed) => Ok(closed),
-        Err(_) => Err(Fault::Memory(AllocError)),
-    }
-}
-
-/// Prints how many versions were let go, and how many jobs are handed back.
-fn print_totals(rt: &impl Print, closed: &Closed<Retired>) -> io::Result<()> {
-    let ran = closed.ran.iter().map(|records| records.len());
-    let back = closed.back.iter().map(|jobs| jobs.len());
-    let (ran, back) = (
-        ran.fold(0, usize::saturating_add),
-        back.fold(0, usize::saturating_add),
-    );
-    println!(rt; "{ran} versions were let go, {back} jobs are handed back")
-}
-
-/// Both runs, after which the runtime is closed, and its totals are printed.
-fn run<R: Threads + Wait + Clock + Print + Copy + Send + 'static>(
-    rt: &R,
-    alloc: Global,
-) -> Result<(), Fault> {
-    let Some(shape) = Shape::new(UPDATER + 1, 1 << UPDATER, 2, 10, 16, 1000) else {
-        return Err(Fault::NoShape);
-    };
-    let mut switcher = Switcher {
-        table: Arc::new(alloc, Table::new())?,
-        after: VERSIONS / 2,
-        order: Order::Deoffload(UPDATER),
-    };
-    let runtime = open::<Retired>(alloc, shape)?;
-    let runtime = run_once(
-        rt,
-        alloc,
-        runtime,
-        &mut switcher,
-        VERSIONS,
-        Ending::AfterBarrier,
-    )?;
-    switcher.after = VERSIONS + VERSIONS / 2;
-    switcher.order = Order::Offload(UPDATER);
-    let runtime = run_once(
-        rt,
-        alloc,
-        runtime,
-        &mut switcher,
-        2 * VERSIONS,
-        Ending::Drained,
-    )?;
-    let closed = close(alloc, runtime)?;
-    print_totals(rt, &closed)?;
-    Ok(())
-}
-
-fn main(rt: HostRuntime) -> ExitCode {
-    match run(&rt, rt.alloc()) {
-        Ok(()) => ExitCode::SUCCESS,
-        Err(fault) => {
-            let _ = eprintln!(rt; "{fault}");
-            ExitCode::FAILURE
+/// Both runs, after which the runtime is closed. Prints what the workers saw, how many versions were let go, and how many jobs
+/// are handed back.
+fn main(rt: HostRuntime) -> Result<(), AnyFault> {
+    let alloc = rt.alloc();
+    let shape = Shape::new(UPDATER + 1, 1 << UPDATER, 2, 10, 16, 1000).ok_or(AnyFault::NoShape)?;
+    let table = Arc::new(alloc, Table::new())?;
+    let mut runtime = open::<Retired>(alloc, shape)?;
+    for (last, order, ending) in [
+        (VERSIONS, Order::Deoffload(UPDATER), Ending::AfterBarrier),
+        (2 * VERSIONS, Order::Offload(UPDATER), Ending::Drained),
+    ] {
+        let members = members(alloc, &table, last)?;
+        let mut switcher = Switcher {
+            table: Arc::try_clone(&table)?,
+            after: last.saturating_sub(VERSIONS / 2),
+            order,
+        };
+        let worked = run_workers(&rt, alloc, runtime, members, &mut switcher, ending)?;
+        if worked.ends.contains(&End::Failed) {
+            return Err(AnyFault::Own("a worker gave up"));
         }
+        for (cpu, member) in worked.workers.iter().enumerate() {
+            println!(rt; "worker {cpu}: {:?}", member.seen)?;
+        }
+        runtime = worked.runtime;
     }
+    let Closed { ran, back, .. } = runtime.close_or_drop(alloc)?;
+    let (ran, back) = (ran.iter().flatten().count(), back.iter().flatten().count());
+    println!(rt; "{ran} versions were let go, {back} jobs are handed back")?;
+    Ok(())
 }

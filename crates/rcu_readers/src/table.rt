@@ -4,41 +4,33 @@ ghost use Rattle.std.specs.Prelude.{◌≡◌};
 
 use rcu_workers::{Job, Reading};
 use std::sync::Arc;
-use std::sync::atomic::{AtomicBool, AtomicU64, Ordering};
-
-/// How many versions there are at most: the current one, and those that wait for readers.
-const PLACES: usize = 4;
+use std::sync::atomic::{AtomicU64, Ordering};
 
 /// What stands in a place that has no version.
 const FREE: u64 = u64::MAX;
 
-/// A read-mostly table: places for its versions, and which place has the current one.
+/// A read-mostly table: places for the current version and for those that wait for readers, which place has the current one,
+/// and how many were published after the first.
 #[derive(Drop)]
 pub struct Table {
-    places: [AtomicU64; PLACES],
+    places: [AtomicU64; 4],
     current: AtomicU64,
     published: AtomicU64,
-    given_up: AtomicBool,
 }
 
 impl Table {
     /// A table with version 0.
     pub fn new() -> Table {
+        let place = AtomicU64::new;
         Table {
-            places: [
-                AtomicU64::new(0),
-                AtomicU64::new(FREE),
-                AtomicU64::new(FREE),
-                AtomicU64::new(FREE),
-            ],
+            places: [place(0), place(FREE), place(FREE), place(FREE)],
             current: AtomicU64::new(0),
             published: AtomicU64::new(0),
-            given_up: AtomicBool::new(false),
         }
     }
 
     fn place(&self, at: u64) -> &AtomicU64 {
-        &self.places[at as usize % PLACES]
+        &self.places[at as usize % 4]
     }
 
     /// How many versions were published after the first.
@@ -46,14 +38,9 @@ impl Table {
         self.published.load(Ordering::SeqCst)
     }
 
-    /// No more versions are published.
-    pub fn give_up(&self) {
-        self.given_up.store(true, Ordering::SeqCst);
-    }
-
-    /// Whether no more versions are published.
-    pub fn is_given_up(&self) -> bool {
-        self.given_up.load(Ordering::SeqCst)
+    /// No version comes any more: as many as there could be count as published.
+    pub fn end(&self) {
+        self.published.store(u64::MAX, Ordering::SeqCst);
     }
 
     /// Looks twice at the version that is current. Answers whether it stayed, as it does for a reader.
@@ -65,13 +52,11 @@ impl Table {
 
     /// Publishes the next version where a place is free, and answers the place of the one before.
     pub fn publish(&self) -> Option<u64> {
-        let free = self
-            .places
-            .iter()
-            .position(|place| place.load(Ordering::SeqCst) == FREE)? as u64;
+        let mut places = self.places.iter();
+        let free = places.position(|place| place.load(Ordering::SeqCst) == FREE)? as u64;
         let before = self.published.fetch_add(1, Ordering::SeqCst);
-        self.place(free)
-            .store(before.saturating_add(1), Ordering::SeqCst);
+        let version = before.saturating_add(1);
+        self.place(free).store(version, Ordering::SeqCst);
         Some(self.current.swap(free, Ordering::SeqCst))
     }
 }

@@ -3,160 +3,150 @@
 //! threads. docs/embedding.md, "Limits", speaks of it.
 #![tactic(auto)]
 
-ghost use Rattle.std.specs.Prelude.{◌≡◌, ◌+◌, IfOk};
+ghost use Rattle.std.specs.Prelude.{◌≡◌, ◌+◌, IfOk, IsTrue};
 ghost use Rattle.rcu_parts.specs.Drained.{HasNoneBack};
 ghost use Rattle.rcu_runtime.specs.Ends.{back_in, ran_in};
-ghost use Rattle.rcu_runtime.specs.Runtimes.{IsDrained, accepted_in};
+ghost use Rattle.rcu_runtime.specs.Runtimes.{accepted_in};
 
-mod caller;
-mod numbered;
-
-use caller::{Caller, EVERY};
-use numbered::Numbered;
 use rcu_workers::{
-    Closed, Ending, NoSteering, Record, Runtime, Shape, WorkersFault, open, run_workers,
+    Answer, AnyFault, Closed, Ending, Job, NoSteering, Runtime, Shape, Step, Worker, open,
+    run_workers,
 };
 use std::alloc::{AllocError, Global};
-use std::io;
-use std::process::ExitCode;
-use std::rt::Clock;
-use std::sync::Wait;
-use std::thread::Threads;
-use thiserror::Error;
+use std::collections::VecDeque;
+use std::mem;
 
-/// How many calls a processor accepts in its life.
+/// How many calls are made in all, how many a processor accepts in its life, and with how many it reports.
+const CALLS: u64 = 2_500_000;
+
 const LIMIT: u64 = 1_000_000;
 
-/// How many turns the last runtime gets to run what is left.
+const EVERY: u64 = 1000;
+
+/// How many turns the last runtime gets to run what is left, and how many runtimes there are at most, one after another.
 const LAST_TURNS: u64 = 10_000;
 
-/// The most runtimes, one after another.
 const MOST_RUNTIMES: u64 = 100;
 
-/// Why a run ended early.
-#[derive(Debug, Drop, Error)]
-enum Fault {
-    #[error("no memory")]
-    Memory(#[from(alloc)] AllocError),
-    #[error("cannot write: {0}")]
-    Write(#[from] io::Error),
-    #[error("no shape of these numbers")]
-    NoShape,
-    #[error("{0}")]
-    Workers(#[from] WorkersFault),
-    #[error("job {0} ran out of order")]
-    OutOfOrder(u64),
-    #[error("not all calls were made")]
-    NotAll,
-    #[error("not all jobs ran in the last turns")]
-    NotDrained,
+/// A job whose key and receipt are its number.
+#[derive(Drop)]
+struct Number(u64);
+
+impl Job for Number {
+    type Receipt = u64;
+
+    ghost key_of = { λ job. job.0 };
+
+    ghost gives = { λ key receipt. receipt ≡ key };
+
+    fn key(&self) -> u64 {
+        self.0
+    }
+
+    fn run(self) -> u64 {
+        self.0
+    }
 }
 
-/// Closes a runtime. As many ran or come back as it accepted, and none comes back of one that is drained.
-fn close(alloc: Global, runtime: Runtime<Numbered>) -> Result<Closed<Numbered>, Fault>
+/// The worker: it calls the jobs that came back, and then new ones, until its processor accepts no more.
+#[derive(Drop)]
+struct Caller {
+    back: VecDeque<Number>,
+    /// The number of the next new job.
+    next: u64,
+    /// The job that wasn't accepted, if there is one.
+    refused: Option<Number>,
+}
+
+impl Caller {
+    /// Takes what came back of a runtime: in the next one it is called first, then what wasn't accepted.
+    fn take_back(&mut self, back: Vec<Number>) -> Result<(), AllocError> {
+        let rest = mem::replace(&mut self.back, VecDeque::from(back));
+        for job in self.refused.take().into_iter().chain(rest) {
+            self.back.push_back(job)?;
+        }
+        Ok(())
+    }
+
+    /// Whether no call is left.
+    fn has_called_all(&self) -> bool {
+        self.next >= CALLS && self.back.is_empty() && self.refused.is_none()
+    }
+
+    /// The next call, of a job that came back before a new one.
+    fn call(&mut self) -> Step<Number> {
+        let job = self.back.pop_front().unwrap_or(Number(self.next));
+        if job.0 >= CALLS {
+            return Step::Done;
+        }
+        self.next = self.next.max(job.0 + 1);
+        Step::Call { moment: 0, job }
+    }
+}
+
+impl Worker<Number> for Caller {
+    fn step(&mut self, answer: Answer<Number>) -> Step<Number> {
+        match answer {
+            Answer::Refused(refused) => {
+                self.refused = Some(refused.into_job());
+                Step::Done
+            }
+            Answer::Called(ticket) if ticket.number % EVERY == 0 => Step::Report,
+            Answer::Reported(_) => Step::Tick { moment: 0 },
+            _ => self.call(),
+        }
+    }
+}
+
+/// Closes a runtime, and drains the last one before. As many ran or come back as it accepted, and none of the last one comes
+/// back.
+fn close(alloc: Global, runtime: Runtime<Number>, last: bool) -> Result<Closed<Number>, AnyFault>
     ensures none_lost { IfOk result (λ closed. ran_in closed + back_in closed ≡ accepted_in runtime) }
-    ensures drained { IsDrained runtime → IfOk result (λ closed. HasNoneBack closed) }
+    ensures none_back { IsTrue last → IfOk result (λ closed. HasNoneBack closed) }
 {
-    match runtime.close(alloc) {
-        Ok(closed) => Ok(closed),
-        Err(_) => Err(Fault::Memory(AllocError)),
+    if last {
+        return runtime.drain_and_close(alloc, 0, LAST_TURNS);
     }
+    Ok(runtime.close_or_drop(alloc)?)
 }
 
-/// Has a new runtime's processor call until it accepts no more or all calls are made, in threads. The caller comes back.
-fn call_on<R: Threads + Wait + Clock + Copy + Send + 'static>(
-    rt: &R,
-    alloc: Global,
-    caller: Caller,
-) -> Result<(Runtime<Numbered>, Caller), Fault> {
-    let Some(shape) = Shape::new(1, 0, 1, EVERY, EVERY, LIMIT) else {
-        return Err(Fault::NoShape);
-    };
-    let runtime = open::<Numbered>(alloc, shape)?;
-    let mut callers = Vec::with_capacity(alloc, 1)?;
-    callers.push(caller)?;
-    match run_workers(rt, alloc, runtime, callers, &mut NoSteering, Ending::AtOnce) {
-        Ok(mut worked) => match worked.workers.pop() {
-            Some(caller) => Ok((worked.runtime, caller)),
-            None => Err(Fault::NotAll),
-        },
-        Err(refused) => Err(Fault::Workers(refused.fault)),
-    }
-}
-
-/// The last runtime: what hasn't run in threads runs in this one.
-fn run_last<R: Threads + Wait + Clock + Copy + Send + 'static>(
-    rt: &R,
-    alloc: Global,
-    caller: Caller,
-) -> Result<Closed<Numbered>, Fault>
-    ensures none_back { IfOk result (λ closed. HasNoneBack closed) }
-{
-    let (runtime, _) = call_on(rt, alloc, caller)?;
-    let mut runtime = runtime;
-    if !runtime.drain(0, LAST_TURNS) {
-        return Err(Fault::NotDrained);
-    }
-    close(alloc, runtime)
-}
-
-/// Sees that records have the numbers from `first` on as receipts, in order. Answers the number after the last one.
-fn follow(records: &[Record<u64>], first: u64) -> Result<u64, Fault> {
+/// Sees that all that ran had the numbers from `first` on, in order. Answers the number after the last one.
+fn follow(closed: &Closed<Number>, first: u64) -> Result<u64, AnyFault> {
     let mut next = first;
-    for record in records {
+    for record in closed.ran.iter().flatten() {
         if record.receipt != next {
-            return Err(Fault::OutOfOrder(record.receipt));
+            return Err(AnyFault::Own("a job ran out of order"));
         }
         next = next.saturating_add(1);
     }
     Ok(next)
 }
 
-/// Sees that all that ran had the numbers from `first` on, in order.
-fn follow_all(closed: &Closed<Numbered>, first: u64) -> Result<u64, Fault> {
-    let mut next = first;
-    for records in &closed.ran {
-        next = follow(records, next)?;
-    }
-    Ok(next)
-}
-
-/// Runtimes, one after another, until all calls have run. Answers how many jobs ran, each once and in order.
-fn run_all<R: Threads + Wait + Clock + Copy + Send + 'static>(
-    rt: &R,
-    alloc: Global,
-) -> Result<u64, Fault> {
-    let mut caller = Caller::new(alloc);
+/// Runtimes, one after another, until all calls have run. Prints how many jobs ran.
+fn main(rt: HostRuntime) -> Result<(), AnyFault> {
+    let alloc = rt.alloc();
+    let shape = Shape::new(1, 0, 1, EVERY, EVERY, LIMIT).ok_or(AnyFault::NoShape)?;
+    let mut callers = Vec::new(alloc);
+    callers.push(Caller {
+        back: VecDeque::new(alloc),
+        next: 0,
+        refused: None,
+    })?;
     let mut ran = 0;
     for _ in 0..MOST_RUNTIMES {
-        if caller.left() <= LIMIT {
-            let closed = run_last(rt, alloc, caller)?;
-            return follow_all(&closed, ran);
+        let runtime = open::<Number>(alloc, shape)?;
+        let ending = Ending::AtOnce;
+        let worked = run_workers(&rt, alloc, runtime, callers, &mut NoSteering, ending)?;
+        callers = worked.workers;
+        let is_last = callers.iter().all(|caller| caller.has_called_all());
+        let closed = close(alloc, worked.runtime, is_last)?;
+        ran = follow(&closed, ran)?;
+        if is_last {
+            return Ok(println!(rt; "{ran} calls ran, each once and in order")?);
         }
-        let (runtime, called) = call_on(rt, alloc, caller)?;
-        let mut closed = close(alloc, runtime)?;
-        ran = follow_all(&closed, ran)?;
-        let back = closed.back.pop().unwrap_or_else(|| Vec::new(alloc));
-        caller = called.next_after(back)?;
-    }
-    Err(Fault::NotAll)
-}
-
-fn run<R: Threads + Wait + Clock + Print + Copy + Send + 'static>(
-    rt: &R,
-    alloc: Global,
-) -> Result<(), Fault> {
-    let ran = run_all(rt, alloc)?;
-    println!(rt; "{ran} calls ran, each once and in order")?;
-    Ok(())
-}
-
-fn main(rt: HostRuntime) -> ExitCode {
-    match run(&rt, rt.alloc()) {
-        Ok(()) => ExitCode::SUCCESS,
-        Err(fault) => {
-            let _ = eprintln!(rt; "{fault}");
-            ExitCode::FAILURE
+        for (caller, back) in callers.iter_mut().zip(closed.back) {
+            caller.take_back(back)?;
         }
     }
+    Err(AnyFault::Own("not all calls were made"))
 }

@@ -1,6 +1,8 @@
 -- What comes back of a run that wasn't made as it was asked for.
 use Rattle.std.specs.Prelude.{◌≡◌, ◌≢◌, ℕ, List}
 use Rattle.rcu_parts.specs.OneOpen.{Parts}
+use Rattle.rcu_runtime.specs.declared.any_fault.AnyFault.{AnyFault}
+use Rattle.rcu_runtime.specs.declared.any_fault.AnyFault.TheVariants as any_fault
 use Rattle.rcu_workers.specs.declared.fault.WorkersFault.{WorkersFault}
 use Rattle.rcu_workers.specs.declared.fault.WorkersFault.TheVariants.{Memory, OtherNumber, NoThread, NotDrained}
 
@@ -17,6 +19,13 @@ IsLate Memory = ⊥
 IsLate (OtherNumber n m) = ⊥
 IsLate NoThread = Unit {0}
 IsLate NotDrained = Unit {0}
+
+-- the same fault, as that of any call
+abbrev pub IsToldAs : WorkersFault → AnyFault → Type 0
+IsToldAs Memory fault = fault ≡ any_fault.Memory record {}
+IsToldAs (OtherNumber processors workers) fault = fault ≡ any_fault.OtherNumber processors workers
+IsToldAs NoThread fault = fault ≡ any_fault.NoThread
+IsToldAs NotDrained fault = fault ≡ any_fault.NotDrained
 
 module _ {J R W : Type 0} where
   -- Where nothing was started, the runtime and the workers come back as they were.

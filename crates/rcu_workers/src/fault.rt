@@ -1,5 +1,7 @@
 //! Why a run wasn't made as it was asked for.
 
+use rcu_runtime::AnyFault;
+use std::alloc::AllocError;
 use thiserror::Error;
 
 /// Why a run wasn't made as it was asked for. Nothing is lost: the runtime and the workers come back beside it.
@@ -17,4 +19,25 @@ pub enum WorkersFault {
     /// The run came to its end, but some callback hasn't run.
     #[error("not all that was accepted has run")]
     NotDrained,
+}
+
+impl From<WorkersFault> for AnyFault {
+    ghost use Rattle.rcu_workers.specs.Faults.{IsToldAs};
+
+    ghost from_gives = { λ fault any_fault. IsToldAs fault any_fault };
+
+    fn from(fault: WorkersFault) -> AnyFault {
+        match fault {
+            WorkersFault::Memory => AnyFault::Memory(AllocError),
+            WorkersFault::OtherNumber {
+                processors,
+                workers,
+            } => AnyFault::OtherNumber {
+                processors,
+                workers,
+            },
+            WorkersFault::NoThread => AnyFault::NoThread,
+            WorkersFault::NotDrained => AnyFault::NotDrained,
+        }
+    }
 }

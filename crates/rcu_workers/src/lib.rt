@@ -21,9 +21,9 @@ mod worker;
 
 pub use fault::WorkersFault;
 pub use rcu_runtime::{
-    Barrier, BarrierFault, Closed, Closing, Counts, DriverTurn, Job, Lists, Mode, NoProcessor,
-    NotCalled, OtherBarrier, Passed, Reading, Record, Refused, Runtime, Shape, Stop, SwitchFault,
-    Ticked, Ticket, Whole, Wholeness, open,
+    AnyFault, Barrier, BarrierFault, Closed, Closing, Counts, DriverTurn, Job, Lists, Mode,
+    NoProcessor, NotCalled, OtherBarrier, Passed, Reading, Record, Refused, Runtime, Shape, Stop,
+    SwitchFault, Ticked, Ticket, Whole, Wholeness, open,
 };
 pub use running::Ending;
 pub use steering::{NoSteering, Order, Reply, Steering};
