@@ -1,9 +1,12 @@
 -- What a run in threads does to a whole runtime.
-use Rattle.std.specs.Prelude.{ℕ}
+use Rattle.std.specs.Prelude.{◌≡◌, ℕ, vec_len}
 use Rattle.std.specs.List.{AllZip}
+use Rattle.std.specs.declared.alloc.Global.{Global}
+use Rattle.std.specs.declared.vec.Vec.{Vec}
 use Rattle.rcu_parts.specs.OneOpen.{Parts, groups_in, hands_in, processors_in}
 use Rattle.rcu_workers.specs.Stays.{ControlStays, DriverStays, GroupStays, HandStays}
 use Rattle.rcu_workers.specs.Steps.{ProcessorWorks}
+use Rattle.rcu_workers.specs.declared.worker.End.{End}
 
 module _ {J R : Type 0} where
   -- Each part is the same part, as far as its thread brought it.
@@ -13,3 +16,8 @@ module _ {J R : Type 0} where
     pub processors : AllZip (ProcessorWorks key_of gives) (processors_in old) (processors_in new)
     pub groups : AllZip GroupStays (groups_in old) (groups_in new)
     pub hands : AllZip (HandStays key_of gives) (hands_in old) (hands_in new)
+
+-- As many workers come back as were handed in, each with how it ended.
+pub record ComeBack {W : Type 0} (workers back : Vec W Global) (ends : Vec End Global) : Type 0 where
+  pub workers : vec_len back ≡ vec_len workers
+  pub ends : vec_len ends ≡ vec_len workers

@@ -2,7 +2,7 @@
 
 ghost use Rattle.std.specs.Prelude.{◌≡◌, vec_len};
 ghost use Rattle.rcu_workers.specs.Rooms.{AreHalvesFor, IsRoomFor};
-ghost use Rattle.rcu_workers.specs.Runs.{HaveWorked};
+ghost use Rattle.rcu_workers.specs.Runs.{ComeBack, HaveWorked};
 ghost use Rattle.rcu_workers.specs.Stays.{ControlStays};
 
 use crate::crew::{join, join_all};
@@ -115,7 +115,8 @@ pub(crate) fn run_parts<
     requires at_posts { rooms.at_posts.many ≡ vec_len parts.processors }
     requires halves { AreHalvesFor (vec_len parts.processors) rooms.halves }
     requires others { (rooms.groups.many ≡ vec_len parts.groups) × (rooms.hands.many ≡ vec_len parts.hands) }
-    ensures { HaveWorked J.key_of J.gives parts result.parts }
+    ensures parts { HaveWorked J.key_of J.gives parts result.parts }
+    ensures workers { ComeBack workers result.workers result.ends }
 {
     let AllParts {
         processors,

@@ -2,8 +2,10 @@
 
 ghost use Rattle.std.specs.Prelude.{◌≡◌, IfErr, IfOk, IsTrue, MatchResult, vec_len};
 ghost use Rattle.rcu_runtime.specs.Runtimes.{Continues, IsDrained};
+ghost use Rattle.rcu_runtime.specs.Settled.{HasRunAll};
 ghost use Rattle.rcu_workers.specs.Rooms.{AreHalvesFor, IsRoomFor};
 ghost use Rattle.rcu_workers.specs.Faults.{ComesBack, IsEarly, IsLate};
+ghost use Rattle.rcu_workers.specs.Runs.{ComeBack};
 
 use crate::fault::WorkersFault;
 use crate::rooms::Rooms;
@@ -71,14 +73,15 @@ fn find_room<J: Job, W: Worker<J>>(
     Ok(rooms)
 }
 
-/// Whether the runtime is as the ending has it: drained, where that was asked for.
+/// Whether the runtime is as the ending has it: all that was accepted has run, or it is drained, where that was asked for.
 fn is_settled<J: Job>(runtime: &mut Runtime<J>, ending: Ending) -> bool
     ensures continues { Continues runtime.old runtime.new }
+    ensures run { ending ≡ Ending.AfterBarrier → IsTrue result → HasRunAll runtime.new }
     ensures drained { ending ≡ Ending.Drained → IsTrue result → IsDrained runtime.new }
 {
     match ending {
         Ending::AtOnce => true,
-        Ending::AfterBarrier => true,
+        Ending::AfterBarrier => runtime.has_run_all(),
         Ending::Drained => runtime.drain(0, 0),
     }
 }
@@ -93,6 +96,9 @@ fn answer<J: Job, W: Worker<J>>(
 ) -> Result<Worked<J, W>, NotWorked<J, W>>
     ensures continues { MatchResult result (λ w. Continues runtime w.runtime) (λ refused. Continues runtime refused.worked.runtime) }
     ensures fault { IfErr result (λ refused. IsLate refused.fault) }
+    ensures workers { IfOk result (λ w. (w.workers ≡ workers) × (w.ends ≡ ends)) }
+    ensures back { IfErr result (λ refused. refused.worked.workers ≡ workers) }
+    ensures run { ending ≡ Ending.AfterBarrier → IfOk result (λ w. HasRunAll w.runtime) }
     ensures drained { ending ≡ Ending.Drained → IfOk result (λ w. IsDrained w.runtime) }
 {
     let mut runtime = runtime;
@@ -148,6 +154,9 @@ pub fn run_workers<
 ) -> Result<Worked<J, W>, NotWorked<J, W>>
     ensures continues { MatchResult result (λ worked. Continues runtime worked.runtime) (λ refused. Continues runtime refused.worked.runtime) }
     ensures back { IfErr result (λ refused. ComesBack refused.fault runtime refused.worked.runtime workers.items refused.worked.workers.items) }
+    ensures workers { IfOk result (λ worked. ComeBack workers worked.workers worked.ends) }
+    ensures as_many { IfErr result (λ refused. vec_len refused.worked.workers ≡ vec_len workers) }
+    ensures run { ending ≡ Ending.AfterBarrier → IfOk result (λ worked. HasRunAll worked.runtime) }
     ensures drained { ending ≡ Ending.Drained → IfOk result (λ worked. IsDrained worked.runtime) }
 {
     let (parts, limit) = runtime.take_apart();

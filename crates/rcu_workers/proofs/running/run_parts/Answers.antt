@@ -8,8 +8,8 @@ use Rattle.rcu_workers.specs.Steps.{PostWorks, ProcessorWorks}
 use Rattle.rcu_workers.proofs.Crews.{as_many, joined_all, joined_one, zip_length, zip_mapped}
 use Rattle.rcu_workers.proofs.running.run_parts.Goals as goal
 
-pub returns : goal.returns
-returns g c = let key_of = g.J.Job.key_of in let gives = g.J.Job.gives in let parts = c.args.parts in
+pub returns-clause-parts : goal.returns-clause-parts
+returns-clause-parts g c = let key_of = g.J.Job.key_of in let gives = g.J.Job.gives in let parts = c.args.parts in
     let posts = joined_all (λ t. t.promise.0.value) (PostWorks key_of gives) (λ t q. PostWorks key_of gives t.promise.0.value q) (λ t q k. k) c.pair-posts.result.items c.start_posts-posts.result.started.items c.join_all-posts.result.items c.start_posts-posts.ensures c.join_all-posts.ensures in
     let works = zip_mapped (λ p. p.processor) (ProcessorWorks key_of gives) c.pair-posts.result.items c.join_all-posts.result.items posts in record {
       control = c.oversee-has_begun.ensures;
@@ -98,3 +98,15 @@ part-processors-requires g c =
     let joined = c.join_all-posts.result.ok.0 in
     let same : vec_len c.args.parts.processors ≡ vec_len c.join_all-posts.result = omega (arith, many, parts, begun, ended, joined) in
     subst (λ n. AreHalvesFor n c.args.rooms.halves) same c.requires.halves
+
+pub returns-clause-workers : goal.returns-clause-workers
+returns-clause-workers g c =
+    let key_of = g.J.Job.key_of in let gives = g.J.Job.gives in let posts = c.join_all-posts.result in
+    let paired = as_many (λ p. p.worker) c.pair-posts.result.items c.args.workers.items c.pair-posts.ensures.workers in let many = c.args.workers.ok.0 in
+    let begun = zip_length (HasBegun (λ t. t.promise.0.value) (PostWorks key_of gives)) c.pair-posts.result.items c.start_posts-posts.result.started.items c.start_posts-posts.ensures in
+    let ended = zip_length (HasEnded (λ t q. PostWorks key_of gives t.promise.0.value q)) c.start_posts-posts.result.started.items posts.items c.join_all-posts.ensures in
+    let workers = as_many (λ p. p.worker) posts.items c.part-processors.result.workers.items (sym c.part-processors.ensures.workers) in let back = c.part-processors.result.workers.ok.0 in
+    let ends = as_many (λ p. p.end) posts.items c.part-processors.result.ends.items (sym c.part-processors.ensures.ends) in let said = c.part-processors.result.ends.ok.0 in record {
+      workers = omega (arith, many, paired, begun, ended, workers, back);
+      ends = omega (arith, many, paired, begun, ended, ends, said);
+    }

@@ -18,10 +18,10 @@ pub returns-in-Err-clause-back : goal.returns-in-Err-clause-back
 returns-in-Err-clause-back g c = early_back (vec_len c.take_apart-parts.result.0.processors) c.len.result c.in-Err.fault c.args.runtime c.put_together.result c.args.workers.items c.args.workers.items c.in-Err.ensures.fault (c.put_together.ensures ∙ c.take_apart-parts.ensures.parts) refl
 
 pub put_together-runtime-requires-clause-whole : goal.put_together-runtime-requires-clause-whole
-put_together-runtime-requires-clause-whole g c κs within = (assumption, (assumption, (assumption, worked_whole g.J.Job.key_of g.J.Job.gives c.take_apart-parts.result.0 c.run_parts-ran.result.parts c.run_parts-ran.ensures c.take_apart-parts.result.1 c.take_apart-parts.ensures.whole)))
+put_together-runtime-requires-clause-whole g c κs within = (assumption, (assumption, (assumption, worked_whole g.J.Job.key_of g.J.Job.gives c.take_apart-parts.result.0 c.run_parts-ran.result.parts c.run_parts-ran.ensures.parts c.take_apart-parts.result.1 c.take_apart-parts.ensures.whole)))
 
 pub returns-clause-continues : goal.returns-clause-continues
-returns-clause-continues g c = let apart = c.take_apart-parts in let ran = worked_continues g.J.Job.key_of g.J.Job.gives apart.result.0 c.run_parts-ran.result.parts c.run_parts-ran.ensures apart.ensures.whole.close.one in
+returns-clause-continues g c = let apart = c.take_apart-parts in let ran = worked_continues g.J.Job.key_of g.J.Job.gives apart.result.0 c.run_parts-ran.result.parts c.run_parts-ran.ensures.parts apart.ensures.whole.close.one in
     let on = subst (Continues c.args.runtime) (sym c.put_together-runtime.ensures) (subst (λ x. Continues x c.run_parts-ran.result.parts) apart.ensures.parts ran) in
     continues_either (λ w. w.runtime) (λ refused. refused.worked.runtime) c.args.runtime c.put_together-runtime.result on c.answer.result c.answer.ensures.continues
 
