@@ -1,10 +1,14 @@
 -- What comes back of a run, by its answer.
-use Rattle.std.proofs.Common.{◌≡◌, ℕ, List, Result, Ok, Err, IfErr}
-use Rattle.std.specs.Prelude.{MatchResult}
+use Rattle.std.proofs.Common.{◌≡◌, ◌∙◌, ap, ℕ, List, Result, Ok, Err, IfErr}
+use Rattle.std.specs.Prelude.{IfOk, MatchResult, vec_len}
+use Rattle.std.specs.declared.alloc.Global.{Global}
+use Rattle.std.specs.declared.vec.Vec.{Vec}
 use Rattle.rcu_parts.specs.OneOpen.{Parts}
 use Rattle.rcu_runtime.proofs.Wholes.{continues_again}
 use Rattle.rcu_runtime.specs.Runtimes.{Continues}
 use Rattle.rcu_workers.specs.Faults.{ComesBack, IsEarly, IsLate}
+use Rattle.rcu_workers.specs.Runs.{ComeBack}
+use Rattle.rcu_workers.specs.declared.worker.End.{End}
 use Rattle.rcu_workers.specs.declared.fault.WorkersFault.{WorkersFault}
 use Rattle.rcu_workers.specs.declared.fault.WorkersFault.TheVariants.{Memory, OtherNumber, NoThread, NotDrained}
 
@@ -29,3 +33,13 @@ module _ {J R : Type 0} where
 pub if_err : {A B : Type 0} (P Q : B → Type 0) → ((b : B) → P b → Q b) → (r : Result A B) → IfErr r P → IfErr r Q
 if_err P Q f (Ok a) p = p
 if_err P Q f (Err b) p = f b p
+
+module _ {A B W : Type 0} (workers left : Vec W Global) (ends : Vec End Global) (came : ComeBack workers left ends) where
+  -- what a run left is what comes back, so as many workers do
+  pub all_come_back : (f : A → Vec W Global) (g : A → Vec End Global) (r : Result A B) → IfOk r (λ a. (f a ≡ left) × (g a ≡ ends)) → IfOk r (λ a. ComeBack workers (f a) (g a))
+  all_come_back f g (Ok a) same = record { workers = ap (λ v. vec_len v) same.0 ∙ came.workers; ends = ap (λ v. vec_len v) same.1 ∙ came.ends }
+  all_come_back f g (Err b) same = same
+
+  pub as_many_back : (f : B → Vec W Global) (r : Result A B) → IfErr r (λ b. f b ≡ left) → IfErr r (λ b. vec_len (f b) ≡ vec_len workers)
+  as_many_back f (Ok a) same = same
+  as_many_back f (Err b) same = ap (λ v. vec_len v) same ∙ came.workers

@@ -6,3 +6,6 @@ returns-then-not-has_begun-clause-continues g c = continues_itself c.args.runtim
 
 pub returns-then-is_settled-clause-drained : goal.returns-then-is_settled-clause-drained
 returns-then-is_settled-clause-drained g c = λ asked. c.is_settled-is_settled.ensures.drained asked c.if-is_settled.true
+
+pub returns-then-is_settled-clause-run : goal.returns-then-is_settled-clause-run
+returns-then-is_settled-clause-run g c = λ asked. c.is_settled-is_settled.ensures.run asked c.if-is_settled.true

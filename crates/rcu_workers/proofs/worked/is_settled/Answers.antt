@@ -3,6 +3,3 @@ use Rattle.rcu_workers.proofs.worked.is_settled.Goals as goal
 
 pub returns-in-AtOnce-clause-continues : goal.returns-in-AtOnce-clause-continues
 returns-in-AtOnce-clause-continues g c = continues_itself c.args.runtime.now
-
-pub returns-in-AfterBarrier-clause-continues : goal.returns-in-AfterBarrier-clause-continues
-returns-in-AfterBarrier-clause-continues g c = continues_itself c.args.runtime.now

@@ -4,7 +4,7 @@ use mir.Syntax.{of_param}
 use Rattle.rcu_runtime.proofs.Wholes.{continues_itself}
 use Rattle.rcu_runtime.specs.Runtimes.{Continues}
 use Rattle.rcu_workers.specs.Faults.{ComesBack, IsLate}
-use Rattle.rcu_workers.proofs.Backs.{continues_either, early_back, if_err, late_back}
+use Rattle.rcu_workers.proofs.Backs.{all_come_back, as_many_back, continues_either, early_back, if_err, late_back}
 use Rattle.rcu_workers.proofs.Runs.{worked_continues, worked_whole}
 use Rattle.rcu_workers.proofs.worked.run_workers.Goals as goal
 
@@ -28,6 +28,15 @@ returns-clause-continues g c = let apart = c.take_apart-parts in let ran = worke
 pub returns-clause-back : goal.returns-clause-back
 returns-clause-back g c = if_err (λ refused. IsLate refused.fault) (λ refused. ComesBack refused.fault c.args.runtime refused.worked.runtime c.args.workers.items refused.worked.workers.items)
     (λ refused late. late_back refused.fault c.args.runtime refused.worked.runtime c.args.workers.items refused.worked.workers.items late) c.answer.result c.answer.ensures.fault
+
+pub returns-clause-workers : goal.returns-clause-workers
+returns-clause-workers g c = let ran = c.run_parts-ran in all_come_back c.args.workers ran.result.workers ran.result.ends ran.ensures.workers (λ w. w.workers) (λ w. w.ends) c.answer.result c.answer.ensures.workers
+
+pub returns-clause-as_many : goal.returns-clause-as_many
+returns-clause-as_many g c = let ran = c.run_parts-ran in as_many_back c.args.workers ran.result.workers ran.result.ends ran.ensures.workers (λ refused. refused.worked.workers) c.answer.result c.answer.ensures.back
+
+pub returns-clause-run : goal.returns-clause-run
+returns-clause-run g c = c.answer.ensures.run
 
 pub returns-clause-drained : goal.returns-clause-drained
 returns-clause-drained g c = c.answer.ensures.drained
