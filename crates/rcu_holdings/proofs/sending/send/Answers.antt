@@ -32,3 +32,18 @@ returns-in-None-clause-released g c =
     subst (λ (x : Outgoing g.row.J.Denot). IsReleased x (outgoing c.send_all.new.outlet.rear c.send_all.new.bypass))
     (same_outgoing o (outgoing c.args.outlet.now.rear c.flush_single.new.self) refl refl same.items same.pace same.qhimark)
     c.send_all.ensures.released
+
+pub flush_single-requires : goal.flush_single-requires
+flush_single-requires g c = assumption
+
+pub returns-in-Some-clause-lane : goal.returns-in-Some-clause-lane
+returns-in-Some-clause-lane g c = c.send_single.ensures.lane
+
+pub returns-in-Some-clause-safe : goal.returns-in-Some-clause-safe
+returns-in-Some-clause-safe g c = c.send_single.ensures.safe
+
+pub returns-in-None-clause-lane : goal.returns-in-None-clause-lane
+returns-in-None-clause-lane g c = c.send_all.ensures.lane
+
+pub returns-in-None-clause-safe : goal.returns-in-None-clause-safe
+returns-in-None-clause-safe g c = c.send_all.ensures.safe

@@ -9,6 +9,8 @@ use Rattle.rcu_holdings.specs.MemberLists.{relay}
 use Rattle.rcu_holdings.specs.declared.fetched.Fetched.TheVariants.{Got, Empty, Again}
 use Rattle.rcu_holdings.proofs.Fetches.{fetched-drawn, fetched-few, fetched-safe}
 use Rattle.rcu_holdings.proofs.Relays.{drawn-waits}
+use denote.Param.{param}
+use Rattle.rcu_holdings.proofs.Sizes.{member-batch}
 use Rattle.rcu_holdings.proofs.member_lists.MemberLists.draw_one.Goals as goal
 
 pub invariant_of-self : goal.invariant_of-self
@@ -49,3 +51,27 @@ returns-in-Again-clause-none g c = λ _.
     let r = relay c.args.self.now in
     let n = c.in-Again.ensures.none (λ e. absurd cc) in
     ap (λ items. record r { received = flat_map parcel_items items; draws = length items; drawn = batch_items c.draw_into.new.batch }) n.0 ∙ ap (λ l. record r { drawn = l }) (n.1 ∙ sym c.requires)
+
+pub draw_into-requires : goal.draw_into-requires
+draw_into-requires g c = (member-batch (param 0 g.row.J) assumption, c.requires)
+
+pub returns-in-Got-clause-lanes : goal.returns-in-Got-clause-lanes
+returns-in-Got-clause-lanes g c = (c.draw_into.ensures.lane, refl)
+
+pub returns-in-Got-clause-advanced : goal.returns-in-Got-clause-advanced
+returns-in-Got-clause-advanced g c = refl
+
+pub returns-in-Empty-clause-lanes : goal.returns-in-Empty-clause-lanes
+returns-in-Empty-clause-lanes g c = (c.draw_into.ensures.lane, refl)
+
+pub returns-in-Empty-clause-advanced : goal.returns-in-Empty-clause-advanced
+returns-in-Empty-clause-advanced g c = refl
+
+pub returns-in-Again-clause-lanes : goal.returns-in-Again-clause-lanes
+returns-in-Again-clause-lanes g c = (c.draw_into.ensures.lane, refl)
+
+pub returns-in-Again-clause-advanced : goal.returns-in-Again-clause-advanced
+returns-in-Again-clause-advanced g c = refl
+
+pub returns-in-Got-clause-none : goal.returns-in-Got-clause-none
+returns-in-Got-clause-none g c = λ (e : true ≡ false). absurd cc
