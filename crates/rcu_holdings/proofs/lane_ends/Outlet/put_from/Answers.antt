@@ -1,4 +1,4 @@
-use Rattle.std.proofs.Common.{[], sym, ap, ◌∙◌, ◌++◌, refl, subst, arith, ◌≡◌, ◌∷◌, true, false}
+use Rattle.std.proofs.Common.{[], sym, ap, ◌∙◌, ◌++◌, refl, subst, arith, ◌∷◌, true≢false}
 use Rattle.std.proofs.lemmas.List.Elements.{All-head}
 use Rattle.rcu_lists.specs.Batches.{batch_items}
 use Rattle.rcu_holdings.specs.Lanes.{put_calls, PutsOn}
@@ -7,6 +7,7 @@ use denote.Param.{param}
 use Rattle.rcu_holdings.proofs.Sizes.{in_places}
 use Rattle.std.specs.Mem.{FitsInMemory}
 use Rattle.rcu_lists.specs.contracts.batch.Batch as batch_row
+use Rattle.std.proofs.lemmas.Bool.{false≢true}
 use Rattle.rcu_holdings.proofs.lane_ends.Outlet.put_from.Goals as goal
 
 pub put_single-requires-clause-safe : goal.put_single-requires-clause-safe
@@ -43,7 +44,7 @@ pub returns-in-Ok-clause-left : goal.returns-in-Ok-clause-left
 returns-in-Ok-clause-left g c = λ _. c.in-Some.ensures.taken.1
 
 pub returns-in-Ok-clause-stays : goal.returns-in-Ok-clause-stays
-returns-in-Ok-clause-stays g c = λ (e : true ≡ false). absurd cc
+returns-in-Ok-clause-stays g c = λ e. absurd (true≢false e)
 
 pub returns-in-Ok-clause-room : goal.returns-in-Ok-clause-room
 returns-in-Ok-clause-room g c = λ _. refl
@@ -52,10 +53,10 @@ pub returns-in-Err-clause-lane : goal.returns-in-Err-clause-lane
 returns-in-Err-clause-lane g c = c.put_single.ensures.lane
 
 pub returns-in-Err-clause-put : goal.returns-in-Err-clause-put
-returns-in-Err-clause-put g c = λ (e : false ≡ true). absurd cc
+returns-in-Err-clause-put g c = λ e. absurd (false≢true e)
 
 pub returns-in-Err-clause-left : goal.returns-in-Err-clause-left
-returns-in-Err-clause-left g c = λ (e : false ≡ true). absurd cc
+returns-in-Err-clause-left g c = λ e. absurd (false≢true e)
 
 pub returns-in-Err-clause-stays : goal.returns-in-Err-clause-stays
 returns-in-Err-clause-stays g c = λ _.
@@ -78,7 +79,7 @@ pub returns-in-Ok-put_batch-clause-left : goal.returns-in-Ok-put_batch-clause-le
 returns-in-Ok-put_batch-clause-left g c = λ _. c.take_all.ensures.left
 
 pub returns-in-Ok-put_batch-clause-stays : goal.returns-in-Ok-put_batch-clause-stays
-returns-in-Ok-put_batch-clause-stays g c = λ (e : true ≡ false). absurd cc
+returns-in-Ok-put_batch-clause-stays g c = λ e. absurd (true≢false e)
 
 pub returns-in-Ok-put_batch-clause-room : goal.returns-in-Ok-put_batch-clause-room
 returns-in-Ok-put_batch-clause-room g c = λ _. refl
@@ -87,10 +88,10 @@ pub returns-in-Err-put_batch-clause-lane : goal.returns-in-Err-put_batch-clause-
 returns-in-Err-put_batch-clause-lane g c = c.put_batch.ensures.lane
 
 pub returns-in-Err-put_batch-clause-put : goal.returns-in-Err-put_batch-clause-put
-returns-in-Err-put_batch-clause-put g c = λ (e : false ≡ true). absurd cc
+returns-in-Err-put_batch-clause-put g c = λ e. absurd (false≢true e)
 
 pub returns-in-Err-put_batch-clause-left : goal.returns-in-Err-put_batch-clause-left
-returns-in-Err-put_batch-clause-left g c = λ (e : false ≡ true). absurd cc
+returns-in-Err-put_batch-clause-left g c = λ e. absurd (false≢true e)
 
 pub returns-in-Err-put_batch-clause-stays : goal.returns-in-Err-put_batch-clause-stays
 returns-in-Err-put_batch-clause-stays g c = λ _.

@@ -1,9 +1,8 @@
 use Rattle.std.proofs.Common.{rules, refl, ap, sym, ◌∙◌, subst}
 use Rattle.std.specs.Mem.{FitsInMemory}
 use denote.Param.{param}
-use Rattle.rcu_lists.specs.contracts.batch.Batch as batch_row
 use Rattle.rcu_holdings.specs.contracts.processor_lists.ProcessorLists as caller_row
-use Rattle.rcu_holdings.proofs.Sizes.{in_struct, in_third}
+use Rattle.rcu_holdings.proofs.Sizes.{in_struct}
 use Rattle.rcu_lists.specs.contracts.bypass.Bypass as bypass_row
 use Rattle.rcu_lists.specs.Bypasses.{bypass_items}
 use Rattle.rcu_lists.specs.Labels.{callbacks_of}
