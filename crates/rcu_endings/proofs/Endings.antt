@@ -14,6 +14,9 @@ use Rattle.rcu_holdings.specs.ProcessorLists.{Holding, held_in, put_by, passed_o
 use Rattle.rcu_jobs.specs.Records.{Given}
 use Rattle.rcu_jobs.specs.declared.callback.Callback.{Callback}
 use Rattle.rcu_jobs.specs.declared.callback.Record.{Record}
+use Rattle.rcu_lanes.specs.Ends.{SameLane}
+use Rattle.rcu_lanes.specs.declared.ends.Front.{Front}
+use Rattle.rcu_lanes.specs.declared.ends.Rear.{Rear}
 use Rattle.rcu_lists.specs.Parcels.{parcel_items}
 use Rattle.rcu_lists.specs.declared.parcel.Parcel.{Parcel}
 use Rattle.rcu_places.specs.Order.{Remaining, between, times}
@@ -48,6 +51,17 @@ module _ {J : Type 0} where
 
   pub rest_fits : (xs ys : List (Callback J)) (a b : Vec J Global) → Takes xs a b → vec_len a + length (xs ++ ys) ≤ vec_capacity a → vec_len b + length ys ≤ vec_capacity b
   rest_fits xs ys a b t h = let l = length-append xs ys in let f = t.len in let r = t.room in omega arith
+
+  -- one callback of a batch, and none
+  pub one_taken : (c : Callback J) (xs ys : List (Callback J)) (v w : Vec J Global) (end : List J) → xs ≡ c ∷ ys → w.items ≡ v.items ++ c.job ∷ [] → v.items ++ jobs_of xs ≡ end → w.items ++ jobs_of ys ≡ end
+  one_taken c xs ys v w end e f h = ap (λ (js : List J). js ++ jobs_of ys) f ∙ (append_assoc v.items (c.job ∷ []) (jobs_of ys) ∙ (ap (λ (l : List (Callback J)). v.items ++ jobs_of l) (sym e) ∙ h))
+
+  pub all_taken : (xs : List (Callback J)) (v : Vec J Global) (end : List J) → xs ≡ [] → v.items ++ jobs_of xs ≡ end → v.items ≡ end
+  all_taken xs v end e h = sym (append-nil v.items) ∙ (ap (λ (l : List (Callback J)). v.items ++ jobs_of l) (sym e) ∙ h)
+
+  -- one callback of a list
+  pub next_taken : (c : Callback J) (xs : List (Callback J)) (old v w : Vec J Global) → w.items ≡ v.items ++ c.job ∷ [] → v.items ≡ old.items ++ jobs_of xs → w.items ≡ old.items ++ jobs_of (xs ++ c ∷ [])
+  next_taken c xs old v w f h = f ∙ (ap (λ (js : List J). js ++ c.job ∷ []) h ∙ (append_assoc old.items (jobs_of xs) (c.job ∷ []) ∙ ap (λ (js : List J). old.items ++ js) (sym (map-append (λ (c : Callback J). c.job) xs (c ∷ [])))))
 
   -- one batch of a lane
   pub lane_taken : (b : Parcel J) (bs bs' : List (Parcel J)) (v w : Vec J Global) (end : List J) → bs ≡ b ∷ bs' → Takes (parcel_items b) v w → v.items ++ jobs_of (flat_map parcel_items bs) ≡ end
@@ -134,6 +148,11 @@ module _ {J : Type 0} where
       let f = length-append bypass own in
       let h = length-append bypass' own' in
       let n = v.ok.0 in omega arith
+
+-- the ends of one lane, taken out of the parts
+module _ {T L : Type 0} where
+  pub ends_of_one : (f f' : Front T L) (r r' : Rear T L) → f' ≡ f → r' ≡ r → SameLane f r → SameLane f' r'
+  ends_of_one f f' r r' a b h = subst (λ (x : Front T L). SameLane x r') (sym a) (subst (SameLane f) (sym b) h)
 
 -- ---- the order of all numbers
 

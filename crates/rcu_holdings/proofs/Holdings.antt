@@ -5,15 +5,17 @@ use Rattle.std.proofs.lemmas.Bool.{cases_Bool}
 use Rattle.std.proofs.lemmas.List.{append-nil, append_assoc, length-append}
 use Rattle.std.proofs.lemmas.List.Elements.{All-head, All-tail, All-nil, All-push}
 use Rattle.rcu_jobs.specs.declared.callback.Callback.{Callback}
+use Rattle.rcu_jobs.specs.declared.turns.Mode.{Mode}
 use Rattle.rcu_jobs.specs.declared.turns.Mode.TheVariants.{Deoffloading}
 use Rattle.rcu_numbers.specs.Numbers.{snap_of}
 use Rattle.rcu_numbers.specs.declared.shape.TheConstants.{MOST_CALLBACKS}
 use Rattle.rcu_lists.specs.Labels.{Done, Bare, Labelled, marked, count, is_done, callbacks_of}
-use Rattle.rcu_lists.specs.Release.{is_any}
+use Rattle.rcu_lists.specs.Release.{beginning, is_any}
 use Rattle.rcu_lists.specs.declared.pace.Kind.{Kind}
+use Rattle.rcu_lists.specs.declared.pace.Pace.{Pace}
 use Rattle.rcu_holdings.specs.Aims.{AreAimed}
-use Rattle.rcu_holdings.specs.ProcessorLists.{Holding, passed_on, asked_off}
-use Rattle.rcu_holdings.specs.Modes.{is_offloaded, is_offloading}
+use Rattle.rcu_holdings.specs.ProcessorLists.{Holding, first_holding, passed_on, asked_off}
+use Rattle.rcu_holdings.specs.Modes.{first_mode, is_offloaded, is_offloading}
 use Rattle.rcu_holdings.specs.Outgoing.{Outgoing, IsReleased, IsReleasedIfAny, poured, kept, is_due_with, is_due_in_tick, in_tick}
 use Rattle.rcu_holdings.specs.Limits.{IsSafe, AreFew, AreSafe}
 use Rattle.rcu_holdings.proofs.Aims.{callbacks-append, aimed-left}
@@ -119,6 +121,10 @@ module _ {J : Type 0} where
 
   pub aimed-none : (a : ℕ) (xs : List (Labelled J)) → xs ≡ [] → AreAimed a xs
   aimed-none a xs e = rw e (λ k d lt. absurd (omega (arith, lt)))
+
+  pub nothing-held : {mode : Mode} {own : List (Labelled J)} {put bypass : List (Callback J)} {advanced batches qhimark : ℕ} {pace : Pace} (offloadable : Bool) (q : ℕ) → mode ≡ first_mode offloadable → own ≡ [] → advanced ≡ 0 → put ≡ [] → batches ≡ 0
+      → bypass ≡ [] → pace ≡ beginning → qhimark ≡ q → record (first_holding {J = J} offloadable q) { mode = mode; own = own; advanced = advanced; outgoing = record { put = put; batches = batches; bypass = bypass; pace = pace; qhimark = qhimark } } ≡ first_holding {J = J} offloadable q
+  nothing-held offloadable q a b c d e f g h = rw (a, b, c, d, e, f, g, h) refl
 
   -- asked on
   pub poured-passes : (o n : Outgoing J) (xs ys : List (Labelled J)) → ys ≡ [] → IsReleasedIfAny (poured (callbacks_of xs) o) n → n.put ++ (n.bypass ++ callbacks_of ys) ≡ o.put ++ (o.bypass ++ callbacks_of xs)

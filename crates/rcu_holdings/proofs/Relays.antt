@@ -7,7 +7,7 @@ use Rattle.rcu_lanes.specs.declared.ends.TheConstants.{FIRST_SLOTS}
 use Rattle.rcu_lists.specs.Labels.{Done, Bare, Labelled, marked, callbacks_of, count, is_done}
 use Rattle.rcu_lists.specs.declared.batch.TheConstants.{INLINE_PLACES}
 use Rattle.rcu_holdings.specs.Aims.{AreAimed}
-use Rattle.rcu_holdings.specs.MemberLists.{Relay, joined, Draws, TakesIn, Loads, Hands, GivesSome}
+use Rattle.rcu_holdings.specs.MemberLists.{Relay, nothing_relayed, joined, Draws, TakesIn, Loads, Hands, GivesSome}
 use Rattle.rcu_holdings.specs.Limits.{IsSafe, AreFew, AreSafe}
 use Rattle.rcu_holdings.proofs.Aims.{callbacks-append, callbacks-marked, aimed-push}
 use Rattle.rcu_holdings.proofs.Holdings.{few-less}
@@ -66,6 +66,17 @@ module _ {J : Type 0} where
 
   pub out-few : (received put out rest : List (Callback J)) → received ≡ put ++ (out ++ rest) → AreFew received → AreFew (put ++ out)
   out-few received put out rest h few = few-less put out rest (subst AreFew h few)
+
+  -- of which nothing has come
+  pub nothing-here : {received drawn out put : List (Callback J)} {list : List (Labelled J)} {draws advanced batches : ℕ} → received ≡ [] → draws ≡ 0 → drawn ≡ [] → list ≡ [] → advanced ≡ 0 → out ≡ [] → put ≡ [] → batches ≡ 0
+      → record (nothing_relayed {J = J}) { received = received; draws = draws; drawn = drawn; list = list; advanced = advanced; out = out; put = put; batches = batches } ≡ nothing_relayed {J = J}
+  nothing-here a b c d e f g h = rw (a, b, c, d, e, f, g, h) refl
+
+  pub nothing-lost : (received put out drawn : List (Callback J)) (list : List (Labelled J)) → received ≡ [] → put ≡ [] → out ≡ [] → drawn ≡ [] → list ≡ [] → received ≡ put ++ (out ++ (callbacks_of list ++ drawn))
+  nothing-lost received put out drawn list a b c d e = rw (a, b, c, d, e) refl
+
+  pub nothing-few : (received : List (Callback J)) → received ≡ [] → AreFew received
+  nothing-few received e = rw e (omega arith)
 
   -- a turn's draws
   pub taken-none : (r : Relay J) → TakesIn 0 0 r r

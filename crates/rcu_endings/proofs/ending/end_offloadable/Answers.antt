@@ -11,7 +11,7 @@ use Rattle.rcu_lists.specs.Batches.{batch_items}
 use Rattle.rcu_lists.specs.Parcels.{parcel_items}
 use Rattle.rcu_places.specs.Order.{Remaining}
 use Rattle.rcu_records.specs.Records.{AreOfBoth, AreRipe, AreSeenBy, numbered_records}
-use Rattle.rcu_endings.proofs.Endings.{all_fit, came_back, first_fits, rest_fits, takes_then, passage, offloadable_ends, taken_first}
+use Rattle.rcu_endings.proofs.Endings.{all_fit, came_back, ends_of_one, first_fits, rest_fits, takes_then, passage, offloadable_ends, taken_first}
 use Rattle.rcu_endings.proofs.ending.end_offloadable.Goals as goal
 
 pub into_parts-done_front-requires : goal.into_parts-done_front-requires
@@ -145,3 +145,15 @@ array_drop-bypass-requires g c = in_places _ _ _ _ _ _ _ _ _ _ _ _ _ _ _ _ _ _ (
 
 pub array_drop-batch-requires : goal.array_drop-batch-requires
 array_drop-batch-requires g c = in_places _ _ _ _ _ _ _ _ _ _ _ _ _ _ _ _ _ _ (held-batch (param 0 g.row.J) assumption)
+
+pub rest-done_lane-requires : goal.rest-done_lane-requires
+rest-done_lane-requires g c = ends_of_one _ _ _ _ c.into_parts-done_front.ensures.front c.into_parts-front.ensures.ends.1 c.requires.done_lane
+
+pub rest-lane-requires : goal.rest-lane-requires
+rest-lane-requires g c = ends_of_one _ _ _ _ c.into_parts-front.ensures.ends.0 c.into_parts-rear.ensures.rear c.requires.lane
+
+pub merge_records-ran-requires-clause-none : goal.merge_records-ran-requires-clause-none
+merge_records-ran-requires-clause-none g c = λ κs within. c.requires.room.1.no_record
+
+pub merge_records-ran-requires-clause-room : goal.merge_records-ran-requires-clause-room
+merge_records-ran-requires-clause-room g c = λ κs within. omega (arith, ap length c.from.ensures.0, ap length c.from-2.ensures.0, c.requires.room.1.for_records)

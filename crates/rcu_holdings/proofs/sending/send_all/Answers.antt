@@ -45,3 +45,15 @@ returns-in-Err-clause-safe g c = subst AreSafe (sym (c.refill.ensures.items ∙ 
 
 pub returns-in-Ok-clause-safe : goal.returns-in-Ok-clause-safe
 returns-in-Ok-clause-safe g c = subst AreSafe (sym c.flush-batch.ensures.none) (All-nil IsSafe)
+
+pub flush-batch-requires : goal.flush-batch-requires
+flush-batch-requires g c = (assumption, bypass-batch (param 0 g.row.J) assumption)
+
+pub refill-requires : goal.refill-requires
+refill-requires g c = (assumption, (bypass-batch (param 0 g.row.J) assumption, c.flush-batch.ensures.none))
+
+pub returns-in-Ok-clause-lane : goal.returns-in-Ok-clause-lane
+returns-in-Ok-clause-lane g c = c.put_batch.ensures.lane
+
+pub returns-in-Err-clause-lane : goal.returns-in-Err-clause-lane
+returns-in-Err-clause-lane g c = c.put_batch.ensures.lane

@@ -1,4 +1,4 @@
-use Rattle.std.proofs.Common.{◌++◌, inr, ap, sym, ◌∙◌, List, subst}
+use Rattle.std.proofs.Common.{◌++◌, inr, ap, sym, ◌∙◌, List, subst, inl, refl}
 use Rattle.std.proofs.lemmas.Bool.{false≢true}
 use Rattle.rcu_lists.specs.Batches.{batch_items}
 use Rattle.rcu_lists.specs.Labels.{Labelled, callbacks_of}
@@ -77,3 +77,28 @@ take_batch-requires g c = member-batch (param 0 g.row.J) assumption
 
 pub array_drop-self-requires : goal.array_drop-self-requires
 array_drop-self-requires g c = in_places _ _ _ _ _ _ _ _ _ _ _ _ _ _ _ _ _ _ (member-batch (param 0 g.row.J) assumption)
+
+pub returns-then-not-is_empty-clause-ends : goal.returns-then-not-is_empty-clause-ends
+returns-then-not-is_empty-clause-ends g c = (refl, refl)
+
+pub returns-in-Ok-clause-ends : goal.returns-in-Ok-clause-ends
+returns-in-Ok-clause-ends g c = (refl, refl)
+
+pub returns-in-Err-clause-ends : goal.returns-in-Err-clause-ends
+returns-in-Err-clause-ends g c = (refl, refl)
+
+pub returns-then-not-is_empty-clause-advanced : goal.returns-then-not-is_empty-clause-advanced
+returns-then-not-is_empty-clause-advanced g c = refl
+
+pub returns-in-Ok-clause-advanced : goal.returns-in-Ok-clause-advanced
+returns-in-Ok-clause-advanced g c = c.take_batch.ensures.advanced
+
+pub returns-in-Err-clause-advanced : goal.returns-in-Err-clause-advanced
+returns-in-Err-clause-advanced g c = c.take_batch.ensures.advanced
+
+pub returns-then-not-is_empty-clause-loads : goal.returns-then-not-is_empty-clause-loads
+returns-then-not-is_empty-clause-loads g c = inl refl
+
+pub returns-in-Err-clause-loads : goal.returns-in-Err-clause-loads
+returns-in-Err-clause-loads g c = let r = relay c.args.self.now in
+    inl (ap (λ k. record r { list = labelled c.take_batch.new.self; advanced = k }) c.take_batch.ensures.advanced ∙ ap (λ ws. record r { list = ws }) c.in-Err.ensures.refused.list)

@@ -76,3 +76,31 @@ join_one-requires g c = assumption
 
 pub join_one-requires-2 : goal.join_one-requires-2
 join_one-requires-2 g c = assumption
+
+pub returns-then-not-join_one-clause-lanes : goal.returns-then-not-join_one-clause-lanes
+returns-then-not-join_one-clause-lanes g c =
+    let e = c.join_one.ensures.ends in
+    let i = c.loop-drawing.invariant in
+    (subst (SameFront (front_of c.args.self.now)) (sym e.0) i.front, e.1 ∙ i.rear)
+
+pub returns-then-not-join_one-clause-advanced : goal.returns-then-not-join_one-clause-advanced
+returns-then-not-join_one-clause-advanced g c = c.join_one.ensures.advanced ∙ c.loop-drawing.invariant.advanced
+
+pub returns-then-not-draw_one-clause-lanes : goal.returns-then-not-draw_one-clause-lanes
+returns-then-not-draw_one-clause-lanes g c =
+    let d = c.draw_one.ensures.lanes in
+    let e = c.join_one.ensures.ends in
+    let i = c.loop-drawing.invariant in
+    (d.0 ∙ subst (SameFront (front_of c.args.self.now)) (sym e.0) i.front, d.1 ∙ (e.1 ∙ i.rear))
+
+pub returns-then-not-draw_one-clause-advanced : goal.returns-then-not-draw_one-clause-advanced
+returns-then-not-draw_one-clause-advanced g c = c.draw_one.ensures.advanced ∙ (c.join_one.ensures.advanced ∙ c.loop-drawing.invariant.advanced)
+
+pub returns-clause-lanes : goal.returns-clause-lanes
+returns-clause-lanes g c =
+    let e = c.join_one-2.ensures.ends in
+    let i = c.loop-drawing.invariant in
+    (subst (SameFront (front_of c.args.self.now)) (sym e.0) i.front, e.1 ∙ i.rear)
+
+pub returns-clause-advanced : goal.returns-clause-advanced
+returns-clause-advanced g c = c.join_one-2.ensures.advanced ∙ c.loop-drawing.invariant.advanced

@@ -9,3 +9,17 @@ returns-clause-safe g c = (subst AreSafe (sym c.into_callbacks.ensures) c.args.s
 
 pub array_drop-bypass-requires : goal.array_drop-bypass-requires
 array_drop-bypass-requires g c = in_places _ _ _ _ _ _ _ _ _ _ _ _ _ _ _ _ _ _ (bypass-batch (param 0 g.row.J) (processor_lists-bypass (param 0 g.row.J) assumption))
+
+pub flush-released-requires : goal.flush-released-requires
+flush-released-requires g c =
+    let b = processor_lists-bypass (param 0 g.row.J) assumption in
+    (b, bypass-batch (param 0 g.row.J) b)
+
+pub returns-clause-rear : goal.returns-clause-rear
+returns-clause-rear g c = c.into_rear.ensures
+
+pub returns-clause-own : goal.returns-clause-own
+returns-clause-own g c = c.into_callbacks.ensures
+
+pub returns-clause-bypass : goal.returns-clause-bypass
+returns-clause-bypass g c = c.flush-released.ensures.all

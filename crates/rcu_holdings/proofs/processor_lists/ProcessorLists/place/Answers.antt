@@ -1,10 +1,6 @@
-use Rattle.std.proofs.Common.{rules, ◌≡◌, true, false, refl, ap, sym, ◌∙◌, List, subst}
-use Rattle.std.specs.Mem.{FitsInMemory}
+use Rattle.std.proofs.Common.{◌≡◌, true, false, refl, ap, sym, ◌∙◌, List, subst}
 use denote.Param.{param}
-use Rattle.rcu_lists.specs.contracts.batch.Batch as batch_row
-use Rattle.rcu_holdings.specs.contracts.processor_lists.ProcessorLists as caller_row
-use Rattle.rcu_holdings.proofs.Sizes.{in_struct, in_third}
-use Rattle.rcu_lists.specs.contracts.bypass.Bypass as bypass_row
+use Rattle.rcu_holdings.proofs.Sizes.{processor_lists-bypass}
 use Rattle.std.proofs.lemmas.List.Elements.{All-push}
 use Rattle.rcu_lists.specs.Bypasses.{bypass_items}
 use Rattle.rcu_lists.specs.Labels.{Labelled, callbacks_of}
@@ -93,6 +89,4 @@ returns-else-in_offloaded-clause-places g c =
 pub hold_or_send-requires : goal.hold_or_send-requires
 hold_or_send-requires g c =
     let s = c.args.self.now in
-    let w : FitsInMemory (caller_row.the_row (param 0 g.row.J)) = search rules in
-    let h : FitsInMemory (bypass_row.the_row (param 0 g.row.J)) = in_struct _ _ _ w in
-    (h, (c.requires.ready.0 (sym c.in_offloaded.ensures ∙ c.if-in_offloaded.true), (s.safe, (c.requires.safe, hold-few (put_calls s.outlet.rear) (bypass_items s.bypass) (callbacks_of (labelled s.own)) c.args.callback c.requires.few))))
+    (processor_lists-bypass (param 0 g.row.J) assumption, (c.requires.ready.0 (sym c.in_offloaded.ensures ∙ c.if-in_offloaded.true), (s.safe, (c.requires.safe, hold-few (put_calls s.outlet.rear) (bypass_items s.bypass) (callbacks_of (labelled s.own)) c.args.callback c.requires.few))))

@@ -1,4 +1,4 @@
-use Rattle.std.proofs.Common.{◌++◌, ◌≡◌, true, false, sym, ◌∙◌, List, subst}
+use Rattle.std.proofs.Common.{◌++◌, ◌≡◌, true, false, sym, ◌∙◌, List, subst, refl, ap}
 use Rattle.rcu_lists.specs.Bypasses.{bypass_items, BypassRoom}
 use Rattle.rcu_lists.specs.Labels.{Labelled, callbacks_of}
 use Rattle.rcu_lists.specs.Segments.{labelled, advanced_by, SegmentsRoom}
@@ -7,9 +7,11 @@ use Rattle.rcu_holdings.specs.Lanes.{put_calls}
 use Rattle.rcu_holdings.specs.Modes.{is_offloaded}
 use Rattle.rcu_holdings.specs.Limits.{AreFew, AreSafe}
 use Rattle.rcu_holdings.proofs.Holdings.{on-ok}
-use Rattle.rcu_holdings.proofs.Releases.{other}
+use Rattle.rcu_holdings.proofs.Releases.{other, same_outgoing}
 use denote.Param.{param}
 use Rattle.rcu_holdings.proofs.Sizes.{processor_lists-bypass}
+use Rattle.rcu_holdings.specs.ProcessorLists.{holding}
+use Rattle.rcu_holdings.specs.Outgoing.{Outgoing, outgoing}
 use Rattle.rcu_holdings.proofs.processor_lists.ProcessorLists.reserve.Goals as goal
 
 pub invariant_of-self : goal.invariant_of-self
@@ -59,3 +61,19 @@ returns-else-in_offloaded-clause-none g c = λ on _. absurd (other (is_offloaded
 
 pub reserve-requires : goal.reserve-requires
 reserve-requires g c = processor_lists-bypass (param 0 g.row.J) assumption
+
+pub returns-then-in_offloaded-clause-rear : goal.returns-then-in_offloaded-clause-rear
+returns-then-in_offloaded-clause-rear g c = refl
+
+pub returns-else-in_offloaded-clause-rear : goal.returns-else-in_offloaded-clause-rear
+returns-else-in_offloaded-clause-rear g c = refl
+
+pub returns-then-in_offloaded-clause-same : goal.returns-then-in_offloaded-clause-same
+returns-then-in_offloaded-clause-same g c = let s = c.args.self.now in
+    let e = c.reserve.ensures.same in
+    ap (λ (o : Outgoing g.row.J.Denot). record (holding s) { outgoing = o }) (same_outgoing (outgoing s.outlet.rear s.bypass) (outgoing s.outlet.rear c.reserve.new.self) refl refl e.items e.pace e.qhimark)
+
+pub returns-else-in_offloaded-clause-same : goal.returns-else-in_offloaded-clause-same
+returns-else-in_offloaded-clause-same g c = let h = holding c.args.self.now in
+    let e = c.reserve-else-in_offloaded.ensures.same in
+    ap (λ n. record h { own = labelled c.reserve-else-in_offloaded.new.self; advanced = n }) e.advanced ∙ ap (λ (ws : List (Labelled g.row.J.Denot)). record h { own = ws }) e.list

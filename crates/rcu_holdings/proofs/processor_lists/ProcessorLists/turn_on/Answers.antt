@@ -11,7 +11,7 @@ use Rattle.rcu_holdings.specs.Limits.{AreFew, AreSafe}
 use Rattle.rcu_holdings.proofs.Holdings.{all-of-none, aimed-none, poured-passes, same-held}
 use Rattle.rcu_holdings.proofs.Releases.{other}
 use denote.Param.{param}
-use Rattle.rcu_holdings.proofs.Sizes.{bypass-batch, processor_lists-bypass}
+use Rattle.rcu_holdings.proofs.Sizes.{processor_lists-bypass}
 use Rattle.rcu_holdings.proofs.processor_lists.ProcessorLists.turn_on.Goals as goal
 
 pub invariant_of-self : goal.invariant_of-self

@@ -1,0 +1,9 @@
+use denote.Param.{param}
+use Rattle.rcu_holdings.proofs.Sizes.{in_places, member-batch}
+use Rattle.rcu_holdings.proofs.member_lists.MemberLists.drop.Goals as goal
+
+pub array_drop-self-requires : goal.array_drop-self-requires
+array_drop-self-requires g c = in_places _ _ _ _ _ _ _ _ _ _ _ _ _ _ _ _ _ _ (member-batch (param 0 g.row.J) assumption)
+
+pub array_drop-self-requires-2 : goal.array_drop-self-requires-2
+array_drop-self-requires-2 g c = in_places _ _ _ _ _ _ _ _ _ _ _ _ _ _ _ _ _ _ (member-batch (param 0 g.row.J) assumption)
