@@ -22,6 +22,10 @@ module _ {T : Type 0} where
   no-snoc [] x e = cc
   no-snoc (y ∷ xs) x e = cc
 
+  pub no-append : (xs ys : List T) → 0 < length ys → xs ++ ys ≡ [] → ⊥
+  no-append [] ys h e = let n = ap length e in omega arith
+  no-append (x ∷ xs) ys h e = cc
+
   pub filled-le : (xs : List (Option T)) → length (filled xs) ≤ length xs
   filled-le [] = omega arith
   filled-le (None ∷ xs) = let h = filled-le xs in omega arith
@@ -86,3 +90,13 @@ module _ {T : Type 0} where
 
   pub take_none : (n : ℕ) (xs : List T) → n ≡ 0 → take n xs ≡ []
   take_none n xs e = rw e refl
+
+  -- what is left of a single one
+  pub none-after : (r : Option T) (old mid : List T) → length old ≡ 1 → MatchOption r ((old ≡ []) × (mid ≡ [])) (λ x. old ≡ x ∷ mid) → mid ≡ []
+  none-after None old mid n h = h.1
+  none-after (Some x) old [] n h = refl
+  none-after (Some x) old (y ∷ mid) n h = absurd (let m = ap length h in omega arith)
+
+  pub single-taken : (P : Type 0) (r : Option T) (old mid new : List T) → length old ≡ 1 → MatchOption r ((old ≡ []) × (mid ≡ [])) (λ x. old ≡ x ∷ mid) → new ≡ mid → MatchOption r P (λ x. (old ≡ x ∷ []) × (new ≡ []))
+  single-taken P None old mid new n h e = absurd (let m = ap length h.0 in omega arith)
+  single-taken P (Some x) old mid new n h e = let none = none-after (Some x) old mid n h in (h ∙ ap (λ l. x ∷ l) none, e ∙ none)

@@ -4,4 +4,5 @@ pub mod Fills
 pub mod Graced
 pub mod Outcomes
 pub mod Rooms
+pub mod Sizes
 pub mod Stamps

@@ -5,7 +5,8 @@ use Rattle.std.proofs.lemmas.List.{length-take-le}
 use Rattle.std.proofs.Math.Bridge.{le_prop}
 use Rattle.std.proofs.Math.Nat.{ℕ_set}
 use Rattle.rcu_jobs.specs.declared.callback.Callback.{Callback}
-use Rattle.rcu_lists.specs.Filled.{AreFilled}
+use Rattle.rcu_lists.specs.Filled.{filled, AreFilled}
+use Rattle.rcu_lists.proofs.Fills.{filled-le}
 use Rattle.rcu_lists.specs.declared.batch.Batch.{Batch}
 use Rattle.rcu_lists.specs.declared.batch.TheConstants.{INLINE_PLACES}
 use Rattle.smallvec.specs.SmallVec.{SmallVec, HasRoomFor}
@@ -49,3 +50,7 @@ module _ {J : Type 0} where
   pub same-batch : (old : Batch J) (t : SmallVec (Option (Callback J))) → t ≡ old.slots → (w : old.next ≤ length t.items) (q : AreFilled (drop old.next t.items)) (j : INLINE_PLACES ≤ t.capacity) (r : HasRoomFor t 0) → made t old.next w q j r ≡ old
   same-batch old t e = subst (λ (u : SmallVec (Option (Callback J))). (w : old.next ≤ length u.items) (q : AreFilled (drop old.next u.items)) (j : INLINE_PLACES ≤ u.capacity) (r : HasRoomFor u 0) → made u old.next w q j r ≡ old) (sym e)
       (λ w q j r. same-places old.slots old.next old.within w old.full q old.inline j old.fits r)
+
+  -- a batch that is not on the heap holds no more than stand in it
+  pub most-left : (b : Batch J) → (INLINE_PLACES < b.slots.capacity → ⊥) → length (filled (drop b.next b.slots.items)) ≤ INLINE_PLACES
+  most-left b h = let le = filled-le (drop b.next b.slots.items) in let left = length-drop b.next b.slots.items in let fits = b.fits in omega (arith, h)
