@@ -1,5 +1,5 @@
 -- What contracts see of what goes over a lane.
-use Rattle.std.specs.Prelude.{◌<◌, List, [], ◌∷◌, drop}
+use Rattle.std.specs.Prelude.{List, [], ◌∷◌, drop}
 use Rattle.smallvec.specs.SmallVec.{IsSpilled}
 use Rattle.rcu_jobs.specs.declared.callback.Callback.{Callback}
 use Rattle.rcu_lists.specs.Filled.{filled}

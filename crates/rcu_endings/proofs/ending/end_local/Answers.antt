@@ -1,6 +1,7 @@
 use Rattle.std.proofs.Common.{refl}
 use denote.Param.{param}
-use Rattle.rcu_holdings.proofs.Sizes.{bypass-batch, processor_lists-bypass, in_places}
+use Rattle.rcu_holdings.proofs.Sizes.{processor_lists-bypass}
+use Rattle.rcu_lists.proofs.Sizes.{bypass-batch, in_places}
 use Rattle.rcu_endings.proofs.Endings.{local_back, local_ends, local_fits}
 use Rattle.rcu_endings.proofs.ending.end_local.Goals as goal
 use Rattle.rcu_holdings.specs.ProcessorLists.{holding}

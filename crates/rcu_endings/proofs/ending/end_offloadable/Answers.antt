@@ -1,7 +1,8 @@
 use Rattle.std.proofs.Common.{◌≡◌, ℕ, ◌+◌, List, ◌++◌, length, sym, subst, ap, ◌∙◌, arith}
 use Rattle.std.specs.List.{flat_map}
 use denote.Param.{param}
-use Rattle.rcu_holdings.proofs.Sizes.{held-batch, in_places}
+use Rattle.rcu_holdings.proofs.Sizes.{held-batch}
+use Rattle.rcu_lists.proofs.Sizes.{in_places}
 use Rattle.rcu_holdings.specs.ProcessorLists.{holding, held_in, put_by}
 use Rattle.rcu_holdings.specs.Helds.{drawn_by, held_by, taken_by}
 use Rattle.rcu_jobs.specs.Records.{Given}

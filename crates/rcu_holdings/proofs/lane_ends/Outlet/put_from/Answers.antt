@@ -4,7 +4,7 @@ use Rattle.rcu_lists.specs.Batches.{batch_items}
 use Rattle.rcu_holdings.specs.Lanes.{put_calls, PutsOn}
 use Rattle.rcu_holdings.specs.Limits.{IsSafe, AreFew, AreSafe}
 use denote.Param.{param}
-use Rattle.rcu_holdings.proofs.Sizes.{in_places}
+use Rattle.rcu_lists.proofs.Sizes.{in_places}
 use Rattle.std.specs.Mem.{FitsInMemory}
 use Rattle.rcu_lists.specs.contracts.batch.Batch as batch_row
 use Rattle.std.proofs.lemmas.Bool.{false≢true}

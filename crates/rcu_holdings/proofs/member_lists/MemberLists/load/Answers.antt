@@ -11,7 +11,8 @@ use Rattle.rcu_holdings.specs.Limits.{AreSafe}
 use Rattle.rcu_holdings.proofs.Aims.{aimed-left}
 use Rattle.rcu_holdings.proofs.Releases.{other, some-in}
 use Rattle.rcu_holdings.proofs.Relays.{callbacks-left, made-out, safe-front, safe-back}
-use Rattle.rcu_holdings.proofs.Sizes.{in_places, member-batch}
+use Rattle.rcu_holdings.proofs.Sizes.{member-batch}
+use Rattle.rcu_lists.proofs.Sizes.{in_places}
 use denote.Param.{param}
 use Rattle.rcu_holdings.proofs.member_lists.MemberLists.load.Goals as goal
 
