@@ -7,7 +7,7 @@ mod table;
 
 use rcu_workers::{
     Answer, AnyFault, Closed, End, Ending, Order, Reading, Reply, Shape, Steering, Step, Worker,
-    open, run_workers,
+    open, run_or_drop,
 };
 use std::alloc::{AllocError, Global};
 use std::sync::Arc;
@@ -133,7 +133,7 @@ fn main(rt: HostRuntime) -> Result<(), AnyFault> {
             after: last.saturating_sub(VERSIONS / 2),
             order,
         };
-        let worked = run_workers(&rt, alloc, runtime, members, &mut switcher, ending)?;
+        let worked = run_or_drop(&rt, alloc, runtime, members, &mut switcher, ending)?;
         if worked.ends.contains(&End::Failed) {
             return Err(AnyFault::Own("a worker gave up"));
         }

@@ -10,7 +10,7 @@ ghost use Rattle.rcu_runtime.specs.Runtimes.{accepted_in};
 
 use rcu_workers::{
     Answer, AnyFault, Closed, Ending, Job, NoSteering, Runtime, Shape, Step, Worker, open,
-    run_workers,
+    run_or_drop,
 };
 use std::alloc::{AllocError, Global};
 use std::collections::VecDeque;
@@ -136,7 +136,7 @@ fn main(rt: HostRuntime) -> Result<(), AnyFault> {
     for _ in 0..MOST_RUNTIMES {
         let runtime = open::<Number>(alloc, shape)?;
         let ending = Ending::AtOnce;
-        let worked = run_workers(&rt, alloc, runtime, callers, &mut NoSteering, ending)?;
+        let worked = run_or_drop(&rt, alloc, runtime, callers, &mut NoSteering, ending)?;
         callers = worked.workers;
         let is_last = callers.iter().all(|caller| caller.has_called_all());
         let closed = close(alloc, worked.runtime, is_last)?;

@@ -18,6 +18,6 @@ module _ {J R : Type 0} where
     pub hands : AllZip (HandStays key_of gives) (hands_in old) (hands_in new)
 
 -- As many workers come back as were handed in, each with how it ended.
-pub record ComeBack {W : Type 0} (workers back : Vec W Global) (ends : Vec End Global) : Type 0 where
-  pub workers : vec_len back ≡ vec_len workers
-  pub ends : vec_len ends ≡ vec_len workers
+pub record ComeBack {W : Type 0} (old new : Vec W Global) (said : Vec End Global) : Type 0 where
+  pub workers : vec_len new ≡ vec_len old
+  pub ends : vec_len said ≡ vec_len old

@@ -6,6 +6,7 @@
 mod acting;
 mod crew;
 mod fault;
+mod or_drop;
 mod pairs;
 mod part;
 mod pausing;
@@ -20,6 +21,7 @@ mod worked;
 mod worker;
 
 pub use fault::WorkersFault;
+pub use or_drop::run_or_drop;
 pub use rcu_runtime::{
     AnyFault, Barrier, BarrierFault, Closed, Closing, Counts, DriverTurn, Job, Lists, Mode,
     NoProcessor, NotCalled, OtherBarrier, Passed, Reading, Record, Refused, Runtime, Shape, Stop,

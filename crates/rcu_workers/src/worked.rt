@@ -14,7 +14,7 @@ use crate::steering::Steering;
 use crate::worker::{End, Worker};
 use rcu_jobs::Job;
 use rcu_parts::Parts;
-use rcu_runtime::{AnyFault, Runtime, Whole};
+use rcu_runtime::{Runtime, Whole};
 use std::alloc::Global;
 use std::rt::Clock;
 use std::sync::Wait;
@@ -34,17 +34,6 @@ pub struct Worked<J: Job, W> {
 pub struct NotWorked<J: Job, W> {
     pub fault: WorkersFault,
     pub worked: Worked<J, W>,
-}
-
-/// For `?`, where the runtime and the workers may be let go.
-impl<J: Job, W: Drop> From<NotWorked<J, W>> for AnyFault {
-    ghost use Rattle.rcu_workers.specs.Faults.{IsToldAs};
-
-    ghost from_gives = { λ refused any_fault. IsToldAs refused.fault any_fault };
-
-    fn from(refused: NotWorked<J, W>) -> AnyFault {
-        AnyFault::from(refused.fault)
-    }
 }
 
 /// The room for a run of these parts with so many workers.

@@ -1,0 +1,34 @@
+use Rattle.rcu_workers.proofs.or_drop.run_or_drop.Goals as goal
+
+pub run_workers-requires-send-J : goal.run_workers-requires-send-J
+run_workers-requires-send-J g c κs within = record { owned = c.type_bounds.send-J.owned; leaving = c.type_bounds.send-J.leaving }
+
+pub run_workers-requires-send-W : goal.run_workers-requires-send-W
+run_workers-requires-send-W g c κs within = record { owned = c.type_bounds.send-W.owned; leaving = c.type_bounds.send-W.leaving }
+
+pub run_workers-requires-send-R : goal.run_workers-requires-send-R
+run_workers-requires-send-R g c κs within = record { owned = c.type_bounds.send-R.owned; leaving = c.type_bounds.send-R.leaving }
+
+pub run_workers-requires-send-S : goal.run_workers-requires-send-S
+run_workers-requires-send-S g c κs within = record { owned = c.type_bounds.send-S.owned; leaving = c.type_bounds.send-S.leaving }
+
+pub run_workers-requires-after_bounds : goal.run_workers-requires-after_bounds
+run_workers-requires-after_bounds g c κs within = assumption
+
+pub drop-refused-requires-room-A-Wholeness : goal.drop-refused-requires-room-A-Wholeness
+drop-refused-requires-room-A-Wholeness g c κs within = assumption
+
+pub drop-refused-requires-room-A-Wholeness-2 : goal.drop-refused-requires-room-A-Wholeness-2
+drop-refused-requires-room-A-Wholeness-2 g c κs within = assumption
+
+pub drop-refused-requires-room-A-Wholeness-3 : goal.drop-refused-requires-room-A-Wholeness-3
+drop-refused-requires-room-A-Wholeness-3 g c κs within = assumption
+
+pub drop-refused-requires-room-A-Destruct : goal.drop-refused-requires-room-A-Destruct
+drop-refused-requires-room-A-Destruct g c κs within = assumption
+
+pub drop-refused-requires-room-A-Destruct-2 : goal.drop-refused-requires-room-A-Destruct-2
+drop-refused-requires-room-A-Destruct-2 g c κs within = assumption
+
+pub drop-refused-requires-room-A-Destruct-3 : goal.drop-refused-requires-room-A-Destruct-3
+drop-refused-requires-room-A-Destruct-3 g c κs within = assumption
