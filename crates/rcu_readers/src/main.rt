@@ -6,8 +6,8 @@
 mod table;
 
 use rcu_workers::{
-    Answer, AnyFault, Closed, End, Ending, Order, Reading, Reply, Shape, Steering, Step, Worker,
-    open, run_or_drop,
+    Answer, AnyFault, End, Ending, Order, Reading, Reply, Shape, Steering, Step, Worker, open,
+    run_or_drop,
 };
 use std::alloc::{AllocError, Global};
 use std::sync::Arc;
@@ -142,8 +142,10 @@ fn main(rt: HostRuntime) -> Result<(), AnyFault> {
         }
         runtime = worked.runtime;
     }
-    let Closed { ran, back, .. } = runtime.close_or_drop(alloc)?;
-    let (ran, back) = (ran.iter().flatten().count(), back.iter().flatten().count());
-    println!(rt; "{ran} versions were let go, {back} jobs are handed back")?;
+    let closed = runtime.close_or_drop(alloc)?;
+    for (cpu, (records, jobs)) in closed.ran.iter().zip(&closed.back).enumerate() {
+        let (ran, back) = (records.len(), jobs.len());
+        println!(rt; "processor {cpu}: {ran} versions were let go, {back} jobs are handed back")?;
+    }
     Ok(())
 }

@@ -98,8 +98,7 @@ impl Worker<Number> for Caller {
     }
 }
 
-/// Closes a runtime, and drains the last one before. As many ran or come back as it accepted, and none of the last one comes
-/// back.
+/// Closes a runtime, the last one drained: as many ran or come back as it accepted, and none of the last one comes back.
 fn close(alloc: Global, runtime: Runtime<Number>, last: bool) -> Result<Closed<Number>, AnyFault>
     ensures none_lost { IfOk result (λ closed. ran_in closed + back_in closed ≡ accepted_in runtime) }
     ensures none_back { IsTrue last → IfOk result (λ closed. HasNoneBack closed) }
