@@ -4,9 +4,7 @@
 #![tactic(auto)]
 
 ghost use Rattle.std.specs.Prelude.{◌≡◌, ◌+◌, IfOk, IsTrue};
-ghost use Rattle.rcu_parts.specs.Drained.{HasNoneBack};
-ghost use Rattle.rcu_runtime.specs.Ends.{back_in, ran_in};
-ghost use Rattle.rcu_runtime.specs.Runtimes.{accepted_in};
+ghost use Rattle.rcu_workers.specs.Ends.{HasNoneBack, accepted_in, back_in, ran_in};
 
 use rcu_workers::{
     Answer, AnyFault, Closed, Ending, Job, NoSteering, Runtime, Shape, Step, Worker, open,

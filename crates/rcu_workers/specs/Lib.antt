@@ -1,4 +1,5 @@
 pub mod Crews
+pub mod Ends
 pub mod Faults
 pub mod Rooms
 pub mod Runs
