@@ -1,5 +1,5 @@
 -- How a runtime is drained: it is shut, and then a barrier is opened and passes.
-use Rattle.std.proofs.Common.{◌≡◌, ◌≢◌, ℕ, ◌+◌, ◌*◌, ◌/◌, ◌%◌, ◌<◌, ◌≤◌, ◌∙◌, List, [], ◌∷◌, Some, Ok, length, slice_index, sym, ap, subst, refl, arith}
+use Rattle.std.proofs.Common.{◌≡◌, ℕ, ◌/◌, ◌%◌, ◌<◌, ◌∙◌, List, [], ◌∷◌, Some, Ok, length, sym, ap, refl, arith}
 use Rattle.std.specs.List.{Any}
 use Rattle.rcu_board.specs.Seats.{NeverFalls, SawShut}
 use Rattle.rcu_board.specs.Views.{seen_at}

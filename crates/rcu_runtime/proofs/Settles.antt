@@ -1,5 +1,5 @@
 -- Where all that was accepted has run, no job comes back.
-use Rattle.std.proofs.Common.{◌≡◌, ℕ, zero, suc, ◌+◌, ◌*◌, ◌/◌, ◌<◌, ◌≤◌, ◌∙◌, List, [], ◌∷◌, ◌++◌, Option, Some, Ok, map, drop, length, get_or, slice_index_or, ap, sym, subst, refl, arith}
+use Rattle.std.proofs.Common.{◌≡◌, ℕ, zero, suc, ◌+◌, ◌/◌, ◌<◌, ◌≤◌, ◌∙◌, List, [], ◌∷◌, ◌++◌, Option, Some, Ok, map, drop, length, get_or, slice_index_or, ap, sym, subst, refl, arith}
 use Rattle.std.specs.Prelude.{All}
 use Rattle.std.proofs.lemmas.List.{length-map}
 use Rattle.rcu_board.specs.Seats.{accepted_of}
@@ -7,7 +7,7 @@ use Rattle.rcu_board.specs.Views.{seen_at}
 use Rattle.rcu_board.specs.Words.{turns_word}
 use Rattle.rcu_board.specs.declared.board.Board.{Board}
 use Rattle.rcu_board.specs.declared.view.View.{View}
-use Rattle.rcu_control.specs.Barriers.{IsOver, count_at}
+use Rattle.rcu_control.specs.Barriers.{IsOver}
 use Rattle.rcu_control.specs.Parts.{control_view}
 use Rattle.rcu_control.specs.declared.barrier.Barrier.{Barrier}
 use Rattle.rcu_gathering.proofs.Closings.{as_many_ended}

@@ -1,7 +1,9 @@
 -- What is left of a runtime that was closed: docs/embedding.md, "The end".
-use Rattle.std.specs.Prelude.{ℕ, length, sum_by, All}
+use Rattle.std.specs.Prelude.{◌≡◌, ℕ, ◌+◌, length, sum_by, All}
 use Rattle.rcu_jobs.specs.Records.{Given}
 use Rattle.rcu_jobs.specs.declared.answers.Closed.{Closed}
+use Rattle.rcu_parts.specs.OneOpen.{Parts}
+use Rattle.rcu_runtime.specs.Runtimes.{accepted_in}
 
 module _ {J R : Type 0} where
   -- how many callbacks ran
@@ -11,6 +13,10 @@ module _ {J R : Type 0} where
   -- how many jobs are handed back
   abbrev pub back_in : Closed J R → ℕ
   back_in closed = sum_by (λ jobs. length jobs.items) closed.back.items
+
+  -- as many ran or are handed back as were accepted
+  abbrev pub LosesNone : Parts J R → Closed J R → Type 0
+  LosesNone parts closed = ran_in closed + back_in closed ≡ accepted_in parts
 
   -- each receipt is given for the key of its record
   abbrev pub HaveReceipts : (ℕ → R → Type 0) → Closed J R → Type 0

@@ -1,5 +1,5 @@
 -- That what was accepted has run: docs/embedding.md, "Barrier".
-use Rattle.std.specs.Prelude.{◌≡◌, ℕ, ◌≤◌, All}
+use Rattle.std.specs.Prelude.{◌≡◌, ◌≤◌, All}
 use Rattle.rcu_control.specs.Barriers.{IsOver, count_at}
 use Rattle.rcu_control.specs.Parts.{control_view}
 use Rattle.rcu_jobs.specs.declared.Counts.{Counts}

@@ -1,10 +1,10 @@
 //! The end of a runtime.
 
-ghost use Rattle.std.specs.Prelude.{◌≡◌, ◌+◌, IfErr, IfOk};
+ghost use Rattle.std.specs.Prelude.{◌≡◌, IfErr, IfOk};
 ghost use Rattle.rcu_parts.specs.AtClose.{ClosesWith};
 ghost use Rattle.rcu_parts.specs.Drained.{HasNoneBack};
-ghost use Rattle.rcu_runtime.specs.Ends.{HaveReceipts, back_in, ran_in};
-ghost use Rattle.rcu_runtime.specs.Runtimes.{IsDrained, accepted_in};
+ghost use Rattle.rcu_runtime.specs.Ends.{HaveReceipts, LosesNone};
+ghost use Rattle.rcu_runtime.specs.Runtimes.{IsDrained};
 
 use crate::whole::{Whole, Wholeness};
 use rcu_jobs::{Closed, Job};
@@ -34,7 +34,7 @@ impl<J: Job> Whole<AllParts<Processor<J>, Group<J>, Hand<J>>> {
     /// Want of memory. No job, record or word has changed.
     pub fn close(self, alloc: Global) -> Result<Closed<J>, Closing<J>>
         ensures closes { IfOk result (λ closed. ClosesWith J.key_of J.gives self closed) }
-        ensures none_lost { IfOk result (λ closed. ran_in closed + back_in closed ≡ accepted_in self) }
+        ensures none_lost { IfOk result (LosesNone self) }
         ensures receipts { IfOk result (λ closed. HaveReceipts J.gives closed) }
         ensures drained { IsDrained self → IfOk result (λ closed. HasNoneBack closed) }
         ensures left { IfErr result (λ closing. closing.parts ≡ self) }
@@ -57,7 +57,7 @@ impl<J: Job> Whole<AllClosing<Processor<J>, Group<J>, Hand<J>>> {
     /// As when it was closed first.
     pub fn again(self, alloc: Global) -> Result<Closed<J>, Closing<J>>
         ensures closes { IfOk result (λ closed. ClosesWith J.key_of J.gives self.parts closed) }
-        ensures none_lost { IfOk result (λ closed. ran_in closed + back_in closed ≡ accepted_in self.parts) }
+        ensures none_lost { IfOk result (LosesNone self.parts) }
         ensures receipts { IfOk result (λ closed. HaveReceipts J.gives closed) }
         ensures drained { IsDrained self.parts → IfOk result (λ closed. HasNoneBack closed) }
         ensures left { IfErr result (λ closing. closing.parts ≡ self.parts) }

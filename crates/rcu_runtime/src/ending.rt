@@ -1,10 +1,10 @@
 //! The end of a runtime whose program gives up where there is no memory for it.
 
-ghost use Rattle.std.specs.Prelude.{◌≡◌, ◌+◌, IfOk};
+ghost use Rattle.std.specs.Prelude.{IfOk};
 ghost use Rattle.rcu_parts.specs.AtClose.{ClosesWith};
 ghost use Rattle.rcu_parts.specs.Drained.{HasNoneBack};
-ghost use Rattle.rcu_runtime.specs.Ends.{HaveReceipts, back_in, ran_in};
-ghost use Rattle.rcu_runtime.specs.Runtimes.{IsDrained, accepted_in};
+ghost use Rattle.rcu_runtime.specs.Ends.{HaveReceipts, LosesNone};
+ghost use Rattle.rcu_runtime.specs.Runtimes.{IsDrained};
 ghost use Rattle.rcu_runtime.specs.Settled.{HasRunAll};
 
 use crate::any_fault::AnyFault;
@@ -22,7 +22,7 @@ impl<J: Job> Whole<AllParts<Processor<J>, Group<J>, Hand<J>>> {
     /// Want of memory.
     pub fn close_or_drop(self, alloc: Global) -> Result<Closed<J>, AllocError>
         ensures closes { IfOk result (λ closed. ClosesWith J.key_of J.gives self closed) }
-        ensures none_lost { IfOk result (λ closed. ran_in closed + back_in closed ≡ accepted_in self) }
+        ensures none_lost { IfOk result (LosesNone self) }
         ensures receipts { IfOk result (λ closed. HaveReceipts J.gives closed) }
         ensures drained { IsDrained self → IfOk result (λ closed. HasNoneBack closed) }
         ensures run { HasRunAll self → IfOk result (λ closed. HasNoneBack closed) }
@@ -43,7 +43,7 @@ impl<J: Job> Whole<AllParts<Processor<J>, Group<J>, Hand<J>>> {
         moment: u64,
         turns: u64,
     ) -> Result<Closed<J>, AnyFault>
-        ensures none_lost { IfOk result (λ closed. ran_in closed + back_in closed ≡ accepted_in self) }
+        ensures none_lost { IfOk result (LosesNone self) }
         ensures receipts { IfOk result (λ closed. HaveReceipts J.gives closed) }
         ensures none_back { IfOk result (λ closed. HasNoneBack closed) }
     {

@@ -3,8 +3,8 @@
 //! threads. docs/embedding.md, "Limits", speaks of it.
 #![tactic(auto)]
 
-ghost use Rattle.std.specs.Prelude.{◌≡◌, ◌+◌, IfOk, IsTrue};
-ghost use Rattle.rcu_workers.specs.Ends.{HasNoneBack, accepted_in, back_in, ran_in};
+ghost use Rattle.std.specs.Prelude.{◌≡◌, IfOk, IsTrue};
+ghost use Rattle.rcu_workers.specs.Ends.{HasNoneBack, LosesNone};
 
 use rcu_workers::{
     Answer, AnyFault, Closed, Ending, Job, NoSteering, Runtime, Shape, Step, Worker, open,
@@ -98,7 +98,7 @@ impl Worker<Number> for Caller {
 
 /// Closes a runtime, the last one drained: as many ran or come back as it accepted, and none of the last one comes back.
 fn close(alloc: Global, runtime: Runtime<Number>, last: bool) -> Result<Closed<Number>, AnyFault>
-    ensures none_lost { IfOk result (λ closed. ran_in closed + back_in closed ≡ accepted_in runtime) }
+    ensures none_lost { IfOk result (LosesNone runtime) }
     ensures none_back { IsTrue last → IfOk result (λ closed. HasNoneBack closed) }
 {
     if last {

@@ -63,12 +63,6 @@ module _ {H P : Type 0} (of : H → P) (S : P → P → Type 0) (K : H → P →
   pub joined_all : (ps : List P) (ss : List (Started H P)) (qs : List P) → AllZip (HasBegun of S) ps ss → AllZip (HasEnded K) ss qs → AllZip S ps qs
   joined_all ps ss qs b e = zip_chain (HasBegun of S) (HasEnded K) S joined_one ps ss qs b e
 
--- What was begun with a promise of a part was begun with the part.
-pub begun_of : {H P Q : Type 0} (promise : H → Q) (of : Q → P) (Kept : Q → P → Type 0) (S : P → P → Type 0) → ((w : Q) (q : P) → Kept w q → S (of w) q) → (w : Q) (p : P) → of w ≡ p → (s : Started H P)
-    → HasBegun promise Kept w s → HasBegun (λ h. of (promise h)) S p s
-begun_of promise of Kept S f w p is (Running h) e = ap of e ∙ is
-begun_of promise of Kept S f w p is (Back q) k = subst (λ x. S x q) is (f w q k)
-
 -- as many as were taken from
 pub as_many : {A B : Type 0} (f : A → B) (xs : List A) (ys : List B) → map f xs ≡ ys → length xs ≡ length ys
 as_many f xs ys e = sym (length-map xs f) ∙ ap (λ l. length l) e

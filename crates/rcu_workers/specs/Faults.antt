@@ -27,6 +27,10 @@ IsToldAs (OtherNumber processors workers) fault = fault ≡ any_fault.OtherNumbe
 IsToldAs NoThread fault = fault ≡ any_fault.NoThread
 IsToldAs NotDrained fault = fault ≡ any_fault.NotDrained
 
+-- the fault of any call that is one of a run
+abbrev pub IsOfRun : AnyFault → Type 0
+IsOfRun fault = (why : WorkersFault) × IsToldAs why fault
+
 module _ {J R W : Type 0} where
   -- Where nothing was started, the runtime and the workers come back as they were.
   abbrev pub ComesBack : WorkersFault → Parts J R → Parts J R → List W → List W → Type 0

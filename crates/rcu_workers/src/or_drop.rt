@@ -1,8 +1,9 @@
 //! A run in threads for programs that give up where it can't be made.
 
-ghost use Rattle.std.specs.Prelude.{◌≡◌, IfOk};
+ghost use Rattle.std.specs.Prelude.{◌≡◌, IfErr, IfOk};
 ghost use Rattle.rcu_runtime.specs.Runtimes.{Continues, IsDrained};
 ghost use Rattle.rcu_runtime.specs.Settled.{HasRunAll};
+ghost use Rattle.rcu_workers.specs.Faults.{IsOfRun};
 ghost use Rattle.rcu_workers.specs.Runs.{ComeBack};
 
 use crate::running::Ending;
@@ -36,6 +37,7 @@ pub fn run_or_drop<
     steering: &mut G,
     ending: Ending,
 ) -> Result<Worked<J, W>, AnyFault>
+    ensures fault { IfErr result IsOfRun }
     ensures continues { IfOk result (λ worked. Continues runtime worked.runtime) }
     ensures workers { IfOk result (λ worked. ComeBack workers worked.workers worked.ends) }
     ensures run { ending ≡ Ending.AfterBarrier → IfOk result (λ worked. HasRunAll worked.runtime) }
