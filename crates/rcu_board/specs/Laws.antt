@@ -1,5 +1,7 @@
 -- The rule of a board, law by law: docs/specification/definitions.md, "The running parts: laws". A quoted sentence is one of that section.
 use Rattle.std.specs.Prelude.{◌≡◌, ℕ, ◌+◌, ◌*◌, ◌/◌, ◌%◌, ◌<◌, ◌≤◌, true, List, length, slice_index}
+use Rattle.rcu_numbers.specs.declared.shape.TheConstants.{MOST_PROCESSORS}
+use Rattle.rcu_numbers.specs.declared.sequence.TheConstants.{GREATEST_NUMBER}
 use mathlib.Core.Option.{some}
 use lib.ListN.{get_elem?}
 use Rattle.atomic_table.specs.Table.{State}
@@ -19,7 +21,7 @@ pub record IsBoard (x : ℕ) : Type 0 where
   pub state : number_of x % 4 < 2
   -- "At number 4j the mask is 0"
   pub idle : number_of x % 4 ≡ 0 → mask_of x ≡ 0
-  pub small : number_of x ≤ 2147483644
+  pub small : number_of x ≤ GREATEST_NUMBER
 
 -- "At number 4j+1, bit q is set exactly where q has made j counted reports; else q has made j+1. At number 4j [..] each processor has made j."
 abbrev pub Reported : ℕ → ℕ → ℕ → Type 0
@@ -116,7 +118,7 @@ pub record SeatLaw (n all : ℕ) (views : List View) : Type 0 where
 
 -- Between any two steps of any threads: the words and the views of a board for n processors, whose seats weigh `all` together.
 pub record BoardRule (n all : ℕ) (s : State ℕ View) : Type 0 where
-  pub few : n ≤ 32
+  pub few : n ≤ MOST_PROCESSORS
   pub words : length s.words ≡ words_of n
   pub board : BoardLaw n (slice_index s.words board_word) s.views
   pub needed : NeededLaw (slice_index s.words needed_word) s.views

@@ -1,5 +1,6 @@
 -- Who a seat is, and who may make which step: docs/specification/tables.md, "Kinds of atomic step".
 use Rattle.std.specs.Prelude.{◌≡◌, ℕ, ◌+◌, ◌*◌, ◌<◌, ◌≤◌, true, [], ◌∷◌, length}
+use Rattle.rcu_numbers.specs.declared.sequence.TheConstants.{GREATEST_NUMBER}
 use Rattle.atomic_table.specs.Table.{Me}
 use Rattle.rcu_board.specs.Views.{sight, cpus}
 use Rattle.rcu_board.specs.declared.board.Role.{Role}
@@ -10,7 +11,7 @@ use Rattle.rcu_board.specs.declared.view.View.{View}
 pub record CanStep (words : ℕ) (m : Me ℕ View) : Type 0 where
   pub carries_nothing : m.1 ≡ []
   pub live : 0 < m.0.weight
-  pub small : sight m.0 ≤ 2147483644
+  pub small : sight m.0 ≤ GREATEST_NUMBER
   pub seen_long : length m.0.seen ≡ words
   pub steps_long : length m.0.steps ≡ words
 

@@ -1,5 +1,6 @@
 -- Words for the clauses of steps.
 use Rattle.std.specs.Prelude.{◌≡◌, ℕ, ◌+◌, ◌%◌, ◌<◌, ◌≤◌, List, [], ◌∷◌, length, Option, None}
+use Rattle.rcu_numbers.specs.declared.shape.TheConstants.{MOST_CALLBACKS}
 use Rattle.rcu_numbers.specs.Words.{owes_of}
 use Rattle.rcu_board.specs.Words.{halt_word, accepts_word, turns_word}
 use Rattle.rcu_board.specs.Views.{seen_at, sight, fresh_count}
@@ -90,7 +91,7 @@ pub record IsRunning (p : ℕ) (v : View) : Type 0 where
   pub claim : Claim
   pub alone : v.running ≡ claim ∷ []
   pub cpu : claim.cpu ≡ p
-  pub small : claim.number < 1000000
+  pub small : claim.number < MOST_CALLBACKS
 
 -- ---- urging
 

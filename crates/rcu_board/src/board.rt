@@ -1,6 +1,7 @@
 //! What the parts share, and what each of them steps with.
 
 ghost use Rattle.std.specs.Prelude.{◌≡◌, ◌+◌, ◌*◌, ◌<◌, ◌≤◌, ◌^◌, ◌↔◌, IsTrue};
+ghost use Rattle.rcu_numbers.specs.declared.shape.TheConstants.{MOST_PROCESSORS};
 ghost use Rattle.rcu_board.specs.Memory.{id_of, many};
 ghost use Rattle.rcu_board.specs.Roles.{SeatOfRole, FirstSeat};
 ghost use Rattle.rcu_board.specs.declared.padding.TheConstants.{LINE_WORDS};
@@ -27,21 +28,21 @@ pub struct Board {
     pub(crate) offloadable: u32,
     ghost sized: { (id_of words).words ≡ LINE_WORDS * (4 + 3 * processors) },
     ghost framed: { words.table.shared.key.processors ≡ processors },
-    ghost few: { processors ≤ 32 },
+    ghost few: { processors ≤ MOST_PROCESSORS },
 }
 
 impl Board {
     /// How many processors there are, 1 to 32.
     pub fn processors(&self) -> u64
         ensures same { result ≡ self.now.processors }
-        ensures few { result ≤ 32 }
+        ensures few { result ≤ MOST_PROCESSORS }
     {
         self.processors
     }
 
     /// Whether processor `p` starts Offloaded and may be switched.
     pub fn is_offloadable(&self, p: u64) -> bool
-        requires { p < 32 }
+        requires { p < MOST_PROCESSORS }
         ensures { IsTrue result ↔ (owes_of self.now.offloadable p ≡ 1) }
     {
         is_offloadable(self.offloadable, p)
@@ -50,7 +51,7 @@ impl Board {
 
 /// Whether bit `p` stands in the mask.
 pub(crate) fn is_offloadable(mask: u32, p: u64) -> bool
-    requires { p < 32 }
+    requires { p < MOST_PROCESSORS }
     ensures { IsTrue result ↔ (owes_of mask p ≡ 1) }
 {
     BoardWord::pack(0, mask).owes(p)

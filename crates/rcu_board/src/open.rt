@@ -1,6 +1,7 @@
 //! A board and all its seats.
 
 ghost use Rattle.std.specs.Prelude.{◌≡◌, ℕ, ◌+◌, ◌-◌, ◌*◌, ◌<◌, ◌≤◌, ◌/◌, ◌==◌, ◌&&◌, [], ◌∷◌, length, vec_len, vec_capacity, IfOk, true, false};
+ghost use Rattle.rcu_numbers.specs.declared.shape.TheConstants.{MOST_PROCESSORS};
 ghost use Rattle.rcu_board.specs.Views.{new_own, given_plain, plain, given_own, with_own, given_control, with_control, opening_view, new_owns_between, new_view};
 ghost use Rattle.rcu_board.specs.Plays.{all_seats};
 ghost use Rattle.rcu_board.specs.Roles.{IsPlain};
@@ -127,7 +128,7 @@ fn own_seats(alloc: Global, board: &Board, maker: &mut Maker) -> Result<Vec<Seat
 fn hand_seats(alloc: Global, board: &Board, maker: &mut Maker) -> Result<Vec<Seat>, AllocError>
     requires board { MakerAt board.now maker.old }
     requires maker { maker_view maker.old ≡ new_view board.now.processors board.now.offloadable (maker_view maker.old).weight true true [] }
-    requires weight { 32 < (maker_view maker.old).weight }
+    requires weight { MOST_PROCESSORS < (maker_view maker.old).weight }
     ensures board { MakerAt board.now maker.new }
     ensures maker { IfOk result (λ v. maker_view maker.new ≡ new_view board.now.processors board.now.offloadable ((maker_view maker.old).weight - length v.items) true true []) }
     ensures seats { IfOk result (λ v. SeatForEach (IsNewHand board.now) (numbers_where (is_offloadable board.now.offloadable) 0 board.now.processors) v.items) }
@@ -152,7 +153,7 @@ fn group_seats(
 ) -> Result<Vec<Seat>, AllocError>
     requires board { MakerAt board.now maker.old }
     requires maker { maker_view maker.old ≡ new_view board.now.processors board.now.offloadable (maker_view maker.old).weight true true [] }
-    requires weight { 32 < (maker_view maker.old).weight }
+    requires weight { MOST_PROCESSORS < (maker_view maker.old).weight }
     requires stride { 0 < stride }
     ensures board { MakerAt board.now maker.new }
     ensures maker { IfOk result (λ v. maker_view maker.new ≡ new_view board.now.processors board.now.offloadable ((maker_view maker.old).weight - length v.items) true true []) }
@@ -171,7 +172,7 @@ fn group_seats(
 
 /// Whether group `g`, where `stride` neighbours make a group, has an offloadable member among `n` processors.
 fn has_offloadable(mask: u32, stride: u64, n: u64, g: u64) -> bool
-    requires few { n ≤ 32 }
+    requires few { n ≤ MOST_PROCESSORS }
     requires stride { 0 < stride }
     ensures { result ≡ has_offloadable mask stride n g }
 {
@@ -184,7 +185,7 @@ fn has_offloadable(mask: u32, stride: u64, n: u64, g: u64) -> bool
 
 /// Whether processor `p` is offloadable and in group `g`.
 fn is_offloaded_member(mask: u32, stride: u64, p: u64, g: u64) -> bool
-    requires few { p < 32 }
+    requires few { p < MOST_PROCESSORS }
     requires stride { 0 < stride }
     ensures { result ≡ (is_offloadable mask p && (p / stride == g)) }
 {

@@ -3,6 +3,8 @@
 
 ghost use Rattle.std.specs.Prelude.{◌≡◌, ◌≢◌, ℕ, ◌+◌, ◌*◌, ◌/◌, ◌%◌, ◌<◌, ◌≤◌, ◌↔◌, IsTrue, IfSome, IfNone, IsNone, IfOk, IfErr, OnOk, None, [], length, max, bit_or, bit_and};
 ghost use Rattle.std.specs.Int.{from_bool};
+ghost use Rattle.rcu_numbers.specs.declared.shape.TheConstants.{MOST_CALLBACKS};
+ghost use Rattle.rcu_numbers.specs.declared.sequence.TheConstants.{GREATEST_NUMBER};
 ghost use Rattle.rcu_numbers.specs.Numbers.{IsIdle, IsInProgress};
 ghost use Rattle.rcu_numbers.specs.Words.{Owes, packed, all_of, all_but_of, owes_of};
 ghost use Rattle.rcu_board.specs.Words.{accepts_word, turns_word, asks_word, urge_word, bits_of};
@@ -80,7 +82,7 @@ pub fn start(board: &Board, seat: &mut Seat, seq: u64)
     requires who { IsDriver seat.old.role }
     requires seen { sight (view seat.old) ≡ seq }
     requires idle { IsIdle seq }
-    requires left { seq < 2147483644 }
+    requires left { seq < GREATEST_NUMBER }
     ensures same { SameSeat seat.old seat.new }
     ensures view { view seat.new ≡ touched 0 (packed (seq + 1) (all_of board.now.processors)) (view seat.old) }
     ensures sight { sight (view seat.new) ≡ seq + 1 }
@@ -152,7 +154,7 @@ pub fn accept(board: &Board, seat: &mut Seat, count: u64, key: u64) -> Option<u6
     requires who { IsProcessor seat.old.role }
     requires count { length (accepted_of (view seat.old)) ≡ count }
     requires stamped { fresh_of (view seat.old) ≡ None }
-    requires small { count < 1000000 }
+    requires small { count < MOST_CALLBACKS }
     ensures same { SameSeat seat.old seat.new }
     ensures number { IfSome result (λ number. number ≡ count) }
     ensures won { IfSome result (λ number. view seat.new ≡ accepted (accepts_word (cpu_of_role seat.old.role)) (2 * count + 2) key (view seat.old)) }
@@ -221,7 +223,7 @@ pub fn claim(board: &Board, seat: &mut Seat, number: u64) -> Claimed
     requires board { AtBoard board.now seat.old }
     requires who { MayClaim seat.old.role }
     requires rests { (view seat.old).running ≡ [] }
-    requires small { number < 1000000 }
+    requires small { number < MOST_CALLBACKS }
     ensures same { SameSeat seat.old seat.new }
     ensures won { let p = cpu_of_role seat.old.role in IfWon result (view seat.new ≡ claiming (turns_word p) (2 * number + 1) p number (view seat.old)) }
     ensures lost { IfNot result (λ word. view seat.new ≡ touched (turns_word (cpu_of_role seat.old.role)) word (view seat.old)) }

@@ -5,8 +5,8 @@ use Rattle.rcu_jobs.specs.declared.DriverTurn.{DriverTurn}
 use Rattle.rcu_jobs.specs.declared.DriverTurn.TheVariants.{Ended, Idle, Spent, Started, Waits}
 use Rattle.rcu_jobs.specs.declared.Lists.{Lists}
 use Rattle.rcu_jobs.specs.declared.Lists.TheVariants.{Cpu, Folk}
-use Rattle.rcu_jobs.specs.declared.Mode.{Mode}
-use Rattle.rcu_jobs.specs.declared.Mode.TheVariants.{Deoffloading, Local, Offloaded, Offloading}
+use Rattle.rcu_jobs.specs.declared.modes.Mode.{Mode}
+use Rattle.rcu_jobs.specs.declared.modes.Mode.TheVariants.{Deoffloading, Local, Offloaded, Offloading}
 use Rattle.rcu_jobs.specs.declared.callback.Record.{Record}
 use Rattle.rcu_lending.specs.declared.job.ForeignJob.{ForeignJob}
 use Rattle.rcu_c.specs.declared.words.CountWords.{CountWords}

@@ -2,6 +2,7 @@
 
 ghost use Rattle.std.specs.Prelude.{◌≡◌, ◌≢◌, ◌<◌, ◌≤◌};
 ghost use Rattle.std.specs.Int.{from_bool};
+ghost use Rattle.rcu_numbers.specs.declared.shape.TheConstants.{MOST_PROCESSORS};
 ghost use Rattle.rcu_c.specs.Exports.{Refuses, Tells, TellsPoll};
 ghost use Rattle.rcu_lending.specs.Barriers.{OpensPart};
 ghost use Rattle.rcu_lending.specs.Others.{HaltsBy, ShutsBy, SwitchesPart};
@@ -45,9 +46,9 @@ pub extern "C" fn rcuo_slot_poll(
     barrier: &CountWords,
     passed: &mut bool,
 ) -> u32
-    ensures tells { barrier.now.processors ≤ 32
+    ensures tells { barrier.now.processors ≤ MOST_PROCESSORS
         → TellsPoll barrier.now passed.new result slot.old slot.new }
-    ensures foreign { 32 < barrier.now.processors → Refuses Foreign result slot.old slot.new }
+    ensures foreign { MOST_PROCESSORS < barrier.now.processors → Refuses Foreign result slot.old slot.new }
     ensures stays { result ≢ 0 → passed.new ≡ passed.old }
 {
     let Some(counts) = counts_of_words(barrier) else {

@@ -5,6 +5,7 @@ ghost use Rattle.rcu_c.specs.Words.{AreCountsOf, AreListWords, AreTurnWords, mod
 
 use rcu_jobs::{Counts, DriverTurn, Lists, Mode};
 use rcu_lending::ForeignJob;
+use rcu_numbers::MOST_PROCESSORS;
 
 /// `struct rcuo_settings`.
 #[repr(C)]
@@ -85,9 +86,9 @@ pub(crate) fn words_of_counts(counts: &Counts) -> CountWords
 /// The counts of words; None where there are too many processors.
 pub(crate) fn counts_of_words(words: &CountWords) -> Option<Counts>
     ensures some { IfSome result (λ counts. AreCountsOf words.now counts) }
-    ensures none { IfNone result (32 < words.now.processors) }
+    ensures none { IfNone result (MOST_PROCESSORS < words.now.processors) }
 {
-    if words.processors > 32 {
+    if words.processors > MOST_PROCESSORS {
         return None;
     }
     let mut counts = Counts::new(words.processors);

@@ -1,5 +1,6 @@
 -- What a turn of the driver did, by its answer: docs/specification/rules.md, "The calls, step by step", `Driver::turn`.
 use Rattle.std.specs.Prelude.{◌≡◌, ◌≢◌, ℕ, ◌+◌, ◌<◌, ◌≤◌}
+use Rattle.rcu_numbers.specs.declared.sequence.TheConstants.{GREATEST_NUMBER}
 use Rattle.rcu_numbers.specs.Numbers.{IsIdle, IsInProgress}
 use Rattle.rcu_numbers.specs.Words.{number_of, packed, all_of}
 use Rattle.rcu_board.specs.Words.{board_word, needed_word}
@@ -8,10 +9,6 @@ use Rattle.rcu_board.specs.Plays.{touched, looked}
 use Rattle.rcu_board.specs.declared.view.View.{View}
 use Rattle.rcu_jobs.specs.declared.DriverTurn.{DriverTurn}
 use Rattle.rcu_jobs.specs.declared.DriverTurn.TheVariants.{Idle, Started, Ended, Waits, Spent}
-
--- the greatest number, from which no grace period starts
-abbrev pub last_number : ℕ
-last_number = 2147483644
 
 -- ---- on an idle number, which the view has
 
@@ -32,7 +29,7 @@ pub record Began (n s : ℕ) (v w : View) : Type 0 where
 pub record HasSpent (v w : View) : Type 0 where
   pub asked : ℕ
   pub needed : sight v < asked
-  pub spent : last_number ≤ sight v
+  pub spent : GREATEST_NUMBER ≤ sight v
   pub steps : w ≡ touched needed_word asked v
 
 abbrev pub BeginsBy : ℕ → DriverTurn → View → View → Type 0

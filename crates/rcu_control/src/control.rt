@@ -2,6 +2,7 @@
 
 ghost use Rattle.std.specs.Prelude.{◌≡◌, ◌≤◌};
 ghost use Rattle.std.specs.Arc.{arc_value};
+ghost use Rattle.rcu_numbers.specs.declared.shape.TheConstants.{MOST_PROCESSORS};
 ghost use Rattle.rcu_board.specs.Seats.{view, AtBoard};
 ghost use Rattle.rcu_board.specs.declared.board.Role.{Role};
 ghost use Rattle.rcu_control.specs.Views.{IsBare, SamePart};
@@ -44,7 +45,7 @@ impl Control {
     /// How many processors there are, 1 to 32: as many as a barrier counts that this board's parts may poll.
     pub fn processors(&self) -> u64
         ensures board { result ≡ (control_board self.now).processors }
-        ensures few { result ≤ 32 }
+        ensures few { result ≤ MOST_PROCESSORS }
     {
         self.board.processors()
     }

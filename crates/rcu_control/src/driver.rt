@@ -1,6 +1,7 @@
 //! The part that starts and ends all grace periods.
 
 ghost use Rattle.std.specs.Prelude.{◌≡◌, ◌<◌, ◌≤◌};
+ghost use Rattle.rcu_numbers.specs.declared.sequence.TheConstants.{GREATEST_NUMBER};
 ghost use Rattle.std.specs.Arc.{arc_value};
 ghost use Rattle.rcu_board.specs.Seats.{view, AtBoard};
 ghost use Rattle.rcu_board.specs.declared.board.Role.{Role};
@@ -29,7 +30,7 @@ impl Driver {
     ghost use Rattle.rcu_board.specs.Words.{board_word, halt_word};
     ghost use Rattle.rcu_numbers.specs.Numbers.{IsIdle, IsInProgress};
     ghost use Rattle.rcu_control.specs.Parts.{driver_board, driver_seat, driver_view};
-    ghost use Rattle.rcu_control.specs.Driving.{DrivesBy, BeginsBy, ConcludesBy, last_number};
+    ghost use Rattle.rcu_control.specs.Driving.{DrivesBy, BeginsBy, ConcludesBy};
 
     /// The driver of a board, from its seat.
     pub fn new(board: Arc<Board, Global>, seat: Seat) -> Driver
@@ -61,7 +62,7 @@ impl Driver {
     fn begin(&mut self, seq: u64) -> DriverTurn
         requires seen { sight (driver_view self.old) ≡ seq }
         requires idle { IsIdle seq }
-        requires small { seq ≤ last_number }
+        requires small { seq ≤ GREATEST_NUMBER }
         ensures same { SamePart (driver_board self.old) (driver_board self.new) (driver_seat self.old) (driver_seat self.new) }
         ensures begins { BeginsBy (driver_board self.old).processors result (driver_view self.old) (driver_view self.new) }
     {
@@ -80,7 +81,7 @@ impl Driver {
     fn conclude(&mut self, seq: u64) -> DriverTurn
         requires seen { sight (driver_view self.old) ≡ seq }
         requires busy { IsInProgress seq }
-        requires small { seq ≤ last_number }
+        requires small { seq ≤ GREATEST_NUMBER }
         ensures same { SamePart (driver_board self.old) (driver_board self.new) (driver_seat self.old) (driver_seat self.new) }
         ensures concludes { ConcludesBy result (driver_view self.old) (driver_view self.new) }
     {

@@ -1,6 +1,6 @@
 ghost use Rattle.std.specs.Prelude.{◌≡◌, ◌+◌, ◌<◌, false, length, OnOk};
 ghost use Rattle.rcu_holdings.specs.ProcessorLists.{holding, passed_on, put_by, rear_of};
-ghost use Rattle.rcu_holdings.specs.Modes.{is_offloaded};
+ghost use Rattle.rcu_jobs.specs.Modes.{is_offloaded};
 ghost use Rattle.rcu_lanes.specs.Ends.{SameRear};
 ghost use Rattle.rcu_numbers.specs.declared.shape.TheConstants.{MOST_CALLBACKS};
 

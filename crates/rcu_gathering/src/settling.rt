@@ -1,6 +1,7 @@
 //! The last loads.
 
 ghost use Rattle.std.specs.Prelude.{◌≡◌, ℕ, ◌<◌};
+ghost use Rattle.rcu_numbers.specs.declared.shape.TheConstants.{MOST_PROCESSORS};
 ghost use Rattle.rcu_board.specs.Laws.{IsBoard, Reported};
 ghost use Rattle.rcu_board.specs.Plays.{all_seats};
 ghost use Rattle.rcu_board.specs.Seats.{GatheredAt, SameGathered, gathered_view};
@@ -29,7 +30,7 @@ pub fn settle(board: &Board, all: &mut Gathered) -> BoardWord
 /// period that has begun, but for one in progress where the processor's bit is set.
 pub fn reports_by(word: BoardWord, p: u64) -> u64
     requires word { IsBoard (bits_of word) }
-    requires processor { p < 32 }
+    requires processor { p < MOST_PROCESSORS }
     ensures { (reports : ℕ) → Reported (bits_of word) p reports → result ≡ reports }
 {
     let begun = (word.seq() + 3) / 4;

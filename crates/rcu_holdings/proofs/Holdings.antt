@@ -5,8 +5,8 @@ use Rattle.std.proofs.lemmas.Bool.{cases_Bool}
 use Rattle.std.proofs.lemmas.List.{append-nil, append_assoc, length-append}
 use Rattle.std.proofs.lemmas.List.Elements.{All-head, All-tail, All-nil, All-push}
 use Rattle.rcu_jobs.specs.declared.callback.Callback.{Callback}
-use Rattle.rcu_jobs.specs.declared.turns.Mode.{Mode}
-use Rattle.rcu_jobs.specs.declared.turns.Mode.TheVariants.{Deoffloading}
+use Rattle.rcu_jobs.specs.declared.modes.Mode.{Mode}
+use Rattle.rcu_jobs.specs.declared.modes.Mode.TheVariants.{Deoffloading}
 use Rattle.rcu_numbers.specs.Numbers.{snap_of}
 use Rattle.rcu_numbers.specs.declared.shape.TheConstants.{MOST_CALLBACKS}
 use Rattle.rcu_lists.specs.Labels.{Done, Bare, Labelled, marked, count, is_done, callbacks_of}
@@ -15,7 +15,7 @@ use Rattle.rcu_lists.specs.declared.pace.Kind.{Kind}
 use Rattle.rcu_lists.specs.declared.pace.Pace.{Pace}
 use Rattle.rcu_holdings.specs.Aims.{AreAimed}
 use Rattle.rcu_holdings.specs.ProcessorLists.{Holding, first_holding, passed_on, asked_off}
-use Rattle.rcu_holdings.specs.Modes.{first_mode, is_offloaded, is_offloading}
+use Rattle.rcu_jobs.specs.Modes.{first_mode, is_offloaded, is_offloading}
 use Rattle.rcu_holdings.specs.Outgoing.{Outgoing, IsReleased, IsReleasedIfAny, poured, kept, is_due_with, is_due_in_tick, in_tick}
 use Rattle.rcu_holdings.specs.Limits.{IsSafe, AreFew, AreSafe}
 use Rattle.rcu_holdings.proofs.Aims.{callbacks-append, aimed-left}

@@ -2,25 +2,15 @@
 ghost use Rattle.std.specs.Prelude.{◌≡◌, ◌<◌, true, [], ◌∷◌, ◌++◌, length, IsOk, OnOk};
 ghost use Rattle.rcu_lanes.specs.Ends.{SameRear};
 ghost use Rattle.rcu_holdings.specs.ProcessorLists.{holding, rear_of, passed_on, IsReady, Takes};
-ghost use Rattle.rcu_holdings.specs.Modes.{is_offloaded};
+ghost use Rattle.rcu_jobs.specs.Modes.{is_offloaded};
 ghost use Rattle.rcu_holdings.specs.Limits.{IsSafe};
 
 use crate::processor_lists::ProcessorLists;
 use crate::sending::hold_or_send;
-use rcu_jobs::{Callback, Mode};
+use rcu_jobs::Callback;
 use rcu_lists::Kind;
 use rcu_numbers::MOST_CALLBACKS;
 use std::alloc::AllocError;
-
-/// Whether new callbacks go to the bypass list.
-pub(crate) fn in_offloaded(mode: Mode) -> bool
-    ensures { result ≡ is_offloaded mode }
-{
-    match mode {
-        Mode::Offloaded => true,
-        _ => false,
-    }
-}
 
 impl<J: Drop> ProcessorLists<J> {
     /// Finds room for one more callback, in the list that it goes to in this mode.
@@ -37,7 +27,7 @@ impl<J: Drop> ProcessorLists<J> {
         // An empty bypass list has room.
         ensures none { is_offloaded (holding self.old).mode ≡ true → (holding self.old).outgoing.bypass ≡ [] → IsOk result }
     {
-        if in_offloaded(self.mode) {
+        if self.mode.is_offloaded() {
             self.bypass.reserve()
         } else {
             self.own.reserve(1)
@@ -57,7 +47,7 @@ impl<J: Drop> ProcessorLists<J> {
         // It is behind all that went before.
         ensures places { passed_on (holding self.new) ≡ passed_on (holding self.old) ++ callback ∷ [] }
     {
-        if in_offloaded(self.mode) {
+        if self.mode.is_offloaded() {
             hold_or_send(&mut self.outlet, &mut self.bypass, moment, kind, callback);
         } else {
             self.own.enqueue(callback);

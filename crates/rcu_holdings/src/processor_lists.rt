@@ -9,7 +9,7 @@ ghost use Rattle.rcu_lists.specs.Release.{beginning};
 ghost use Rattle.rcu_lists.specs.Segments.{labelled, advanced_by};
 ghost use Rattle.rcu_holdings.specs.Aims.{AreAimed};
 ghost use Rattle.rcu_holdings.specs.Lanes.{put_calls};
-ghost use Rattle.rcu_holdings.specs.Modes.{first_mode, is_offloaded, is_deoffloading};
+ghost use Rattle.rcu_jobs.specs.Modes.{first_mode, is_offloaded, is_deoffloading};
 ghost use Rattle.rcu_holdings.specs.Limits.{AreFew, AreSafe, AreBelow};
 
 use crate::lane_ends::Outlet;
@@ -41,17 +41,6 @@ pub struct ProcessorLists<J> {
     ghost before: { is_deoffloading mode ≡ true → AreBelow left (put_calls outlet.rear) },
 }
 
-/// The mode in which a processor starts.
-fn first_mode(offloadable: bool) -> Mode
-    ensures { result ≡ first_mode offloadable }
-{
-    if offloadable {
-        Mode::Offloaded
-    } else {
-        Mode::Local
-    }
-}
-
 impl<J: Drop> ProcessorLists<J> {
     ghost use Rattle.rcu_holdings.specs.ProcessorLists.{holding, first_holding, rear_of, cpu_lists};
 
@@ -73,7 +62,7 @@ impl<J: Drop> ProcessorLists<J> {
         let outlet = Outlet::new(alloc, rear)?;
         Ok(ProcessorLists {
             outlet,
-            mode: first_mode(offloadable),
+            mode: Mode::first(offloadable),
             left: 0,
             own: Segments::new(alloc),
             bypass: Bypass::new(alloc, qhimark),

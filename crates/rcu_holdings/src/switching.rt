@@ -2,10 +2,10 @@
 ghost use Rattle.std.specs.Prelude.{◌≡◌, ◌/◌, ◌&&◌, ◌||◌, true, false};
 ghost use Rattle.rcu_lanes.specs.Ends.{SameRear};
 ghost use Rattle.rcu_holdings.specs.ProcessorLists.{Holding, holding, rear_of, put_by, passed_on, AskedOn, asked_off, Releases};
-ghost use Rattle.rcu_holdings.specs.Modes.{is_local, is_offloaded, is_offloading, settled};
+ghost use Rattle.rcu_jobs.specs.Modes.{is_local, is_offloaded, is_offloading};
+ghost use Rattle.rcu_holdings.specs.Modes.{settled};
 ghost use Rattle.rcu_holdings.specs.Limits.{AreBelow};
 
-use crate::calling::in_offloaded;
 use crate::processor_lists::ProcessorLists;
 use crate::sending::{pour_out, send_in_tick};
 use rcu_jobs::Mode;
@@ -66,7 +66,7 @@ impl<J: Drop> ProcessorLists<J> {
         ensures on { AskedOn (holding self.old) (holding self.new) }
         ensures places { passed_on (holding self.new) ≡ passed_on (holding self.old) }
     {
-        if in_offloaded(self.mode) {
+        if self.mode.is_offloaded() {
             return;
         }
         if pour_out(&mut self.own, &mut self.outlet, &mut self.bypass) {

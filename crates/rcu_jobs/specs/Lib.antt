@@ -1,3 +1,4 @@
+pub mod Modes
 pub mod Promised
 pub mod Records
 pub mod Refusals

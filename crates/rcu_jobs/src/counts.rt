@@ -1,6 +1,7 @@
 //! One count for each processor, without memory.
 
 ghost use Rattle.std.specs.Prelude.{◌≡◌, ◌≢◌, ℕ, ◌<◌, ◌≤◌, length, take, replicate, slice_index, slice_set};
+ghost use Rattle.rcu_jobs.specs.declared.counts.TheConstants.{MOST};
 
 /// How many processors a runtime has at most.
 const MOST: usize = 32;
@@ -12,16 +13,16 @@ pub struct Counts {
     pub n: u64,
     /// The count of processor `p` at place `p`.
     pub counts: [u64; MOST],
-    pub ghost fits: { n ≤ 32 },
-    pub ghost others: { (p : ℕ) → n ≤ p → p < 32 → slice_index counts p ≡ 0 },
+    pub ghost fits: { n ≤ MOST },
+    pub ghost others: { (p : ℕ) → n ≤ p → p < MOST → slice_index counts p ≡ 0 },
 }
 
 impl Counts {
     /// No count of any of `n` processors.
     pub fn new(n: u64) -> Counts
-        requires { n ≤ 32 }
+        requires { n ≤ MOST }
         ensures processors { result.n ≡ n }
-        ensures zero { result.counts ≡ replicate 32 0 }
+        ensures zero { result.counts ≡ replicate MOST 0 }
     {
         Counts {
             n,

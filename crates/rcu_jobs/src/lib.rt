@@ -9,6 +9,7 @@ mod boxed;
 mod callback;
 mod counts;
 mod job;
+mod modes;
 mod turns;
 
 pub use answers::{BarrierFault, Closed, Passed, Refused, SwitchFault, Ticket};
@@ -16,7 +17,8 @@ pub use boxed::BoxedJob;
 pub use callback::{Callback, Record, run_callback};
 pub use counts::Counts;
 pub use job::Job;
-pub use turns::{DriverTurn, GroupTurn, HandTurn, Lists, Mode, Stop, Ticked};
+pub use modes::Mode;
+pub use turns::{DriverTurn, GroupTurn, HandTurn, Lists, Stop, Ticked};
 
 #[cfg(test)]
 mod tests;

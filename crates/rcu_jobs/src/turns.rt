@@ -1,17 +1,6 @@
 //! What turns answer, and what parts show of their lists.
 
-/// Where a processor's new callbacks go (docs/specification/rules.md, "Modes").
-#[derive(Clone, Copy, Debug, PartialEq, Eq)]
-pub enum Mode {
-    /// To its own list. Its tick runs them.
-    Local,
-    /// To its own list, until its tick finds room to pour it into the bypass list.
-    Offloading,
-    /// To its bypass list. Its hand runs them.
-    Offloaded,
-    /// To its own list, while callbacks of the time before still wait with its group or hand.
-    Deoffloading,
-}
+use crate::modes::Mode;
 
 /// What a part shows of a list: `lengths` are those of done, wait, next-ready and next, `numbers` those of wait and
 /// next-ready, 0 while empty.

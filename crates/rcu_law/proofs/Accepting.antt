@@ -8,7 +8,8 @@ use Rattle.rcu_law.specs.declared.marks.Mark.{Mark}
 use Rattle.rcu_law.specs.declared.marks.Mark.TheVariants.{Accepted}
 use Rattle.rcu_law.specs.Calls.{Call}
 use Rattle.rcu_law.specs.Law.{accepted, ran}
-use Rattle.rcu_law.specs.States.{State, Cpu, cpu_at, has, is_offloaded}
+use Rattle.rcu_jobs.specs.Modes.{is_offloaded}
+use Rattle.rcu_law.specs.States.{State, Cpu, cpu_at, has}
 use Rattle.rcu_law.specs.Releases.{Pace, differs, pace_after_plain, pace_after_stamp}
 use Rattle.rcu_law.specs.Steps.{can_accept, accepts, with_stamp, fresh_calls, stamps_into, with_pace, stamps}
 use Rattle.rcu_law.specs.Lists.{is_none, is_nil}

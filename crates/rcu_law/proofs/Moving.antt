@@ -5,12 +5,13 @@ use Rattle.std.proofs.lemmas.List.{append-nil, take-append-drop, map-append}
 use Rattle.rcu_law.specs.declared.marks.Mark.{Mark}
 use Rattle.rcu_law.specs.Calls.{Call}
 use Rattle.rcu_law.specs.LabelledLists.{Labelled, bare, call_of}
-use Rattle.rcu_law.specs.States.{State, Cpu, cpu_at, has, is_offloadable, is_offloaded, is_deoffloading}
+use Rattle.rcu_jobs.specs.Modes.{is_offloaded, is_deoffloading}
+use Rattle.rcu_law.specs.States.{State, Cpu, cpu_at, has, is_offloadable}
 use Rattle.rcu_law.specs.Releases.{Pace, pace_after_put}
 use Rattle.rcu_law.specs.Steps.{with_pace, hand_looks, given_count, puts, draws, joins, gives, fetches, pours, leaves, heeds_mode, heeds, settles}
 use Rattle.rcu_law.specs.Lists.{is_none, is_nil, first_batch, tail, needed_with}
-use Rattle.rcu_law.specs.declared.modes.Mode.{Mode}
-use Rattle.rcu_law.specs.declared.modes.Mode.TheVariants.{Local, Offloading, Offloaded, Deoffloading}
+use Rattle.rcu_jobs.specs.declared.modes.Mode.{Mode}
+use Rattle.rcu_jobs.specs.declared.modes.Mode.TheVariants.{Local, Offloading, Offloaded, Deoffloading}
 use Rattle.rcu_law.specs.declared.who.Who.TheVariants as who
 use Rattle.rcu_law.proofs.LabelledLists.{labelled_nothing, labelled_added, labelled_dropped}
 use Rattle.rcu_law.specs.Events.{is_enabled, after}

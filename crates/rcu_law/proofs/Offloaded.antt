@@ -4,12 +4,13 @@ use Rattle.std.specs.List.{AllByRecursion}
 use Rattle.std.specs.Option.{option_to_list}
 use Rattle.std.proofs.lemmas.List.{append_cancel_right, length-map}
 use Rattle.rcu_law.specs.declared.marks.Mark.{Mark}
-use Rattle.rcu_law.specs.declared.modes.Mode.{Mode}
-use Rattle.rcu_law.specs.declared.modes.Mode.TheVariants.{Local, Offloading, Offloaded, Deoffloading}
+use Rattle.rcu_jobs.specs.declared.modes.Mode.{Mode}
+use Rattle.rcu_jobs.specs.declared.modes.Mode.TheVariants.{Local, Offloading, Offloaded, Deoffloading}
 use Rattle.rcu_law.specs.Calls.{Call}
 use Rattle.rcu_law.specs.LabelledLists.{Labelled, call_of}
 use Rattle.rcu_law.specs.Law.{ran}
-use Rattle.rcu_law.specs.States.{Cpu, is_offloaded, is_deoffloading}
+use Rattle.rcu_jobs.specs.Modes.{is_offloaded, is_deoffloading}
+use Rattle.rcu_law.specs.States.{Cpu}
 use Rattle.rcu_law.specs.Places.{key_of, flattened, stamped_callbacks, remaining_callbacks, offloaded_callbacks}
 use Rattle.rcu_law.specs.Invariant.{AreNumbered, IsPlacedInOrder, MayHaveOffloaded}
 use Rattle.rcu_law.proofs.Looks.{all_left}

@@ -6,7 +6,7 @@ use Rattle.rcu_law.specs.declared.marks.Mark.TheVariants.{Accepted, Ran}
 use Rattle.rcu_law.specs.Law.{IsSound}
 use Rattle.rcu_law.specs.States.{empty_cpu, Shape, opening, opening_cpu, opening_cpus}
 use Rattle.rcu_law.specs.Invariant.{IsCpu, IsCore, MayHaveOffloaded}
-use Rattle.rcu_law.specs.declared.modes.Mode.TheVariants.{Local, Offloaded}
+use Rattle.rcu_jobs.specs.declared.modes.Mode.TheVariants.{Local, Offloaded}
 use Rattle.rcu_law.proofs.Frames.{core_from}
 use Rattle.rcu_law.proofs.LabelledLists.{labelled_nothing}
 

@@ -4,13 +4,14 @@ use Rattle.std.proofs.lemmas.Bool.{cases_lt}
 use Rattle.std.proofs.lemmas.List.{get_or_past}
 use Rattle.rcu_law.specs.LabelledLists.{Labelled}
 use Rattle.rcu_law.specs.Law.{IsLawful, IsClosed}
-use Rattle.rcu_law.specs.States.{State, empty_cpu, cpu_at, has, is_offloaded, Shape, opening}
+use Rattle.rcu_jobs.specs.Modes.{is_offloaded}
+use Rattle.rcu_law.specs.States.{State, empty_cpu, cpu_at, has, Shape, opening}
 use Rattle.rcu_law.specs.Steps.{can_claim, can_claim_own}
 use Rattle.rcu_law.specs.declared.who.Side.TheVariants as sides
 use Rattle.rcu_law.specs.Events.{CoreEvent, is_enabled, run}
 use Rattle.rcu_law.specs.Events.CoreEvent.{Claim}
 use Rattle.rcu_law.specs.Invariant.{AreRecords, HasLabelledLists, IsCore, MayHaveOffloaded}
-use Rattle.rcu_law.specs.declared.modes.Mode.TheVariants.{Local}
+use Rattle.rcu_jobs.specs.declared.modes.Mode.TheVariants.{Local}
 use Rattle.rcu_law.specs.Places.{offloaded_callbacks}
 use Rattle.rcu_law.specs.Closing.{closing}
 use Rattle.rcu_law.proofs.Closing.{closed}

@@ -3,7 +3,8 @@
 use Rattle.std.specs.Prelude.{ℕ, ◌+◌, ◌%◌, Bool, true, false, ◌||◌, ◌&&◌, ◌==◌, not, nat_lt, if◌then◌else◌, List, [], ◌∷◌, ◌++◌, length, Option, Some, None, slice_set, replicate}
 use Rattle.rcu_numbers.specs.declared.sequence.TheConstants.{GREATEST_NUMBER}
 use Rattle.rcu_law.specs.Lists.{is_none, is_nil, all_of, none_owes, needed_with}
-use Rattle.rcu_law.specs.States.{State, Cpu, cpu_at, has, is_offloadable, is_member, owes, is_offloaded, is_deoffloading, barrier_at, is_open, count_at, with_cpu, with_barrier, with_board, with_mark}
+use Rattle.rcu_jobs.specs.Modes.{is_offloaded, is_deoffloading}
+use Rattle.rcu_law.specs.States.{State, Cpu, cpu_at, has, is_offloadable, is_member, owes, barrier_at, is_open, count_at, with_cpu, with_barrier, with_board, with_mark}
 use Rattle.rcu_law.specs.Releases.{pace_after_put, releases}
 use Rattle.rcu_law.specs.Steps.{can_accept, accepts, stamps, with_pace, puts, looks, group_looks, hand_looks, draws, joins, given, gives, fetches, can_claim, claimed, claims, can_finish, finishes, heeds, settles, counts_cpu, sees_cpu}
 use Rattle.rcu_law.specs.declared.marks.Mark.{Mark}

@@ -6,8 +6,8 @@ use Rattle.rcu_law.specs.declared.marks.Mark.{Mark}
 use Rattle.rcu_law.specs.declared.marks.Mark.TheVariants.{Accepted, Reported, Ran, Opened, Passed, Shut, Back}
 use Rattle.rcu_law.specs.declared.labels.Label.{Label}
 use Rattle.rcu_law.specs.declared.labels.Label.TheVariants.{Done, At, Bare}
-use Rattle.rcu_law.specs.declared.modes.Mode.{Mode}
-use Rattle.rcu_law.specs.declared.modes.Mode.TheVariants.{Local, Offloading, Offloaded, Deoffloading}
+use Rattle.rcu_jobs.specs.declared.modes.Mode.{Mode}
+use Rattle.rcu_jobs.specs.declared.modes.Mode.TheVariants.{Local, Offloading, Offloaded, Deoffloading}
 use Rattle.rcu_law.specs.declared.who.Side.{Side}
 use Rattle.rcu_law.specs.Lists.{is_nil, is_none}
 use Rattle.rcu_numbers.specs.Numbers.{snap_of}
@@ -16,7 +16,8 @@ use Rattle.rcu_law.specs.Numbers.{begun}
 use Rattle.rcu_law.specs.Calls.{Call}
 use Rattle.rcu_law.specs.LabelledLists.{Labelled, IsLabelledList, IsUpTo, MayAccelerate, advance, newest}
 use Rattle.rcu_law.specs.Law.{accepted, ran, IsAccepted, IsLawful}
-use Rattle.rcu_law.specs.States.{State, Cpu, Run, Barrier, cpu_at, is_offloaded, barrier_at, count_at}
+use Rattle.rcu_jobs.specs.Modes.{is_offloaded}
+use Rattle.rcu_law.specs.States.{State, Cpu, Run, Barrier, cpu_at, barrier_at, count_at}
 use Rattle.rcu_law.specs.Places.{key_of, stamped_callbacks, remaining_callbacks, offloaded_callbacks}
 
 -- Reports and the board.

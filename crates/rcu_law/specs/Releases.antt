@@ -2,7 +2,8 @@
 -- `docs/specification/definitions.md`, "Release").
 use Rattle.std.specs.Prelude.{ℕ, ◌+◌, Bool, true, false, ◌&&◌, ◌||◌, ◌==◌, not, nat_le, nat_lt, if◌then◌else◌, length, Option, Some, None}
 use Rattle.rcu_law.specs.Lists.{is_none, is_nil}
-use Rattle.rcu_law.specs.States.{Cpu, is_offloaded}
+use Rattle.rcu_jobs.specs.Modes.{is_offloaded}
+use Rattle.rcu_law.specs.States.{Cpu}
 
 -- the moment handed in differs from the last one, or there is none
 abbrev pub differs : Option ℕ → ℕ → Bool

@@ -4,8 +4,8 @@ use Rattle.std.proofs.Common.{zero, suc}
 use Rattle.rcu_law.specs.Calls.{Call}
 use Rattle.rcu_law.specs.LabelledLists.{Labelled}
 use Rattle.rcu_law.specs.declared.marks.Mark.{Mark}
-use Rattle.rcu_law.specs.declared.modes.Mode.{Mode}
-use Rattle.rcu_law.specs.declared.modes.Mode.TheVariants.{Local, Offloading, Offloaded, Deoffloading}
+use Rattle.rcu_jobs.specs.declared.modes.Mode.{Mode}
+use Rattle.rcu_jobs.specs.declared.modes.Mode.TheVariants.{Local, Offloading, Offloaded, Deoffloading}
 use Rattle.rcu_law.specs.declared.who.Side.{Side}
 
 -- A record without its receipt. `ready` is the number by which the callback might run: a sight of the part that claimed it
@@ -138,18 +138,6 @@ is_member w g p = is_offloadable w p && (p / w.shape.stride == g)
 
 abbrev pub owes : State → ℕ → Bool
 owes w q = slice_index_or w.owing q false
-
-abbrev pub is_offloaded : Mode → Bool
-is_offloaded Local = false
-is_offloaded Offloading = false
-is_offloaded Offloaded = true
-is_offloaded Deoffloading = false
-
-abbrev pub is_deoffloading : Mode → Bool
-is_deoffloading Local = false
-is_deoffloading Offloading = false
-is_deoffloading Offloaded = false
-is_deoffloading Deoffloading = true
 
 abbrev pub barrier_at : State → ℕ → Barrier
 barrier_at w b = slice_index_or w.barriers b no_barrier

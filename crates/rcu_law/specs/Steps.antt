@@ -5,10 +5,11 @@ use Rattle.rcu_numbers.specs.Numbers.{snap_of}
 use Rattle.rcu_law.specs.Lists.{is_none, is_nil, first_batch, tail, value_or}
 use Rattle.rcu_law.specs.Calls.{Call}
 use Rattle.rcu_law.specs.LabelledLists.{Labelled, is_done, bare, call_of, looked, wanted_by_look, done_count}
-use Rattle.rcu_law.specs.States.{State, Cpu, Barrier, cpu_at, count_at, is_offloaded}
+use Rattle.rcu_jobs.specs.Modes.{is_offloaded}
+use Rattle.rcu_law.specs.States.{State, Cpu, Barrier, cpu_at, count_at}
 use Rattle.rcu_law.specs.Releases.{Pace, pace_after_stamp}
-use Rattle.rcu_law.specs.declared.modes.Mode.{Mode}
-use Rattle.rcu_law.specs.declared.modes.Mode.TheVariants.{Local, Offloading, Offloaded, Deoffloading}
+use Rattle.rcu_jobs.specs.declared.modes.Mode.{Mode}
+use Rattle.rcu_jobs.specs.declared.modes.Mode.TheVariants.{Local, Offloading, Offloaded, Deoffloading}
 use Rattle.rcu_law.specs.declared.who.Side.{Side}
 use Rattle.rcu_law.specs.declared.who.Side.TheVariants as sides
 

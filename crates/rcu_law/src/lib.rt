@@ -6,17 +6,17 @@
 
 pub mod labels;
 pub mod marks;
-pub mod modes;
 pub mod who;
 
 ghost use Rattle.std.specs.Prelude.{[], ℕ, List, false, true, ◌≡◌, ◌<◌, ◌≤◌};
 ghost use Rattle.rcu_law.specs.declared.marks.Mark.{Mark};
-ghost use Rattle.rcu_law.specs.States.{Shape, opening, cpu_at, is_offloaded};
+ghost use Rattle.rcu_jobs.specs.Modes.{is_offloaded};
+ghost use Rattle.rcu_law.specs.States.{Shape, opening, cpu_at};
 ghost use Rattle.rcu_law.specs.Events.{CoreEvent, is_enabled, run};
 ghost use Rattle.rcu_law.specs.Events.CoreEvent.{Claim};
 ghost use Rattle.rcu_law.specs.Invariant.{AreRecords, HasLabelledLists};
 ghost use Rattle.rcu_law.specs.Places.{offloaded_callbacks};
-ghost use Rattle.rcu_law.specs.declared.modes.Mode.TheVariants.{Local};
+ghost use Rattle.rcu_jobs.specs.declared.modes.Mode.TheVariants.{Local};
 ghost use Rattle.rcu_law.specs.declared.who.Side.TheVariants as sides;
 ghost use Rattle.rcu_law.specs.Law.{IsLawful, IsClosed, HasNothingAcceptedAfterBack};
 ghost use Rattle.rcu_law.specs.Closing.{closing};

@@ -1,6 +1,7 @@
 //! The board's word.
 
 ghost use Rattle.std.specs.Prelude.{◌≡◌, ◌≢◌, ℕ, ◌+◌, ◌^◌, ◌<◌, ◌≤◌, ◌↔◌, IsTrue, bit_and};
+ghost use Rattle.rcu_numbers.specs.declared.shape.TheConstants.{MOST_PROCESSORS};
 ghost use Rattle.rcu_numbers.specs.Words.{Board, Owes, all_but_of, all_of, board_of, mask_of, number_of, owes_of, packed};
 
 use std::marker::Model;
@@ -65,7 +66,7 @@ impl BoardWord {
 
     /// Whether processor `p` owes a report.
     pub fn owes(self, p: u64) -> bool
-        requires { p < 32 }
+        requires { p < MOST_PROCESSORS }
         ensures { IsTrue result ↔ Owes self p }
     {
         (self.mask() >> p) & 1 == 1
@@ -73,10 +74,10 @@ impl BoardWord {
 
     /// The word after the report of processor `p`: it owes none, and nothing else changed.
     pub fn reported(self, p: u64) -> BoardWord
-        requires { p < 32 }
+        requires { p < MOST_PROCESSORS }
         ensures number { result.seq ≡ self.seq }
         ensures cleared { ¬ Owes result p }
-        ensures others { (q : ℕ) → q < 32 → q ≢ p → Owes result q ↔ Owes self q }
+        ensures others { (q : ℕ) → q < MOST_PROCESSORS → q ≢ p → Owes result q ↔ Owes self q }
     {
         BoardWord {
             bits: self.bits & all_but(p),
@@ -86,7 +87,7 @@ impl BoardWord {
 
 /// The mask of the first `n` processors, as a start sets it.
 pub fn all_processors(n: u64) -> u32
-    requires { n ≤ 32 }
+    requires { n ≤ MOST_PROCESSORS }
     ensures value { result ≡ all_of n }
     ensures all { (p : ℕ) → p < n → owes_of result p ≡ 1 }
 {
@@ -95,7 +96,7 @@ pub fn all_processors(n: u64) -> u32
 
 /// What a word is joined with, bit by bit, for the report of processor `p`: every bit but `p`.
 pub fn all_but(p: u64) -> u64
-    requires { p < 32 }
+    requires { p < MOST_PROCESSORS }
     ensures { result ≡ all_but_of p }
 {
     !(1u64 << p)
@@ -107,9 +108,9 @@ pub fn all_but(p: u64) -> u64
 pub fn word_laws()
     ensures number { (s m : ℕ) → m < 4294967296 → number_of (packed s m) ≡ s }
     ensures mask { (s m : ℕ) → m < 4294967296 → mask_of (packed s m) ≡ m }
-    ensures cleared { (word p : ℕ) → p < 32 → owes_of (bit_and word (all_but_of p)) p ≡ 0 }
-    ensures others { (word p q : ℕ) → p < 32 → q < 32 → q ≢ p → owes_of (bit_and word (all_but_of p)) q ≡ owes_of word q }
-    ensures kept { (word p : ℕ) → p < 32 → word < 18446744073709551616 → number_of (bit_and word (all_but_of p)) ≡ number_of word }
-    ensures begun { (s n p : ℕ) → p < n → n ≤ 32 → owes_of (packed s (all_of n)) p ≡ 1 }
-    ensures over { (s p : ℕ) → p < 32 → owes_of (packed s 0) p ≡ 0 }
+    ensures cleared { (word p : ℕ) → p < MOST_PROCESSORS → owes_of (bit_and word (all_but_of p)) p ≡ 0 }
+    ensures others { (word p q : ℕ) → p < MOST_PROCESSORS → q < MOST_PROCESSORS → q ≢ p → owes_of (bit_and word (all_but_of p)) q ≡ owes_of word q }
+    ensures kept { (word p : ℕ) → p < MOST_PROCESSORS → word < 18446744073709551616 → number_of (bit_and word (all_but_of p)) ≡ number_of word }
+    ensures begun { (s n p : ℕ) → p < n → n ≤ MOST_PROCESSORS → owes_of (packed s (all_of n)) p ≡ 1 }
+    ensures over { (s p : ℕ) → p < MOST_PROCESSORS → owes_of (packed s 0) p ≡ 0 }
 {}

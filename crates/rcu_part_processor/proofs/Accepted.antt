@@ -8,7 +8,7 @@ use Rattle.rcu_board.specs.declared.view.View.{View}
 use Rattle.rcu_board.specs.declared.view.Own.{Own}
 use Rattle.rcu_board.specs.Plays.{report_own}
 use Rattle.std.specs.Prelude.{map}
-use Rattle.rcu_holdings.specs.Modes.{is_deoffloading}
+use Rattle.rcu_jobs.specs.Modes.{is_deoffloading}
 use Rattle.rcu_jobs.specs.declared.Ticked.{Ticked}
 use Rattle.rcu_part_steps.specs.Reports.{Reports}
 use Rattle.rcu_part_processor.specs.Processors.{AcceptedStays, lists_of, view_of}

@@ -6,10 +6,10 @@ use Rattle.std.proofs.lemmas.Bool.{cases_Bool}
 use Rattle.std.proofs.lemmas.List.Elements.{All-nil}
 use Rattle.rcu_holdings.specs.Aims.{AreUpTo, is_up_to}
 use Rattle.rcu_holdings.specs.ProcessorLists.{Holding, put_by, Releases, AskedOn, Pours, asked_off}
-use Rattle.rcu_holdings.specs.Modes.{is_local, is_offloaded, is_offloading}
+use Rattle.rcu_jobs.specs.Modes.{is_local, is_offloaded, is_offloading}
 use Rattle.rcu_holdings.specs.Outgoing.{Outgoing, IsReleased, is_due_in_tick, in_tick, poured}
 use Rattle.rcu_jobs.specs.declared.callback.Callback.{Callback}
-use Rattle.rcu_jobs.specs.declared.turns.Mode.TheVariants.{Deoffloading, Offloading}
+use Rattle.rcu_jobs.specs.declared.modes.Mode.TheVariants.{Deoffloading, Offloading}
 use Rattle.rcu_lists.specs.Labels.{Labelled, callbacks_of}
 use Rattle.rcu_lists.specs.Release.{is_any}
 use Rattle.rcu_board.specs.Seats.{NeverFalls}
@@ -20,7 +20,7 @@ use Rattle.rcu_holdings.specs.ProcessorLists.{passed_on}
 use Rattle.rcu_holdings.specs.Limits.{AreBelow}
 use Rattle.rcu_holdings.proofs.Aims.{up-raised}
 use Rattle.rcu_jobs.specs.declared.callback.Record.{Record}
-use Rattle.rcu_jobs.specs.declared.turns.Mode.{Mode}
+use Rattle.rcu_jobs.specs.declared.modes.Mode.{Mode}
 use Rattle.rcu_part_steps.specs.Changes.{Tells}
 use Rattle.rcu_part_processor.specs.Lawful.{IsLawful}
 use Rattle.rcu_part_processor.proofs.Moving.{kept_by_moves, lawful_below}

@@ -4,7 +4,7 @@ use Rattle.std.proofs.lemmas.List.Elements.{All-append, All-push}
 use Rattle.std.specs.Prelude.{IsTrue}
 use Rattle.rcu_holdings.specs.Aims.{AreUpTo, is_up_to}
 use Rattle.rcu_holdings.specs.ProcessorLists.{Holding, put_by, passed_on, Takes}
-use Rattle.rcu_holdings.specs.Modes.{is_offloaded}
+use Rattle.rcu_jobs.specs.Modes.{is_offloaded}
 use Rattle.rcu_holdings.specs.Outgoing.{Outgoing, is_due_with}
 use Rattle.rcu_jobs.specs.declared.callback.Callback.{Callback}
 use Rattle.rcu_lists.specs.Labels.{Bare, Labelled}

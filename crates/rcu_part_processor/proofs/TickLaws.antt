@@ -14,7 +14,7 @@ use Rattle.rcu_control.specs.Views.{Untouched}
 use Rattle.rcu_control.proofs.Stepping.{HasWords, has_words, untouched, untouched_again}
 use Rattle.rcu_holdings.specs.Aims.{wanted, looked as after_looked}
 use Rattle.rcu_holdings.specs.ProcessorLists.{Holding, put_by}
-use Rattle.rcu_holdings.specs.Modes.{is_deoffloading, is_local, is_offloaded}
+use Rattle.rcu_jobs.specs.Modes.{is_deoffloading, is_local, is_offloaded}
 use Rattle.rcu_holdings.specs.Limits.{AreBelow}
 use Rattle.rcu_holdings.proofs.Aims.{callbacks-looked}
 use Rattle.rcu_holdings.proofs.Holdings.{no-callbacks}

@@ -7,7 +7,7 @@ use Rattle.rcu_board.specs.declared.view.View.{View}
 use Rattle.rcu_holdings.specs.Aims.{AreUpTo}
 use Rattle.rcu_holdings.specs.ProcessorLists.{Holding, held_in, put_by}
 use Rattle.rcu_jobs.specs.declared.callback.Record.{Record}
-use Rattle.rcu_jobs.specs.declared.turns.Mode.TheVariants.{Local}
+use Rattle.rcu_jobs.specs.declared.modes.Mode.TheVariants.{Local}
 use Rattle.rcu_numbers.specs.Numbers.{snap_of}
 use Rattle.rcu_places.specs.Places.{Numbered, Placed}
 use Rattle.rcu_records.specs.Records.{numbered_records, AreRipe}

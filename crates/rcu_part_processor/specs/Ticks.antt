@@ -8,7 +8,8 @@ use Rattle.rcu_board.specs.Words.{asks_word, bits_of, board_word, needed_word, t
 use Rattle.rcu_board.specs.declared.view.View.{View}
 use Rattle.rcu_holdings.specs.Aims.{wanted}
 use Rattle.rcu_holdings.specs.ProcessorLists.{Holding, Releases, AskedOn, after_look, asked_off, put_by}
-use Rattle.rcu_holdings.specs.Modes.{is_deoffloading, is_local, is_offloaded, settled}
+use Rattle.rcu_jobs.specs.Modes.{is_deoffloading, is_local, is_offloaded}
+use Rattle.rcu_holdings.specs.Modes.{settled}
 use Rattle.rcu_holdings.specs.Limits.{AreBelow}
 use Rattle.rcu_jobs.specs.declared.Stop.{Stop}
 use Rattle.rcu_jobs.specs.declared.Stop.TheVariants.{Limit, Again, Empty, Turn, Memory}

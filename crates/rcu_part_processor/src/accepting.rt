@@ -1,6 +1,7 @@
 //! How a job is accepted, by a processor that rests and by one of which a claim runs.
 
 ghost use Rattle.std.specs.Prelude.{◌≡◌, ◌<◌, ◌≤◌, Bool, IfOk, IfErr, IsErr, List, None, length};
+ghost use Rattle.rcu_numbers.specs.declared.shape.TheConstants.{MOST_CALLBACKS};
 ghost use Rattle.rcu_board.specs.Seats.{view, AtBoard, SameSeat, SawShut, accepted_of, fresh_of};
 ghost use Rattle.rcu_board.specs.declared.board.Role.{Role};
 ghost use Rattle.rcu_holdings.specs.ProcessorLists.{holding, passed_on, rear_of};
@@ -36,7 +37,7 @@ pub(crate) fn accept_job<J: Job>(
 ) -> Result<Ticket, Refused<J>>
     requires board { AtBoard board.now seat.old }
     requires role { seat.old.role ≡ Role.Processor request.cpu }
-    requires small { (accepted.old ≤ request.limit) × (request.limit ≤ 1000000) }
+    requires small { (accepted.old ≤ request.limit) × (request.limit ≤ MOST_CALLBACKS) }
     requires counted { length (accepted_of (view seat.old)) ≡ accepted.old }
     requires stamped { fresh_of (view seat.old) ≡ None }
     requires few { length (passed_on (holding lists.old)) ≤ accepted.old }

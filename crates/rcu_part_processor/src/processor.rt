@@ -2,6 +2,7 @@
 
 ghost use Rattle.std.specs.Prelude.{◌≡◌, ◌<◌, ◌≤◌, true};
 ghost use Rattle.std.specs.Arc.{arc_value};
+ghost use Rattle.rcu_numbers.specs.declared.shape.TheConstants.{MOST_CALLBACKS};
 ghost use Rattle.rcu_board.specs.Seats.{view, AtBoard};
 ghost use Rattle.rcu_board.specs.declared.board.Role.{Role};
 ghost use Rattle.rcu_holdings.specs.ProcessorLists.{holding};
@@ -40,7 +41,7 @@ pub struct ProcessorState<J, R> {
     ghost there: { cpu < (arc_value board).processors },
     ghost bit: { offloadable ≡ true → owes_of (arc_value board).offloadable cpu ≡ 1 },
     ghost local: { StaysLocal offloadable (holding lists) },
-    ghost small: { (accepted ≤ limit) × (limit ≤ 1000000) },
+    ghost small: { (accepted ≤ limit) × (limit ≤ MOST_CALLBACKS) },
     ghost lawful: { IsLawful cpu accepted (view seat) ran.items (holding lists) },
 }
 
@@ -133,7 +134,7 @@ impl<J: Job> Processor<J> {
     ) -> Begins<RunningProcessor<J>, J, Processor<J>>
         requires seen { (sight (view_of self.state) ≡ claimed.ready) × ((lists_of self.state).advanced ≡ claimed.ready) }
         requires next { IsNext claimed.ready claimed self.state }
-        requires small { claimed.number < 1000000 }
+        requires small { claimed.number < MOST_CALLBACKS }
         requires room { vec_len self.state.ran < vec_capacity self.state.ran }
         ensures same { IfRuns result (λ running _. SameBegun self.state running.state) }
         ensures stays { IfStops result (λ processor _. SameProcessor self.state processor.state) }

@@ -3,6 +3,7 @@
 ghost use Rattle.std.specs.Prelude.{◌≡◌, ◌<◌, ◌≤◌, true};
 ghost use Rattle.std.specs.Arc.{arc_value};
 ghost use Rattle.std.specs.Vec.{vec_len, vec_capacity};
+ghost use Rattle.rcu_numbers.specs.declared.shape.TheConstants.{MOST_CALLBACKS};
 ghost use Rattle.rcu_board.specs.Seats.{view, AtBoard, SawShut};
 ghost use Rattle.rcu_board.specs.declared.board.Role.{Role};
 ghost use Rattle.rcu_holdings.specs.ProcessorLists.{holding};
@@ -43,8 +44,8 @@ pub struct RunningProcessorState<J, R> {
     ghost there: { cpu < (arc_value board).processors },
     ghost bit: { offloadable ≡ true → owes_of (arc_value board).offloadable cpu ≡ 1 },
     ghost local: { StaysLocal offloadable (holding lists) },
-    ghost small: { (accepted ≤ limit) × (limit ≤ 1000000) },
-    ghost below: { claimed.number < 1000000 },
+    ghost small: { (accepted ≤ limit) × (limit ≤ MOST_CALLBACKS) },
+    ghost below: { claimed.number < MOST_CALLBACKS },
     ghost room: { vec_len ran < vec_capacity ran },
     ghost lawful: { IsRunningProcessor cpu accepted claimed (view seat) ran.items (holding lists) },
 }

@@ -1,7 +1,7 @@
 //! The tick of a processor.
 
 ghost use Rattle.std.specs.Prelude.{◌≡◌, ◌≢◌, ℕ, ◌+◌, ◌≤◌, true, IfNone, IfSome};
-ghost use Rattle.rcu_holdings.specs.Modes.{is_deoffloading};
+ghost use Rattle.rcu_jobs.specs.Modes.{is_deoffloading};
 ghost use Rattle.rcu_board.specs.Views.{sight};
 ghost use Rattle.rcu_jobs.specs.declared.Stop.TheVariants.{Limit};
 ghost use Rattle.rcu_part_processor.specs.Processors.{SameProcessor, IsSound, lists_of, view_of};
@@ -10,18 +10,8 @@ ghost use Rattle.rcu_part_steps.specs.Stops.{StopsInTime};
 
 use crate::processor::Processor;
 use rcu_board::{asked, heard, need, turn_of};
-use rcu_jobs::{Job, Mode, Stop, Ticked};
+use rcu_jobs::{Job, Stop, Ticked};
 use rcu_part_steps::{look_at_number, run_claimed, take};
-
-/// Whether the turn word is read in a tick.
-fn is_leaving(mode: Mode) -> bool
-    ensures { result ≡ is_deoffloading mode }
-{
-    match mode {
-        Mode::Deoffloading => true,
-        _ => false,
-    }
-}
 
 impl<J: Job> Processor<J> {
     // The tick's look: the own list is advanced by the number seen and accelerated, and what it waits for is asked for.
@@ -67,7 +57,7 @@ impl<J: Job> Processor<J> {
         ensures sound { IsSound J.key_of J.gives self.old.state → IsSound J.key_of J.gives self.new.state }
     {
         let state = &mut self.state;
-        if is_leaving(state.lists.mode()) {
+        if state.lists.mode().is_deoffloading() {
             let turn = turn_of(&state.board, &mut state.seat, state.cpu);
             state.lists.settle(turn);
         }

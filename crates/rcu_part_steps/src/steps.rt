@@ -1,6 +1,7 @@
 // Steps of a processor's or a hand's seat that belong together.
 
 ghost use Rattle.std.specs.Prelude.{◌≡◌, ◌≢◌, ℕ, ◌+◌, ◌*◌, ◌<◌, ◌≤◌, [], None, IfSome, IfNone, IsNone, length, true, false};
+ghost use Rattle.rcu_numbers.specs.declared.shape.TheConstants.{MOST_CALLBACKS, MOST_PROCESSORS};
 ghost use Rattle.rcu_board.specs.Plays.{looked, touched, accepted};
 ghost use Rattle.rcu_board.specs.Roles.{MayClaim, cpu_of_role};
 ghost use Rattle.rcu_board.specs.Seats.{view, AtBoard, SameSeat, SawShut, IsRunning, accepted_of, fresh_of};
@@ -26,7 +27,7 @@ pub fn accept_and_stamp(
     requires role { seat.old.role ≡ Role.Processor cpu }
     requires count { length (accepted_of (view seat.old)) ≡ count }
     requires stamped { fresh_of (view seat.old) ≡ None }
-    requires small { count < 1000000 }
+    requires small { count < MOST_CALLBACKS }
     ensures same { SameSeat seat.old seat.new }
     ensures enters { IfSome result (λ word. Enters key word.seq (view seat.old) (view seat.new)) }
     ensures view { IfSome result (λ word. view seat.new ≡ looked (bits_of word) (accepted (accepts_word cpu) (2 * count + 2) key (view seat.old))) }
@@ -43,7 +44,7 @@ pub fn accept_and_stamp(
 pub fn report_quiescent_state(board: &Board, seat: &mut Seat, cpu: u64) -> Option<u64>
     requires board { AtBoard board.now seat.old }
     requires role { seat.old.role ≡ Role.Processor cpu }
-    requires there { cpu < 32 }
+    requires there { cpu < MOST_PROCESSORS }
     ensures same { SameSeat seat.old seat.new }
     ensures tells { Tells (view seat.old) (view seat.new) }
     ensures reports { Reports cpu result (view seat.old) (view seat.new) }
@@ -73,7 +74,7 @@ pub fn take(board: &Board, seat: &mut Seat, cpu: u64, number: u64) -> bool
     requires who { MayClaim seat.old.role }
     requires cpu { cpu_of_role seat.old.role ≡ cpu }
     requires rests { (view seat.old).running ≡ [] }
-    requires small { number < 1000000 }
+    requires small { number < MOST_CALLBACKS }
     ensures same { SameSeat seat.old seat.new }
     ensures won { result ≡ true → Claims cpu number (view seat.old) (view seat.new) }
     ensures lost { result ≡ false → Keeps (view seat.old) (view seat.new) × (sight (view seat.new) ≡ sight (view seat.old)) × (seen_at (view seat.new) (turns_word cpu) ≢ 2 * number) }

@@ -7,7 +7,7 @@ use Rattle.rcu_board.specs.declared.board.Board.{Board}
 use Rattle.rcu_board.specs.declared.board.Seat.{Seat}
 use Rattle.rcu_holdings.specs.ProcessorLists.{Holding, first_holding, holding}
 use Rattle.rcu_holdings.specs.Helds.{drawn_by, held_by}
-use Rattle.rcu_holdings.specs.Modes.{first_mode}
+use Rattle.rcu_jobs.specs.Modes.{first_mode}
 use Rattle.rcu_holdings.specs.Helds.{front_of as hands_front}
 use Rattle.rcu_holdings.specs.MemberLists.{rear_of as done_rear}
 use Rattle.rcu_holdings.specs.declared.limits.LaneLimits.{LaneLimits}

@@ -1,6 +1,7 @@
 //! Seats that become one, and what is loaded last.
 
 ghost use Rattle.std.specs.Prelude.{◌≡◌, ℕ, ◌+◌, ◌≤◌, List, [], ◌∷◌, ◌++◌, map, length, vec_len, vec_capacity, All};
+ghost use Rattle.rcu_numbers.specs.declared.shape.TheConstants.{MOST_PROCESSORS};
 ghost use Rattle.rcu_board.specs.Laws.{IsBoard};
 ghost use Rattle.rcu_board.specs.Plays.{all_seats};
 ghost use Rattle.rcu_board.specs.Seats.{GatheredAt, SameGathered, gathered_view};
@@ -69,7 +70,7 @@ pub(crate) fn gather_groups<J: Job>(
 /// How many counted reports each of `n` processors made, where this is the board word, in the room that was found.
 fn count_reports(word: BoardWord, n: u64, mut reports: Vec<u64>) -> Vec<u64>
     requires word { IsBoard (bits_of word) }
-    requires few { n ≤ 32 }
+    requires few { n ≤ MOST_PROCESSORS }
     requires none { reports.items ≡ [] }
     requires room { n ≤ vec_capacity reports }
     ensures { (counts : List ℕ) → length counts ≡ n → AreReportedFrom (bits_of word) 0 counts → result.items ≡ counts }

@@ -4,12 +4,13 @@ use Rattle.rcu_law.specs.Calls.{Call}
 use Rattle.rcu_law.specs.LabelledLists.{Labelled, call_of}
 use Rattle.rcu_law.specs.Lists.{is_nil}
 use Rattle.rcu_law.specs.Releases.{Pace}
-use Rattle.rcu_law.specs.States.{Cpu, is_offloaded}
+use Rattle.rcu_jobs.specs.Modes.{is_offloaded, is_offloading}
+use Rattle.rcu_law.specs.States.{Cpu}
 use Rattle.rcu_law.specs.Steps.{heeds, heeds_mode, leaves, pours, with_pace}
-use Rattle.rcu_law.specs.declared.modes.Mode.{Mode}
-use Rattle.rcu_law.specs.declared.modes.Mode.TheVariants.{Local, Offloading, Offloaded, Deoffloading}
+use Rattle.rcu_jobs.specs.declared.modes.Mode.{Mode}
+use Rattle.rcu_jobs.specs.declared.modes.Mode.TheVariants.{Local, Offloading, Offloaded, Deoffloading}
 use Rattle.std.specs.Prelude.{if◌then◌else◌}
-use Rattle.rcu_processor.specs.Turns.{is_offloading, is_switching}
+use Rattle.rcu_processor.specs.Turns.{is_switching}
 
 pub pours_as : (c : Cpu) (ws : List Labelled) (xs : List Call) (p : Pace) → ws ≡ [] → xs ≡ c.bypass ++ map call_of c.own
     → p ≡ record { moment = c.moment; direct = c.direct; kept_moment = c.kept_moment; plain = not (is_nil c.own) || c.plain } → with_pace p (record c { own = ws; bypass = xs; mode = Offloaded }) ≡ pours c

@@ -1,8 +1,8 @@
 -- A processor at rest, in the words of the law
 use Rattle.std.proofs.Common.{◌≡◌, ℕ, Bool, List, [], arith, refl}
 use Rattle.std.specs.Prelude.{if◌then◌else◌}
-use Rattle.rcu_law.specs.declared.modes.Mode.{Mode}
-use Rattle.rcu_law.specs.declared.modes.Mode.TheVariants.{Local, Offloaded}
+use Rattle.rcu_jobs.specs.declared.modes.Mode.{Mode}
+use Rattle.rcu_jobs.specs.declared.modes.Mode.TheVariants.{Local, Offloaded}
 use Rattle.rcu_law.specs.Calls.{Call}
 use Rattle.rcu_law.specs.LabelledLists.{Labelled}
 use Rattle.rcu_law.specs.Releases.{Pace}

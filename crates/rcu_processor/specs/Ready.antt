@@ -1,6 +1,6 @@
 -- Room for a Stamp that follows directly on Accept. docs/specification/surface.md, "rcu_world"
 use Rattle.std.specs.Prelude.{◌≡◌, true, false}
-use Rattle.rcu_law.specs.States.{is_offloaded}
+use Rattle.rcu_jobs.specs.Modes.{is_offloaded}
 use Rattle.rcu_lists.specs.Bypasses.{BypassRoom}
 use Rattle.rcu_lists.specs.Segments.{SegmentsRoom}
 use Rattle.rcu_processor.specs.declared.processor.Processor.{Processor}

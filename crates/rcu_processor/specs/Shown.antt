@@ -2,22 +2,12 @@
 use Rattle.std.specs.Prelude.{length}
 use Rattle.rcu_jobs.specs.declared.Lists.{Lists}
 use Rattle.rcu_jobs.specs.declared.Lists.TheVariants as lists
-use Rattle.rcu_jobs.specs.declared.Mode.{Mode as Shown}
-use Rattle.rcu_jobs.specs.declared.Mode.TheVariants as shown
-use Rattle.rcu_law.specs.declared.modes.Mode.{Mode}
-use Rattle.rcu_law.specs.declared.modes.Mode.TheVariants as modes
 use Rattle.rcu_law.specs.LabelledLists.{lengths_of, numbers_of}
 use Rattle.rcu_law.specs.States.{Cpu}
 
-abbrev pub shown_mode : Mode → Shown
-shown_mode modes.Local = shown.Local
-shown_mode modes.Offloading = shown.Offloading
-shown_mode modes.Offloaded = shown.Offloaded
-shown_mode modes.Deoffloading = shown.Deoffloading
-
 -- a processor's own list, and the list that its group keeps for it
 abbrev pub cpu_lists : Cpu → Lists
-cpu_lists c = lists.Cpu (shown_mode c.mode) c.count (length c.bypass) (lengths_of c.own) (numbers_of c.own)
+cpu_lists c = lists.Cpu c.mode c.count (length c.bypass) (lengths_of c.own) (numbers_of c.own)
 
 abbrev pub folk_lists : Cpu → Lists
 folk_lists c = lists.Folk (lengths_of c.joined) (numbers_of c.joined)

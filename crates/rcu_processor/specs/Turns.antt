@@ -1,18 +1,11 @@
 -- What a turn call asks of a processor. docs/specification/rules.md, "The calls, step by step"
-use Rattle.std.specs.Prelude.{Bool, true, false, not, ◌&&◌, ◌||◌, ◌==◌, if◌then◌else◌}
-use Rattle.rcu_law.specs.declared.modes.Mode.{Mode}
-use Rattle.rcu_law.specs.declared.modes.Mode.TheVariants as modes
+use Rattle.std.specs.Prelude.{Bool, not, ◌&&◌, ◌||◌, ◌==◌, if◌then◌else◌}
+use Rattle.rcu_jobs.specs.Modes.{is_offloaded, is_offloading}
 use Rattle.rcu_law.specs.declared.who.Side.{Side}
 use Rattle.rcu_law.specs.declared.who.Side.TheVariants.{Local, Hand}
 use Rattle.rcu_law.specs.LabelledLists.{done_count}
 use Rattle.rcu_law.specs.Lists.{is_nil}
-use Rattle.rcu_law.specs.States.{Cpu, is_offloaded}
-
-abbrev pub is_offloading : Mode → Bool
-is_offloading modes.Local = false
-is_offloading modes.Offloading = true
-is_offloading modes.Offloaded = false
-is_offloading modes.Deoffloading = false
+use Rattle.rcu_law.specs.States.{Cpu}
 
 -- a switch is asked for that can be made
 abbrev pub is_switching : Cpu → Bool

@@ -3,7 +3,7 @@
 ghost use Rattle.std.specs.Prelude.{◌≡◌, ℕ, ◌^◌, ◌<◌, ◌&&◌, true, false, not, nat_lt, None, ◌∷◌, [], OnOk, OnErr, IfOk, IsOk};
 ghost use Rattle.rcu_law.specs.Lists.{is_none};
 ghost use Rattle.rcu_law.specs.Releases.{pace_after_stamp, releases};
-ghost use Rattle.rcu_law.specs.States.{is_offloaded};
+ghost use Rattle.rcu_jobs.specs.Modes.{is_offloaded};
 ghost use Rattle.rcu_law.specs.Steps.{can_accept, accepts, stamps, fresh_calls, stamps_into, with_pace};
 ghost use Rattle.rcu_lists.specs.Bypasses.{BypassRoom};
 ghost use Rattle.rcu_lists.specs.Segments.{SegmentsRoom};
@@ -13,7 +13,6 @@ ghost use Rattle.rcu_processor.specs.Views.{fresh_call, seen, mark_of, AreGiven}
 
 use crate::bypassing::hold;
 use crate::processor::Processor;
-use crate::switching::in_offloaded;
 use crate::waiting::enqueue;
 use rcu_jobs::{Callback, Job};
 use std::alloc::AllocError;
@@ -60,7 +59,7 @@ impl<J: Job> Processor<J, J::Receipt> {
         ensures room { OnOk result (IsReady self.new) }
         ensures given { (mark : ℕ) → AreGiven J.gives mark self.old → AreGiven J.gives mark self.new }
     {
-        if in_offloaded(self.mode) {
+        if self.mode.is_offloaded() {
             self.bypass.reserve()
         } else {
             self.own.reserve(1)
@@ -153,7 +152,7 @@ impl<J: Job> Processor<J, J::Receipt> {
         ensures err { OnErr result (seen J.key_of self.new ≡ seen J.key_of self.old) }
         ensures given { (mark : ℕ) → AreGiven J.gives mark self.old → AreGiven J.gives mark self.new }
     {
-        if in_offloaded(self.mode) {
+        if self.mode.is_offloaded() {
             self.stamp_offloaded(number, moment, lazy)
         } else {
             self.stamp_own(number)

@@ -1,12 +1,11 @@
 //! What a processor has.
 
 ghost use Rattle.std.specs.Prelude.{◌≡◌, if◌then◌else◌};
-ghost use Rattle.rcu_law.specs.declared.modes.Mode.TheVariants.{Local, Offloaded};
+ghost use Rattle.rcu_jobs.specs.declared.modes.Mode.TheVariants.{Local, Offloaded};
 ghost use Rattle.rcu_law.specs.States.{opening_cpu};
 ghost use Rattle.rcu_processor.specs.Views.{seen, AreGiven};
 
-use rcu_jobs::{Callback, Job, Record};
-use rcu_law::modes::Mode;
+use rcu_jobs::{Callback, Job, Mode, Record};
 use rcu_law::who::Side;
 use rcu_lists::{Batch, Bypass, Segments};
 use std::alloc::Global;
@@ -49,17 +48,6 @@ pub struct Processor<J, R> {
     pub(crate) bypass: Bypass<J>,
 }
 
-/// The mode in which a processor starts.
-fn first_mode(offloadable: bool) -> Mode
-    ensures { result ≡ (if offloadable then Offloaded else Local) }
-{
-    if offloadable {
-        Mode::Offloaded
-    } else {
-        Mode::Local
-    }
-}
-
 impl<J: Job> Processor<J, J::Receipt> {
     /// A processor at rest, Offloaded where it is offloadable, else Local. Its bypass list is released at the length
     /// `qhimark`.
@@ -87,7 +75,7 @@ impl<J: Job> Processor<J, J::Receipt> {
             hand_sight: 0,
             wanted: None,
             group_wanted: None,
-            mode: first_mode(offloadable),
+            mode: Mode::first(offloadable),
             left: 0,
             urged: false,
         }

@@ -2,13 +2,12 @@
 
 ghost use Rattle.std.specs.Prelude.{◌≡◌};
 ghost use Rattle.rcu_law.specs.LabelledLists.{lengths_of, numbers_of};
-ghost use Rattle.rcu_processor.specs.Shown.{cpu_lists, folk_lists, shown_mode};
+ghost use Rattle.rcu_processor.specs.Shown.{cpu_lists, folk_lists};
 ghost use Rattle.rcu_processor.specs.Views.{seen};
 ghost use Rattle.rcu_processor.specs.Waits.{waiting};
 
 use crate::processor::Processor;
-use rcu_jobs::{Job, Lists, Mode};
-use rcu_law::modes;
+use rcu_jobs::{Job, Lists};
 use rcu_lists::Segments;
 
 fn lengths_of<J: Job>(list: &Segments<J>) -> [u64; 4]
@@ -23,24 +22,13 @@ fn numbers_of<J: Job>(list: &Segments<J>) -> [u64; 2]
     list.numbers()
 }
 
-fn shown_mode(mode: modes::Mode) -> Mode
-    ensures { result ≡ shown_mode mode }
-{
-    match mode {
-        modes::Mode::Local => Mode::Local,
-        modes::Mode::Offloading => Mode::Offloading,
-        modes::Mode::Offloaded => Mode::Offloaded,
-        modes::Mode::Deoffloading => Mode::Deoffloading,
-    }
-}
-
 impl<J: Job> Processor<J, J::Receipt> {
     /// Its mode, count, bypass list's length and own list.
     pub fn lists(&self) -> Lists
         ensures { result ≡ cpu_lists (seen J.key_of self.now) }
     {
         Lists::Cpu {
-            mode: shown_mode(self.mode),
+            mode: self.mode,
             accepted: self.count,
             bypass: self.bypass.len(),
             lengths: lengths_of(&self.own),

@@ -1,37 +1,16 @@
 //! The mode of a processor, what is asked of it, and whether it was urged.
 
 ghost use Rattle.std.specs.Prelude.{◌≡◌, ℕ, ◌/◌, true, false, not, nat_le, ◌&&◌, ◌||◌, if◌then◌else◌, [], IsOk, OnOk, OnErr};
-ghost use Rattle.rcu_law.specs.declared.modes.Mode.TheVariants.{Local};
-ghost use Rattle.rcu_law.specs.States.{is_offloaded, is_deoffloading};
+ghost use Rattle.rcu_jobs.specs.declared.modes.Mode.TheVariants.{Local};
+ghost use Rattle.rcu_jobs.specs.Modes.{is_offloaded, is_offloading, is_deoffloading};
 ghost use Rattle.rcu_law.specs.Steps.{pours, leaves, heeds, settles};
-ghost use Rattle.rcu_processor.specs.Turns.{is_offloading, is_switching};
+ghost use Rattle.rcu_processor.specs.Turns.{is_switching};
 ghost use Rattle.rcu_processor.specs.Views.{seen, AreGiven};
 
 use crate::bypassing::{is_clear, pour_all};
 use crate::processor::Processor;
-use rcu_jobs::Job;
-use rcu_law::modes::Mode;
+use rcu_jobs::{Job, Mode};
 use std::alloc::AllocError;
-
-/// Whether this is the mode Offloaded.
-pub(crate) fn in_offloaded(mode: Mode) -> bool
-    ensures { result ≡ is_offloaded mode }
-{
-    match mode {
-        Mode::Offloaded => true,
-        _ => false,
-    }
-}
-
-/// Whether this is the mode Deoffloading.
-fn in_deoffloading(mode: Mode) -> bool
-    ensures { result ≡ is_deoffloading mode }
-{
-    match mode {
-        Mode::Deoffloading => true,
-        _ => false,
-    }
-}
 
 /// Whether a switch is asked for that can be made; `clear` says whether the bypass list is empty.
 fn can_switch(mode: Mode, asked: bool, clear: bool) -> bool
@@ -91,14 +70,14 @@ impl<J: Job> Processor<J, J::Receipt> {
     pub fn is_offloaded(&self) -> bool
         ensures { result ≡ is_offloaded (seen J.key_of self.now).mode }
     {
-        in_offloaded(self.mode)
+        self.mode.is_offloaded()
     }
 
     /// Whether it is on its way from Offloaded to Local.
     pub fn is_deoffloading(&self) -> bool
         ensures { result ≡ is_deoffloading (seen J.key_of self.now).mode }
     {
-        in_deoffloading(self.mode)
+        self.mode.is_deoffloading()
     }
 
     /// Whether a switch is asked for that can be made.

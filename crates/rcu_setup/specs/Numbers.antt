@@ -1,5 +1,6 @@
 -- The keys that make the shape: docs/specification/tables.md, "Order of tests", and docs/specification/rules.md, "Limits".
 use Rattle.std.specs.Prelude.{ℕ, ◌+◌, ◌*◌, ◌/◌, ◌&&◌, nat_le, List, Option, Some, None, Result, Ok, Err, if◌then◌else◌, codes, pos, negsuc, ℤ, zero, suc}
+use Rattle.rcu_numbers.specs.declared.shape.TheConstants.{DEFAULT_BLIMIT, DEFAULT_LIMIT, DEFAULT_QHIMARK, MOST_CALLBACKS, MOST_PROCESSORS}
 use Rattle.toml.specs.Data.{Data, string, integer, Members, get_member}
 use Rattle.rcu_numbers.specs.declared.shape.Shape.{Shape}
 use Rattle.rcu_setup.specs.Faults.{Fault, missing_processors, wrong_kind, out_of_range, ◌>>◌}
@@ -59,10 +60,10 @@ shape_view s = record { processors = s.processors; offloadable = s.offloadable; 
 -- the keys in their order, from `processors` to `limit`
 unfoldable pub shape_of : Members → Result Numbers Fault
 shape_of table =
-    whole_or key.Processors 1 32 (Err missing_processors) (get_member (codes "processors") table) >> (λ n.
+    whole_or key.Processors 1 MOST_PROCESSORS (Err missing_processors) (get_member (codes "processors") table) >> (λ n.
     nocbs_of n (get_member (codes "nocbs") table) >> (λ offloadable.
-    whole_or key.Stride 1 32 (Ok (default_stride_of n)) (get_member (codes "stride") table) >> (λ stride.
-    whole_or key.Blimit 1 1000000 (Ok 10) (get_member (codes "blimit") table) >> (λ blimit.
-    whole_or key.Qhimark 1 1000000 (Ok 10000) (get_member (codes "qhimark") table) >> (λ qhimark.
-    whole_or key.Limit 1 1000000 (Ok 1000000) (get_member (codes "limit") table) >> (λ limit.
+    whole_or key.Stride 1 MOST_PROCESSORS (Ok (default_stride_of n)) (get_member (codes "stride") table) >> (λ stride.
+    whole_or key.Blimit 1 MOST_CALLBACKS (Ok DEFAULT_BLIMIT) (get_member (codes "blimit") table) >> (λ blimit.
+    whole_or key.Qhimark 1 MOST_CALLBACKS (Ok DEFAULT_QHIMARK) (get_member (codes "qhimark") table) >> (λ qhimark.
+    whole_or key.Limit 1 MOST_CALLBACKS (Ok DEFAULT_LIMIT) (get_member (codes "limit") table) >> (λ limit.
     Ok (record { processors = n; offloadable = offloadable; stride = stride; blimit = blimit; qhimark = qhimark; limit = limit })))))))

@@ -2,6 +2,7 @@
 
 ghost use Rattle.std.specs.Prelude.{ℕ, ◌↔◌, ◌≡◌, ◌<◌, ◌≤◌, ◌^◌, IfOk, IfErr, IsSome, option_map};
 ghost use Rattle.std.specs.Int.{bit_at};
+ghost use Rattle.rcu_numbers.specs.declared.shape.TheConstants.{MOST_PROCESSORS};
 ghost use Rattle.rcu_setup.specs.Faults.{Gives, named};
 ghost use Rattle.rcu_setup.specs.List.{IsNamed, range_of, are_items, with_parts, cpu_list_of, with_range};
 ghost use Rattle.rcu_setup.specs.Words.{parts};
@@ -27,7 +28,7 @@ fn range_of(part: &str) -> Option<(u64, u64)>
 /// The mask with the bits of one more range.
 #[tactic(auto, unfolding(crate::specs::List::with_range))]
 fn with_range(n: u64, mask: u32, range: (u64, u64)) -> Result<u32, SetupFault>
-    requires { n ≤ 32 }
+    requires { n ≤ MOST_PROCESSORS }
     ensures answer { Gives (λ m. m) result (with_range n mask range) }
     ensures memory { IfErr result (λ e. IsSome (named e)) }
 {
@@ -51,7 +52,7 @@ fn are_items(text: &str) -> bool
 
 /// The mask of the items of a text, from left to right.
 fn with_items(text: &str, n: u64) -> Result<u32, SetupFault>
-    requires { n ≤ 32 }
+    requires { n ≤ MOST_PROCESSORS }
     ensures answer { Gives (λ m. m) result (with_parts n 0 (parts 44 text.now)) }
     ensures memory { IfErr result (λ e. IsSome (named e)) }
 {
@@ -66,7 +67,7 @@ fn with_items(text: &str, n: u64) -> Result<u32, SetupFault>
 }
 
 fn cpu_mask(text: &str, n: u64) -> Result<u32, SetupFault>
-    requires { n ≤ 32 }
+    requires { n ≤ MOST_PROCESSORS }
     ensures answer { Gives (λ m. m) result (cpu_list_of n text.now) }
     ensures memory { IfErr result (λ e. IsSome (named e)) }
 {
@@ -90,7 +91,7 @@ fn cpu_mask(text: &str, n: u64) -> Result<u32, SetupFault>
 /// (`Reversed`), and for a last number that is `n` or more (`NoProcessor`, which names it). It takes no memory, so
 /// the fault is never `Memory`.
 pub fn cpu_list(text: &str, n: u64) -> Result<u32, SetupFault>
-    requires { n ≤ 32 }
+    requires { n ≤ MOST_PROCESSORS }
     ensures answer { Gives (λ m. m) result (cpu_list_of n text.now) }
     ensures memory { IfErr result (λ e. IsSome (named e)) }
     // A bit is set just where the text names its processor.

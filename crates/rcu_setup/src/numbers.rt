@@ -1,6 +1,7 @@
 //! The keys that make the shape, and other whole numbers: docs/specification/rules.md, "Limits".
 
 ghost use Rattle.std.specs.Prelude.{◌≡◌, ◌<◌, ◌≤◌, ◌^◌, Ok, Err, IfOk, option_map};
+ghost use Rattle.rcu_numbers.specs.declared.shape.TheConstants.{MOST_PROCESSORS};
 ghost use Rattle.toml.specs.View.{table_view, view};
 ghost use Rattle.rcu_setup.specs.Faults.{Gives, missing_processors};
 ghost use Rattle.rcu_setup.specs.Numbers.{default_stride_of, nocbs_of, shape_of, shape_view, whole_in, whole_or};
@@ -49,8 +50,8 @@ pub(crate) fn whole_or(
 
 #[tactic(auto, unfolding(crate::specs::Numbers::whole_or))]
 fn processors(value: Option<&Value>) -> Result<u64, SetupFault>
-    ensures answer { Gives (λ n. n) result (whole_or Key.Processors 1 32 (Err missing_processors) (option_map (λ v. view v.now) value.entry)) }
-    ensures within { IfOk result (λ n. (1 ≤ n) × (n ≤ 32)) }
+    ensures answer { Gives (λ n. n) result (whole_or Key.Processors 1 MOST_PROCESSORS (Err missing_processors) (option_map (λ v. view v.now) value.entry)) }
+    ensures within { IfOk result (λ n. (1 ≤ n) × (n ≤ MOST_PROCESSORS)) }
 {
     match value {
         Some(value) => whole(Key::Processors, 1, MOST_PROCESSORS, value),
@@ -61,7 +62,7 @@ fn processors(value: Option<&Value>) -> Result<u64, SetupFault>
 /// The mask of the offloadable processors, among `n`.
 #[tactic(auto, unfolding(crate::specs::Numbers::nocbs_of))]
 fn nocbs(n: u64, value: Option<&Value>) -> Result<u32, SetupFault>
-    requires { n ≤ 32 }
+    requires { n ≤ MOST_PROCESSORS }
     ensures answer { Gives (λ m. m) result (nocbs_of n (option_map (λ v. view v.now) value.entry)) }
     ensures within { IfOk result (λ m. m < 2 ^ n) }
 {
@@ -76,9 +77,9 @@ fn nocbs(n: u64, value: Option<&Value>) -> Result<u32, SetupFault>
 
 /// The stride of `n` processors where none is given.
 fn stride_of(n: u64) -> u64
-    requires { (1 ≤ n) × (n ≤ 32) }
+    requires { (1 ≤ n) × (n ≤ MOST_PROCESSORS) }
     ensures value { result ≡ default_stride_of n }
-    ensures within { (1 ≤ result) × (result ≤ 32) }
+    ensures within { (1 ≤ result) × (result ≤ MOST_PROCESSORS) }
 {
     default_stride(n)
 }

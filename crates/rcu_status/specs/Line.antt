@@ -1,8 +1,8 @@
 -- The lines of `show`: docs/specification/tables.md, "Lines of `show`". All numbers are decimal, with no leading zeros.
 use Rattle.std.specs.Prelude.{ℕ, List, ◌++◌, slice_index, codes}
 use Rattle.std.specs.Fmt.{decimal}
-use Rattle.rcu_jobs.specs.declared.turns.Mode.{Mode}
-use Rattle.rcu_jobs.specs.declared.turns.Mode.TheVariants as mode
+use Rattle.rcu_jobs.specs.declared.modes.Mode.{Mode}
+use Rattle.rcu_jobs.specs.declared.modes.Mode.TheVariants as mode
 use Rattle.rcu_jobs.specs.declared.turns.Lists.{Lists}
 use Rattle.rcu_jobs.specs.declared.turns.Lists.TheVariants as lists
 

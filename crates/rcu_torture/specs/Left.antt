@@ -1,6 +1,7 @@
 -- What the checks at the end ask of the records of one processor.
 use Rattle.std.specs.Prelude.{◌≡◌, ℕ, ◌≤◌, List, Some, All}
 use Rattle.std.specs.List.{slice_get}
+use Rattle.rcu_numbers.specs.declared.sequence.TheConstants.{GREATEST_NUMBER}
 use Rattle.rcu_jobs.specs.declared.callback.Record.{Record}
 use Rattle.rcu_numbers.specs.Numbers.{snap_of}
 
@@ -10,4 +11,4 @@ AreNumbered records = (i : ℕ) (r : Record ℕ) → slice_get records i ≡ Som
 
 -- Each callback ran at a number for which it waited.
 abbrev pub AreReady : List (Record ℕ) → Type 0
-AreReady records = All (λ r. (r.stamp ≤ 2147483644) × (snap_of r.stamp ≤ r.ready)) records
+AreReady records = All (λ r. (r.stamp ≤ GREATEST_NUMBER) × (snap_of r.stamp ≤ r.ready)) records

@@ -76,15 +76,15 @@ pub struct Plan {
     pub runs: u64,
     /// By which all random numbers are drawn.
     pub seed: u64,
-    pub ghost some: { 0 < processors × processors ≤ 32 },
-    pub ghost within: { callbacks ≤ processors * 1000000 },
+    pub ghost some: { 0 < processors × processors ≤ MOST_PROCESSORS },
+    pub ghost within: { callbacks ≤ processors * MOST_CALLBACKS },
 }
 
 impl Plan {
     /// A plan of these numbers. None exactly where there is no processor, or more than a runtime has, or more callbacks than
     /// they accept.
     pub fn new(callbacks: u64, processors: u64, runs: u64, seed: u64) -> Option<Plan>
-        ensures within { IsSome result ↔ (0 < processors × processors ≤ 32 × callbacks ≤ processors * 1000000) }
+        ensures within { IsSome result ↔ (0 < processors × processors ≤ MOST_PROCESSORS × callbacks ≤ processors * MOST_CALLBACKS) }
         ensures plan { IfSome result (λ p. (p.callbacks ≡ callbacks) × (p.processors ≡ processors) × (p.runs ≡ runs) × (p.seed ≡ seed)) }
     {
         if processors == 0 || processors > MOST_PROCESSORS {
@@ -104,7 +104,7 @@ impl Plan {
     /// How many callbacks processor `p` is to accept in a run.
     pub fn share(&self, p: u64) -> u64
         ensures least { self.now.callbacks / self.now.processors ≤ result }
-        ensures most { result ≤ 1000000 }
+        ensures most { result ≤ MOST_CALLBACKS }
     {
         let even = self.callbacks / self.processors;
         if p < self.callbacks % self.processors {

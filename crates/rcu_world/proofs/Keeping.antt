@@ -8,7 +8,8 @@ use Rattle.rcu_world.specs.declared.events.Event.TheVariants as events
 use Rattle.rcu_law.specs.declared.who.Who.TheVariants as who
 use Rattle.rcu_law.specs.Events.{CoreEvent, is_enabled, after}
 use Rattle.rcu_law.specs.Events.CoreEvent.{Accept, Stamp, Put, Report, Start, End, Look, LookGroup, LookHand, Need, Draw, Join, Give, Fetch, Claim, Finish, Ask, Heed, Settle, Open, Count, Turn, Pass, Shut, Urge, Hear}
-use Rattle.rcu_law.specs.States.{State, cpu_at, is_offloaded}
+use Rattle.rcu_jobs.specs.Modes.{is_offloaded}
+use Rattle.rcu_law.specs.States.{State, cpu_at}
 use Rattle.rcu_law.specs.declared.who.Side.TheVariants.{Local}
 use Rattle.rcu_law.proofs.Schedules.{offloaded_claims_nothing}
 use Rattle.rcu_law.specs.Invariant.{IsCore}

@@ -2,11 +2,12 @@
 use Rattle.std.proofs.Common.{◌≡◌, ℕ, zero, suc, ◌+◌, Bool, true, false, cond, None, List, [], ◌∷◌, get_or, set, refl, subst, sym, ap, ◌∙◌, ◌<◌, length, inl, inr}
 use Rattle.std.proofs.lemmas.List.{get_or-set_same, get_or-set_other}
 use Rattle.std.proofs.lemmas.Bool.{cases_eq, ltb-true, and_parts}
-use Rattle.rcu_law.specs.declared.modes.Mode.{Mode}
-use Rattle.rcu_law.specs.declared.modes.Mode.TheVariants.{Local, Offloading, Offloaded, Deoffloading}
+use Rattle.rcu_jobs.specs.declared.modes.Mode.{Mode}
+use Rattle.rcu_jobs.specs.declared.modes.Mode.TheVariants.{Local, Offloading, Offloaded, Deoffloading}
 use Rattle.rcu_law.specs.declared.who.Who.TheVariants as who
 use Rattle.rcu_law.specs.Lists.{is_nil, needed_with}
-use Rattle.rcu_law.specs.States.{State, Cpu, empty_cpu, cpu_at, has, with_cpu, is_member, is_offloaded}
+use Rattle.rcu_jobs.specs.Modes.{is_offloaded}
+use Rattle.rcu_law.specs.States.{State, Cpu, empty_cpu, cpu_at, has, with_cpu, is_member}
 use Rattle.rcu_law.specs.Releases.{Pace, pace_after_stamp, pace_after_put}
 use Rattle.rcu_law.specs.Steps.{accepts, stamps, stamps_into, with_pace, puts, looks, group_looks, hand_looks, draws, joins, gives, fetches, finishes, leaves, heeds, heeds_mode, settles}
 use Rattle.rcu_law.specs.Events.{CoreEvent, is_enabled, after, each_cpu, most_wanted}

@@ -1,5 +1,6 @@
 -- The board of the core, as contracts see it. docs/specification/rules.md, "Quiescent reports"
 use Rattle.std.specs.Prelude.{ℕ, zero, suc, ◌+◌, ◌*◌, ◌%◌, ◌/◌, ◌==◌, ◌<◌, ◌≤◌, Bool, List, [], ◌∷◌}
+use Rattle.rcu_numbers.specs.declared.shape.TheConstants.{MOST_PROCESSORS}
 use Rattle.rcu_law.specs.Invariant.{owed}
 use Rattle.rcu_numbers.specs.Words.{Board, Owes}
 
@@ -10,8 +11,8 @@ pub record GracePeriod : Type 0 where
 
 -- there are as many processors, and no other owes a report
 pub record IsBoardOf (processors : ℕ) (word : Board) : Type 0 where
-  pub few : processors ≤ 32
-  pub others : (p : ℕ) → processors ≤ p → p < 32 → ¬ Owes word p
+  pub few : processors ≤ MOST_PROCESSORS
+  pub others : (p : ℕ) → processors ≤ p → p < MOST_PROCESSORS → ¬ Owes word p
 
 -- the lowest n bits of a mask
 abbrev pub bits : ℕ → ℕ → List Bool

@@ -4,7 +4,8 @@ use Rattle.rcu_world.specs.declared.events.Event.{Event}
 use Rattle.rcu_world.specs.declared.events.Event.TheVariants as events
 use Rattle.rcu_world.specs.declared.events.Answer.{Answer}
 use Rattle.rcu_world.specs.declared.events.Answer.TheVariants as answers
-use Rattle.rcu_law.specs.States.{State, cpu_at, is_offloaded, owes}
+use Rattle.rcu_jobs.specs.Modes.{is_offloaded}
+use Rattle.rcu_law.specs.States.{State, cpu_at, owes}
 use Rattle.rcu_law.specs.Events.{CoreEvent, is_enabled, after}
 use Rattle.rcu_law.specs.Releases.{releases}
 use Rattle.rcu_law.specs.Events.CoreEvent.{Accept, Stamp, Put, Report, Start, End, Look, LookGroup, LookHand, Need, Draw, Join, Give, Fetch, Claim, Finish, Ask, Heed, Settle, Open, Count, Turn, Pass, Shut, Urge, Hear}

@@ -15,7 +15,8 @@ use Rattle.rcu_jobs.specs.declared.BarrierFault.{BarrierFault}
 use Rattle.rcu_jobs.specs.declared.BarrierFault.TheVariants as barriers
 use Rattle.rcu_numbers.specs.declared.sequence.TheConstants.{GREATEST_NUMBER}
 use Rattle.rcu_law.specs.Lists.{none_owes}
-use Rattle.rcu_law.specs.States.{State, Cpu, cpu_at, has, is_offloadable, is_offloaded}
+use Rattle.rcu_jobs.specs.Modes.{is_offloaded}
+use Rattle.rcu_law.specs.States.{State, Cpu, cpu_at, has, is_offloadable}
 use Rattle.rcu_law.specs.Steps.{can_claim}
 use Rattle.rcu_processor.specs.Turns.{has_none, is_switching}
 use Rattle.rcu_law.specs.Releases.{releases, releases_in_tick, moment_of_tick}

@@ -1,5 +1,6 @@
 -- What always holds of a world
 use Rattle.std.specs.Prelude.{ℕ, ◌≤◌, length}
+use Rattle.rcu_numbers.specs.declared.shape.TheConstants.{MOST_CALLBACKS, MOST_PROCESSORS}
 use Rattle.rcu_numbers.specs.declared.Shape.{Shape}
 use Rattle.rcu_law.specs.States.{State, Shape as Plan}
 use Rattle.rcu_law.specs.Invariant.{IsCore}
@@ -13,8 +14,8 @@ pub record IsFit (w : State) : Type 0 where
   pub core : IsCore w
   pub stride : 1 ≤ w.shape.stride
   pub blimit : 1 ≤ w.shape.blimit
-  pub limit : w.shape.limit ≤ 1000000
-  pub few : length w.cpus ≤ 32
+  pub limit : w.shape.limit ≤ MOST_CALLBACKS
+  pub few : length w.cpus ≤ MOST_PROCESSORS
   pub no_back : HasNoBack w.history
 
 pub record IsWorld {J R : Type 0} (key_of : J → ℕ) (gives : ℕ → R → Type 0) (w : Core J R) : Type 0 where

@@ -1,7 +1,6 @@
 //! The events of the board word: `Report`, `Start`, `End`.
 
 ghost use Rattle.std.specs.Prelude.{◌≡◌, ◌%◌, ◌&&◌, ◌==◌, nat_lt};
-ghost use Rattle.rcu_numbers.specs.declared.sequence.TheConstants.{GREATEST_NUMBER};
 ghost use Rattle.rcu_world.specs.Worlds.{IsFit};
 ghost use Rattle.rcu_world.specs.Events.{Answers};
 ghost use Rattle.rcu_world.specs.Views.{state, AllGiven};
@@ -11,11 +10,12 @@ use crate::cores::Core;
 use crate::events::Answer;
 use rcu_jobs::Job;
 use rcu_law::marks::Mark;
+use rcu_numbers::GREATEST_NUMBER;
 
 fn may_start(number: u64, needed: u64) -> bool
     ensures { result ≡ ((number % 4 == 0) && (nat_lt number needed && nat_lt number GREATEST_NUMBER)) }
 {
-    number % 4 == 0 && number < needed && number < 2147483644
+    number % 4 == 0 && number < needed && number < GREATEST_NUMBER
 }
 
 impl<J: Job> Core<J, J::Receipt> {

@@ -1,6 +1,7 @@
 //! The board of the core: its word, in which the processors of the core alone owe reports.
 
 ghost use Rattle.std.specs.Prelude.{◌≡◌, ◌+◌, ◌<◌, ◌≤◌, ◌%◌, false, true, length, replicate, slice_index_or, slice_set};
+ghost use Rattle.rcu_numbers.specs.declared.shape.TheConstants.{MOST_PROCESSORS};
 ghost use Rattle.rcu_law.specs.Lists.{none_owes};
 ghost use Rattle.rcu_numbers.specs.declared.sequence.TheConstants.{GREATEST_NUMBER};
 ghost use Rattle.rcu_world.specs.Boards.{mask_of};
@@ -29,7 +30,7 @@ impl Model for Board {
 impl Board {
     /// The number 0, and no processor owes a report.
     pub(crate) fn new(processors: u64) -> Board
-        requires { processors ≤ 32 }
+        requires { processors ≤ MOST_PROCESSORS }
         ensures { result ≡ record { number = 0; owing = replicate processors false } }
     {
         Board {

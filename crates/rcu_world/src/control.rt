@@ -3,6 +3,7 @@
 ghost use Rattle.rcu_law.specs.Events.{is_enabled};
 ghost use Rattle.rcu_law.specs.Events.CoreEvent.{Shut};
 ghost use Rattle.std.specs.Prelude.{◌≡◌, ◌<◌, ◌≤◌, ℕ, true, length, IfOk, OnOk, OnErr, Option, None, Some};
+ghost use Rattle.rcu_numbers.specs.declared.shape.TheConstants.{MOST_PROCESSORS};
 ghost use Rattle.rcu_world.specs.Turns.{AreCounts, IsAtRest, IsBarrierAnswer, Leads, barrier_events, barrier_fault, counts_for, shuts, ticket_fault, upto};
 ghost use Rattle.rcu_world.specs.Views.{state};
 ghost use Rattle.rcu_world.specs.Worlds.{IsWorld};
@@ -15,7 +16,7 @@ use std::alloc::AllocError;
 impl<J: Job> World<J> {
     /// The counts of all processors.
     fn counts(&self) -> Counts
-        requires { length (state J.key_of self.now.core).cpus ≤ 32 }
+        requires { length (state J.key_of self.now.core).cpus ≤ MOST_PROCESSORS }
         ensures { AreCounts (state J.key_of self.now.core) result.n result.counts }
     {
         let n = self.core.processors.len();

@@ -1,6 +1,7 @@
 //! The end of a world: its last marks, and what it hands back.
 
 ghost use Rattle.std.specs.Prelude.{◌≡◌, [], ◌+◌, ◌≤◌, ◌++◌, length, map, IfOk, vec_len, vec_capacity};
+ghost use Rattle.rcu_numbers.specs.declared.shape.TheConstants.{MOST_PROCESSORS};
 ghost use Rattle.rcu_law.specs.declared.marks.Mark.TheVariants.{Back};
 ghost use Rattle.rcu_law.specs.Invariant.{reports};
 ghost use Rattle.rcu_law.specs.Closing.{closing, shut_marks};
@@ -46,7 +47,7 @@ fn find_rooms<J: Job>(
 /// How many marks a close may add.
 fn count_marks<J: Job>(processors: &Vec<Processor<J, J::Receipt>>) -> usize
     requires counted { AreCounted J.key_of processors.now.items }
-    requires few { vec_len processors.now ≤ 32 }
+    requires few { vec_len processors.now ≤ MOST_PROCESSORS }
     ensures { result ≡ most_marks (all_seen J.key_of processors.now.items) }
 {
     let mut count = 0;

@@ -1,6 +1,7 @@
 //! A group's turn (docs/specification/rules.md, "The calls, step by step").
 
 ghost use Rattle.std.specs.Prelude.{◌≡◌, ◌<◌, ◌≤◌, [], length, if◌then◌else◌, true, IfOk, IsOk};
+ghost use Rattle.rcu_numbers.specs.declared.shape.TheConstants.{MOST_CALLBACKS};
 ghost use Rattle.rcu_law.specs.Events.{is_enabled};
 ghost use Rattle.rcu_law.specs.Events.CoreEvent.{Join, LookGroup};
 ghost use Rattle.rcu_law.specs.States.{is_member, is_offloadable};
@@ -139,7 +140,7 @@ impl<J: Job> World<J> {
         requires world { IsWorld J.key_of J.gives self.old.core }
         requires there { cpu < length (state J.key_of self.old.core).cpus }
         ensures events { Made (Gives group cpu) (state J.key_of self.old.core) (state J.key_of self.new.core) 0 result }
-        ensures most { result ≤ 1000000 }
+        ensures most { result ≤ MOST_CALLBACKS }
         ensures rest { IsAtRest (state J.key_of self.old.core) → IsAtRest (state J.key_of self.new.core) }
         ensures len { length (state J.key_of self.new.core).cpus ≡ length (state J.key_of self.old.core).cpus }
         ensures kept { IsWorld J.key_of J.gives self.new.core }

@@ -1,6 +1,7 @@
 //! The poll of a barrier (docs/specification/rules.md, "On the core").
 
 ghost use Rattle.std.specs.Prelude.{◌≡◌, ◌<◌, ◌≤◌, ◌++◌, ◌∷◌, [], ℕ, true, false, length, IfOk, OnOk, OnErr};
+ghost use Rattle.rcu_numbers.specs.declared.shape.TheConstants.{MOST_PROCESSORS};
 ghost use Rattle.rcu_law.specs.Events.{is_enabled};
 ghost use Rattle.rcu_law.specs.Events.CoreEvent.{Pass};
 ghost use Rattle.rcu_law.specs.States.{barrier_at, count_at, is_open};
@@ -47,7 +48,7 @@ impl<J: Job> World<J> {
 
     /// The counts that a barrier kept.
     fn kept_counts(&self, barrier: u64) -> Counts
-        requires few { length (state J.key_of self.now.core).cpus ≤ 32 }
+        requires few { length (state J.key_of self.now.core).cpus ≤ MOST_PROCESSORS }
         requires there { barrier < length (state J.key_of self.now.core).barriers }
         ensures all { result.n ≡ length (state J.key_of self.now.core).cpus }
         ensures each { HasKept (barrier_at (state J.key_of self.now.core) barrier) (length (state J.key_of self.now.core).cpus) result.counts }

@@ -1,5 +1,5 @@
 use Rattle.std.proofs.Common.{◌≡◌, true, false, rules, ap, ◌∙◌}
-use Rattle.rcu_law.specs.States.{is_offloaded}
+use Rattle.rcu_jobs.specs.Modes.{is_offloaded}
 use Rattle.rcu_processor.proofs.Rooms.{on_ok, other, same_bypass}
 use Rattle.rcu_processor.specs.Batches.{bypassed, law_pace, pace}
 use Rattle.rcu_processor.specs.Waits.{calls, waits}
@@ -7,24 +7,24 @@ use Rattle.rcu_processor.specs.Views.{seen}
 use Rattle.rcu_processor.proofs.Sizes.{bypass_fits}
 use Rattle.rcu_processor.proofs.calling.Processor+J+J+Receipt.reserve.Goals as goal
 
-pub returns-then-in_offloaded-clause-room : goal.returns-then-in_offloaded-clause-room
-returns-then-in_offloaded-clause-room g c =
+pub returns-then-is_offloaded-clause-room : goal.returns-then-is_offloaded-clause-room
+returns-then-is_offloaded-clause-room g c =
     let e : is_offloaded c.args.self.now.mode ≡ true = search rules in
     on_ok c.reserve.result _ _ (λ r. ((λ _. r), λ f. absurd (other (is_offloaded c.args.self.now.mode) e f))) c.reserve.ensures.found
 
-pub returns-else-in_offloaded-clause-room : goal.returns-else-in_offloaded-clause-room
-returns-else-in_offloaded-clause-room g c =
+pub returns-else-is_offloaded-clause-room : goal.returns-else-is_offloaded-clause-room
+returns-else-is_offloaded-clause-room g c =
     let e : is_offloaded c.args.self.now.mode ≡ false = search rules in
-    on_ok c.reserve-else-in_offloaded.result _ _ (λ r. ((λ t. absurd (other (is_offloaded c.args.self.now.mode) t e)), λ _. r)) c.reserve-else-in_offloaded.ensures.found
+    on_ok c.reserve-else-is_offloaded.result _ _ (λ r. ((λ t. absurd (other (is_offloaded c.args.self.now.mode) t e)), λ _. r)) c.reserve-else-is_offloaded.ensures.found
 
 pub reserve-requires : goal.reserve-requires
 reserve-requires g c = bypass_fits g.row.J g.row.J-Receipt assumption
 
-pub returns-then-in_offloaded-clause-same : goal.returns-then-in_offloaded-clause-same
-returns-then-in_offloaded-clause-same g c = let k = g.J.Job.key_of in let o = seen k c.args.self.now in same_bypass o (bypassed k c.reserve.new.self) (pace c.reserve.new.self) (ap (calls k) c.reserve.ensures.same.items) (ap law_pace c.reserve.ensures.same.pace)
+pub returns-then-is_offloaded-clause-same : goal.returns-then-is_offloaded-clause-same
+returns-then-is_offloaded-clause-same g c = let k = g.J.Job.key_of in let o = seen k c.args.self.now in same_bypass o (bypassed k c.reserve.new.self) (pace c.reserve.new.self) (ap (calls k) c.reserve.ensures.same.items) (ap law_pace c.reserve.ensures.same.pace)
 
-pub returns-then-in_offloaded-clause-given : goal.returns-then-in_offloaded-clause-given
-returns-then-in_offloaded-clause-given g c = λ mark a. (a.0, c.reserve.ensures.same.qhimark ∙ a.1)
+pub returns-then-is_offloaded-clause-given : goal.returns-then-is_offloaded-clause-given
+returns-then-is_offloaded-clause-given g c = λ mark a. (a.0, c.reserve.ensures.same.qhimark ∙ a.1)
 
-pub returns-else-in_offloaded-clause-same : goal.returns-else-in_offloaded-clause-same
-returns-else-in_offloaded-clause-same g c = let k = g.J.Job.key_of in let o = seen k c.args.self.now in ap (λ ws. record o { own = waits k ws }) c.reserve-else-in_offloaded.ensures.same.list
+pub returns-else-is_offloaded-clause-same : goal.returns-else-is_offloaded-clause-same
+returns-else-is_offloaded-clause-same g c = let k = g.J.Job.key_of in let o = seen k c.args.self.now in ap (λ ws. record o { own = waits k ws }) c.reserve-else-is_offloaded.ensures.same.list

@@ -18,7 +18,7 @@ new-requires-8 g c = batch_fits g.row.J g.row.J-Receipt assumption
 pub returns-clause-opens : goal.returns-clause-opens
 returns-clause-opens g c = let k = g.J.Job.key_of in
     opens_as c.args.offloadable _ _ _ _ _ _ _ _ _ (pace c.new-2.result) _ (ap (waits k) c.new.ensures.list) (ap (waits k) c.new-5.ensures.list) (ap (calls k) c.new-2.ensures.items) (ap (calls k) c.new-4.ensures.items)
-    (ap (calls k) c.new-6.ensures.items) (ap (calls k) c.new-8.ensures.items) (ap (batches k) c.new-3.ensures.items) (ap (batches k) c.new-7.ensures.items) (ap (map run) c.new-9.ensures.items) (ap law_pace c.new-2.ensures.pace) c.first_mode.ensures
+    (ap (calls k) c.new-6.ensures.items) (ap (calls k) c.new-8.ensures.items) (ap (batches k) c.new-3.ensures.items) (ap (batches k) c.new-7.ensures.items) (ap (map run) c.new-9.ensures.items) (ap law_pace c.new-2.ensures.pace) c.first.ensures
 
 pub returns-clause-given : goal.returns-clause-given
 returns-clause-given g c = (subst (Given g.J.Job.gives) (sym c.new-9.ensures.items) (none_ran g.J.Job.gives), c.new-2.ensures.qhimark)

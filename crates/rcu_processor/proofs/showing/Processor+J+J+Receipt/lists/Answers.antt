@@ -12,4 +12,4 @@ len-requires g c = bypass_fits g.row.J g.row.J-Receipt assumption
 pub returns : goal.returns
 returns g c = let k = g.J.Job.key_of in let b = c.args.self.now.bypass in
     let e : c.len.result ≡ length (bypassed k b) = c.len.ensures ∙ sym (length-map (bypass_items b) (call k)) in
-    rw (c.shown_mode.ensures, e, c.lengths_of.ensures, c.numbers_of.ensures) refl
+    rw (e, c.lengths_of.ensures, c.numbers_of.ensures) refl

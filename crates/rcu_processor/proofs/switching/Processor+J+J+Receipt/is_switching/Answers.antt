@@ -1,7 +1,6 @@
 use Rattle.std.proofs.Common.{◌∙◌, ◌&&◌, ◌||◌, not, ap}
 use Rattle.std.specs.Prelude.{if◌then◌else◌}
-use Rattle.rcu_law.specs.States.{is_offloaded}
-use Rattle.rcu_processor.specs.Turns.{is_offloading}
+use Rattle.rcu_jobs.specs.Modes.{is_offloaded, is_offloading}
 use Rattle.rcu_processor.proofs.Sizes.{bypass_fits}
 use Rattle.rcu_processor.proofs.switching.Processor+J+J+Receipt.is_switching.Goals as goal
 

@@ -1,6 +1,6 @@
 use Rattle.std.proofs.Common.{◌∙◌, ap}
 use Rattle.rcu_law.specs.States.{Cpu}
-use Rattle.rcu_law.specs.declared.modes.Mode.TheVariants.{Offloading}
+use Rattle.rcu_jobs.specs.declared.modes.Mode.TheVariants.{Offloading}
 use Rattle.rcu_processor.specs.Views.{seen}
 use Rattle.rcu_processor.proofs.Heeding.{heeds_poured, heeds_waiting}
 use Rattle.rcu_processor.proofs.switching.Processor+J+J+Receipt.pour_or_wait.Goals as goal

@@ -1,7 +1,7 @@
 use Rattle.std.proofs.Common.{◌∙◌, ◌&&◌, ap}
 use Rattle.rcu_law.specs.Lists.{is_nil}
 use Rattle.rcu_law.specs.Releases.{tick_releases}
-use Rattle.rcu_law.specs.States.{is_offloaded}
+use Rattle.rcu_jobs.specs.Modes.{is_offloaded}
 use Rattle.rcu_processor.specs.Views.{seen}
 use Rattle.rcu_processor.proofs.Sizes.{bypass_fits}
 use Rattle.rcu_processor.proofs.ticking.Processor+J+J+Receipt.is_released_in_tick.Goals as goal

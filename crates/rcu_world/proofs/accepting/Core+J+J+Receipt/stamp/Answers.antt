@@ -1,6 +1,6 @@
 use Rattle.std.proofs.Common.{◌≡◌, ◌<◌, ◌∙◌, ap, sym, arith, refl, None, not, ◌&&◌, length, subst, true, false}
 use Rattle.rcu_law.specs.Lists.{is_none}
-use Rattle.rcu_law.specs.States.{is_offloaded}
+use Rattle.rcu_jobs.specs.Modes.{is_offloaded}
 use Rattle.rcu_law.specs.Steps.{stamps}
 use Rattle.rcu_law.specs.Releases.{releases}
 use Rattle.rcu_processor.specs.Views.{seen}

@@ -1,5 +1,5 @@
 use Rattle.std.proofs.Common.{◌∙◌, sym, arith, refl, None}
-use Rattle.rcu_law.specs.States.{is_deoffloading}
+use Rattle.rcu_jobs.specs.Modes.{is_deoffloading}
 use Rattle.rcu_law.specs.Steps.{settles}
 use Rattle.rcu_world.proofs.Seen.{stepped, given_at, absent, skipped}
 use denote.Param.{param}
