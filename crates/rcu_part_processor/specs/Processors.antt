@@ -51,3 +51,7 @@ module _ {J R : Type 0} where
   pub record IsSound (key_of : J → ℕ) (gives : ℕ → R → Type 0) (p : ProcessorState J R) : Type 0 where
     pub keyed : AreKeyed key_of (passed_on (lists_of p))
     pub given : Given gives (records_of p)
+
+  -- what is known of jobs stays known
+  abbrev pub KeepsSound : (J → ℕ) → (ℕ → R → Type 0) → ProcessorState J R → ProcessorState J R → Type 0
+  KeepsSound key_of gives old new = IsSound key_of gives old → IsSound key_of gives new

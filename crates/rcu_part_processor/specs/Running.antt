@@ -89,3 +89,7 @@ module _ {J R : Type 0} where
   pub record IsSoundRunning (key_of : J → ℕ) (gives : ℕ → R → Type 0) (p : RunningProcessorState J R) : Type 0 where
     pub keyed : AreKeyed key_of (passed_on (running_lists p))
     pub given : Given gives (running_records p)
+
+  -- what is known of jobs stays known
+  abbrev pub KeepsSoundRunning : (J → ℕ) → (ℕ → R → Type 0) → RunningProcessorState J R → RunningProcessorState J R → Type 0
+  KeepsSoundRunning key_of gives old new = IsSoundRunning key_of gives old → IsSoundRunning key_of gives new

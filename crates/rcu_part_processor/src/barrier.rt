@@ -3,7 +3,7 @@
 ghost use Rattle.std.specs.Prelude.{◌≡◌};
 ghost use Rattle.rcu_control.specs.Barriers.{Opens, count_at};
 ghost use Rattle.rcu_part_processor.specs.Calls.{KeepsAll};
-ghost use Rattle.rcu_part_processor.specs.Processors.{SameProcessor, IsSound, board_of, view_of};
+ghost use Rattle.rcu_part_processor.specs.Processors.{SameProcessor, IsSound, board_of, view_of, KeepsSound};
 
 use crate::processor::Processor;
 use rcu_board::turn_of;
@@ -18,7 +18,7 @@ impl<J: Job> Processor<J> {
         ensures keeps { KeepsAll self.old.state self.new.state }
         ensures opens { Opens (board_of self.old.state).processors result (view_of self.old.state) (view_of self.new.state) }
         ensures own { count_at result.counts self.new.state.cpu ≡ self.new.state.accepted }
-        ensures sound { IsSound J.key_of J.gives self.old.state → IsSound J.key_of J.gives self.new.state }
+        ensures sound { KeepsSound J.key_of J.gives self.old.state self.new.state }
     {
         let state = &mut self.state;
         open_barrier(&state.board, &mut state.seat)

@@ -6,7 +6,7 @@ ghost use Rattle.rcu_numbers.specs.declared.shape.TheConstants.{MOST_CALLBACKS};
 ghost use Rattle.rcu_board.specs.Views.{sight};
 ghost use Rattle.rcu_jobs.specs.declared.Stop.TheVariants.{Limit};
 ghost use Rattle.rcu_part_processor.specs.Begins.{IsNext, KeepsProcessor, ClaimsFirst, ClaimsNone, BeginsTick, StopsBegin, FinishesProcessor};
-ghost use Rattle.rcu_part_processor.specs.Processors.{SameProcessor, IsSound, lists_of, view_of};
+ghost use Rattle.rcu_part_processor.specs.Processors.{SameProcessor, IsSound, lists_of, view_of, KeepsSound};
 ghost use Rattle.rcu_part_processor.specs.Running.{SameBegun, SameFinished, IsSoundRunning};
 ghost use Rattle.rcu_part_processor.specs.Ticks.{RanDone, StopsTick};
 ghost use Rattle.rcu_part_steps.specs.Begins.{IfRuns, IfStops};
@@ -27,7 +27,7 @@ impl<J: Job> Processor<J> {
         ensures room { IfOk result (λ _. vec_len self.new.state.ran < vec_capacity self.new.state.ran) }
         ensures stops { IfErr result (λ stop. StopsTick stop 0 0 self.new.state) }
         ensures counts { IfErr result (λ stop. stop ≢ Limit) }
-        ensures sound { IsSound J.key_of J.gives self.old.state → IsSound J.key_of J.gives self.new.state }
+        ensures sound { KeepsSound J.key_of J.gives self.old.state self.new.state }
     {
         let state = &mut self.state;
         let Some(first) = state.lists.first() else {

@@ -5,7 +5,7 @@ ghost use Rattle.rcu_board.specs.Seats.{SawShut};
 ghost use Rattle.rcu_lists.specs.declared.pace.Kind.TheVariants.{Plain, Lazy};
 ghost use Rattle.rcu_part_processor.specs.Accepting.{IsLimit};
 ghost use Rattle.rcu_part_processor.specs.Calls.{IsAccepted, KeepsAll, IsRefusedAs};
-ghost use Rattle.rcu_part_processor.specs.Processors.{SameProcessor, IsSound, view_of};
+ghost use Rattle.rcu_part_processor.specs.Processors.{SameProcessor, IsSound, view_of, KeepsSound};
 
 use crate::accepting::{Request, accept_job};
 use crate::processor::Processor;
@@ -28,7 +28,7 @@ impl<J: Job> Processor<J> {
         ensures refused { IfErr result (λ r. IsRefusedAs job r self.old.state self.new.state) }
         ensures closed { SawShut self.old.state.cpu (view_of self.old.state) → IsErr result }
         ensures full { self.old.state.accepted ≡ self.old.state.limit → IfErr result (λ r. IsLimit r) × IsErr result }
-        ensures sound { IsSound J.key_of J.gives self.old.state → IsSound J.key_of J.gives self.new.state }
+        ensures sound { KeepsSound J.key_of J.gives self.old.state self.new.state }
     {
         self.call(moment, Kind::Plain, job)
     }
@@ -45,7 +45,7 @@ impl<J: Job> Processor<J> {
         ensures refused { IfErr result (λ r. IsRefusedAs job r self.old.state self.new.state) }
         ensures closed { SawShut self.old.state.cpu (view_of self.old.state) → IsErr result }
         ensures full { self.old.state.accepted ≡ self.old.state.limit → IfErr result (λ r. IsLimit r) × IsErr result }
-        ensures sound { IsSound J.key_of J.gives self.old.state → IsSound J.key_of J.gives self.new.state }
+        ensures sound { KeepsSound J.key_of J.gives self.old.state self.new.state }
     {
         self.call(moment, Kind::Lazy, job)
     }
@@ -58,7 +58,7 @@ impl<J: Job> Processor<J> {
         ensures refused { IfErr result (λ r. IsRefusedAs job r self.old.state self.new.state) }
         ensures closed { SawShut self.old.state.cpu (view_of self.old.state) → IsErr result }
         ensures full { self.old.state.accepted ≡ self.old.state.limit → IfErr result (λ r. IsLimit r) × IsErr result }
-        ensures sound { IsSound J.key_of J.gives self.old.state → IsSound J.key_of J.gives self.new.state }
+        ensures sound { KeepsSound J.key_of J.gives self.old.state self.new.state }
     {
         let state = &mut self.state;
         let request = Request {

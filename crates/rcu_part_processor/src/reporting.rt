@@ -3,7 +3,7 @@
 ghost use Rattle.std.specs.Prelude.{◌≡◌};
 ghost use Rattle.rcu_holdings.specs.ProcessorLists.{cpu_lists};
 ghost use Rattle.rcu_part_processor.specs.Calls.{KeepsAll};
-ghost use Rattle.rcu_part_processor.specs.Processors.{SameProcessor, IsSound, lists_of, view_of};
+ghost use Rattle.rcu_part_processor.specs.Processors.{SameProcessor, IsSound, lists_of, view_of, KeepsSound};
 ghost use Rattle.rcu_part_steps.specs.Reports.{Reports};
 
 use crate::processor::Processor;
@@ -28,7 +28,7 @@ impl<J: Job> Processor<J> {
         ensures same { SameProcessor self.old.state self.new.state }
         ensures keeps { KeepsAll self.old.state self.new.state }
         ensures reports { Reports self.old.state.cpu result (view_of self.old.state) (view_of self.new.state) }
-        ensures sound { IsSound J.key_of J.gives self.old.state → IsSound J.key_of J.gives self.new.state }
+        ensures sound { KeepsSound J.key_of J.gives self.old.state self.new.state }
     {
         let state = &mut self.state;
         report_quiescent_state(&state.board, &mut state.seat, state.cpu)

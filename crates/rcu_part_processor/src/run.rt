@@ -6,7 +6,7 @@ ghost use Rattle.rcu_board.specs.Plays.{touched};
 ghost use Rattle.rcu_board.specs.Seats.{SawHalt};
 ghost use Rattle.rcu_board.specs.Words.{halt_word};
 ghost use Rattle.rcu_part_processor.specs.Calls.{KeepsAll};
-ghost use Rattle.rcu_part_processor.specs.Processors.{SameProcessor, AcceptedStays, AddsRecords, IsSound, view_of};
+ghost use Rattle.rcu_part_processor.specs.Processors.{SameProcessor, AcceptedStays, AddsRecords, IsSound, view_of, KeepsSound};
 
 use crate::processor::Processor;
 use rcu_board::halted;
@@ -21,7 +21,7 @@ impl<J: Job> Processor<J> {
         ensures same { SameProcessor self.old.state self.new.state }
         ensures keeps { KeepsAll self.old.state self.new.state }
         ensures view { view_of self.new.state ≡ touched halt_word (from_bool result) (view_of self.old.state) }
-        ensures sound { IsSound J.key_of J.gives self.old.state → IsSound J.key_of J.gives self.new.state }
+        ensures sound { KeepsSound J.key_of J.gives self.old.state self.new.state }
     {
         let state = &mut self.state;
         halted(&state.board, &mut state.seat)
@@ -34,7 +34,7 @@ impl<J: Job> Processor<J> {
         ensures count { self.new.state.accepted ≡ self.old.state.accepted }
         ensures accepted { AcceptedStays self.old.state self.new.state }
         ensures records { AddsRecords self.old.state self.new.state }
-        ensures sound { IsSound J.key_of J.gives self.old.state → IsSound J.key_of J.gives self.new.state }
+        ensures sound { KeepsSound J.key_of J.gives self.old.state self.new.state }
     {
         if self.is_halted() {
             return None;

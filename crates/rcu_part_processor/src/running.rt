@@ -9,6 +9,7 @@ ghost use Rattle.rcu_board.specs.declared.board.Role.{Role};
 ghost use Rattle.rcu_holdings.specs.ProcessorLists.{holding};
 ghost use Rattle.rcu_numbers.specs.Words.{owes_of};
 ghost use Rattle.rcu_part_processor.specs.Lawful.{IsRunningProcessor, StaysLocal};
+ghost use Rattle.rcu_part_processor.specs.Running.{KeepsSoundRunning};
 
 use crate::accepting::{Request, accept_job};
 use rcu_board::{Board, Role, Seat};
@@ -107,7 +108,7 @@ impl<J: Job> RunningProcessor<J> {
         ensures keeps { KeepsAll self.old.state self.new.state }
         ensures claimed { self.new.state.claimed ≡ self.old.state.claimed }
         ensures reports { Reports self.old.state.cpu result (running_view self.old.state) (running_view self.new.state) }
-        ensures sound { IsSoundRunning J.key_of J.gives self.old.state → IsSoundRunning J.key_of J.gives self.new.state }
+        ensures sound { KeepsSoundRunning J.key_of J.gives self.old.state self.new.state }
     {
         let state = &mut self.state;
         report_quiescent_state(&state.board, &mut state.seat, state.cpu)
@@ -127,7 +128,7 @@ impl<J: Job> RunningProcessor<J> {
         ensures closed { SawShut self.old.state.cpu (running_view self.old.state) → IsErr result }
         ensures full { self.old.state.accepted ≡ self.old.state.limit → IfErr result (λ r. IsLimit r) × IsErr result }
         ensures claimed { self.new.state.claimed ≡ self.old.state.claimed }
-        ensures sound { IsSoundRunning J.key_of J.gives self.old.state → IsSoundRunning J.key_of J.gives self.new.state }
+        ensures sound { KeepsSoundRunning J.key_of J.gives self.old.state self.new.state }
     {
         self.call(moment, Kind::Plain, job)
     }
@@ -145,7 +146,7 @@ impl<J: Job> RunningProcessor<J> {
         ensures closed { SawShut self.old.state.cpu (running_view self.old.state) → IsErr result }
         ensures full { self.old.state.accepted ≡ self.old.state.limit → IfErr result (λ r. IsLimit r) × IsErr result }
         ensures claimed { self.new.state.claimed ≡ self.old.state.claimed }
-        ensures sound { IsSoundRunning J.key_of J.gives self.old.state → IsSoundRunning J.key_of J.gives self.new.state }
+        ensures sound { KeepsSoundRunning J.key_of J.gives self.old.state self.new.state }
     {
         self.call(moment, Kind::Lazy, job)
     }
@@ -159,7 +160,7 @@ impl<J: Job> RunningProcessor<J> {
         ensures closed { SawShut self.old.state.cpu (running_view self.old.state) → IsErr result }
         ensures full { self.old.state.accepted ≡ self.old.state.limit → IfErr result (λ r. IsLimit r) × IsErr result }
         ensures claimed { self.new.state.claimed ≡ self.old.state.claimed }
-        ensures sound { IsSoundRunning J.key_of J.gives self.old.state → IsSoundRunning J.key_of J.gives self.new.state }
+        ensures sound { KeepsSoundRunning J.key_of J.gives self.old.state self.new.state }
     {
         let state = &mut self.state;
         let request = Request {

@@ -4,7 +4,7 @@ ghost use Rattle.std.specs.Prelude.{◌≡◌, ◌≢◌, ℕ, ◌+◌, ◌≤�
 ghost use Rattle.rcu_jobs.specs.Modes.{is_deoffloading};
 ghost use Rattle.rcu_board.specs.Views.{sight};
 ghost use Rattle.rcu_jobs.specs.declared.Stop.TheVariants.{Limit};
-ghost use Rattle.rcu_part_processor.specs.Processors.{SameProcessor, IsSound, lists_of, view_of};
+ghost use Rattle.rcu_part_processor.specs.Processors.{SameProcessor, IsSound, lists_of, view_of, KeepsSound};
 ghost use Rattle.rcu_part_processor.specs.Ticks.{CatchesUp, Heeds, Settles, RanDone, StopsTick, TicksBy, IsFresh, IsLocalOnceRun, RunsNoneOffloaded};
 ghost use Rattle.rcu_part_steps.specs.Stops.{StopsInTime};
 
@@ -20,7 +20,7 @@ impl<J: Job> Processor<J> {
         ensures catches_up { CatchesUp result self.old.state self.new.state }
         ensures sight { (sight (view_of self.new.state) ≡ result) × ((lists_of self.new.state).advanced ≡ result) }
         ensures count { self.new.state.accepted ≡ self.old.state.accepted }
-        ensures sound { IsSound J.key_of J.gives self.old.state → IsSound J.key_of J.gives self.new.state }
+        ensures sound { KeepsSound J.key_of J.gives self.old.state self.new.state }
     {
         let state = &mut self.state;
         let seen = look_at_number(&state.board, &mut state.seat).seq();
@@ -38,7 +38,7 @@ impl<J: Job> Processor<J> {
         ensures heeds { Heeds moment self.old.state self.new.state }
         ensures sight { (sight (view_of self.new.state) ≡ sight (view_of self.old.state)) × ((lists_of self.new.state).advanced ≡ (lists_of self.old.state).advanced) }
         ensures count { self.new.state.accepted ≡ self.old.state.accepted }
-        ensures sound { IsSound J.key_of J.gives self.old.state → IsSound J.key_of J.gives self.new.state }
+        ensures sound { KeepsSound J.key_of J.gives self.old.state self.new.state }
     {
         let state = &mut self.state;
         let on = asked(&state.board, &mut state.seat);
@@ -54,7 +54,7 @@ impl<J: Job> Processor<J> {
         ensures settles { Settles self.old.state self.new.state }
         ensures sight { (sight (view_of self.new.state) ≡ sight (view_of self.old.state)) × ((lists_of self.new.state).advanced ≡ (lists_of self.old.state).advanced) }
         ensures count { self.new.state.accepted ≡ self.old.state.accepted }
-        ensures sound { IsSound J.key_of J.gives self.old.state → IsSound J.key_of J.gives self.new.state }
+        ensures sound { KeepsSound J.key_of J.gives self.old.state self.new.state }
     {
         let state = &mut self.state;
         if state.lists.mode().is_deoffloading() {
@@ -72,7 +72,7 @@ impl<J: Job> Processor<J> {
         ensures not { IfSome result (λ stop. (tried : ℕ) × RanDone 0 tried seen self.old.state self.new.state × ((n : ℕ) → StopsTick stop n (n + tried) self.new.state)) }
         ensures sight { (sight (view_of self.new.state) ≡ seen) × ((lists_of self.new.state).advanced ≡ seen) }
         ensures count { self.new.state.accepted ≡ self.old.state.accepted }
-        ensures sound { IsSound J.key_of J.gives self.old.state → IsSound J.key_of J.gives self.new.state }
+        ensures sound { KeepsSound J.key_of J.gives self.old.state self.new.state }
     {
         let state = &mut self.state;
         let Some(first) = state.lists.first() else {
@@ -101,7 +101,7 @@ impl<J: Job> Processor<J> {
         ensures few { result.ran ≤ self.old.state.blimit }
         ensures first { StopsInTime result.stop result.ran self.old.state.blimit }
         ensures count { self.new.state.accepted ≡ self.old.state.accepted }
-        ensures sound { IsSound J.key_of J.gives self.old.state → IsSound J.key_of J.gives self.new.state }
+        ensures sound { KeepsSound J.key_of J.gives self.old.state self.new.state }
     {
         let blimit = self.state.blimit;
         for ran in 0..blimit {
@@ -128,7 +128,7 @@ impl<J: Job> Processor<J> {
         ensures fresh { IsFresh self.old.state self.new.state }
         ensures local { IsLocalOnceRun self.old.state self.new.state }
         ensures none { RunsNoneOffloaded result.ran self.old.state self.new.state }
-        ensures sound { IsSound J.key_of J.gives self.old.state → IsSound J.key_of J.gives self.new.state }
+        ensures sound { KeepsSound J.key_of J.gives self.old.state self.new.state }
     {
         let seen = self.catch_up();
         if !self.state.offloadable {

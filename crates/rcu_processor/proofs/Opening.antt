@@ -10,7 +10,7 @@ use Rattle.rcu_law.specs.States.{Run, opening_cpu}
 use Rattle.rcu_law.specs.Steps.{with_pace}
 use Rattle.rcu_lists.specs.Release.{beginning}
 use Rattle.rcu_processor.specs.Batches.{law_pace}
-use Rattle.rcu_processor.specs.Views.{Given}
+use Rattle.rcu_jobs.specs.Records.{Given}
 
 pub opens_as : (on : Bool) (own joined : List Labelled) (bypass drawn out held : List Call) (lane done_lane : List (List Call)) (runs : List Run) (p : Pace) (m : Mode)
     → own ≡ [] → joined ≡ [] → bypass ≡ [] → drawn ≡ [] → out ≡ [] → held ≡ [] → lane ≡ [] → done_lane ≡ [] → runs ≡ [] → p ≡ law_pace beginning → m ≡ (if on then Offloaded else Local)

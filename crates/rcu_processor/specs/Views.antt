@@ -1,9 +1,9 @@
 -- A processor, as the law sees it
 use Rattle.std.specs.Prelude.{◌≡◌, ℕ, List, map, Option, Some, None}
 use Rattle.std.specs.Global.{Vec}
-use Rattle.std.specs.List.{All}
 use Rattle.rcu_jobs.specs.declared.Callback.{Callback}
 use Rattle.rcu_jobs.specs.declared.Record.{Record}
+use Rattle.rcu_jobs.specs.Records.{Given}
 use Rattle.rcu_law.specs.Calls.{Call}
 use Rattle.rcu_law.specs.States.{Cpu, Run, run_of}
 use Rattle.rcu_lists.specs.Bypasses.{bypass_qhimark}
@@ -58,10 +58,10 @@ records_of c = c.records
 abbrev pub mark_of : {J R : Type 0} → Processor J R → ℕ
 mark_of c = bypass_qhimark c.bypass
 
--- each receipt is as the relation wants it for the record's key
-abbrev pub Given : {R : Type 0} → (ℕ → R → Type 0) → List (Record R) → Type 0
-Given gives rs = All (λ r. gives r.key r.receipt) rs
-
 -- What the law doesn't see: the receipts are as the relation wants them, and the bypass list is released at this length.
 abbrev pub AreGiven : {J R : Type 0} → (ℕ → R → Type 0) → ℕ → Processor J R → Type 0
 AreGiven gives qhimark c = Given gives c.records.items × (mark_of c ≡ qhimark)
+
+-- what the law doesn't see stays so
+abbrev pub KeepsGiven : {J R : Type 0} → (ℕ → R → Type 0) → Processor J R → Processor J R → Type 0
+KeepsGiven gives old new = (mark : ℕ) → AreGiven gives mark old → AreGiven gives mark new

@@ -9,7 +9,7 @@ ghost use Rattle.rcu_lists.specs.Bypasses.{BypassRoom};
 ghost use Rattle.rcu_lists.specs.Segments.{SegmentsRoom};
 ghost use Rattle.rcu_processor.specs.Ready.{IsReady};
 ghost use Rattle.rcu_processor.specs.Waits.{call};
-ghost use Rattle.rcu_processor.specs.Views.{fresh_call, seen, mark_of, AreGiven};
+ghost use Rattle.rcu_processor.specs.Views.{fresh_call, seen, mark_of, AreGiven, KeepsGiven};
 
 use crate::bypassing::hold;
 use crate::processor::Processor;
@@ -57,7 +57,7 @@ impl<J: Job> Processor<J, J::Receipt> {
     pub fn reserve(&mut self) -> Result<(), AllocError>
         ensures same { seen J.key_of self.new ≡ seen J.key_of self.old }
         ensures room { OnOk result (IsReady self.new) }
-        ensures given { (mark : ℕ) → AreGiven J.gives mark self.old → AreGiven J.gives mark self.new }
+        ensures given { KeepsGiven J.gives self.old self.new }
     {
         if self.mode.is_offloaded() {
             self.bypass.reserve()
@@ -72,7 +72,7 @@ impl<J: Job> Processor<J, J::Receipt> {
         requires fits { (seen J.key_of self.old).count < 2 ^ 63 }
         ensures accepts { seen J.key_of self.new ≡ accepts (J.key_of job) (seen J.key_of self.old) }
         ensures ready { IsReady self.old → IsReady self.new }
-        ensures given { (mark : ℕ) → AreGiven J.gives mark self.old → AreGiven J.gives mark self.new }
+        ensures given { KeepsGiven J.gives self.old self.new }
     {
         let key = job.key();
         self.fresh = Some(Callback {
@@ -99,7 +99,7 @@ impl<J: Job> Processor<J, J::Receipt> {
         ensures callback { fresh_calls number (seen J.key_of self.old).fresh ≡ call J.key_of result ∷ [] }
         ensures own { self.new.own ≡ self.old.own }
         ensures bypass { self.new.bypass ≡ self.old.bypass }
-        ensures given { (mark : ℕ) → AreGiven J.gives mark self.old → AreGiven J.gives mark self.new }
+        ensures given { KeepsGiven J.gives self.old self.new }
     {
         let Some(mut callback) = self.fresh.take() else {
             unreachable!()
@@ -115,7 +115,7 @@ impl<J: Job> Processor<J, J::Receipt> {
         ensures due { IfOk result (λ due. due ≡ false) }
         ensures succeeds { SegmentsRoom self.old.own 1 → IsOk result }
         ensures err { OnErr result (seen J.key_of self.new ≡ seen J.key_of self.old) }
-        ensures given { (mark : ℕ) → AreGiven J.gives mark self.old → AreGiven J.gives mark self.new }
+        ensures given { KeepsGiven J.gives self.old self.new }
     {
         self.own.reserve(1)?;
         let callback = self.take_fresh(number);
@@ -130,7 +130,7 @@ impl<J: Job> Processor<J, J::Receipt> {
         ensures due { IfOk result (λ due. due ≡ releases (mark_of self.old) lazy moment (seen J.key_of self.old)) }
         ensures succeeds { BypassRoom self.old.bypass 1 → IsOk result }
         ensures err { OnErr result (seen J.key_of self.new ≡ seen J.key_of self.old) }
-        ensures given { (mark : ℕ) → AreGiven J.gives mark self.old → AreGiven J.gives mark self.new }
+        ensures given { KeepsGiven J.gives self.old self.new }
     {
         self.bypass.reserve()?;
         let callback = self.take_fresh(number);
@@ -150,7 +150,7 @@ impl<J: Job> Processor<J, J::Receipt> {
         ensures due { IfOk result (λ due. due ≡ (is_offloaded (seen J.key_of self.old).mode && releases (mark_of self.old) lazy moment (seen J.key_of self.old))) }
         ensures succeeds { IsReady self.old → IsOk result }
         ensures err { OnErr result (seen J.key_of self.new ≡ seen J.key_of self.old) }
-        ensures given { (mark : ℕ) → AreGiven J.gives mark self.old → AreGiven J.gives mark self.new }
+        ensures given { KeepsGiven J.gives self.old self.new }
     {
         if self.mode.is_offloaded() {
             self.stamp_offloaded(number, moment, lazy)

@@ -3,10 +3,10 @@
 ghost use Rattle.std.specs.Prelude.{◌≡◌, ℕ, true, not, length};
 ghost use Rattle.rcu_law.specs.Places.{remaining_callbacks};
 ghost use Rattle.rcu_processor.specs.Leaving.{IsCounted};
-ghost use Rattle.rcu_processor.specs.Views.{seen, records_of, AreGiven};
+ghost use Rattle.rcu_processor.specs.Views.{seen, AreGiven, KeepsGiven};
 
 use crate::processor::Processor;
-use rcu_jobs::{Job, Record};
+use rcu_jobs::Job;
 
 impl<J: Job> Processor<J, J::Receipt> {
     /// Whether it isn't shut.
@@ -19,7 +19,7 @@ impl<J: Job> Processor<J, J::Receipt> {
     /// Nothing is accepted from now on.
     pub fn shut(&mut self)
         ensures shuts { seen J.key_of self.new ≡ record (seen J.key_of self.old) { shut = true } }
-        ensures given { (mark : ℕ) → AreGiven J.gives mark self.old → AreGiven J.gives mark self.new }
+        ensures given { KeepsGiven J.gives self.old self.new }
     {
         self.shut = true;
     }
@@ -30,13 +30,5 @@ impl<J: Job> Processor<J, J::Receipt> {
         ensures { result ≡ length (remaining_callbacks (seen J.key_of self.now)) }
     {
         self.count - (self.turn / 2 + self.turn % 2)
-    }
-
-    /// What ran.
-    pub fn into_records(self) -> Vec<Record<J::Receipt>>
-        ensures { result ≡ records_of self }
-    {
-        let Processor { records, .. } = self;
-        records
     }
 }

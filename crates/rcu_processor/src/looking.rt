@@ -7,7 +7,7 @@ ghost use Rattle.rcu_numbers.specs.Numbers.{snap_of};
 ghost use Rattle.rcu_numbers.specs.declared.sequence.TheConstants.{GREATEST_NUMBER};
 ghost use Rattle.rcu_law.specs.Steps.{looks, hand_looks, group_looks};
 ghost use Rattle.rcu_processor.specs.Members.{forgets, is_wanting};
-ghost use Rattle.rcu_processor.specs.Views.{seen, AreGiven};
+ghost use Rattle.rcu_processor.specs.Views.{seen, AreGiven, KeepsGiven};
 
 use crate::processor::Processor;
 use crate::waiting::look_at;
@@ -26,7 +26,7 @@ impl<J: Job> Processor<J, J::Receipt> {
         requires small { newest number (advance number (seen J.key_of self.old).own) ≤ GREATEST_NUMBER }
         requires may { MayAccelerate (snap_of (newest number (advance number (seen J.key_of self.old).own))) (advance number (seen J.key_of self.old).own) }
         ensures looks { seen J.key_of self.new ≡ looks number (seen J.key_of self.old) }
-        ensures given { (mark : ℕ) → AreGiven J.gives mark self.old → AreGiven J.gives mark self.new }
+        ensures given { KeepsGiven J.gives self.old self.new }
     {
         self.wanted = look_at(&mut self.own, number);
         self.sight = number;
@@ -35,7 +35,7 @@ impl<J: Job> Processor<J, J::Receipt> {
     /// The hand's look at the number.
     pub fn look_hand(&mut self, number: u64)
         ensures looks { seen J.key_of self.new ≡ hand_looks number (seen J.key_of self.old) }
-        ensures given { (mark : ℕ) → AreGiven J.gives mark self.old → AreGiven J.gives mark self.new }
+        ensures given { KeepsGiven J.gives self.old self.new }
     {
         self.hand_sight = number;
     }
@@ -45,7 +45,7 @@ impl<J: Job> Processor<J, J::Receipt> {
         requires small { newest number (advance number (seen J.key_of self.old).joined) ≤ GREATEST_NUMBER }
         requires may { MayAccelerate (snap_of (newest number (advance number (seen J.key_of self.old).joined))) (advance number (seen J.key_of self.old).joined) }
         ensures looks { seen J.key_of self.new ≡ (if member then group_looks number (seen J.key_of self.old) else seen J.key_of self.old) }
-        ensures given { (mark : ℕ) → AreGiven J.gives mark self.old → AreGiven J.gives mark self.new }
+        ensures given { KeepsGiven J.gives self.old self.new }
     {
         if member {
             self.group_wanted = look_at(&mut self.joined, number);
@@ -62,7 +62,7 @@ impl<J: Job> Processor<J, J::Receipt> {
     /// What its own list wants is asked for.
     pub fn forget(&mut self)
         ensures forgets { seen J.key_of self.new ≡ record (seen J.key_of self.old) { wanted = None } }
-        ensures given { (mark : ℕ) → AreGiven J.gives mark self.old → AreGiven J.gives mark self.new }
+        ensures given { KeepsGiven J.gives self.old self.new }
     {
         self.wanted = None;
     }
@@ -90,7 +90,7 @@ impl<J: Job> Processor<J, J::Receipt> {
     /// What is wanted for this processor is asked for, where it is a member.
     pub fn forget_as(&mut self, member: bool)
         ensures forgets { seen J.key_of self.new ≡ (if member then forgets (seen J.key_of self.old) else seen J.key_of self.old) }
-        ensures given { (mark : ℕ) → AreGiven J.gives mark self.old → AreGiven J.gives mark self.new }
+        ensures given { KeepsGiven J.gives self.old self.new }
     {
         if member {
             self.group_wanted = None;

@@ -5,7 +5,7 @@ ghost use Rattle.rcu_law.specs.Lists.{is_nil};
 ghost use Rattle.rcu_law.specs.Releases.{pace_after_put};
 ghost use Rattle.rcu_law.specs.Steps.{with_pace, puts, draws, joins, given, fetches};
 ghost use Rattle.rcu_processor.specs.Giving.{gives_done, gives_out, gives_by_case};
-ghost use Rattle.rcu_processor.specs.Views.{seen, AreGiven};
+ghost use Rattle.rcu_processor.specs.Views.{seen, AreGiven, KeepsGiven};
 
 use crate::batches::{is_bare, is_spent, move_batch, put_batch};
 use crate::bypassing::{is_clear, release};
@@ -30,7 +30,7 @@ impl<J: Job> Processor<J, J::Receipt> {
     pub fn put(&mut self, moment: Option<u64>) -> Result<(), AllocError>
         ensures ok { OnOk result (seen J.key_of self.new ≡ with_pace (pace_after_put moment (seen J.key_of self.old)) (puts (seen J.key_of self.old))) }
         ensures err { OnErr result (seen J.key_of self.new ≡ seen J.key_of self.old) }
-        ensures given { (mark : ℕ) → AreGiven J.gives mark self.old → AreGiven J.gives mark self.new }
+        ensures given { KeepsGiven J.gives self.old self.new }
     {
         self.lane.reserve(1)?;
         release(&mut self.bypass, &mut self.lane, moment);
@@ -48,7 +48,7 @@ impl<J: Job> Processor<J, J::Receipt> {
     pub fn draw(&mut self)
         requires { not (is_nil (seen J.key_of self.old).lane) ≡ true }
         ensures draws { seen J.key_of self.new ≡ draws (seen J.key_of self.old) }
-        ensures given { (mark : ℕ) → AreGiven J.gives mark self.old → AreGiven J.gives mark self.new }
+        ensures given { KeepsGiven J.gives self.old self.new }
     {
         move_batch(&mut self.lane, &mut self.drawn);
     }
@@ -68,7 +68,7 @@ impl<J: Job> Processor<J, J::Receipt> {
     pub fn join(&mut self) -> Result<(), AllocError>
         ensures ok { OnOk result (seen J.key_of self.new ≡ joins (seen J.key_of self.old)) }
         ensures err { OnErr result (seen J.key_of self.new ≡ seen J.key_of self.old) }
-        ensures given { (mark : ℕ) → AreGiven J.gives mark self.old → AreGiven J.gives mark self.new }
+        ensures given { KeepsGiven J.gives self.old self.new }
     {
         join_bare(&mut self.joined, &mut self.drawn)?;
         Ok(())
@@ -89,7 +89,7 @@ impl<J: Job> Processor<J, J::Receipt> {
     fn give_done(&mut self, blimit: u64) -> Result<(), AllocError>
         ensures ok { OnOk result (seen J.key_of self.new ≡ gives_done blimit (seen J.key_of self.old)) }
         ensures err { OnErr result (seen J.key_of self.new ≡ seen J.key_of self.old) }
-        ensures given { (mark : ℕ) → AreGiven J.gives mark self.old → AreGiven J.gives mark self.new }
+        ensures given { KeepsGiven J.gives self.old self.new }
     {
         self.done_lane.reserve(1)?;
         let given = take_given(&mut self.joined, blimit)?;
@@ -101,7 +101,7 @@ impl<J: Job> Processor<J, J::Receipt> {
     fn give_out(&mut self) -> Result<(), AllocError>
         ensures ok { OnOk result (seen J.key_of self.new ≡ gives_out (seen J.key_of self.old)) }
         ensures err { OnErr result (seen J.key_of self.new ≡ seen J.key_of self.old) }
-        ensures given { (mark : ℕ) → AreGiven J.gives mark self.old → AreGiven J.gives mark self.new }
+        ensures given { KeepsGiven J.gives self.old self.new }
     {
         self.done_lane.reserve(1)?;
         put_batch(&mut self.done_lane, self.out.take_all());
@@ -116,7 +116,7 @@ impl<J: Job> Processor<J, J::Receipt> {
     pub fn give(&mut self, blimit: u64) -> Result<(), AllocError>
         ensures ok { OnOk result (seen J.key_of self.new ≡ gives_by_case blimit (seen J.key_of self.old)) }
         ensures err { OnErr result (seen J.key_of self.new ≡ seen J.key_of self.old) }
-        ensures given { (mark : ℕ) → AreGiven J.gives mark self.old → AreGiven J.gives mark self.new }
+        ensures given { KeepsGiven J.gives self.old self.new }
     {
         if is_spent(&self.out) {
             self.give_done(blimit)
@@ -136,7 +136,7 @@ impl<J: Job> Processor<J, J::Receipt> {
     pub fn fetch(&mut self)
         requires { not (is_nil (seen J.key_of self.old).done_lane) ≡ true }
         ensures fetches { seen J.key_of self.new ≡ fetches (seen J.key_of self.old) }
-        ensures given { (mark : ℕ) → AreGiven J.gives mark self.old → AreGiven J.gives mark self.new }
+        ensures given { KeepsGiven J.gives self.old self.new }
     {
         move_batch(&mut self.done_lane, &mut self.held);
     }

@@ -3,7 +3,7 @@
 ghost use Rattle.std.specs.Prelude.{◌≡◌, if◌then◌else◌};
 ghost use Rattle.rcu_jobs.specs.declared.modes.Mode.TheVariants.{Local, Offloaded};
 ghost use Rattle.rcu_law.specs.States.{opening_cpu};
-ghost use Rattle.rcu_processor.specs.Views.{seen, AreGiven};
+ghost use Rattle.rcu_processor.specs.Views.{seen, records_of, AreGiven};
 
 use rcu_jobs::{Callback, Job, Mode, Record};
 use rcu_law::who::Side;
@@ -12,7 +12,6 @@ use std::alloc::Global;
 use std::collections::VecDeque;
 
 /// One processor of the core, with its hand and with what its group holds for it.
-#[derive(Drop)]
 pub struct Processor<J, R> {
     pub(crate) shut: bool,
     pub(crate) count: u64,
@@ -79,5 +78,65 @@ impl<J: Job> Processor<J, J::Receipt> {
             left: 0,
             urged: false,
         }
+    }
+
+    /// What ran.
+    pub fn into_records(self) -> Vec<Record<J::Receipt>>
+        ensures { result ≡ records_of self }
+    {
+        let Processor {
+            shut: _,
+            count: _,
+            turn: _,
+            asked: _,
+            running: _,
+            sight: _,
+            hand_sight: _,
+            wanted: _,
+            group_wanted: _,
+            mode: _,
+            left: _,
+            urged: _,
+            records,
+            own: _own,
+            lane: _lane,
+            joined: _joined,
+            done_lane: _done_lane,
+            fresh: _fresh,
+            held: _held,
+            out: _out,
+            drawn: _drawn,
+            bypass: _bypass,
+        } = self;
+        records
+    }
+}
+
+impl<J: Drop, R: Drop> Drop for Processor<J, R> {
+    fn drop(self) {
+        let Processor {
+            shut: _,
+            count: _,
+            turn: _,
+            asked: _,
+            running: _,
+            sight: _,
+            hand_sight: _,
+            wanted: _,
+            group_wanted: _,
+            mode: _,
+            left: _,
+            urged: _,
+            records: _,
+            own: _,
+            lane: _,
+            joined: _,
+            done_lane: _,
+            fresh: _,
+            held: _,
+            out: _,
+            drawn: _,
+            bypass: _,
+        } = self;
     }
 }

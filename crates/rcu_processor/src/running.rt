@@ -9,7 +9,8 @@ ghost use Rattle.rcu_law.specs.declared.who.Side.TheVariants as sides;
 ghost use Rattle.rcu_processor.specs.Batches.{batch};
 ghost use Rattle.rcu_processor.specs.Waits.{call};
 ghost use Rattle.rcu_processor.specs.Turns.{has_none};
-ghost use Rattle.rcu_processor.specs.Views.{run, seen, AreGiven, Given};
+ghost use Rattle.rcu_jobs.specs.Records.{Given};
+ghost use Rattle.rcu_processor.specs.Views.{run, seen, KeepsGiven};
 
 use crate::batches::{is_spent, take_first};
 use crate::processor::Processor;
@@ -112,7 +113,7 @@ impl<J: Job> Processor<J, J::Receipt> {
         ensures key { IfOk result (λ key. key ≡ (claimed by (seen J.key_of self.old)).key) }
         ensures ok { OnOk result (seen J.key_of self.new ≡ claims by (seen J.key_of self.old)) }
         ensures err { OnErr result (seen J.key_of self.new ≡ seen J.key_of self.old) }
-        ensures given { (mark : ℕ) → AreGiven J.gives mark self.old → AreGiven J.gives mark self.new }
+        ensures given { KeepsGiven J.gives self.old self.new }
     {
         match by {
             Side::Local => self.claim_own(),
@@ -126,7 +127,7 @@ impl<J: Job> Processor<J, J::Receipt> {
         ensures key { IfOk result (λ key. key ≡ (claimed sides.Local (seen J.key_of self.old)).key) }
         ensures ok { OnOk result (seen J.key_of self.new ≡ claims sides.Local (seen J.key_of self.old)) }
         ensures err { OnErr result (seen J.key_of self.new ≡ seen J.key_of self.old) }
-        ensures given { (mark : ℕ) → AreGiven J.gives mark self.old → AreGiven J.gives mark self.new }
+        ensures given { KeepsGiven J.gives self.old self.new }
     {
         self.records.reserve(1)?;
         let callback = take_front(&mut self.own);
@@ -142,7 +143,7 @@ impl<J: Job> Processor<J, J::Receipt> {
         ensures key { IfOk result (λ key. key ≡ (claimed sides.Hand (seen J.key_of self.old)).key) }
         ensures ok { OnOk result (seen J.key_of self.new ≡ claims sides.Hand (seen J.key_of self.old)) }
         ensures err { OnErr result (seen J.key_of self.new ≡ seen J.key_of self.old) }
-        ensures given { (mark : ℕ) → AreGiven J.gives mark self.old → AreGiven J.gives mark self.new }
+        ensures given { KeepsGiven J.gives self.old self.new }
     {
         self.records.reserve(1)?;
         let callback = take_first(&mut self.held);
@@ -163,7 +164,7 @@ impl<J: Job> Processor<J, J::Receipt> {
     pub fn finish(&mut self)
         requires { (seen J.key_of self.old).turn < 2 ^ 63 }
         ensures finishes { seen J.key_of self.new ≡ finishes (seen J.key_of self.old) }
-        ensures given { (mark : ℕ) → AreGiven J.gives mark self.old → AreGiven J.gives mark self.new }
+        ensures given { KeepsGiven J.gives self.old self.new }
     {
         self.turn += 1;
         self.running = None;

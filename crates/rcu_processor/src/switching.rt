@@ -5,7 +5,7 @@ ghost use Rattle.rcu_jobs.specs.declared.modes.Mode.TheVariants.{Local};
 ghost use Rattle.rcu_jobs.specs.Modes.{is_offloaded, is_offloading, is_deoffloading};
 ghost use Rattle.rcu_law.specs.Steps.{pours, leaves, heeds, settles};
 ghost use Rattle.rcu_processor.specs.Turns.{is_switching};
-ghost use Rattle.rcu_processor.specs.Views.{seen, AreGiven};
+ghost use Rattle.rcu_processor.specs.Views.{seen, AreGiven, KeepsGiven};
 
 use crate::bypassing::{is_clear, pour_all};
 use crate::processor::Processor;
@@ -38,7 +38,7 @@ impl<J: Job> Processor<J, J::Receipt> {
     /// Offloading is asked for, or against.
     pub fn ask(&mut self, on: bool)
         ensures asks { seen J.key_of self.new ≡ record (seen J.key_of self.old) { asked = on } }
-        ensures given { (mark : ℕ) → AreGiven J.gives mark self.old → AreGiven J.gives mark self.new }
+        ensures given { KeepsGiven J.gives self.old self.new }
     {
         self.asked = on;
     }
@@ -46,7 +46,7 @@ impl<J: Job> Processor<J, J::Receipt> {
     /// A barrier urges it.
     pub fn urge(&mut self)
         ensures urges { seen J.key_of self.new ≡ record (seen J.key_of self.old) { urged = true } }
-        ensures given { (mark : ℕ) → AreGiven J.gives mark self.old → AreGiven J.gives mark self.new }
+        ensures given { KeepsGiven J.gives self.old self.new }
     {
         self.urged = true;
     }
@@ -61,7 +61,7 @@ impl<J: Job> Processor<J, J::Receipt> {
     /// It has heard that it was urged.
     pub fn hear(&mut self)
         ensures hears { seen J.key_of self.new ≡ record (seen J.key_of self.old) { urged = false } }
-        ensures given { (mark : ℕ) → AreGiven J.gives mark self.old → AreGiven J.gives mark self.new }
+        ensures given { KeepsGiven J.gives self.old self.new }
     {
         self.urged = false;
     }
@@ -90,7 +90,7 @@ impl<J: Job> Processor<J, J::Receipt> {
     /// Local from Deoffloading, once the turn has reached all that was accepted before the processor left.
     pub fn settle(&mut self)
         ensures settles { seen J.key_of self.new ≡ settles (seen J.key_of self.old) }
-        ensures given { (mark : ℕ) → AreGiven J.gives mark self.old → AreGiven J.gives mark self.new }
+        ensures given { KeepsGiven J.gives self.old self.new }
     {
         self.mode = settled(self.mode, self.left, self.turn);
     }
@@ -100,7 +100,7 @@ impl<J: Job> Processor<J, J::Receipt> {
         ensures ok { OnOk result (seen J.key_of self.new ≡ pours (seen J.key_of self.old)) }
         ensures err { OnErr result (seen J.key_of self.new ≡ seen J.key_of self.old) }
         ensures none { (seen J.key_of self.old).own ≡ [] → IsOk result }
-        ensures given { (mark : ℕ) → AreGiven J.gives mark self.old → AreGiven J.gives mark self.new }
+        ensures given { KeepsGiven J.gives self.old self.new }
     {
         pour_all(&mut self.own, &mut self.bypass)?;
         self.mode = Mode::Offloaded;
@@ -109,7 +109,7 @@ impl<J: Job> Processor<J, J::Receipt> {
 
     fn leave(&mut self)
         ensures leaves { seen J.key_of self.new ≡ leaves (seen J.key_of self.old) }
-        ensures given { (mark : ℕ) → AreGiven J.gives mark self.old → AreGiven J.gives mark self.new }
+        ensures given { KeepsGiven J.gives self.old self.new }
     {
         self.mode = Mode::Deoffloading;
         self.left = self.count;
@@ -121,7 +121,7 @@ impl<J: Job> Processor<J, J::Receipt> {
         requires asked { (seen J.key_of self.old).asked ≡ true }
         ensures heeds { seen J.key_of self.new ≡ heeds result (seen J.key_of self.old) }
         ensures none { (seen J.key_of self.old).own ≡ [] → result ≡ true }
-        ensures given { (mark : ℕ) → AreGiven J.gives mark self.old → AreGiven J.gives mark self.new }
+        ensures given { KeepsGiven J.gives self.old self.new }
     {
         match self.pour() {
             Ok(()) => true,
@@ -136,7 +136,7 @@ impl<J: Job> Processor<J, J::Receipt> {
     pub fn heed(&mut self) -> bool
         ensures heeds { seen J.key_of self.new ≡ heeds result (seen J.key_of self.old) }
         ensures none { (seen J.key_of self.old).own ≡ [] → result ≡ true }
-        ensures given { (mark : ℕ) → AreGiven J.gives mark self.old → AreGiven J.gives mark self.new }
+        ensures given { KeepsGiven J.gives self.old self.new }
     {
         if !self.is_switching() {
             return true;

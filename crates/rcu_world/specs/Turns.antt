@@ -22,6 +22,8 @@ use Rattle.rcu_processor.specs.Turns.{has_none, is_switching}
 use Rattle.rcu_law.specs.Releases.{releases, releases_in_tick, moment_of_tick}
 use Rattle.rcu_law.specs.Events.{CoreEvent, is_enabled, happens, run}
 use Rattle.rcu_world.specs.Boards.{mask_of}
+use Rattle.rcu_world.specs.Views.{state}
+use Rattle.rcu_world.specs.declared.cores.Core.{Core}
 use Rattle.rcu_law.specs.Events.CoreEvent.{Accept, Stamp, Put, Start, End, Look, Need, Claim, Finish, Heed, Settle, Hear, LookHand, Fetch, Shut, Open, Count, Urge}
 
 -- every event of the list is enabled, one after another
@@ -42,6 +44,10 @@ pub record IsIdle (c : Cpu) : Type 0 where
 -- so each turn call finds the world, and leaves it
 pub record IsAtRest (w : State) : Type 0 where
   pub each : (p : ℕ) → IsIdle (cpu_at w p)
+
+-- a world at rest stays so
+abbrev pub KeepsRest : {J R : Type 0} → (J → ℕ) → Core J R → Core J R → Type 0
+KeepsRest key_of old new = IsAtRest (state key_of old) → IsAtRest (state key_of new)
 
 -- a callback of processor p alone is fresh
 pub record IsAtRestBut (p : ℕ) (w : State) : Type 0 where

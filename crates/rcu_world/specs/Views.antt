@@ -1,5 +1,5 @@
 -- the state of the code, as the law sees it
-use Rattle.std.specs.Prelude.{ℕ, List, map}
+use Rattle.std.specs.Prelude.{◌≡◌, ℕ, List, length, map}
 use Rattle.std.specs.List.{AllByRecursion}
 use Rattle.rcu_law.specs.States.{Cpu, State}
 use Rattle.rcu_processor.specs.declared.processor.Processor.{Processor}
@@ -24,3 +24,15 @@ state key_of w = record {
 -- of each processor: the receipts are as the relation wants them, and the bypass list is released at the length of the shape
 abbrev pub AllGiven : {J R : Type 0} → (ℕ → R → Type 0) → Core J R → Type 0
 AllGiven gives w = AllByRecursion (AreGiven gives w.qhimark) w.processors.items
+
+module _ {J R : Type 0} (key_of : J → ℕ) (old new : Core J R) where
+  -- nothing changed
+  abbrev pub SameState : Type 0
+  SameState = state key_of new ≡ state key_of old
+
+  abbrev pub SameShape : Type 0
+  SameShape = (state key_of new).shape ≡ (state key_of old).shape
+
+  -- there are as many processors as before
+  abbrev pub AsManyProcessors : Type 0
+  AsManyProcessors = length (state key_of new).cpus ≡ length (state key_of old).cpus

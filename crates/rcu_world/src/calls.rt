@@ -6,7 +6,7 @@ ghost use Rattle.rcu_law.specs.Events.CoreEvent.{Accept, Stamp};
 ghost use Rattle.rcu_law.specs.States.{cpu_at};
 ghost use Rattle.rcu_world.specs.Ready.{IsReadyAt, IsRefusal};
 ghost use Rattle.rcu_world.specs.Turns.{IsAtRest, IsAtRestBut, Leads, call_events, stamp_events};
-ghost use Rattle.rcu_world.specs.Views.{state};
+ghost use Rattle.rcu_world.specs.Views.{state, AsManyProcessors, SameState};
 ghost use Rattle.rcu_world.specs.Worlds.{IsWorld};
 
 use crate::events::Answer;
@@ -22,9 +22,9 @@ impl<J: Job> World<J> {
         ensures events { OnOk result (Leads (state J.key_of self.old.core) (Accept cpu (J.key_of job) ∷ []) (state J.key_of self.new.core)) }
         ensures ready { OnOk result (IsReadyAt self.new.core cpu) }
         ensures rest { OnOk result (IsAtRestBut cpu (state J.key_of self.new.core)) }
-        ensures same { OnErr result (state J.key_of self.new.core ≡ state J.key_of self.old.core) }
+        ensures same { OnErr result (SameState J.key_of self.old.core self.new.core) }
         ensures refused { IfErr result (IsRefusal (state J.key_of self.old.core) cpu job) }
-        ensures len { length (state J.key_of self.new.core).cpus ≡ length (state J.key_of self.old.core).cpus }
+        ensures len { AsManyProcessors J.key_of self.old.core self.new.core }
         ensures kept { IsWorld J.key_of J.gives self.new.core }
     {
         let limit = self.core.limit;
@@ -47,7 +47,7 @@ impl<J: Job> World<J> {
         requires fresh { is_enabled (state J.key_of self.old.core) (Stamp cpu moment lazy) ≡ true }
         ensures events { (room : Bool) × Leads (state J.key_of self.old.core) (stamp_events cpu moment lazy room (state J.key_of self.old.core)) (state J.key_of self.new.core) }
         ensures rest { IsAtRestBut cpu (state J.key_of self.old.core) → IsAtRest (state J.key_of self.new.core) }
-        ensures len { length (state J.key_of self.new.core).cpus ≡ length (state J.key_of self.old.core).cpus }
+        ensures len { AsManyProcessors J.key_of self.old.core self.new.core }
         ensures kept { IsWorld J.key_of J.gives self.new.core }
     {
         match self.core.stamp(cpu, moment, lazy) {
@@ -66,10 +66,10 @@ impl<J: Job> World<J> {
         requires rest { IsAtRest (state J.key_of self.old.core) }
         ensures events { OnOk result ((room : Bool) × Leads (state J.key_of self.old.core) (call_events cpu moment lazy (J.key_of job) room (state J.key_of self.old.core)) (state J.key_of self.new.core)) }
         ensures ticket { IfOk result (λ ticket. (ticket.cpu ≡ cpu) × (ticket.number ≡ (cpu_at (state J.key_of self.old.core) cpu).count)) }
-        ensures same { OnErr result (state J.key_of self.new.core ≡ state J.key_of self.old.core) }
+        ensures same { OnErr result (SameState J.key_of self.old.core self.new.core) }
         ensures refused { IfErr result (IsRefusal (state J.key_of self.old.core) cpu job) }
         ensures rest { IsAtRest (state J.key_of self.new.core) }
-        ensures len { length (state J.key_of self.new.core).cpus ≡ length (state J.key_of self.old.core).cpus }
+        ensures len { AsManyProcessors J.key_of self.old.core self.new.core }
         ensures kept { IsWorld J.key_of J.gives self.new.core }
     {
         let number = self.core.processors[cpu as usize].count();
@@ -86,10 +86,10 @@ impl<J: Job> World<J> {
         requires rest { IsAtRest (state J.key_of self.old.core) }
         ensures events { OnOk result ((room : Bool) × Leads (state J.key_of self.old.core) (call_events cpu moment false (J.key_of job) room (state J.key_of self.old.core)) (state J.key_of self.new.core)) }
         ensures ticket { IfOk result (λ ticket. (ticket.cpu ≡ cpu) × (ticket.number ≡ (cpu_at (state J.key_of self.old.core) cpu).count)) }
-        ensures same { OnErr result (state J.key_of self.new.core ≡ state J.key_of self.old.core) }
+        ensures same { OnErr result (SameState J.key_of self.old.core self.new.core) }
         ensures refused { IfErr result (IsRefusal (state J.key_of self.old.core) cpu job) }
         ensures rest { IsAtRest (state J.key_of self.new.core) }
-        ensures len { length (state J.key_of self.new.core).cpus ≡ length (state J.key_of self.old.core).cpus }
+        ensures len { AsManyProcessors J.key_of self.old.core self.new.core }
         ensures kept { IsWorld J.key_of J.gives self.new.core }
     {
         self.call(cpu, moment, false, job)
@@ -102,10 +102,10 @@ impl<J: Job> World<J> {
         requires rest { IsAtRest (state J.key_of self.old.core) }
         ensures events { OnOk result ((room : Bool) × Leads (state J.key_of self.old.core) (call_events cpu moment true (J.key_of job) room (state J.key_of self.old.core)) (state J.key_of self.new.core)) }
         ensures ticket { IfOk result (λ ticket. (ticket.cpu ≡ cpu) × (ticket.number ≡ (cpu_at (state J.key_of self.old.core) cpu).count)) }
-        ensures same { OnErr result (state J.key_of self.new.core ≡ state J.key_of self.old.core) }
+        ensures same { OnErr result (SameState J.key_of self.old.core self.new.core) }
         ensures refused { IfErr result (IsRefusal (state J.key_of self.old.core) cpu job) }
         ensures rest { IsAtRest (state J.key_of self.new.core) }
-        ensures len { length (state J.key_of self.new.core).cpus ≡ length (state J.key_of self.old.core).cpus }
+        ensures len { AsManyProcessors J.key_of self.old.core self.new.core }
         ensures kept { IsWorld J.key_of J.gives self.new.core }
     {
         self.call(cpu, moment, true, job)

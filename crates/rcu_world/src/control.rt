@@ -4,8 +4,8 @@ ghost use Rattle.rcu_law.specs.Events.{is_enabled};
 ghost use Rattle.rcu_law.specs.Events.CoreEvent.{Shut};
 ghost use Rattle.std.specs.Prelude.{◌≡◌, ◌<◌, ◌≤◌, ℕ, true, length, IfOk, OnOk, OnErr, Option, None, Some};
 ghost use Rattle.rcu_numbers.specs.declared.shape.TheConstants.{MOST_PROCESSORS};
-ghost use Rattle.rcu_world.specs.Turns.{AreCounts, IsAtRest, IsBarrierAnswer, Leads, barrier_events, barrier_fault, counts_for, shuts, ticket_fault, upto};
-ghost use Rattle.rcu_world.specs.Views.{state};
+ghost use Rattle.rcu_world.specs.Turns.{AreCounts, IsAtRest, IsBarrierAnswer, Leads, barrier_events, barrier_fault, counts_for, shuts, ticket_fault, upto, KeepsRest};
+ghost use Rattle.rcu_world.specs.Views.{state, AsManyProcessors, SameState};
 ghost use Rattle.rcu_world.specs.Worlds.{IsWorld};
 
 use crate::events::Event;
@@ -40,7 +40,7 @@ impl<J: Job> World<J> {
         ensures err { OnErr result ((n : ℕ) × Leads (state J.key_of self.old.core) (upto shuts n (state J.key_of self.old.core)) (state J.key_of self.new.core)) }
         ensures err_enabled { OnErr result ((cpu : ℕ) × (is_enabled (state J.key_of self.new.core) (Shut cpu) ≡ true)) }
         ensures rest { IsAtRest (state J.key_of self.new.core) }
-        ensures len { length (state J.key_of self.new.core).cpus ≡ length (state J.key_of self.old.core).cpus }
+        ensures len { AsManyProcessors J.key_of self.old.core self.new.core }
         ensures kept { IsWorld J.key_of J.gives self.new.core }
     {
         for cpu in 0..self.core.processors.len() {
@@ -83,8 +83,8 @@ impl<J: Job> World<J> {
     fn count_all(&mut self, barrier: u64)
         requires { IsWorld J.key_of J.gives self.old.core }
         ensures events { Leads (state J.key_of self.old.core) (upto (counts_for barrier) (length (state J.key_of self.old.core).cpus) (state J.key_of self.old.core)) (state J.key_of self.new.core) }
-        ensures rest { IsAtRest (state J.key_of self.old.core) → IsAtRest (state J.key_of self.new.core) }
-        ensures len { length (state J.key_of self.new.core).cpus ≡ length (state J.key_of self.old.core).cpus }
+        ensures rest { KeepsRest J.key_of self.old.core self.new.core }
+        ensures len { AsManyProcessors J.key_of self.old.core self.new.core }
         ensures kept { IsWorld J.key_of J.gives self.new.core }
     {
         for cpu in 0..self.core.processors.len() {
@@ -102,9 +102,9 @@ impl<J: Job> World<J> {
         requires rest { IsAtRest (state J.key_of self.old.core) }
         ensures answer { IsBarrierAnswer (state J.key_of self.old.core) by tickets.now result }
         ensures events { IfOk result (λ name. Leads (state J.key_of self.old.core) (barrier_events name (length (state J.key_of self.old.core).cpus) (state J.key_of self.old.core)) (state J.key_of self.new.core)) }
-        ensures same { OnErr result (state J.key_of self.new.core ≡ state J.key_of self.old.core) }
+        ensures same { OnErr result (SameState J.key_of self.old.core self.new.core) }
         ensures rest { IsAtRest (state J.key_of self.new.core) }
-        ensures len { length (state J.key_of self.new.core).cpus ≡ length (state J.key_of self.old.core).cpus }
+        ensures len { AsManyProcessors J.key_of self.old.core self.new.core }
         ensures kept { IsWorld J.key_of J.gives self.new.core }
     {
         if let Some(fault) = self.barrier_fault(by, tickets) {

@@ -6,8 +6,8 @@ ghost use Rattle.rcu_law.specs.Events.{is_enabled};
 ghost use Rattle.rcu_law.specs.Events.CoreEvent.{Join, LookGroup};
 ghost use Rattle.rcu_law.specs.States.{is_member, is_offloadable};
 ghost use Rattle.rcu_world.specs.GroupTurns.{Draws, Gives, IsGroupTurn, Made, Takes, Upto, look_group_events, most_batches, waiting_upto};
-ghost use Rattle.rcu_world.specs.Turns.{IsAtRest, Leads, where_enabled};
-ghost use Rattle.rcu_world.specs.Views.{state};
+ghost use Rattle.rcu_world.specs.Turns.{IsAtRest, Leads, where_enabled, KeepsRest};
+ghost use Rattle.rcu_world.specs.Views.{state, AsManyProcessors, SameShape};
 ghost use Rattle.rcu_world.specs.Worlds.{IsWorld};
 
 use crate::events::Event;
@@ -52,9 +52,9 @@ impl<J: Job> World<J> {
     fn join(&mut self, cpu: u64) -> bool
         requires { IsWorld J.key_of J.gives self.old.core }
         ensures leads { Leads (state J.key_of self.old.core) (if result then where_enabled (Join cpu) (state J.key_of self.old.core) else []) (state J.key_of self.new.core) }
-        ensures rest { IsAtRest (state J.key_of self.old.core) → IsAtRest (state J.key_of self.new.core) }
-        ensures len { length (state J.key_of self.new.core).cpus ≡ length (state J.key_of self.old.core).cpus }
-        ensures shape { (state J.key_of self.new.core).shape ≡ (state J.key_of self.old.core).shape }
+        ensures rest { KeepsRest J.key_of self.old.core self.new.core }
+        ensures len { AsManyProcessors J.key_of self.old.core self.new.core }
+        ensures shape { SameShape J.key_of self.old.core self.new.core }
         ensures kept { IsWorld J.key_of J.gives self.new.core }
     {
         match self.attempt(Event::Join { cpu }) {
@@ -69,9 +69,9 @@ impl<J: Job> World<J> {
         requires there { cpu < length (state J.key_of self.old.core).cpus }
         ensures events { Made (Draws cpu most_batches) (state J.key_of self.old.core) (state J.key_of self.new.core) result 0 }
         ensures most { result ≤ 64000000 }
-        ensures rest { IsAtRest (state J.key_of self.old.core) → IsAtRest (state J.key_of self.new.core) }
-        ensures len { length (state J.key_of self.new.core).cpus ≡ length (state J.key_of self.old.core).cpus }
-        ensures shape { (state J.key_of self.new.core).shape ≡ (state J.key_of self.old.core).shape }
+        ensures rest { KeepsRest J.key_of self.old.core self.new.core }
+        ensures len { AsManyProcessors J.key_of self.old.core self.new.core }
+        ensures shape { SameShape J.key_of self.old.core self.new.core }
         ensures kept { IsWorld J.key_of J.gives self.new.core }
     {
         let mut took = 0;
@@ -94,8 +94,8 @@ impl<J: Job> World<J> {
         requires there { cpu < length (state J.key_of self.old.core).cpus }
         ensures events { Made (Takes group cpu) (state J.key_of self.old.core) (state J.key_of self.new.core) result 0 }
         ensures most { result ≤ 64000000 }
-        ensures rest { IsAtRest (state J.key_of self.old.core) → IsAtRest (state J.key_of self.new.core) }
-        ensures len { length (state J.key_of self.new.core).cpus ≡ length (state J.key_of self.old.core).cpus }
+        ensures rest { KeepsRest J.key_of self.old.core self.new.core }
+        ensures len { AsManyProcessors J.key_of self.old.core self.new.core }
         ensures kept { IsWorld J.key_of J.gives self.new.core }
     {
         if !self.is_member(group, cpu) {
@@ -109,8 +109,8 @@ impl<J: Job> World<J> {
     fn take_all(&mut self, group: u64) -> u64
         requires { IsWorld J.key_of J.gives self.old.core }
         ensures events { Made (Upto (Takes group) (length (state J.key_of self.old.core).cpus)) (state J.key_of self.old.core) (state J.key_of self.new.core) result 0 }
-        ensures rest { IsAtRest (state J.key_of self.old.core) → IsAtRest (state J.key_of self.new.core) }
-        ensures len { length (state J.key_of self.new.core).cpus ≡ length (state J.key_of self.old.core).cpus }
+        ensures rest { KeepsRest J.key_of self.old.core self.new.core }
+        ensures len { AsManyProcessors J.key_of self.old.core self.new.core }
         ensures kept { IsWorld J.key_of J.gives self.new.core }
     {
         let mut took = 0;
@@ -125,8 +125,8 @@ impl<J: Job> World<J> {
     fn look_group(&mut self, group: u64)
         requires { IsWorld J.key_of J.gives self.old.core }
         ensures events { Made (λ w es. es ≡ look_group_events group w) (state J.key_of self.old.core) (state J.key_of self.new.core) 0 0 }
-        ensures rest { IsAtRest (state J.key_of self.old.core) → IsAtRest (state J.key_of self.new.core) }
-        ensures len { length (state J.key_of self.new.core).cpus ≡ length (state J.key_of self.old.core).cpus }
+        ensures rest { KeepsRest J.key_of self.old.core self.new.core }
+        ensures len { AsManyProcessors J.key_of self.old.core self.new.core }
         ensures kept { IsWorld J.key_of J.gives self.new.core }
     {
         self.perform(Event::LookGroup { group });
@@ -141,8 +141,8 @@ impl<J: Job> World<J> {
         requires there { cpu < length (state J.key_of self.old.core).cpus }
         ensures events { Made (Gives group cpu) (state J.key_of self.old.core) (state J.key_of self.new.core) 0 result }
         ensures most { result ≤ MOST_CALLBACKS }
-        ensures rest { IsAtRest (state J.key_of self.old.core) → IsAtRest (state J.key_of self.new.core) }
-        ensures len { length (state J.key_of self.new.core).cpus ≡ length (state J.key_of self.old.core).cpus }
+        ensures rest { KeepsRest J.key_of self.old.core self.new.core }
+        ensures len { AsManyProcessors J.key_of self.old.core self.new.core }
         ensures kept { IsWorld J.key_of J.gives self.new.core }
     {
         if !self.is_member(group, cpu) {
@@ -160,8 +160,8 @@ impl<J: Job> World<J> {
     fn give_all(&mut self, group: u64) -> u64
         requires { IsWorld J.key_of J.gives self.old.core }
         ensures events { Made (Upto (Gives group) (length (state J.key_of self.old.core).cpus)) (state J.key_of self.old.core) (state J.key_of self.new.core) 0 result }
-        ensures rest { IsAtRest (state J.key_of self.old.core) → IsAtRest (state J.key_of self.new.core) }
-        ensures len { length (state J.key_of self.new.core).cpus ≡ length (state J.key_of self.old.core).cpus }
+        ensures rest { KeepsRest J.key_of self.old.core self.new.core }
+        ensures len { AsManyProcessors J.key_of self.old.core self.new.core }
         ensures kept { IsWorld J.key_of J.gives self.new.core }
     {
         let mut gave = 0;
@@ -199,7 +199,7 @@ impl<J: Job> World<J> {
         ensures held { IfOk result (λ turn. turn.held ≡ waiting_upto group (length (state J.key_of self.new.core).cpus) (state J.key_of self.new.core)) }
         ensures ok { IsOk result }
         ensures rest { IsAtRest (state J.key_of self.new.core) }
-        ensures len { length (state J.key_of self.new.core).cpus ≡ length (state J.key_of self.old.core).cpus }
+        ensures len { AsManyProcessors J.key_of self.old.core self.new.core }
         ensures kept { IsWorld J.key_of J.gives self.new.core }
     {
         let took = self.take_all(group);

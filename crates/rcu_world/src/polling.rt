@@ -7,8 +7,8 @@ ghost use Rattle.rcu_law.specs.Events.CoreEvent.{Pass};
 ghost use Rattle.rcu_law.specs.States.{barrier_at, count_at, is_open};
 ghost use Rattle.rcu_law.specs.Lists.{value_or};
 ghost use Rattle.rcu_world.specs.Polls.{HasKept, IsPollAnswer, is_seen, poll_events, turns_for};
-ghost use Rattle.rcu_world.specs.Turns.{IsAtRest, Leads, upto};
-ghost use Rattle.rcu_world.specs.Views.{state};
+ghost use Rattle.rcu_world.specs.Turns.{IsAtRest, Leads, upto, KeepsRest};
+ghost use Rattle.rcu_world.specs.Views.{state, AsManyProcessors};
 ghost use Rattle.rcu_world.specs.Worlds.{IsWorld};
 
 use crate::events::Event;
@@ -33,8 +33,8 @@ impl<J: Job> World<J> {
         requires { IsWorld J.key_of J.gives self.old.core }
         ensures events { Leads (state J.key_of self.old.core) (upto (turns_for barrier) (length (state J.key_of self.old.core).cpus) (state J.key_of self.old.core)) (state J.key_of self.new.core) }
         ensures history { (state J.key_of self.new.core).history ≡ (state J.key_of self.old.core).history }
-        ensures rest { IsAtRest (state J.key_of self.old.core) → IsAtRest (state J.key_of self.new.core) }
-        ensures len { length (state J.key_of self.new.core).cpus ≡ length (state J.key_of self.old.core).cpus }
+        ensures rest { KeepsRest J.key_of self.old.core self.new.core }
+        ensures len { AsManyProcessors J.key_of self.old.core self.new.core }
         ensures kept { IsWorld J.key_of J.gives self.new.core }
     {
         for place in 0..self.core.processors.len() {
@@ -76,7 +76,7 @@ impl<J: Job> World<J> {
         ensures err { OnErr result (Leads (state J.key_of self.old.core) (upto (turns_for barrier) (length (state J.key_of self.old.core).cpus) (state J.key_of self.old.core)) (state J.key_of self.new.core)) }
         ensures err_enabled { OnErr result (is_enabled (state J.key_of self.new.core) (Pass barrier) ≡ true) }
         ensures rest { IsAtRest (state J.key_of self.new.core) }
-        ensures len { length (state J.key_of self.new.core).cpus ≡ length (state J.key_of self.old.core).cpus }
+        ensures len { AsManyProcessors J.key_of self.old.core self.new.core }
         ensures kept { IsWorld J.key_of J.gives self.new.core }
     {
         self.see_all(barrier);

@@ -6,8 +6,8 @@ ghost use Rattle.rcu_law.specs.Events.CoreEvent.{Ask, Put, Report};
 ghost use Rattle.rcu_law.specs.States.{cpu_at, is_offloadable, owes};
 ghost use Rattle.rcu_law.specs.declared.who.Side.TheVariants.{Local, Hand};
 ghost use Rattle.rcu_world.specs.Events.{core_event, needs_room};
-ghost use Rattle.rcu_world.specs.Turns.{IsAtRest, Leads, Rooms, driver_answer, driver_events, hand_events, keeps_rest, look_events, offloadable_events, release_events, run_events, stop_of, switch_answer, switch_events, tick_events, where_enabled};
-ghost use Rattle.rcu_world.specs.Views.{state};
+ghost use Rattle.rcu_world.specs.Turns.{IsAtRest, Leads, Rooms, driver_answer, driver_events, hand_events, keeps_rest, look_events, offloadable_events, release_events, run_events, stop_of, switch_answer, switch_events, tick_events, where_enabled, KeepsRest};
+ghost use Rattle.rcu_world.specs.Views.{state, AsManyProcessors, SameShape, SameState};
 ghost use Rattle.rcu_world.specs.Worlds.{IsWorld};
 
 use crate::events::{Answer, Event};
@@ -23,13 +23,13 @@ impl<J: Job> World<J> {
         requires { IsWorld J.key_of J.gives self.old.core }
         ensures leads { OnOk result ((poured : Bool) × Leads (state J.key_of self.old.core) (where_enabled (core_event J.key_of poured event) (state J.key_of self.old.core)) (state J.key_of self.new.core)) }
         ensures enabled { IfOk result (λ done. done ≡ is_enabled (state J.key_of self.old.core) (core_event J.key_of true event)) }
-        ensures err { OnErr result (state J.key_of self.new.core ≡ state J.key_of self.old.core) }
+        ensures err { OnErr result (SameState J.key_of self.old.core self.new.core) }
         ensures err_enabled { OnErr result (is_enabled (state J.key_of self.old.core) (core_event J.key_of true event) ≡ true) }
         ensures err_room { OnErr result (needs_room (state J.key_of self.old.core) event ≡ true) }
         ensures room { needs_room (state J.key_of self.old.core) event ≡ false → IsOk result }
-        ensures rest { keeps_rest (core_event J.key_of true event) ≡ true → IsAtRest (state J.key_of self.old.core) → IsAtRest (state J.key_of self.new.core) }
-        ensures len { length (state J.key_of self.new.core).cpus ≡ length (state J.key_of self.old.core).cpus }
-        ensures shape { (state J.key_of self.new.core).shape ≡ (state J.key_of self.old.core).shape }
+        ensures rest { keeps_rest (core_event J.key_of true event) ≡ true → KeepsRest J.key_of self.old.core self.new.core }
+        ensures len { AsManyProcessors J.key_of self.old.core self.new.core }
+        ensures shape { SameShape J.key_of self.old.core self.new.core }
         ensures kept { IsWorld J.key_of J.gives self.new.core }
     {
         match self.step(event) {
@@ -46,9 +46,9 @@ impl<J: Job> World<J> {
         requires room { needs_room (state J.key_of self.old.core) event ≡ false }
         ensures leads { (poured : Bool) × Leads (state J.key_of self.old.core) (where_enabled (core_event J.key_of poured event) (state J.key_of self.old.core)) (state J.key_of self.new.core) }
         ensures enabled { result ≡ is_enabled (state J.key_of self.old.core) (core_event J.key_of true event) }
-        ensures rest { keeps_rest (core_event J.key_of true event) ≡ true → IsAtRest (state J.key_of self.old.core) → IsAtRest (state J.key_of self.new.core) }
-        ensures len { length (state J.key_of self.new.core).cpus ≡ length (state J.key_of self.old.core).cpus }
-        ensures shape { (state J.key_of self.new.core).shape ≡ (state J.key_of self.old.core).shape }
+        ensures rest { keeps_rest (core_event J.key_of true event) ≡ true → KeepsRest J.key_of self.old.core self.new.core }
+        ensures len { AsManyProcessors J.key_of self.old.core self.new.core }
+        ensures shape { SameShape J.key_of self.old.core self.new.core }
         ensures kept { IsWorld J.key_of J.gives self.new.core }
     {
         match self.attempt(event) {
@@ -68,10 +68,10 @@ impl<J: Job> World<J> {
         requires rest { IsAtRest (state J.key_of self.old.core) }
         ensures events { OnOk result (Leads (state J.key_of self.old.core) (Report cpu ∷ []) (state J.key_of self.new.core)) }
         ensures number { IfOk result (λ counted. counted ≡ (if owes (state J.key_of self.old.core) cpu then Some (state J.key_of self.old.core).number else None)) }
-        ensures err { OnErr result (state J.key_of self.new.core ≡ state J.key_of self.old.core) }
+        ensures err { OnErr result (SameState J.key_of self.old.core self.new.core) }
         ensures err_owes { OnErr result (owes (state J.key_of self.old.core) cpu ≡ true) }
         ensures rest { IsAtRest (state J.key_of self.new.core) }
-        ensures len { length (state J.key_of self.new.core).cpus ≡ length (state J.key_of self.old.core).cpus }
+        ensures len { AsManyProcessors J.key_of self.old.core self.new.core }
         ensures kept { IsWorld J.key_of J.gives self.new.core }
     {
         let counted = if self.core.board.owes(cpu) {
@@ -91,7 +91,7 @@ impl<J: Job> World<J> {
         ensures answer { IfOk result (λ turn. turn ≡ driver_answer (state J.key_of self.old.core)) }
         ensures ok { IsOk result }
         ensures rest { IsAtRest (state J.key_of self.new.core) }
-        ensures len { length (state J.key_of self.new.core).cpus ≡ length (state J.key_of self.old.core).cpus }
+        ensures len { AsManyProcessors J.key_of self.old.core self.new.core }
         ensures kept { IsWorld J.key_of J.gives self.new.core }
     {
         let number = self.core.board.number();
@@ -116,9 +116,9 @@ impl<J: Job> World<J> {
     pub(crate) fn put(&mut self, cpu: u64, moment: Option<u64>) -> bool
         requires { IsWorld J.key_of J.gives self.old.core }
         ensures leads { Leads (state J.key_of self.old.core) (if result then where_enabled (Put cpu moment) (state J.key_of self.old.core) else []) (state J.key_of self.new.core) }
-        ensures rest { IsAtRest (state J.key_of self.old.core) → IsAtRest (state J.key_of self.new.core) }
-        ensures len { length (state J.key_of self.new.core).cpus ≡ length (state J.key_of self.old.core).cpus }
-        ensures shape { (state J.key_of self.new.core).shape ≡ (state J.key_of self.old.core).shape }
+        ensures rest { KeepsRest J.key_of self.old.core self.new.core }
+        ensures len { AsManyProcessors J.key_of self.old.core self.new.core }
+        ensures shape { SameShape J.key_of self.old.core self.new.core }
         ensures kept { IsWorld J.key_of J.gives self.new.core }
     {
         match self.attempt(Event::Put { cpu, moment }) {
@@ -131,9 +131,9 @@ impl<J: Job> World<J> {
     fn look_own(&mut self, cpu: u64)
         requires { IsWorld J.key_of J.gives self.old.core }
         ensures leads { Leads (state J.key_of self.old.core) (look_events cpu (state J.key_of self.old.core)) (state J.key_of self.new.core) }
-        ensures rest { IsAtRest (state J.key_of self.old.core) → IsAtRest (state J.key_of self.new.core) }
-        ensures len { length (state J.key_of self.new.core).cpus ≡ length (state J.key_of self.old.core).cpus }
-        ensures shape { (state J.key_of self.new.core).shape ≡ (state J.key_of self.old.core).shape }
+        ensures rest { KeepsRest J.key_of self.old.core self.new.core }
+        ensures len { AsManyProcessors J.key_of self.old.core self.new.core }
+        ensures shape { SameShape J.key_of self.old.core self.new.core }
         ensures kept { IsWorld J.key_of J.gives self.new.core }
     {
         self.perform(Event::Look { cpu });
@@ -145,9 +145,9 @@ impl<J: Job> World<J> {
         requires world { IsWorld J.key_of J.gives self.old.core }
         requires there { cpu < length (state J.key_of self.old.core).cpus }
         ensures leads { (room : Bool) × Leads (state J.key_of self.old.core) (release_events cpu moment room (state J.key_of self.old.core)) (state J.key_of self.new.core) }
-        ensures rest { IsAtRest (state J.key_of self.old.core) → IsAtRest (state J.key_of self.new.core) }
-        ensures len { length (state J.key_of self.new.core).cpus ≡ length (state J.key_of self.old.core).cpus }
-        ensures shape { (state J.key_of self.new.core).shape ≡ (state J.key_of self.old.core).shape }
+        ensures rest { KeepsRest J.key_of self.old.core self.new.core }
+        ensures len { AsManyProcessors J.key_of self.old.core self.new.core }
+        ensures shape { SameShape J.key_of self.old.core self.new.core }
         ensures kept { IsWorld J.key_of J.gives self.new.core }
     {
         let i = cpu as usize;
@@ -165,9 +165,9 @@ impl<J: Job> World<J> {
         requires world { IsWorld J.key_of J.gives self.old.core }
         requires there { cpu < length (state J.key_of self.old.core).cpus }
         ensures leads { (pour : Bool) × (room : Bool) × Leads (state J.key_of self.old.core) (switch_events cpu pour room (state J.key_of self.old.core)) (state J.key_of self.new.core) }
-        ensures rest { IsAtRest (state J.key_of self.old.core) → IsAtRest (state J.key_of self.new.core) }
-        ensures len { length (state J.key_of self.new.core).cpus ≡ length (state J.key_of self.old.core).cpus }
-        ensures shape { (state J.key_of self.new.core).shape ≡ (state J.key_of self.old.core).shape }
+        ensures rest { KeepsRest J.key_of self.old.core self.new.core }
+        ensures len { AsManyProcessors J.key_of self.old.core self.new.core }
+        ensures shape { SameShape J.key_of self.old.core self.new.core }
         ensures kept { IsWorld J.key_of J.gives self.new.core }
     {
         let i = cpu as usize;
@@ -186,9 +186,9 @@ impl<J: Job> World<J> {
         requires world { IsWorld J.key_of J.gives self.old.core }
         requires there { cpu < length (state J.key_of self.old.core).cpus }
         ensures leads { (rooms : Rooms) × Leads (state J.key_of self.old.core) (offloadable_events cpu moment rooms (state J.key_of self.old.core)) (state J.key_of self.new.core) }
-        ensures rest { IsAtRest (state J.key_of self.old.core) → IsAtRest (state J.key_of self.new.core) }
-        ensures len { length (state J.key_of self.new.core).cpus ≡ length (state J.key_of self.old.core).cpus }
-        ensures shape { (state J.key_of self.new.core).shape ≡ (state J.key_of self.old.core).shape }
+        ensures rest { KeepsRest J.key_of self.old.core self.new.core }
+        ensures len { AsManyProcessors J.key_of self.old.core self.new.core }
+        ensures shape { SameShape J.key_of self.old.core self.new.core }
         ensures kept { IsWorld J.key_of J.gives self.new.core }
     {
         if !is_set(&self.core.offloadable, cpu as usize) {
@@ -208,7 +208,7 @@ impl<J: Job> World<J> {
         ensures stop { result.stop ≡ stop_of by (state J.key_of self.new.core).shape.blimit result.ran (cpu_at (state J.key_of self.new.core) cpu) }
         ensures most { result.ran ≤ (state J.key_of self.new.core).shape.blimit }
         ensures rest { IsAtRest (state J.key_of self.new.core) }
-        ensures len { length (state J.key_of self.new.core).cpus ≡ length (state J.key_of self.old.core).cpus }
+        ensures len { AsManyProcessors J.key_of self.old.core self.new.core }
         ensures kept { IsWorld J.key_of J.gives self.new.core }
     {
         let blimit = self.core.blimit;
@@ -246,7 +246,7 @@ impl<J: Job> World<J> {
         ensures most { IfOk result (λ ticked. ticked.ran ≤ (state J.key_of self.new.core).shape.blimit) }
         ensures ok { IsOk result }
         ensures rest { IsAtRest (state J.key_of self.new.core) }
-        ensures len { length (state J.key_of self.new.core).cpus ≡ length (state J.key_of self.old.core).cpus }
+        ensures len { AsManyProcessors J.key_of self.old.core self.new.core }
         ensures kept { IsWorld J.key_of J.gives self.new.core }
     {
         self.look_own(cpu);
@@ -264,7 +264,7 @@ impl<J: Job> World<J> {
         ensures most { IfOk result (λ turn. turn.ran ≤ (state J.key_of self.new.core).shape.blimit) }
         ensures ok { IsOk result }
         ensures rest { IsAtRest (state J.key_of self.new.core) }
-        ensures len { length (state J.key_of self.new.core).cpus ≡ length (state J.key_of self.old.core).cpus }
+        ensures len { AsManyProcessors J.key_of self.old.core self.new.core }
         ensures kept { IsWorld J.key_of J.gives self.new.core }
     {
         self.perform(Event::LookHand { cpu });
@@ -280,7 +280,7 @@ impl<J: Job> World<J> {
         ensures answer { result ≡ switch_answer (state J.key_of self.old.core) cpu }
         ensures events { Leads (state J.key_of self.old.core) (where_enabled (Ask cpu on) (state J.key_of self.old.core)) (state J.key_of self.new.core) }
         ensures rest { IsAtRest (state J.key_of self.new.core) }
-        ensures len { length (state J.key_of self.new.core).cpus ≡ length (state J.key_of self.old.core).cpus }
+        ensures len { AsManyProcessors J.key_of self.old.core self.new.core }
         ensures kept { IsWorld J.key_of J.gives self.new.core }
     {
         let done = self.perform(Event::Ask { cpu, on });
@@ -300,7 +300,7 @@ impl<J: Job> World<J> {
         ensures answer { result ≡ switch_answer (state J.key_of self.old.core) cpu }
         ensures events { Leads (state J.key_of self.old.core) (where_enabled (Ask cpu true) (state J.key_of self.old.core)) (state J.key_of self.new.core) }
         ensures rest { IsAtRest (state J.key_of self.new.core) }
-        ensures len { length (state J.key_of self.new.core).cpus ≡ length (state J.key_of self.old.core).cpus }
+        ensures len { AsManyProcessors J.key_of self.old.core self.new.core }
         ensures kept { IsWorld J.key_of J.gives self.new.core }
     {
         self.ask(cpu, true)
@@ -313,7 +313,7 @@ impl<J: Job> World<J> {
         ensures answer { result ≡ switch_answer (state J.key_of self.old.core) cpu }
         ensures events { Leads (state J.key_of self.old.core) (where_enabled (Ask cpu false) (state J.key_of self.old.core)) (state J.key_of self.new.core) }
         ensures rest { IsAtRest (state J.key_of self.new.core) }
-        ensures len { length (state J.key_of self.new.core).cpus ≡ length (state J.key_of self.old.core).cpus }
+        ensures len { AsManyProcessors J.key_of self.old.core self.new.core }
         ensures kept { IsWorld J.key_of J.gives self.new.core }
     {
         self.ask(cpu, false)

@@ -1,6 +1,7 @@
 use Rattle.std.proofs.Common.{ap, map, sym, subst}
 use Rattle.rcu_processor.specs.Batches.{batches, law_pace, pace}
-use Rattle.rcu_processor.specs.Views.{run, Given}
+use Rattle.rcu_processor.specs.Views.{run}
+use Rattle.rcu_jobs.specs.Records.{Given}
 use Rattle.rcu_processor.specs.Waits.{calls, waits}
 use Rattle.rcu_processor.proofs.Opening.{none_ran, opens_as}
 use Rattle.rcu_processor.proofs.Sizes.{batch_fits, bypass_fits}

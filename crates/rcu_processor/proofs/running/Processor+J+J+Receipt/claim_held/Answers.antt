@@ -1,6 +1,7 @@
 use Rattle.std.proofs.Common.{◌++◌, ◌∷◌, [], ◌∙◌, ap, sym, subst, map}
 use Rattle.rcu_processor.specs.Batches.{batch}
-use Rattle.rcu_processor.specs.Views.{run, seen, Given}
+use Rattle.rcu_processor.specs.Views.{run, seen}
+use Rattle.rcu_jobs.specs.Records.{Given}
 use Rattle.rcu_processor.specs.Waits.{call}
 use Rattle.rcu_lists.proofs.Outcomes.{if_ok_never, on_err_said, on_ok_never}
 use Rattle.rcu_processor.proofs.Claims.{claims_held, ready_held}
