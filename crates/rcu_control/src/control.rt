@@ -5,7 +5,7 @@ ghost use Rattle.std.specs.Arc.{arc_value};
 ghost use Rattle.rcu_numbers.specs.declared.shape.TheConstants.{MOST_PROCESSORS};
 ghost use Rattle.rcu_board.specs.Seats.{view, AtBoard};
 ghost use Rattle.rcu_board.specs.declared.board.Role.{Role};
-ghost use Rattle.rcu_control.specs.Views.{IsBare, SamePart};
+ghost use Rattle.rcu_control.specs.Views.{IsBare};
 
 use crate::barrier::{Barrier, ReadsTurns, check_tickets, read_counts};
 use rcu_board::{Board, Role, Seat, ask, halt, shut_one, turn_of, urge};
@@ -27,7 +27,7 @@ impl Control {
     ghost use Rattle.std.specs.Int.{from_bool};
     ghost use Rattle.rcu_board.specs.Plays.{touched};
     ghost use Rattle.rcu_board.specs.Words.{halt_word};
-    ghost use Rattle.rcu_control.specs.Parts.{control_board, control_seat, control_view};
+    ghost use Rattle.rcu_control.specs.Parts.{control_board, control_seat, control_view, SameControl};
     ghost use Rattle.rcu_control.specs.Control.{SwitchesBy, Shuts, CountsAgain};
     ghost use Rattle.rcu_control.specs.Barriers.{OpensBy};
 
@@ -56,7 +56,7 @@ impl Control {
     ///
     /// Refusal 6 where there is no such processor, then refusal 5 where it isn't offloadable. Nothing is asked for.
     pub fn offload(&mut self, p: u64) -> Result<(), SwitchFault>
-        ensures same { SamePart (control_board self.old) (control_board self.new) (control_seat self.old) (control_seat self.new) }
+        ensures same { SameControl self.old self.new }
         ensures asks { SwitchesBy (control_board self.old) p 1 result (control_view self.old) (control_view self.new) }
     {
         self.switch(p, true)
@@ -68,7 +68,7 @@ impl Control {
     ///
     /// As [`offload`](Control::offload).
     pub fn deoffload(&mut self, p: u64) -> Result<(), SwitchFault>
-        ensures same { SamePart (control_board self.old) (control_board self.new) (control_seat self.old) (control_seat self.new) }
+        ensures same { SameControl self.old self.new }
         ensures asks { SwitchesBy (control_board self.old) p 0 result (control_view self.old) (control_view self.new) }
     {
         self.switch(p, false)
@@ -76,7 +76,7 @@ impl Control {
 
     /// Asks that processor `p` be offloaded (`on`) or local.
     fn switch(&mut self, p: u64, on: bool) -> Result<(), SwitchFault>
-        ensures same { SamePart (control_board self.old) (control_board self.new) (control_seat self.old) (control_seat self.new) }
+        ensures same { SameControl self.old self.new }
         ensures asks { SwitchesBy (control_board self.old) p (from_bool on) result (control_view self.old) (control_view self.new) }
     {
         if p >= self.processors() {
@@ -91,7 +91,7 @@ impl Control {
 
     /// Shuts every processor, and answers the final counts of what they accepted: a second time the same ones.
     pub fn shut(&mut self) -> Counts
-        ensures same { SamePart (control_board self.old) (control_board self.new) (control_seat self.old) (control_seat self.new) }
+        ensures same { SameControl self.old self.new }
         ensures many { result.n ≡ (control_board self.old).processors }
         ensures shuts { Shuts (control_board self.old).processors result (control_view self.old) (control_view self.new) }
         ensures again { CountsAgain (control_board self.old).processors result (control_view self.old) }
@@ -113,7 +113,7 @@ impl Control {
     /// The first fault in the order of the tickets: refusal 6 where there is no such processor, refusal 7 where the
     /// processor's count isn't above the ticket's number. No processor is urged.
     pub fn barrier(&mut self, tickets: &[Ticket]) -> Result<Barrier, BarrierFault>
-        ensures same { SamePart (control_board self.old) (control_board self.new) (control_seat self.old) (control_seat self.new) }
+        ensures same { SameControl self.old self.new }
         ensures opens { OpensBy (control_board self.old).processors tickets.now result (control_view self.old) (control_view self.new) }
     {
         let counts = read_counts(&self.board, &mut self.seat);
@@ -126,7 +126,7 @@ impl Control {
 
     /// Sets the halt word, by which `run` of all parts ends.
     pub fn finish(&mut self)
-        ensures same { SamePart (control_board self.old) (control_board self.new) (control_seat self.old) (control_seat self.new) }
+        ensures same { SameControl self.old self.new }
         ensures halts { control_view self.new ≡ touched halt_word 1 (control_view self.old) }
     {
         halt(&self.board, &mut self.seat)

@@ -5,7 +5,7 @@ ghost use Rattle.rcu_numbers.specs.declared.sequence.TheConstants.{GREATEST_NUMB
 ghost use Rattle.std.specs.Arc.{arc_value};
 ghost use Rattle.rcu_board.specs.Seats.{view, AtBoard};
 ghost use Rattle.rcu_board.specs.declared.board.Role.{Role};
-ghost use Rattle.rcu_control.specs.Views.{IsBare, SamePart};
+ghost use Rattle.rcu_control.specs.Views.{IsBare};
 
 use rcu_board::{Board, Role, Seat, end, halted, look, needed, start};
 use rcu_jobs::DriverTurn;
@@ -29,7 +29,7 @@ impl Driver {
     ghost use Rattle.rcu_board.specs.Plays.{touched};
     ghost use Rattle.rcu_board.specs.Words.{board_word, halt_word};
     ghost use Rattle.rcu_numbers.specs.Numbers.{IsIdle, IsInProgress};
-    ghost use Rattle.rcu_control.specs.Parts.{driver_board, driver_seat, driver_view};
+    ghost use Rattle.rcu_control.specs.Parts.{driver_board, driver_seat, driver_view, SameDriver};
     ghost use Rattle.rcu_control.specs.Driving.{DrivesBy, BeginsBy, ConcludesBy};
 
     /// The driver of a board, from its seat.
@@ -46,7 +46,7 @@ impl Driver {
     /// One turn: a look, and then one step at most on what it found. Where no grace period is in progress it reads what is
     /// needed, and starts one if that is above the number. Else it ends the one that is, if no processor owes a report.
     pub fn turn(&mut self) -> DriverTurn
-        ensures same { SamePart (driver_board self.old) (driver_board self.new) (driver_seat self.old) (driver_seat self.new) }
+        ensures same { SameDriver self.old self.new }
         ensures turn { DrivesBy (driver_board self.old).processors result (driver_view self.old) (driver_view self.new) }
         ensures fresh { tally (driver_view self.old) board_word < tally (driver_view self.new) board_word }
     {
@@ -63,7 +63,7 @@ impl Driver {
         requires seen { sight (driver_view self.old) ≡ seq }
         requires idle { IsIdle seq }
         requires small { seq ≤ GREATEST_NUMBER }
-        ensures same { SamePart (driver_board self.old) (driver_board self.new) (driver_seat self.old) (driver_seat self.new) }
+        ensures same { SameDriver self.old self.new }
         ensures begins { BeginsBy (driver_board self.old).processors result (driver_view self.old) (driver_view self.new) }
     {
         let asked = needed(&self.board, &mut self.seat);
@@ -82,7 +82,7 @@ impl Driver {
         requires seen { sight (driver_view self.old) ≡ seq }
         requires busy { IsInProgress seq }
         requires small { seq ≤ GREATEST_NUMBER }
-        ensures same { SamePart (driver_board self.old) (driver_board self.new) (driver_seat self.old) (driver_seat self.new) }
+        ensures same { SameDriver self.old self.new }
         ensures concludes { ConcludesBy result (driver_view self.old) (driver_view self.new) }
     {
         match end(&self.board, &mut self.seat, seq) {
@@ -93,7 +93,7 @@ impl Driver {
 
     /// Whether the runtime was halted.
     pub fn is_halted(&mut self) -> bool
-        ensures same { SamePart (driver_board self.old) (driver_board self.new) (driver_seat self.old) (driver_seat self.new) }
+        ensures same { SameDriver self.old self.new }
         ensures view { driver_view self.new ≡ touched halt_word (from_bool result) (driver_view self.old) }
     {
         halted(&self.board, &mut self.seat)

@@ -2,8 +2,7 @@
 
 ghost use Rattle.std.specs.Prelude.{◌≡◌};
 ghost use Rattle.rcu_board.specs.Seats.{SawHalt};
-ghost use Rattle.rcu_control.specs.Views.{SamePart};
-ghost use Rattle.rcu_control.specs.Parts.{driver_board, driver_seat, driver_view, control_board, control_seat, control_view};
+ghost use Rattle.rcu_control.specs.Parts.{driver_view, control_board, control_view, SameControl, SameDriver};
 ghost use Rattle.rcu_control.specs.Barriers.{IsOver};
 
 use crate::barrier::Barrier;
@@ -25,7 +24,7 @@ fn has_moved(turn: DriverTurn) -> bool {
 impl Driver {
     /// Turns until the runtime is halted, and gives the driver back. Between turns that did nothing it pauses.
     pub fn run<R: Wait + Clock>(self, rt: &R) -> Driver
-        ensures same { SamePart (driver_board self) (driver_board result) (driver_seat self) (driver_seat result) }
+        ensures same { SameDriver self result }
         ensures halted { SawHalt (driver_view result) }
     {
         let mut driver = self;
@@ -48,7 +47,7 @@ impl Barrier {
     /// Polls until the barrier has passed. Between polls it pauses.
     pub fn wait<R: Wait + Clock>(self, rt: &R, by: &mut Control) -> Passed
         requires open { (control_board by.old).processors ≡ self.counts.n }
-        ensures same { SamePart (control_board by.old) (control_board by.new) (control_seat by.old) (control_seat by.new) }
+        ensures same { SameControl by.old by.new }
         ensures counts { result.counts ≡ self.counts }
         ensures over { IsOver self.counts (control_view by.new) }
     {

@@ -3,12 +3,11 @@ use Rattle.std.specs.Prelude.{◌≡◌, ◌≢◌, ℕ, Option, Result, MatchRe
 use Rattle.std.specs.declared.result.Result.TheVariants.{Err, Ok}
 use Rattle.std.proofs.Common.{◌⊎◌}
 use Rattle.rcu_control.specs.Barriers.{OpensBy, PollsBy}
-use Rattle.rcu_control.specs.Parts.{control_board, control_view}
+use Rattle.rcu_control.specs.Parts.{control_board, control_view, SameControl}
 use Rattle.rcu_control.specs.declared.barrier.Barrier.{Barrier}
 use Rattle.rcu_control.specs.declared.control.Control.{Control as TheControl}
 use Rattle.rcu_jobs.specs.declared.Counts.{Counts}
 use Rattle.rcu_jobs.specs.declared.Passed.{Passed}
-use Rattle.rcu_lending.specs.Others.{KeepsControl}
 use Rattle.rcu_lending.specs.Parts.{Makes, not_resting}
 use Rattle.rcu_lending.specs.Processors.{ForeignCpu, KeepsProcessor, OpensOne}
 use Rattle.rcu_lending.specs.declared.fault.Fault.{Fault}
@@ -20,7 +19,7 @@ use Rattle.rcu_part_processor.specs.Processors.{board_of, view_of}
 
 -- control opened a barrier
 pub record ControlOpens (b : Barrier) (c d : TheControl) : Type 0 where
-  pub same : KeepsControl c d
+  pub same : SameControl c d
   pub opens : OpensBy (control_board c).processors [] (Ok b) (control_view c) (control_view d)
 
 -- control or a processor opened it
@@ -31,7 +30,7 @@ OpensPart result old new = MatchResult result
 
 -- control read turn words: the barrier has passed, or not yet
 pub record PollsOne (counts : Counts) (passed : Option Passed) (c d : TheControl) : Type 0 where
-  pub same : KeepsControl c d
+  pub same : SameControl c d
   pub polls : PollsBy counts passed (control_view c) (control_view d)
 
 -- a processor did, and nothing else changed

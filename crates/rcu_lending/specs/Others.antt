@@ -7,8 +7,7 @@ use Rattle.rcu_board.specs.Plays.{touched}
 use Rattle.rcu_board.specs.Words.{halt_word}
 use Rattle.rcu_control.specs.Control.{Shuts, SwitchesBy}
 use Rattle.rcu_control.specs.Driving.{DrivesBy}
-use Rattle.rcu_control.specs.Parts.{control_board, control_seat, control_view, driver_board, driver_seat, driver_view}
-use Rattle.rcu_control.specs.Views.{SamePart}
+use Rattle.rcu_control.specs.Parts.{control_board, control_view, driver_board, driver_view, SameControl, SameDriver}
 use Rattle.rcu_control.specs.declared.control.Control.{Control as TheControl}
 use Rattle.rcu_control.specs.declared.driver.Driver.{Driver as TheDriver}
 use Rattle.rcu_jobs.specs.declared.Counts.{Counts}
@@ -29,13 +28,6 @@ use Rattle.rcu_part_hand.specs.Hands.{IsSoundHand, SameHand, hand_drawn, hand_he
 use Rattle.rcu_part_processor.specs.Calls.{KeepsAll}
 use Rattle.rcu_part_processor.specs.Processors.{view_of}
 
--- the same control, and the same driver, of the same open
-abbrev pub KeepsControl : TheControl → TheControl → Type 0
-KeepsControl c d = SamePart (control_board c) (control_board d) (control_seat c) (control_seat d)
-
-abbrev pub KeepsDriver : TheDriver → TheDriver → Type 0
-KeepsDriver c d = SamePart (driver_board c) (driver_board d) (driver_seat c) (driver_seat d)
-
 -- a turn of a group
 pub record TurnsOne (turn : GroupTurn) (g h : TheGroup ForeignJob ForeignJob) : Type 0 where
   pub same : SameGroup g.state h.state
@@ -43,12 +35,12 @@ pub record TurnsOne (turn : GroupTurn) (g h : TheGroup ForeignJob ForeignJob) : 
 
 -- a turn of the driver
 pub record DrivesOne (turn : DriverTurn) (c d : TheDriver) : Type 0 where
-  pub same : KeepsDriver c d
+  pub same : SameDriver c d
   pub drives : DrivesBy (driver_board c).processors turn (driver_view c) (driver_view d)
 
 -- the halt word was read, and nothing else changed: by the driver, a processor, a hand or a group
 pub record DriverReadsHalt (halted : Bool) (c d : TheDriver) : Type 0 where
-  pub same : KeepsDriver c d
+  pub same : SameDriver c d
   pub reads : driver_view d ≡ touched halt_word (from_bool halted) (driver_view c)
 
 pub record CpuReadsHalt (halted : Bool) (p q : ForeignCpu) : Type 0 where
@@ -77,7 +69,7 @@ ReadsHalt halted old new = Makes Driver (DriverReadsHalt halted) old new
 
 -- a switch was asked for (x: 1 for offloaded, 0 for local), or refused
 pub record SwitchesOne (p x : ℕ) (result : Result (Unit {0}) SwitchFault) (c d : TheControl) : Type 0 where
-  pub same : KeepsControl c d
+  pub same : SameControl c d
   pub asks : SwitchesBy (control_board c) p x result (control_view c) (control_view d)
 
 pub record RefusesSwitch (p x : ℕ) (fault : Fault) (old new : Part) : Type 0 where
@@ -87,13 +79,13 @@ pub record RefusesSwitch (p x : ℕ) (fault : Fault) (old new : Part) : Type 0 w
 
 -- every processor was shut
 pub record ShutsAll (counts : Counts) (c d : TheControl) : Type 0 where
-  pub same : KeepsControl c d
+  pub same : SameControl c d
   pub many : counts.n ≡ (control_board c).processors
   pub shuts : Shuts (control_board c).processors counts (control_view c) (control_view d)
 
 -- the halt word was set
 pub record Halts (c d : TheControl) : Type 0 where
-  pub same : KeepsControl c d
+  pub same : SameControl c d
   pub halts : control_view d ≡ touched halt_word 1 (control_view c)
 
 abbrev pub GroupTurnsBy : Result GroupTurn Fault → Part → Part → Type 0

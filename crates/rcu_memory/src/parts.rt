@@ -2,8 +2,7 @@
 
 ghost use Rattle.std.specs.Prelude.{All, IfOk};
 ghost use Rattle.std.specs.List.{AllZip};
-ghost use Rattle.rcu_control.specs.Parts.{control_board, control_seat};
-ghost use Rattle.rcu_control.specs.Views.{SamePart};
+ghost use Rattle.rcu_control.specs.Parts.{SameControl};
 ghost use Rattle.rcu_memory.specs.Driven.{AreDriven};
 ghost use Rattle.rcu_memory.specs.Works.{IsOwnKey, key_of_work};
 ghost use Rattle.rcu_part_group.specs.Groups.{SameGroup};
@@ -93,7 +92,7 @@ fn turn_hand(hands: &mut Vec<Hand<Work>>) -> Answer
 
 /// Asks the offloadable processor to be offloaded, or local.
 fn ask(control: &mut Control, on: bool) -> Answer
-    ensures { SamePart (control_board control.old) (control_board control.new) (control_seat control.old) (control_seat control.new) }
+    ensures { SameControl control.old control.new }
 {
     let asked = if on {
         control.offload(1)
@@ -108,7 +107,7 @@ fn ask(control: &mut Control, on: bool) -> Answer
 
 /// Opens a barrier and, where `polls`, polls it.
 fn open_barrier(control: &mut Control, polls: bool) -> Answer
-    ensures { SamePart (control_board control.old) (control_board control.new) (control_seat control.old) (control_seat control.new) }
+    ensures { SameControl control.old control.new }
 {
     let Ok(mut barrier) = control.barrier(&[]) else {
         return Answer::Other;

@@ -59,6 +59,10 @@ module _ {J R : Type 0} where
   abbrev pub IsSoundHand : (J → ℕ) → (ℕ → R → Type 0) → HandState J R → Type 0
   IsSoundHand key_of gives h = AreKeyed key_of (hand_drawn h) → Given gives (hand_records h)
 
+  -- what is known of jobs stays known
+  abbrev pub KeepsSoundHand : (J → ℕ) → (ℕ → R → Type 0) → HandState J R → HandState J R → Type 0
+  KeepsSoundHand key_of gives old new = IsSoundHand key_of gives old → IsSoundHand key_of gives new
+
   -- The first n of what it held were run, each under a claim that was won at the board sight `seen`, and left a record
   -- each; so many claims were tried.
   pub record Ran (n tried seen : ℕ) (p q : HandState J R) : Type 0 where

@@ -7,7 +7,7 @@ ghost use Rattle.rcu_board.specs.Views.{sight};
 ghost use Rattle.rcu_jobs.specs.declared.Stop.TheVariants.{Limit};
 ghost use Rattle.rcu_part_hand.specs.Begins.{SameBegun, SameFinished, IsSoundRunning, IsKeyed, IsGivenFor};
 ghost use Rattle.rcu_part_hand.specs.Begins.{IsNext, KeepsHand, ClaimsFirst, BeginsHand, StopsHand, FinishesHand};
-ghost use Rattle.rcu_part_hand.specs.Hands.{SameHand, IsSoundHand, Ran, StopsAt, hand_view};
+ghost use Rattle.rcu_part_hand.specs.Hands.{SameHand, IsSoundHand, KeepsSoundHand, Ran, StopsAt, hand_view};
 ghost use Rattle.rcu_part_steps.specs.Begins.{IfRuns, IfStops};
 
 use crate::hand::{Hand, HandState};
@@ -27,7 +27,7 @@ impl<J: Job> Hand<J> {
         ensures room { IfOk result (λ _. vec_len self.new.state.ran < vec_capacity self.new.state.ran) }
         ensures stops { IfErr result (λ stop. StopsAt stop 0 0 seen self.new.state) }
         ensures counts { IfErr result (λ stop. stop ≢ Limit) }
-        ensures sound { IsSoundHand J.key_of J.gives self.old.state → IsSoundHand J.key_of J.gives self.new.state }
+        ensures sound { KeepsSoundHand J.key_of J.gives self.old.state self.new.state }
     {
         let state = &mut self.state;
         let Some(first) = state.held.first() else {

@@ -5,7 +5,7 @@ ghost use Rattle.rcu_board.specs.Views.{sight, tally};
 ghost use Rattle.rcu_board.specs.Words.{board_word};
 ghost use Rattle.rcu_jobs.specs.declared.Stop.TheVariants.{Limit, Again};
 ghost use Rattle.rcu_numbers.specs.declared.sequence.TheConstants.{GREATEST_NUMBER};
-ghost use Rattle.rcu_part_hand.specs.Hands.{SameHand, IsSoundHand, Looks, Loads, Ran, StopsAt, TurnsBy, hand_held, hand_view};
+ghost use Rattle.rcu_part_hand.specs.Hands.{SameHand, KeepsSoundHand, Looks, Loads, Ran, StopsAt, TurnsBy, hand_held, hand_view};
 ghost use Rattle.rcu_part_steps.specs.Stops.{StopsInTime};
 
 use crate::hand::Hand;
@@ -23,7 +23,7 @@ impl<J: Job> Hand<J> {
         ensures ran { IfNone result (Ran 1 1 seen self.old.state self.new.state) }
         ensures counts { IfSome result (λ stop. (stop ≢ Limit) × (stop ≢ Again)) }
         ensures not { IfSome result (λ stop. (tried : ℕ) × Ran 0 tried seen self.old.state self.new.state × ((n : ℕ) → StopsAt stop n (n + tried) seen self.new.state)) }
-        ensures sound { IsSoundHand J.key_of J.gives self.old.state → IsSoundHand J.key_of J.gives self.new.state }
+        ensures sound { KeepsSoundHand J.key_of J.gives self.old.state self.new.state }
     {
         let state = &mut self.state;
         let Some(first) = state.held.first() else {
@@ -56,7 +56,7 @@ impl<J: Job> Hand<J> {
         ensures first { StopsInTime result.stop result.ran self.old.state.blimit }
         ensures goes_on { result.stop ≢ Again }
         ensures few { result.ran ≤ self.old.state.blimit }
-        ensures sound { IsSoundHand J.key_of J.gives self.old.state → IsSoundHand J.key_of J.gives self.new.state }
+        ensures sound { KeepsSoundHand J.key_of J.gives self.old.state self.new.state }
     {
         let blimit = self.state.blimit;
         for ran in 0..blimit {
@@ -75,7 +75,7 @@ impl<J: Job> Hand<J> {
         ensures same { SameHand self.old.state self.new.state }
         ensures looks { Looks result self.old.state self.new.state }
         ensures small { result ≤ GREATEST_NUMBER }
-        ensures sound { IsSoundHand J.key_of J.gives self.old.state → IsSoundHand J.key_of J.gives self.new.state }
+        ensures sound { KeepsSoundHand J.key_of J.gives self.old.state self.new.state }
     {
         let state = &mut self.state;
         look_at_number(&state.board, &mut state.seat).seq()
@@ -86,7 +86,7 @@ impl<J: Job> Hand<J> {
         ensures same { SameHand self.old.state self.new.state }
         ensures loads { Loads self.old.state self.new.state }
         ensures none { IfSome result (λ stop. (n seen : ℕ) → StopsAt stop n n seen self.new.state) }
-        ensures sound { IsSoundHand J.key_of J.gives self.old.state → IsSoundHand J.key_of J.gives self.new.state }
+        ensures sound { KeepsSoundHand J.key_of J.gives self.old.state self.new.state }
     {
         match self.state.held.fetch() {
             Fetched::Got => None,
@@ -105,7 +105,7 @@ impl<J: Job> Hand<J> {
         ensures first { StopsInTime result.stop result.ran self.old.state.blimit }
         ensures again { result.stop ≡ Again → (hand_held self.old.state ≡ []) × (result.ran ≡ 0) }
         ensures fresh { tally (hand_view self.new.state) board_word ≡ tally (hand_view self.old.state) board_word + 1 }
-        ensures sound { IsSoundHand J.key_of J.gives self.old.state → IsSoundHand J.key_of J.gives self.new.state }
+        ensures sound { KeepsSoundHand J.key_of J.gives self.old.state self.new.state }
     {
         let seen = self.look();
         if let Some(stop) = self.load() {

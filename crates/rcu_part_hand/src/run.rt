@@ -5,7 +5,7 @@ ghost use Rattle.std.specs.Int.{from_bool};
 ghost use Rattle.rcu_board.specs.Plays.{touched};
 ghost use Rattle.rcu_board.specs.Seats.{SawHalt};
 ghost use Rattle.rcu_board.specs.Words.{halt_word};
-ghost use Rattle.rcu_part_hand.specs.Hands.{SameHand, AddsRecords, IsSoundHand, hand_view, hand_held, hand_drawn, hand_records};
+ghost use Rattle.rcu_part_hand.specs.Hands.{SameHand, AddsRecords, IsSoundHand, KeepsSoundHand, hand_view, hand_held, hand_drawn, hand_records};
 
 use crate::hand::Hand;
 use rcu_board::halted;
@@ -20,7 +20,7 @@ impl<J: Job> Hand<J> {
         ensures same { SameHand self.old.state self.new.state }
         ensures lists { (hand_held self.new.state ≡ hand_held self.old.state) × (hand_drawn self.new.state ≡ hand_drawn self.old.state) × (hand_records self.new.state ≡ hand_records self.old.state) }
         ensures view { hand_view self.new.state ≡ touched halt_word (from_bool result) (hand_view self.old.state) }
-        ensures sound { IsSoundHand J.key_of J.gives self.old.state → IsSoundHand J.key_of J.gives self.new.state }
+        ensures sound { KeepsSoundHand J.key_of J.gives self.old.state self.new.state }
     {
         let state = &mut self.state;
         halted(&state.board, &mut state.seat)
@@ -31,7 +31,7 @@ impl<J: Job> Hand<J> {
         ensures same { SameHand self.old.state self.new.state }
         ensures halted { IfNone result (SawHalt (hand_view self.new.state)) }
         ensures records { AddsRecords self.old.state self.new.state }
-        ensures sound { IsSoundHand J.key_of J.gives self.old.state → IsSoundHand J.key_of J.gives self.new.state }
+        ensures sound { KeepsSoundHand J.key_of J.gives self.old.state self.new.state }
     {
         if self.is_halted() {
             return None;

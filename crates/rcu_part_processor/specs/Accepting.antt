@@ -1,5 +1,5 @@
 -- How a job is accepted, whether a claim of the processor runs or not: docs/specification/rules.md, "The calls, step by step".
-use Rattle.std.specs.Prelude.{◌≡◌, ◌≢◌, ℕ, ◌+◌, ◌*◌, true, List, []}
+use Rattle.std.specs.Prelude.{◌≡◌, ◌≢◌, ℕ, ◌+◌, ◌*◌, true, List, [], Result, IfErr, IsErr}
 use Rattle.rcu_numbers.specs.Words.{Board}
 use Rattle.rcu_board.specs.Plays.{touched, looked, accepted}
 use Rattle.rcu_board.specs.Seats.{view}
@@ -66,3 +66,7 @@ abbrev pub IsLimit : {J : Type 0} → Refused J → Type 0
 IsLimit (Limit back) = Unit {0}
 IsLimit (Memory back) = ⊥
 IsLimit (Closed back) = ⊥
+
+-- it is refused, and by refusal 4
+abbrev pub IsRefusedByLimit : {T J : Type 0} → Result T (Refused J) → Type 0
+IsRefusedByLimit result = IfErr result (λ refused. IsLimit refused) × IsErr result

@@ -6,7 +6,7 @@ ghost use Rattle.rcu_board.specs.Seats.{view, AtBoard, SameSeat, SawShut, accept
 ghost use Rattle.rcu_board.specs.declared.board.Role.{Role};
 ghost use Rattle.rcu_holdings.specs.ProcessorLists.{holding, passed_on, rear_of};
 ghost use Rattle.rcu_lanes.specs.Ends.{SameRear};
-ghost use Rattle.rcu_part_processor.specs.Accepting.{Accepts, AcceptsNone, Refuses, IsLimit, pieces};
+ghost use Rattle.rcu_part_processor.specs.Accepting.{Accepts, AcceptsNone, Refuses, IsRefusedByLimit, pieces};
 ghost use Rattle.rcu_part_processor.specs.Lawful.{HasPlaces, StaysLocal};
 ghost use Rattle.rcu_part_steps.specs.Places.{AreKeyed};
 ghost use Rattle.rcu_places.specs.Places.{Numbered};
@@ -50,7 +50,7 @@ pub(crate) fn accept_job<J: Job>(
     ensures refused { IfErr result (λ r. Refuses request.job r
         (pieces request.cpu request.limit accepted.old seat.old lists.old) (pieces request.cpu request.limit accepted.new seat.new lists.new)) }
     ensures closed { SawShut request.cpu (view seat.old) → IsErr result }
-    ensures full { accepted.old ≡ request.limit → IfErr result (λ r. IsLimit r) × IsErr result }
+    ensures full { accepted.old ≡ request.limit → IsRefusedByLimit result }
     ensures small { accepted.new ≤ request.limit }
     ensures claims { ((view seat.new).claims ≡ (view seat.old).claims) × ((view seat.new).running ≡ (view seat.old).running) }
     ensures places { (claimed : List Numbered) → HasPlaces accepted.old (view seat.old) claimed (holding lists.old)

@@ -3,7 +3,7 @@
 ghost use Rattle.std.specs.Prelude.{◌≡◌, IfOk, IfErr, IsErr};
 ghost use Rattle.rcu_board.specs.Seats.{SawShut};
 ghost use Rattle.rcu_lists.specs.declared.pace.Kind.TheVariants.{Plain, Lazy};
-ghost use Rattle.rcu_part_processor.specs.Accepting.{IsLimit};
+ghost use Rattle.rcu_part_processor.specs.Accepting.{IsRefusedByLimit};
 ghost use Rattle.rcu_part_processor.specs.Calls.{IsAccepted, KeepsAll, IsRefusedAs};
 ghost use Rattle.rcu_part_processor.specs.Processors.{SameProcessor, IsSound, view_of, KeepsSound};
 
@@ -27,7 +27,7 @@ impl<J: Job> Processor<J> {
         ensures err { IfErr result (λ _. KeepsAll self.old.state self.new.state) }
         ensures refused { IfErr result (λ r. IsRefusedAs job r self.old.state self.new.state) }
         ensures closed { SawShut self.old.state.cpu (view_of self.old.state) → IsErr result }
-        ensures full { self.old.state.accepted ≡ self.old.state.limit → IfErr result (λ r. IsLimit r) × IsErr result }
+        ensures full { self.old.state.accepted ≡ self.old.state.limit → IsRefusedByLimit result }
         ensures sound { KeepsSound J.key_of J.gives self.old.state self.new.state }
     {
         self.call(moment, Kind::Plain, job)
@@ -44,7 +44,7 @@ impl<J: Job> Processor<J> {
         ensures err { IfErr result (λ _. KeepsAll self.old.state self.new.state) }
         ensures refused { IfErr result (λ r. IsRefusedAs job r self.old.state self.new.state) }
         ensures closed { SawShut self.old.state.cpu (view_of self.old.state) → IsErr result }
-        ensures full { self.old.state.accepted ≡ self.old.state.limit → IfErr result (λ r. IsLimit r) × IsErr result }
+        ensures full { self.old.state.accepted ≡ self.old.state.limit → IsRefusedByLimit result }
         ensures sound { KeepsSound J.key_of J.gives self.old.state self.new.state }
     {
         self.call(moment, Kind::Lazy, job)
@@ -57,7 +57,7 @@ impl<J: Job> Processor<J> {
         ensures err { IfErr result (λ _. KeepsAll self.old.state self.new.state) }
         ensures refused { IfErr result (λ r. IsRefusedAs job r self.old.state self.new.state) }
         ensures closed { SawShut self.old.state.cpu (view_of self.old.state) → IsErr result }
-        ensures full { self.old.state.accepted ≡ self.old.state.limit → IfErr result (λ r. IsLimit r) × IsErr result }
+        ensures full { self.old.state.accepted ≡ self.old.state.limit → IsRefusedByLimit result }
         ensures sound { KeepsSound J.key_of J.gives self.old.state self.new.state }
     {
         let state = &mut self.state;

@@ -62,7 +62,7 @@ impl<J: Job> RunningProcessor<J> {
     ghost use Rattle.std.specs.Prelude.{IfOk, IfErr, IsErr};
     ghost use Rattle.rcu_holdings.specs.ProcessorLists.{cpu_lists};
     ghost use Rattle.rcu_lists.specs.declared.pace.Kind.TheVariants.{Plain, Lazy};
-    ghost use Rattle.rcu_part_processor.specs.Accepting.{IsLimit};
+    ghost use Rattle.rcu_part_processor.specs.Accepting.{IsRefusedByLimit};
     ghost use Rattle.rcu_part_processor.specs.Running.{SameRunning, IsAccepted, KeepsAll, IsRefusedAs, IsSoundRunning, running_lists, running_view};
     ghost use Rattle.rcu_part_steps.specs.Reports.{Reports};
 
@@ -126,7 +126,7 @@ impl<J: Job> RunningProcessor<J> {
         ensures err { IfErr result (λ _. KeepsAll self.old.state self.new.state) }
         ensures refused { IfErr result (λ r. IsRefusedAs job r self.old.state self.new.state) }
         ensures closed { SawShut self.old.state.cpu (running_view self.old.state) → IsErr result }
-        ensures full { self.old.state.accepted ≡ self.old.state.limit → IfErr result (λ r. IsLimit r) × IsErr result }
+        ensures full { self.old.state.accepted ≡ self.old.state.limit → IsRefusedByLimit result }
         ensures claimed { self.new.state.claimed ≡ self.old.state.claimed }
         ensures sound { KeepsSoundRunning J.key_of J.gives self.old.state self.new.state }
     {
@@ -144,7 +144,7 @@ impl<J: Job> RunningProcessor<J> {
         ensures err { IfErr result (λ _. KeepsAll self.old.state self.new.state) }
         ensures refused { IfErr result (λ r. IsRefusedAs job r self.old.state self.new.state) }
         ensures closed { SawShut self.old.state.cpu (running_view self.old.state) → IsErr result }
-        ensures full { self.old.state.accepted ≡ self.old.state.limit → IfErr result (λ r. IsLimit r) × IsErr result }
+        ensures full { self.old.state.accepted ≡ self.old.state.limit → IsRefusedByLimit result }
         ensures claimed { self.new.state.claimed ≡ self.old.state.claimed }
         ensures sound { KeepsSoundRunning J.key_of J.gives self.old.state self.new.state }
     {
@@ -158,7 +158,7 @@ impl<J: Job> RunningProcessor<J> {
         ensures err { IfErr result (λ _. KeepsAll self.old.state self.new.state) }
         ensures refused { IfErr result (λ r. IsRefusedAs job r self.old.state self.new.state) }
         ensures closed { SawShut self.old.state.cpu (running_view self.old.state) → IsErr result }
-        ensures full { self.old.state.accepted ≡ self.old.state.limit → IfErr result (λ r. IsLimit r) × IsErr result }
+        ensures full { self.old.state.accepted ≡ self.old.state.limit → IsRefusedByLimit result }
         ensures claimed { self.new.state.claimed ≡ self.old.state.claimed }
         ensures sound { KeepsSoundRunning J.key_of J.gives self.old.state self.new.state }
     {

@@ -2,8 +2,7 @@
 use Rattle.std.proofs.Common.{◌≡◌, ℕ, Option, IfSome, All, refl, subst, sym}
 use Rattle.std.specs.Global.{Vec}
 use Rattle.std.specs.List.{AllZip}
-use Rattle.rcu_control.specs.Parts.{control_board, control_seat, driver_board, driver_seat}
-use Rattle.rcu_control.specs.Views.{SamePart}
+use Rattle.rcu_control.specs.Parts.{control_board, control_seat, driver_board, driver_seat, SameControl, SameDriver}
 use Rattle.rcu_control.specs.declared.barrier.Barrier.{Barrier}
 use Rattle.rcu_control.specs.declared.control.Control.{Control}
 use Rattle.rcu_control.specs.declared.driver.Driver.{Driver}
@@ -63,13 +62,13 @@ module _ {J R : Type 0} (key_of : J → ℕ) (gives : ℕ → R → Type 0) (old
     sound = λ s. record { processors = s.processors; hands = f s.hands };
   }
 
-  pub driver_kept : (d : Driver) → SamePart (driver_board old.driver) (driver_board d) (driver_seat old.driver) (driver_seat d) → KeepsParts key_of gives old (record old { driver = d })
+  pub driver_kept : (d : Driver) → SameDriver old.driver d → KeepsParts key_of gives old (record old { driver = d })
   driver_kept d s = record {
     same = record { control = all_same.control; driver = s; processors = all_same.processors; groups = all_same.groups; hands = all_same.hands };
     sound = λ s. record { processors = s.processors; hands = s.hands };
   }
 
-  pub control_kept : (c : Control) → SamePart (control_board old.control) (control_board c) (control_seat old.control) (control_seat c) → KeepsParts key_of gives old (record old { control = c })
+  pub control_kept : (c : Control) → SameControl old.control c → KeepsParts key_of gives old (record old { control = c })
   control_kept c s = record {
     same = record { control = s; driver = all_same.driver; processors = all_same.processors; groups = all_same.groups; hands = all_same.hands };
     sound = λ s. record { processors = s.processors; hands = s.hands };

@@ -3,8 +3,7 @@
 ghost use Rattle.std.specs.Prelude.{◌≡◌, ◌≢◌, ℕ, List, All, IfNone, IfOk, IfSome, OnOk};
 ghost use Rattle.std.specs.Io.KnownBytes.{Appends};
 ghost use Rattle.std.specs.List.{AllZip};
-ghost use Rattle.rcu_control.specs.Parts.{control_board, control_seat, control_view, driver_board, driver_seat, driver_view};
-ghost use Rattle.rcu_control.specs.Views.{SamePart};
+ghost use Rattle.rcu_control.specs.Parts.{control_board, control_view, driver_board, driver_view, SameControl, SameDriver};
 ghost use Rattle.rcu_part_group.specs.Groups.{SameGroup};
 ghost use Rattle.rcu_part_hand.specs.Hands.{IsSoundHand, SameHand};
 ghost use Rattle.rcu_part_processor.specs.Processors.{IsSound, SameProcessor};
@@ -102,7 +101,7 @@ pub fn tick<J: Job>(processors: &mut Vec<Processor<J>>, cpu: u64, moment: u64) -
 /// `driver`: a turn of the driver.
 pub fn driver(driver: &mut Driver) -> Line
     ensures line { IsDriver (driver_board driver.old).processors result (driver_view driver.old) (driver_view driver.new) }
-    ensures same { SamePart (driver_board driver.old) (driver_board driver.new) (driver_seat driver.old) (driver_seat driver.new) }
+    ensures same { SameDriver driver.old driver.new }
 {
     Line::Driver(driver.turn())
 }
@@ -172,7 +171,7 @@ pub fn hand<J: Job>(hands: &mut Vec<Hand<J>>, n: usize, cpu: u64) -> Line
 /// `offload` and `deoffload`: asks for the switch.
 pub fn switch(control: &mut Control, verb: Verb, cpu: u64) -> Line
     ensures line { IsSwitch (control_board control.old) verb cpu result (control_view control.old) (control_view control.new) }
-    ensures same { SamePart (control_board control.old) (control_board control.new) (control_seat control.old) (control_seat control.new) }
+    ensures same { SameControl control.old control.new }
 {
     let answer = match verb {
         Verb::Offload => control.offload(cpu),
@@ -191,7 +190,7 @@ pub fn switch(control: &mut Control, verb: Verb, cpu: u64) -> Line
 /// `barrier`: opens a barrier, in place of the one that was open.
 pub fn barrier(control: &mut Control, opened: &mut Option<Barrier>) -> Line
     ensures line { IsBarrier (control_board control.old).processors result (control_view control.old) (control_view control.new) opened.new }
-    ensures same { SamePart (control_board control.old) (control_board control.new) (control_seat control.old) (control_seat control.new) }
+    ensures same { SameControl control.old control.new }
     ensures many { IfSome opened.new (λ b. (control_board control.new).processors ≡ b.counts.n) }
 {
     let Ok(barrier) = control.barrier(&[]) else {
@@ -206,7 +205,7 @@ pub fn barrier(control: &mut Control, opened: &mut Option<Barrier>) -> Line
 pub fn poll(control: &mut Control, opened: &mut Option<Barrier>) -> Line
     requires open { IfSome opened.old (λ b. (control_board control.old).processors ≡ b.counts.n) }
     ensures line { IsPoll opened.old result (control_view control.old) (control_view control.new) opened.new }
-    ensures same { SamePart (control_board control.old) (control_board control.new) (control_seat control.old) (control_seat control.new) }
+    ensures same { SameControl control.old control.new }
     ensures many { IfSome opened.new (λ b. (control_board control.new).processors ≡ b.counts.n) }
 {
     let Some(mut barrier) = *opened else {
@@ -224,7 +223,7 @@ pub fn poll(control: &mut Control, opened: &mut Option<Barrier>) -> Line
 /// `shut`: shuts all processors.
 pub fn shut(alloc: Global, control: &mut Control) -> Result<Line, Fault>
     ensures line { IfOk result (λ line. IsShut (control_board control.old).processors line (control_view control.old) (control_view control.new)) }
-    ensures same { SamePart (control_board control.old) (control_board control.new) (control_seat control.old) (control_seat control.new) }
+    ensures same { SameControl control.old control.new }
 {
     let last = control.shut();
     Ok(Line::Shut(counts(alloc, &last)?))

@@ -3,9 +3,9 @@ use Rattle.std.proofs.Common.{◌≡◌, ℕ, List, refl, subst, sym}
 use Rattle.rcu_board.specs.declared.board.Board.{Board}
 use Rattle.rcu_board.specs.declared.board.Seat.{Seat}
 use Rattle.rcu_control.proofs.Stepping.{same_again, same_part}
-use Rattle.rcu_control.specs.Views.{SamePart}
 use Rattle.rcu_control.specs.declared.control.Control.{Control}
 use Rattle.rcu_control.specs.declared.driver.Driver.{Driver}
+use Rattle.rcu_control.specs.Parts.{SameControl, SameDriver}
 use Rattle.rcu_part_group.proofs.GroupLists.{zip_again, zip_same}
 use Rattle.rcu_part_group.proofs.GroupTurns.{same_group, same_group_again}
 use Rattle.rcu_part_hand.proofs.HandRuns.{same_hand, same_hand_again}
@@ -19,19 +19,19 @@ use Rattle.rcu_part_group.specs.declared.group.Group.{Group}
 use Rattle.rcu_part_hand.specs.declared.hand.Hand.{Hand}
 use Rattle.rcu_part_processor.specs.declared.processor.Processor.{Processor}
 use Rattle.rcu_phases.specs.Company.{CompanyKeeps, parts_of}
-use Rattle.rcu_phases.specs.Kept.{ControlKeeps, DriverKeeps, GroupsKeep, HandsKeep, ProcessorsKeep}
+use Rattle.rcu_phases.specs.Kept.{GroupsKeep, HandsKeep, ProcessorsKeep}
 use Rattle.rcu_phases.specs.declared.playing.Company.{Company}
 
-pub driver_none : (d : Driver) → DriverKeeps d d
+pub driver_none : (d : Driver) → SameDriver d d
 driver_none d = same_part _ _
 
-pub driver_again : (d e f : Driver) → DriverKeeps d e → DriverKeeps e f → DriverKeeps d f
+pub driver_again : (d e f : Driver) → SameDriver d e → SameDriver e f → SameDriver d f
 driver_again d e f x y = same_again _ _ _ _ _ _ x y
 
-pub control_none : (c : Control) → ControlKeeps c c
+pub control_none : (c : Control) → SameControl c c
 control_none c = same_part _ _
 
-pub control_again : (c d e : Control) → ControlKeeps c d → ControlKeeps d e → ControlKeeps c e
+pub control_again : (c d e : Control) → SameControl c d → SameControl d e → SameControl c e
 control_again c d e x y = same_again _ _ _ _ _ _ x y
 
 module _ {J R : Type 0} where

@@ -4,8 +4,9 @@ use Rattle.rcu_parts.specs.declared.parts.AllParts.{AllParts}
 use Rattle.rcu_part_group.specs.declared.group.Group.{Group}
 use Rattle.rcu_part_hand.specs.declared.hand.Hand.{Hand}
 use Rattle.rcu_part_processor.specs.declared.processor.Processor.{Processor}
-use Rattle.rcu_phases.specs.Kept.{ControlKeeps, DriverKeeps, GroupsKeep, HandsKeep, ProcessorsKeep}
+use Rattle.rcu_phases.specs.Kept.{GroupsKeep, HandsKeep, ProcessorsKeep}
 use Rattle.rcu_phases.specs.declared.playing.Company.{Company}
+use Rattle.rcu_control.specs.Parts.{SameControl, SameDriver}
 
 -- the parts of a company
 abbrev pub parts_of : {P G H : Type 0} → Company P G H → AllParts P G H
@@ -16,5 +17,5 @@ module _ {J R : Type 0} (key_of : J → ℕ) (gives : ℕ → R → Type 0) wher
     pub processors : ProcessorsKeep key_of gives old.callers.processors.items new.callers.processors.items
     pub groups : GroupsKeep old.groups.items new.groups.items
     pub hands : HandsKeep key_of gives old.hands.items new.hands.items
-    pub driver : DriverKeeps old.center.driver new.center.driver
-    pub control : ControlKeeps old.center.control new.center.control
+    pub driver : SameDriver old.center.driver new.center.driver
+    pub control : SameControl old.center.control new.center.control

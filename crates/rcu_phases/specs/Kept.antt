@@ -2,8 +2,7 @@
 -- running parts", Same part and close.
 use Rattle.std.specs.Prelude.{◌≡◌, ℕ, List, All, Option, IfSome}
 use Rattle.std.specs.List.{AllZip}
-use Rattle.rcu_control.specs.Parts.{control_board, control_seat, driver_board, driver_seat}
-use Rattle.rcu_control.specs.Views.{SamePart}
+use Rattle.rcu_control.specs.Parts.{control_board}
 use Rattle.rcu_control.specs.declared.barrier.Barrier.{Barrier}
 use Rattle.rcu_control.specs.declared.control.Control.{Control}
 use Rattle.rcu_control.specs.declared.driver.Driver.{Driver}
@@ -17,14 +16,6 @@ use Rattle.rcu_parts.specs.SameParts.{AreSameParts}
 use Rattle.rcu_part_group.specs.declared.group.Group.{Group}
 use Rattle.rcu_part_hand.specs.declared.hand.Hand.{Hand}
 use Rattle.rcu_part_processor.specs.declared.processor.Processor.{Processor}
-
--- the same driver of its open
-abbrev pub DriverKeeps : Driver → Driver → Type 0
-DriverKeeps d e = SamePart (driver_board d) (driver_board e) (driver_seat d) (driver_seat e)
-
--- the same control of its open
-abbrev pub ControlKeeps : Control → Control → Type 0
-ControlKeeps c d = SamePart (control_board c) (control_board d) (control_seat c) (control_seat d)
 
 -- A barrier that is open counts the processors of control's board.
 abbrev pub IsOurs : Control → Option Barrier → Type 0

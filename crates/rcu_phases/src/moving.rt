@@ -2,7 +2,8 @@
 
 ghost use Rattle.std.specs.Prelude.{◌≡◌, IfOk};
 ghost use Rattle.std.proofs.Props.{props};
-ghost use Rattle.rcu_phases.specs.Kept.{ControlKeeps, DriverKeeps, IsOurs};
+ghost use Rattle.rcu_phases.specs.Kept.{IsOurs};
+ghost use Rattle.rcu_control.specs.Parts.{SameControl, SameDriver};
 
 use crate::phase::{Move, Reply};
 use rcu_jobs::Ticket;
@@ -21,7 +22,7 @@ pub(crate) struct Center {
 
 /// Opens a barrier in place of the one that is open.
 fn open_barrier(control: &mut Control, barrier: &mut Option<Barrier>, tickets: &[Ticket]) -> Reply
-    ensures control { ControlKeeps control.old control.new }
+    ensures control { SameControl control.old control.new }
     ensures ours { IsOurs control.new barrier.new }
 {
     match control.barrier(tickets) {
@@ -39,7 +40,7 @@ fn open_barrier(control: &mut Control, barrier: &mut Option<Barrier>, tickets: &
 /// Polls the barrier that is open.
 fn poll_barrier(control: &mut Control, barrier: &Option<Barrier>) -> Reply
     requires ours { IsOurs control.old barrier.now }
-    ensures control { ControlKeeps control.old control.new }
+    ensures control { SameControl control.old control.new }
 {
     let Some(mut polled) = *barrier else {
         return Reply::NoBarrier;
@@ -58,8 +59,8 @@ fn move_one(
     next: Move,
 ) -> Option<Reply>
     requires ours { IsOurs control.old barrier.old }
-    ensures driver { DriverKeeps driver.old driver.new }
-    ensures control { ControlKeeps control.old control.new }
+    ensures driver { SameDriver driver.old driver.new }
+    ensures control { SameControl control.old control.new }
     ensures ours { IsOurs control.new barrier.new }
 {
     match next {
@@ -82,8 +83,8 @@ fn move_one(
 ///
 /// Want of memory for the replies.
 pub(crate) fn move_all(center: Center, moves: Vec<Move>) -> Result<Center, AllocError>
-    ensures driver { IfOk result (λ new. DriverKeeps center.driver new.driver) }
-    ensures control { IfOk result (λ new. ControlKeeps center.control new.control) }
+    ensures driver { IfOk result (λ new. SameDriver center.driver new.driver) }
+    ensures control { IfOk result (λ new. SameControl center.control new.control) }
 {
     let Center {
         mut driver,

@@ -4,8 +4,9 @@ ghost use Rattle.std.specs.Prelude.{◌≡◌, IfOk};
 ghost use denote.Param.Send.{IsSend};
 ghost use Rattle.std.specs.Thread.{IsSync};
 ghost use Rattle.rcu_parts.specs.OneOpen.{AreOfOneOpen, AreSoundParts};
-ghost use Rattle.rcu_phases.specs.Kept.{ClosesSame, ControlKeeps, DriverKeeps, GroupsKeep, HandsKeep, ProcessorsKeep};
+ghost use Rattle.rcu_phases.specs.Kept.{ClosesSame, GroupsKeep, HandsKeep, ProcessorsKeep};
 ghost use Rattle.rcu_phases.specs.Company.{CompanyKeeps, parts_of};
+ghost use Rattle.rcu_control.specs.Parts.{SameControl, SameDriver};
 
 use crate::acting::{Callers, act_all};
 use crate::moving::{Center, move_all};
@@ -35,8 +36,8 @@ fn run_callers<J: Job<Receipt = u64>, R: Threads + Sync>(
     moves: Vec<Move>,
 ) -> Result<(Callers<Processor<J>>, Center), AllocError>
     ensures processors { IfOk result (λ t. ProcessorsKeep J.key_of J.gives callers.processors.items t.0.processors.items) }
-    ensures driver { IfOk result (λ t. DriverKeeps center.driver t.1.driver) }
-    ensures control { IfOk result (λ t. ControlKeeps center.control t.1.control) }
+    ensures driver { IfOk result (λ t. SameDriver center.driver t.1.driver) }
+    ensures control { IfOk result (λ t. SameControl center.control t.1.control) }
 {
     let (callers, center) = thread::join(
         rt,
@@ -45,7 +46,7 @@ fn run_callers<J: Job<Receipt = u64>, R: Threads + Sync>(
             ensures { IfOk result (λ new. ProcessorsKeep J.key_of J.gives callers.processors.items new.processors.items) }
         { act_all(callers, steps) },
         move || -> Result<Center, AllocError>
-            ensures { IfOk result (λ new. DriverKeeps center.driver new.driver × ControlKeeps center.control new.control) }
+            ensures { IfOk result (λ new. SameDriver center.driver new.driver × SameControl center.control new.control) }
         { move_all(center, moves) },
     );
     Ok((callers?, center?))
@@ -98,7 +99,7 @@ fn run_phase<J: Job<Receipt = u64>, R: Threads + Sync>(
         rt,
         move || -> Result<(Callers<Processor<J>>, Center), AllocError>
             requires { IsSend J.row × IsSync R.row }
-            ensures { IfOk result (λ t. ProcessorsKeep J.key_of J.gives callers.processors.items t.0.processors.items × DriverKeeps center.driver t.1.driver × ControlKeeps center.control t.1.control) }
+            ensures { IfOk result (λ t. ProcessorsKeep J.key_of J.gives callers.processors.items t.0.processors.items × SameDriver center.driver t.1.driver × SameControl center.control t.1.control) }
         { run_callers(rt, callers, steps, center, moves) },
         move || -> (Vec<Group<J>>, Vec<Hand<J>>)
             requires { IsSend J.row × IsSync R.row }

@@ -5,8 +5,7 @@ use Rattle.std.specs.List.{AllZip}
 use Rattle.std.specs.Vec.{with_item}
 use Rattle.rcu_board.specs.declared.board.Board.{Board}
 use Rattle.rcu_control.proofs.Stepping.{same_again, same_part}
-use Rattle.rcu_control.specs.Parts.{control_board, control_seat, driver_board, driver_seat}
-use Rattle.rcu_control.specs.Views.{SamePart}
+use Rattle.rcu_control.specs.Parts.{SameControl, SameDriver}
 use Rattle.rcu_control.specs.declared.control.Control.{Control}
 use Rattle.rcu_control.specs.declared.driver.Driver.{Driver}
 use Rattle.rcu_part_group.proofs.GroupLists.{zip_again, zip_same}
@@ -30,13 +29,6 @@ use Rattle.rcu_runtime.specs.Runtimes.{Continues, IsWhole, accepted_in}
 use Rattle.rcu_runtime.specs.Turns.{GroupTurns, HandTurns, ReportsAndTicks, Ticks}
 use Rattle.rcu_jobs.specs.declared.turns.Ticked.{Ticked}
 use Rattle.rcu_runtime.proofs.Changing.{all_along, all_changed, zip_changed, zip_weaker}
-
--- the same control, and the same driver
-abbrev pub SameControl : Control → Control → Type 0
-SameControl c d = SamePart (control_board c) (control_board d) (control_seat c) (control_seat d)
-
-abbrev pub SameDriver : Driver → Driver → Type 0
-SameDriver d e = SamePart (driver_board d) (driver_board e) (driver_seat d) (driver_seat e)
 
 pub control_itself : (c : Control) → SameControl c c
 control_itself c = same_part _ _

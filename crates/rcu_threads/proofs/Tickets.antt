@@ -3,6 +3,7 @@ use Rattle.std.proofs.Common.{◌≡◌, ℕ, zero, suc, ◌+◌, ◌*◌, ◌<�
 use Rattle.std.specs.Prelude.{Option, Some, None, IfSome}
 use Rattle.rcu_control.specs.Barriers.{AreCounted, IsOver, count_at}
 use Rattle.rcu_control.specs.declared.driver.Driver.{Driver}
+use Rattle.rcu_control.specs.Parts.{SameDriver}
 use Rattle.rcu_gathering.proofs.Lists.{all_imp}
 use Rattle.rcu_jobs.specs.declared.Counts.{Counts}
 use Rattle.std.specs.List.{AllZip, Contains}
@@ -20,7 +21,7 @@ use Rattle.rcu_part_processor.specs.declared.processor.Processor.{Processor}
 use Rattle.rcu_part_processor.proofs.TickRuns.{same_processor, same_processor_again}
 use Rattle.rcu_threads.proofs.Zips.{zip_chain, zip_imp, zip_pushed}
 use Rattle.rcu_threads.specs.Calls.{AreTickets, HasCalled, ticket}
-use Rattle.rcu_threads.specs.Parts.{DriverStays, GivesBack, ProcessorStays}
+use Rattle.rcu_threads.specs.Parts.{GivesBack, ProcessorStays}
 use Rattle.rcu_threads.specs.Runs.{AreOver, HasRun}
 
 -- a ticket is among more of them
@@ -115,6 +116,6 @@ over_tickets counts v ts over counted =
     all_imp (λ t. (t.cpu < counts.n) × (t.number < count_at counts t.cpu)) (λ t. 2 * (t.number + 1) ≤ seen_at v (turns_word t.cpu)) ts (λ t c. let past = over t.cpu c.0 in let low = c.1 in omega (arith, past, low)) counted
 
 -- What the driver's thread gave back is the driver that it was given.
-pub driver_kept : {H : Type 0} (of : H → Driver) (t : Option H) (d e : Driver) → IfSome t (λ h. of h ≡ d) → GivesBack of t e → DriverStays d e
+pub driver_kept : {H : Type 0} (of : H → Driver) (t : Option H) (d e : Driver) → IfSome t (λ h. of h ≡ d) → GivesBack of t e → SameDriver d e
 driver_kept of None d e started kept = absurd kept
-driver_kept of (Some h) d e started kept = subst (λ x. DriverStays x e) started kept
+driver_kept of (Some h) d e started kept = subst (λ x. SameDriver x e) started kept

@@ -1,7 +1,6 @@
 -- What a thread gives back of the part that it ran: docs/specification/promises.md, "Headline on the running parts", Same part.
 use Rattle.std.specs.Prelude.{◌≡◌, ℕ, Option, Some, None}
-use Rattle.rcu_control.specs.Parts.{driver_board, driver_seat}
-use Rattle.rcu_control.specs.Views.{SamePart}
+use Rattle.rcu_control.specs.Parts.{SameDriver}
 use Rattle.rcu_control.specs.declared.driver.Driver.{Driver}
 use Rattle.rcu_part_group.specs.Groups.{SameGroup}
 use Rattle.rcu_part_hand.specs.Hands.{IsSoundHand, SameHand}
@@ -10,14 +9,10 @@ use Rattle.rcu_part_group.specs.declared.group.Group.{Group}
 use Rattle.rcu_part_hand.specs.declared.hand.Hand.{Hand}
 use Rattle.rcu_part_processor.specs.declared.processor.Processor.{Processor}
 
--- the same driver of its open
-abbrev pub DriverStays : Driver → Driver → Type 0
-DriverStays d e = SamePart (driver_board d) (driver_board e) (driver_seat d) (driver_seat e)
-
 -- there is a thread, and what comes back is the driver that it was given
 abbrev pub GivesBack : {H : Type 0} → (H → Driver) → Option H → Driver → Type 0
 GivesBack of None e = ⊥
-GivesBack of (Some h) e = DriverStays (of h) e
+GivesBack of (Some h) e = SameDriver (of h) e
 
 module _ {J R : Type 0} where
   -- the same group of its open

@@ -4,13 +4,12 @@ use Rattle.std.specs.List.{AllZip}
 use Rattle.rcu_board.specs.Views.{seen_at}
 use Rattle.rcu_board.specs.Words.{turns_word}
 use Rattle.rcu_board.specs.declared.view.View.{View}
-use Rattle.rcu_control.specs.Parts.{control_board, control_seat, control_view}
-use Rattle.rcu_control.specs.Views.{SamePart}
+use Rattle.rcu_control.specs.Parts.{control_view, SameControl, SameDriver}
 use Rattle.rcu_jobs.specs.declared.answers.Ticket.{Ticket}
 use Rattle.rcu_parts.specs.OneOpen.{Parts, groups_in, hands_in, processors_in}
 use Rattle.rcu_part_processor.specs.Processors.{IsSound, SameProcessor}
 use Rattle.rcu_part_processor.specs.declared.processor.Processor.{Processor}
-use Rattle.rcu_threads.specs.Parts.{DriverStays, GroupStays, HandStays}
+use Rattle.rcu_threads.specs.Parts.{GroupStays, HandStays}
 
 -- The view has seen the turn word of each ticket's processor past the ticket's number: its callback has run.
 abbrev pub AreOver : View → List Ticket → Type 0
@@ -25,8 +24,8 @@ module _ {J R : Type 0} where
 
   -- All parts are the same parts, and of each processor all callbacks have run, by what control has seen.
   pub record HaveRun (key_of : J → ℕ) (gives : ℕ → R → Type 0) (old new : Parts J R) : Type 0 where
-    pub control : SamePart (control_board old.control) (control_board new.control) (control_seat old.control) (control_seat new.control)
-    pub driver : DriverStays old.driver new.driver
+    pub control : SameControl old.control new.control
+    pub driver : SameDriver old.driver new.driver
     pub groups : AllZip GroupStays (groups_in old) (groups_in new)
     pub hands : AllZip (HandStays key_of gives) (hands_in old) (hands_in new)
     pub processors : AllZip (HasRun key_of gives (control_view new.control)) (processors_in old) (processors_in new)

@@ -13,9 +13,9 @@ use std::thread::{Promise, PromisedHandle};
 pub struct Stays<P>(pub Snapshot<P>);
 
 impl Promise<Driver> for Stays<Driver> {
-    ghost use Rattle.rcu_threads.specs.Parts.{DriverStays};
+    ghost use Rattle.rcu_control.specs.Parts.{SameDriver};
 
-    ghost kept_by = { λ p d. DriverStays p.0.value d };
+    ghost kept_by = { λ p d. SameDriver p.0.value d };
 }
 
 impl<J: Job<Receipt = u64>> Promise<Group<J>> for Stays<Group<J>> {

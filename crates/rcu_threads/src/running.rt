@@ -2,8 +2,7 @@
 
 ghost use Rattle.std.specs.Prelude.{◌≡◌, ◌<◌, map, length, All, IfOk, vec_len};
 ghost use Rattle.std.specs.List.{AllZip};
-ghost use Rattle.rcu_control.specs.Parts.{control_board, control_seat, control_view};
-ghost use Rattle.rcu_control.specs.Views.{SamePart};
+ghost use Rattle.rcu_control.specs.Parts.{control_view, SameControl};
 ghost use Rattle.rcu_parts.specs.OneOpen.{AreOfOneOpen, AreSoundParts};
 ghost use Rattle.rcu_parts.specs.Drained.{HasNoneBack};
 ghost use Rattle.rcu_threads.specs.Calls.{HaveAnswered, keys_in};
@@ -56,7 +55,7 @@ fn pass_barrier<R: Wait + Clock, H>(
     crew: &Crew<H>,
     tickets: &[Ticket],
 ) -> Result<(), ThreadsFault>
-    ensures same { SamePart (control_board control.old) (control_board control.new) (control_seat control.old) (control_seat control.new) }
+    ensures same { SameControl control.old control.new }
     ensures passed { IfOk result (λ _. AreOver (control_view control.new) tickets.now) }
 {
     if !crew.is_whole() {
@@ -86,7 +85,7 @@ fn run_processors<
     callers: Vec<Caller<Processor<J>, J>>,
     room: Vec<Ticket>,
 ) -> Result<Answered<Processor<J>, J>, ThreadsFault>
-    ensures same { SamePart (control_board control.old) (control_board control.new) (control_seat control.old) (control_seat control.new) }
+    ensures same { SameControl control.old control.new }
     ensures ran { IfOk result (λ ended. AllZip (HasRun J.key_of J.gives (control_view control.new)) (map (λ c. c.processor) callers.items) ended.processors.items) }
     ensures answered { All (λ c. c.processor.state.accepted ≡ 0) callers.items → IfOk result (λ ended. HaveAnswered J.key_of (map (λ c. c.jobs.items) callers.items) (map (λ own. own.items) ended.answers.items) ended.processors.items) }
 {

@@ -1,8 +1,7 @@
 -- What is kept while a processor is driven: it stays the same part of its open, and as many callbacks are accepted as keys are
 -- counted.
 use Rattle.std.specs.Prelude.{◌≡◌, ℕ, ◌+◌, length}
-use Rattle.rcu_control.specs.Parts.{control_board, control_seat}
-use Rattle.rcu_control.specs.Views.{SamePart}
+use Rattle.rcu_control.specs.Parts.{SameControl}
 use Rattle.rcu_control.specs.declared.control.Control.{Control}
 use Rattle.rcu_part_processor.specs.Processors.{IsSound, SameProcessor}
 use Rattle.rcu_part_processor.specs.declared.processor.Processor.{Processor}
@@ -29,10 +28,6 @@ Accepts many p q = Keeps 0 many p q
 abbrev pub GoesOn : Actor → Actor → Type 0
 GoesOn old new = Keeps (length old.keys.items) (length new.keys.items) old.processor new.processor
 
--- the same control of its open
-abbrev pub ControlKeeps : Control → Control → Type 0
-ControlKeeps c d = SamePart (control_board c) (control_board d) (control_seat c) (control_seat d)
-
 -- what control's acts keep
 abbrev pub Steers : Steerer → Steerer → Type 0
-Steers old new = ControlKeeps old.control new.control
+Steers old new = SameControl old.control new.control

@@ -5,8 +5,8 @@ ghost use Rattle.rcu_parts.specs.AtClose.{ClosesWith};
 ghost use Rattle.rcu_parts.specs.OneOpen.{AreOfOneOpen, AreSoundParts};
 ghost use Rattle.rcu_threads.specs.Ends.{ClosesSame};
 ghost use Rattle.rcu_torture.specs.Ends.{HaveKept};
-ghost use Rattle.rcu_torture.specs.Kept.{ControlKeeps};
 ghost use Rattle.rcu_torture.specs.Retired.{IsVersion, version_of};
+ghost use Rattle.rcu_control.specs.Parts.{SameControl};
 
 use crate::chance::Chance;
 use crate::checking::check;
@@ -60,7 +60,7 @@ fn lead<R: Wait + Clock>(
     run: u64,
     are_running: bool,
 ) -> Led
-    ensures { ControlKeeps control result.control }
+    ensures { SameControl control result.control }
 {
     let mut steerer = Steerer {
         control,

@@ -3,8 +3,7 @@
 
 ghost use Rattle.std.specs.Prelude.{All};
 ghost use Rattle.std.specs.List.{AllZip};
-ghost use Rattle.rcu_control.specs.Parts.{driver_board, driver_seat};
-ghost use Rattle.rcu_control.specs.Views.{SamePart};
+ghost use Rattle.rcu_control.specs.Parts.{SameDriver};
 ghost use Rattle.rcu_part_hand.specs.Hands.{SameHand, IsSoundHand};
 ghost use Rattle.rcu_part_processor.specs.Processors.{SameProcessor, IsSound};
 ghost use Rattle.rcu_parts.specs.OneOpen.{AreOfOneOpen};
@@ -46,7 +45,7 @@ pub fn step_hand(hand: Hand<Echo>) -> Hand<Echo>
 /// Accepts a job, lets a grace period of one processor pass, and runs the callback in two steps.
 fn work(processor: Processor<Echo>, driver: &mut Driver, job: Echo) -> Processor<Echo>
     ensures same { SameProcessor processor.state result.state }
-    ensures driver { SamePart (driver_board driver.old) (driver_board driver.new) (driver_seat driver.old) (driver_seat driver.new) }
+    ensures driver { SameDriver driver.old driver.new }
     ensures sound { IsSound key_of_echo IsOwnKey processor.state → IsSound key_of_echo IsOwnKey result.state }
 {
     let mut processor = processor;
@@ -61,7 +60,7 @@ fn work(processor: Processor<Echo>, driver: &mut Driver, job: Echo) -> Processor
 /// The same for the last processor of several.
 fn work_last(processors: &mut Vec<Processor<Echo>>, driver: &mut Driver, job: Echo)
     ensures same { AllZip (λ p q. SameProcessor p.state q.state) processors.old.items processors.new.items }
-    ensures driver { SamePart (driver_board driver.old) (driver_board driver.new) (driver_seat driver.old) (driver_seat driver.new) }
+    ensures driver { SameDriver driver.old driver.new }
     ensures sound { All (λ p. IsSound key_of_echo IsOwnKey p.state) processors.old.items → All (λ p. IsSound key_of_echo IsOwnKey p.state) processors.new.items }
 {
     let Some(processor) = processors.pop() else {

@@ -4,15 +4,16 @@ use Rattle.std.specs.List.{AllZip}
 use Rattle.std.specs.declared.alloc.Global.{Global}
 use Rattle.std.specs.declared.vec.Vec.{Vec}
 use Rattle.rcu_parts.specs.OneOpen.{Parts, groups_in, hands_in, processors_in}
-use Rattle.rcu_workers.specs.Stays.{ControlStays, DriverStays, GroupStays, HandStays}
+use Rattle.rcu_workers.specs.Stays.{GroupStays, HandStays}
 use Rattle.rcu_workers.specs.Steps.{ProcessorWorks}
 use Rattle.rcu_workers.specs.declared.worker.End.{End}
+use Rattle.rcu_control.specs.Parts.{SameControl, SameDriver}
 
 module _ {J R : Type 0} where
   -- Each part is the same part, as far as its thread brought it.
   pub record HaveWorked (key_of : J → ℕ) (gives : ℕ → R → Type 0) (old new : Parts J R) : Type 0 where
-    pub control : ControlStays old.control new.control
-    pub driver : DriverStays old.driver new.driver
+    pub control : SameControl old.control new.control
+    pub driver : SameDriver old.driver new.driver
     pub processors : AllZip (ProcessorWorks key_of gives) (processors_in old) (processors_in new)
     pub groups : AllZip GroupStays (groups_in old) (groups_in new)
     pub hands : AllZip (HandStays key_of gives) (hands_in old) (hands_in new)

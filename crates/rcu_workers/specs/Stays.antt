@@ -1,20 +1,11 @@
 -- What a thread gives back of the part that it ran: the same part of its open.
 use Rattle.std.specs.Prelude.{ℕ}
-use Rattle.rcu_control.specs.Parts.{control_board, control_seat, driver_board, driver_seat}
-use Rattle.rcu_control.specs.Views.{SamePart}
 use Rattle.rcu_control.specs.declared.control.Control.{Control}
 use Rattle.rcu_control.specs.declared.driver.Driver.{Driver}
 use Rattle.rcu_part_group.specs.Groups.{SameGroup}
 use Rattle.rcu_part_group.specs.declared.group.Group.{Group}
 use Rattle.rcu_part_hand.specs.Hands.{IsSoundHand, SameHand}
 use Rattle.rcu_part_hand.specs.declared.hand.Hand.{Hand}
-
--- the same control of its open
-abbrev pub ControlStays : Control → Control → Type 0
-ControlStays c d = SamePart (control_board c) (control_board d) (control_seat c) (control_seat d)
-
-abbrev pub DriverStays : Driver → Driver → Type 0
-DriverStays d e = SamePart (driver_board d) (driver_board e) (driver_seat d) (driver_seat e)
 
 module _ {J R : Type 0} where
   abbrev pub GroupStays : Group J R → Group J R → Type 0

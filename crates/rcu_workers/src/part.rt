@@ -12,9 +12,9 @@ use std::thread::{Promise, PromisedHandle};
 pub struct Stays<P>(pub Snapshot<P>);
 
 impl Promise<Driver> for Stays<Driver> {
-    ghost use Rattle.rcu_workers.specs.Stays.{DriverStays};
+    ghost use Rattle.rcu_control.specs.Parts.{SameDriver};
 
-    ghost kept_by = { λ p d. DriverStays p.0.value d };
+    ghost kept_by = { λ p d. SameDriver p.0.value d };
 }
 
 impl<J: Job> Promise<Group<J>> for Stays<Group<J>> {

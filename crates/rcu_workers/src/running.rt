@@ -3,7 +3,7 @@
 ghost use Rattle.std.specs.Prelude.{◌≡◌, vec_len};
 ghost use Rattle.rcu_workers.specs.Rooms.{AreHalvesFor, IsRoomFor};
 ghost use Rattle.rcu_workers.specs.Runs.{ComeBack, HaveWorked};
-ghost use Rattle.rcu_workers.specs.Stays.{ControlStays};
+ghost use Rattle.rcu_control.specs.Parts.{SameControl};
 
 use crate::crew::{join, join_all};
 use crate::pairs::{Halves, pair, part};
@@ -45,7 +45,7 @@ fn wait_for_workers<R: Wait + Clock>(rt: &R, signals: &Signals, many: u64) {
 
 /// Shuts, where the runtime is to be drained.
 fn shut_for(control: &mut Control, ending: Ending)
-    ensures { ControlStays control.old control.new }
+    ensures { SameControl control.old control.new }
 {
     if ending == Ending::Drained {
         control.shut();
@@ -54,7 +54,7 @@ fn shut_for(control: &mut Control, ending: Ending)
 
 /// Waits for what the ending waits for.
 fn settle<R: Wait + Clock>(rt: &R, control: &mut Control, ending: Ending)
-    ensures { ControlStays control.old control.new }
+    ensures { SameControl control.old control.new }
 {
     if ending == Ending::AtOnce {
         return;
@@ -73,7 +73,7 @@ fn oversee<G: Steering, R: Wait + Clock>(
     many: u64,
     ending: Ending,
 ) -> bool
-    ensures { ControlStays control.old control.new }
+    ensures { SameControl control.old control.new }
 {
     if signals.is_over() {
         return false;

@@ -4,8 +4,9 @@ ghost use Rattle.std.specs.Prelude.{◌≡◌, ◌≤◌, vec_len};
 ghost use Rattle.std.specs.List.{AllZip};
 ghost use denote.Param.Send.{IsSend};
 ghost use Rattle.rcu_workers.specs.Crews.{HasBegun};
-ghost use Rattle.rcu_workers.specs.Stays.{DriverStays, GroupStays, HandStays};
+ghost use Rattle.rcu_workers.specs.Stays.{GroupStays, HandStays};
 ghost use Rattle.rcu_workers.specs.Steps.{PostWorks};
+ghost use Rattle.rcu_control.specs.Parts.{SameDriver};
 
 use crate::crew::{Crew, Room, Started};
 use crate::part::{Running, Station, Stays, Working, Works};
@@ -29,7 +30,7 @@ pub(crate) fn start_driver<R: Threads + Wait + Clock + Copy + Send + 'static>(
     driver: Driver,
     signals: &Arc<Signals, Global>,
 ) -> Started<Running<Driver>, Driver>
-    ensures { HasBegun (λ thread. thread.promise.0.value) DriverStays driver result }
+    ensures { HasBegun (λ thread. thread.promise.0.value) SameDriver driver result }
 {
     let Ok(shared) = Arc::try_clone(signals) else {
         signals.end();
@@ -38,7 +39,7 @@ pub(crate) fn start_driver<R: Threads + Wait + Clock + Copy + Send + 'static>(
     let own = *rt;
     let promise = Stays(Snapshot::of(&driver));
     let run = move || -> Driver
-        ensures { DriverStays driver result }
+        ensures { SameDriver driver result }
     { run_driver(driver, &own, &shared) };
     match thread::spawn_with(rt, promise, run) {
         Ok(thread) => Started::Running(thread),

@@ -1,7 +1,7 @@
 //! What a program hands in for control: a steering, which says step by step what control does.
 
-ghost use Rattle.rcu_workers.specs.Stays.{ControlStays};
 ghost use Rattle.rcu_workers.specs.Steers.{Steers};
+ghost use Rattle.rcu_control.specs.Parts.{SameControl};
 
 use crate::pausing::rest;
 use rcu_control::{Control, Pauses};
@@ -68,7 +68,7 @@ impl Steering for NoSteering {
 
 /// Polls a barrier, if it is one of this runtime.
 fn poll(control: &mut Control, barrier: Barrier) -> Reply
-    ensures stays { ControlStays control.old control.new }
+    ensures stays { SameControl control.old control.new }
     ensures does { Steers (Order.PollBarrier barrier) result control.old control.new }
 {
     if barrier.counts.n != control.processors() {
@@ -80,7 +80,7 @@ fn poll(control: &mut Control, barrier: Barrier) -> Reply
 
 /// Opens a barrier with no tickets.
 pub(crate) fn open(control: &mut Control) -> Barrier
-    ensures stays { ControlStays control.old control.new }
+    ensures stays { SameControl control.old control.new }
     ensures does { Steers Order.OpenBarrier (Reply.Opened result) control.old control.new }
 {
     let Ok(barrier) = control.barrier(&[]) else {
@@ -91,7 +91,7 @@ pub(crate) fn open(control: &mut Control) -> Barrier
 
 /// Makes one order.
 fn obey(control: &mut Control, order: Order) -> Reply
-    ensures stays { ControlStays control.old control.new }
+    ensures stays { SameControl control.old control.new }
     ensures does { Steers order result control.old control.new }
 {
     match order {
@@ -107,7 +107,7 @@ fn obey(control: &mut Control, order: Order) -> Reply
 
 /// Makes the orders of a steering, one after another, until the last one.
 pub(crate) fn steer<G: Steering, R: Wait + Clock>(rt: &R, control: &mut Control, steering: &mut G)
-    ensures { ControlStays control.old control.new }
+    ensures { SameControl control.old control.new }
 {
     let mut reply = Reply::Began;
     let mut pauses = Pauses::new();

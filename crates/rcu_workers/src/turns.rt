@@ -1,7 +1,8 @@
 //! The parts that make their turns by themselves, each until the run is over.
 
 ghost use Rattle.std.specs.Prelude.{◌≡◌};
-ghost use Rattle.rcu_workers.specs.Stays.{DriverStays, GroupStays, HandStays};
+ghost use Rattle.rcu_workers.specs.Stays.{GroupStays, HandStays};
+ghost use Rattle.rcu_control.specs.Parts.{SameDriver};
 
 use crate::pausing::rest;
 use crate::signals::Signals;
@@ -21,7 +22,7 @@ fn has_moved(turn: DriverTurn) -> bool {
 
 /// Makes turns of the driver.
 pub(crate) fn run_driver<R: Wait + Clock>(driver: Driver, rt: &R, signals: &Signals) -> Driver
-    ensures { DriverStays driver result }
+    ensures { SameDriver driver result }
 {
     let mut driver = driver;
     let mut pauses = Pauses::new();

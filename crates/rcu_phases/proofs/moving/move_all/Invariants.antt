@@ -1,9 +1,10 @@
-use Rattle.rcu_phases.specs.Kept.{ControlKeeps, DriverKeeps, IsOurs}
+use Rattle.rcu_phases.specs.Kept.{IsOurs}
 use Rattle.rcu_phases.proofs.moving.move_all.Given as goal
+use Rattle.rcu_control.specs.Parts.{SameControl, SameDriver}
 
 abbrev pub invariant-loop-next : goal.invariant-loop-next
 invariant-loop-next l = record {
-  driver : DriverKeeps l.fn.center.driver l.driver;
-  control : ControlKeeps l.fn.center.control l.control;
+  driver : SameDriver l.fn.center.driver l.driver;
+  control : SameControl l.fn.center.control l.control;
   ours : IsOurs l.control l.barrier;
 }

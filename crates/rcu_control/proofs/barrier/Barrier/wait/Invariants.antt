@@ -1,6 +1,5 @@
 use Rattle.std.proofs.Common.{◌≡◌}
-use Rattle.rcu_control.specs.Views.{SamePart}
-use Rattle.rcu_control.specs.Parts.{control_board, control_seat}
+use Rattle.rcu_control.specs.Parts.{SameControl}
 use Rattle.rcu_control.proofs.barrier.Barrier.wait.Given as goal
 
 abbrev pub invariant-loop : goal.invariant-loop
@@ -8,5 +7,5 @@ invariant-loop g l = record {
   next : (goal.iterator-loop g).can_next l.iterator';
   finite : (goal.iterator-loop g).is_finite l.iterator';
   barrier : l.barrier ≡ l.fn.self;
-  same : SamePart (control_board l.fn.by) (control_board l.by) (control_seat l.fn.by) (control_seat l.by);
+  same : SameControl l.fn.by l.by;
 }
