@@ -9,7 +9,7 @@ ghost use Rattle.rcu_lists.specs.Release.{beginning};
 ghost use Rattle.rcu_lists.specs.Segments.{labelled, advanced_by};
 ghost use Rattle.rcu_holdings.specs.Aims.{AreAimed};
 ghost use Rattle.rcu_holdings.specs.Lanes.{put_calls};
-ghost use Rattle.rcu_jobs.specs.Modes.{first_mode, is_offloaded, is_deoffloading};
+ghost use Rattle.rcu_jobs.specs.Modes.{is_offloaded, is_deoffloading};
 ghost use Rattle.rcu_holdings.specs.Limits.{AreFew, AreSafe, AreBelow};
 
 use crate::lane_ends::Outlet;

@@ -1,11 +1,11 @@
 -- The state of the core, as plain data (`docs/specification/tables.md`, "Words of the board" and "Places of a callback").
-use Rattle.std.specs.Prelude.{ℕ, ◌/◌, Bool, true, false, ◌&&◌, ◌==◌, not, nat_lt, if◌then◌else◌, List, [], ◌∷◌, ◌++◌, length, Option, Some, None, slice_set, slice_index_or, replicate}
+use Rattle.std.specs.Prelude.{ℕ, ◌/◌, Bool, false, ◌&&◌, ◌==◌, not, nat_lt, if◌then◌else◌, List, [], ◌∷◌, ◌++◌, length, Option, Some, None, slice_set, slice_index_or, replicate}
 use Rattle.std.proofs.Common.{zero, suc}
 use Rattle.rcu_law.specs.Calls.{Call}
 use Rattle.rcu_law.specs.LabelledLists.{Labelled}
 use Rattle.rcu_law.specs.declared.marks.Mark.{Mark}
 use Rattle.rcu_jobs.specs.declared.modes.Mode.{Mode}
-use Rattle.rcu_jobs.specs.declared.modes.Mode.TheVariants.{Local, Offloading, Offloaded, Deoffloading}
+use Rattle.rcu_jobs.specs.declared.modes.Mode.TheVariants.{Local, Offloaded}
 use Rattle.rcu_law.specs.declared.who.Side.{Side}
 
 -- A record without its receipt. `ready` is the number by which the callback might run: a sight of the part that claimed it

@@ -3,7 +3,7 @@
 ghost use Rattle.std.specs.Prelude.{◌≡◌};
 ghost use Rattle.rcu_control.specs.Barriers.{Opens, count_at};
 ghost use Rattle.rcu_part_processor.specs.Calls.{KeepsAll};
-ghost use Rattle.rcu_part_processor.specs.Processors.{SameProcessor, IsSound, board_of, view_of, KeepsSound};
+ghost use Rattle.rcu_part_processor.specs.Processors.{SameProcessor, board_of, view_of, KeepsSound};
 
 use crate::processor::Processor;
 use rcu_board::turn_of;

@@ -5,7 +5,7 @@ ghost use Rattle.rcu_board.specs.Seats.{SawShut};
 ghost use Rattle.rcu_lists.specs.declared.pace.Kind.TheVariants.{Plain, Lazy};
 ghost use Rattle.rcu_part_processor.specs.Accepting.{IsRefusedByLimit};
 ghost use Rattle.rcu_part_processor.specs.Calls.{IsAccepted, KeepsAll, IsRefusedAs};
-ghost use Rattle.rcu_part_processor.specs.Processors.{SameProcessor, IsSound, view_of, KeepsSound};
+ghost use Rattle.rcu_part_processor.specs.Processors.{SameProcessor, view_of, KeepsSound};
 
 use crate::accepting::{Request, accept_job};
 use crate::processor::Processor;

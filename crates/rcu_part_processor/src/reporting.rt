@@ -3,7 +3,7 @@
 ghost use Rattle.std.specs.Prelude.{◌≡◌};
 ghost use Rattle.rcu_holdings.specs.ProcessorLists.{cpu_lists};
 ghost use Rattle.rcu_part_processor.specs.Calls.{KeepsAll};
-ghost use Rattle.rcu_part_processor.specs.Processors.{SameProcessor, IsSound, lists_of, view_of, KeepsSound};
+ghost use Rattle.rcu_part_processor.specs.Processors.{SameProcessor, lists_of, view_of, KeepsSound};
 ghost use Rattle.rcu_part_steps.specs.Reports.{Reports};
 
 use crate::processor::Processor;

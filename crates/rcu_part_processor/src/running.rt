@@ -9,7 +9,6 @@ ghost use Rattle.rcu_board.specs.declared.board.Role.{Role};
 ghost use Rattle.rcu_holdings.specs.ProcessorLists.{holding};
 ghost use Rattle.rcu_numbers.specs.Words.{owes_of};
 ghost use Rattle.rcu_part_processor.specs.Lawful.{IsRunningProcessor, StaysLocal};
-ghost use Rattle.rcu_part_processor.specs.Running.{KeepsSoundRunning};
 
 use crate::accepting::{Request, accept_job};
 use rcu_board::{Board, Role, Seat};
@@ -63,7 +62,7 @@ impl<J: Job> RunningProcessor<J> {
     ghost use Rattle.rcu_holdings.specs.ProcessorLists.{cpu_lists};
     ghost use Rattle.rcu_lists.specs.declared.pace.Kind.TheVariants.{Plain, Lazy};
     ghost use Rattle.rcu_part_processor.specs.Accepting.{IsRefusedByLimit};
-    ghost use Rattle.rcu_part_processor.specs.Running.{SameRunning, IsAccepted, KeepsAll, IsRefusedAs, IsSoundRunning, running_lists, running_view};
+    ghost use Rattle.rcu_part_processor.specs.Running.{SameRunning, IsAccepted, KeepsAll, IsRefusedAs, KeepsSoundRunning, running_lists, running_view};
     ghost use Rattle.rcu_part_steps.specs.Reports.{Reports};
 
     /// Its number.

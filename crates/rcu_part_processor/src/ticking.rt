@@ -4,7 +4,7 @@ ghost use Rattle.std.specs.Prelude.{◌≡◌, ◌≢◌, ℕ, ◌+◌, ◌≤�
 ghost use Rattle.rcu_jobs.specs.Modes.{is_deoffloading};
 ghost use Rattle.rcu_board.specs.Views.{sight};
 ghost use Rattle.rcu_jobs.specs.declared.Stop.TheVariants.{Limit};
-ghost use Rattle.rcu_part_processor.specs.Processors.{SameProcessor, IsSound, lists_of, view_of, KeepsSound};
+ghost use Rattle.rcu_part_processor.specs.Processors.{SameProcessor, lists_of, view_of, KeepsSound};
 ghost use Rattle.rcu_part_processor.specs.Ticks.{CatchesUp, Heeds, Settles, RanDone, StopsTick, TicksBy, IsFresh, IsLocalOnceRun, RunsNoneOffloaded};
 ghost use Rattle.rcu_part_steps.specs.Stops.{StopsInTime};
 

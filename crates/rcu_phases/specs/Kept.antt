@@ -5,7 +5,6 @@ use Rattle.std.specs.List.{AllZip}
 use Rattle.rcu_control.specs.Parts.{control_board}
 use Rattle.rcu_control.specs.declared.barrier.Barrier.{Barrier}
 use Rattle.rcu_control.specs.declared.control.Control.{Control}
-use Rattle.rcu_control.specs.declared.driver.Driver.{Driver}
 use Rattle.rcu_jobs.specs.declared.answers.Closed.{Closed}
 use Rattle.rcu_parts.specs.AtClose.{ClosesWith}
 use Rattle.rcu_part_group.specs.Groups.{SameGroup}

@@ -1,5 +1,5 @@
 -- A processor, as the law sees it
-use Rattle.std.specs.Prelude.{◌≡◌, ℕ, List, map, Option, Some, None}
+use Rattle.std.specs.Prelude.{◌≡◌, ℕ, map, Option, Some, None}
 use Rattle.std.specs.Global.{Vec}
 use Rattle.rcu_jobs.specs.declared.Callback.{Callback}
 use Rattle.rcu_jobs.specs.declared.Record.{Record}

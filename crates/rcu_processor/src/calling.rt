@@ -1,6 +1,6 @@
 //! How a callback comes in: it is accepted, stamped, and goes to the own list or to the bypass list.
 
-ghost use Rattle.std.specs.Prelude.{◌≡◌, ℕ, ◌^◌, ◌<◌, ◌&&◌, true, false, not, nat_lt, None, ◌∷◌, [], OnOk, OnErr, IfOk, IsOk};
+ghost use Rattle.std.specs.Prelude.{◌≡◌, ◌^◌, ◌<◌, ◌&&◌, true, false, not, nat_lt, None, ◌∷◌, [], OnOk, OnErr, IfOk, IsOk};
 ghost use Rattle.rcu_law.specs.Lists.{is_none};
 ghost use Rattle.rcu_law.specs.Releases.{pace_after_stamp, releases};
 ghost use Rattle.rcu_jobs.specs.Modes.{is_offloaded};
@@ -9,7 +9,7 @@ ghost use Rattle.rcu_lists.specs.Bypasses.{BypassRoom};
 ghost use Rattle.rcu_lists.specs.Segments.{SegmentsRoom};
 ghost use Rattle.rcu_processor.specs.Ready.{IsReady};
 ghost use Rattle.rcu_processor.specs.Waits.{call};
-ghost use Rattle.rcu_processor.specs.Views.{fresh_call, seen, mark_of, AreGiven, KeepsGiven};
+ghost use Rattle.rcu_processor.specs.Views.{fresh_call, seen, mark_of, KeepsGiven};
 
 use crate::bypassing::hold;
 use crate::processor::Processor;

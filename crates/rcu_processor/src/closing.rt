@@ -1,9 +1,9 @@
 //! Shutting a processor, and what is left of it at the end.
 
-ghost use Rattle.std.specs.Prelude.{◌≡◌, ℕ, true, not, length};
+ghost use Rattle.std.specs.Prelude.{◌≡◌, true, not, length};
 ghost use Rattle.rcu_law.specs.Places.{remaining_callbacks};
 ghost use Rattle.rcu_processor.specs.Leaving.{IsCounted};
-ghost use Rattle.rcu_processor.specs.Views.{seen, AreGiven, KeepsGiven};
+ghost use Rattle.rcu_processor.specs.Views.{seen, KeepsGiven};
 
 use crate::processor::Processor;
 use rcu_jobs::Job;

@@ -1,13 +1,13 @@
 //! The looks of a processor, of its hand and of its group, and what they want.
 
-ghost use Rattle.std.specs.Prelude.{◌≡◌, ℕ, ◌≤◌, ◌&&◌, not, None, if◌then◌else◌};
+ghost use Rattle.std.specs.Prelude.{◌≡◌, ◌≤◌, ◌&&◌, not, None, if◌then◌else◌};
 ghost use Rattle.rcu_law.specs.LabelledLists.{MayAccelerate, newest, advance};
 ghost use Rattle.rcu_law.specs.Lists.{is_none, needed_with};
 ghost use Rattle.rcu_numbers.specs.Numbers.{snap_of};
 ghost use Rattle.rcu_numbers.specs.declared.sequence.TheConstants.{GREATEST_NUMBER};
 ghost use Rattle.rcu_law.specs.Steps.{looks, hand_looks, group_looks};
 ghost use Rattle.rcu_processor.specs.Members.{forgets, is_wanting};
-ghost use Rattle.rcu_processor.specs.Views.{seen, AreGiven, KeepsGiven};
+ghost use Rattle.rcu_processor.specs.Views.{seen, KeepsGiven};
 
 use crate::processor::Processor;
 use crate::waiting::look_at;

@@ -1,11 +1,11 @@
 //! How callbacks move on, batch by batch: from the bypass list over the lane to the group, and over the done lane to the hand.
 
-ghost use Rattle.std.specs.Prelude.{◌≡◌, ℕ, ◌≤◌, ◌&&◌, true, not, OnOk, OnErr};
+ghost use Rattle.std.specs.Prelude.{◌≡◌, ◌≤◌, ◌&&◌, true, not, OnOk, OnErr};
 ghost use Rattle.rcu_law.specs.Lists.{is_nil};
 ghost use Rattle.rcu_law.specs.Releases.{pace_after_put};
 ghost use Rattle.rcu_law.specs.Steps.{with_pace, puts, draws, joins, given, fetches};
 ghost use Rattle.rcu_processor.specs.Giving.{gives_done, gives_out, gives_by_case};
-ghost use Rattle.rcu_processor.specs.Views.{seen, AreGiven, KeepsGiven};
+ghost use Rattle.rcu_processor.specs.Views.{seen, KeepsGiven};
 
 use crate::batches::{is_bare, is_spent, move_batch, put_batch};
 use crate::bypassing::{is_clear, release};

@@ -1,7 +1,6 @@
 //! What a processor has.
 
 ghost use Rattle.std.specs.Prelude.{◌≡◌, if◌then◌else◌};
-ghost use Rattle.rcu_jobs.specs.declared.modes.Mode.TheVariants.{Local, Offloaded};
 ghost use Rattle.rcu_law.specs.States.{opening_cpu};
 ghost use Rattle.rcu_processor.specs.Views.{seen, records_of, AreGiven};
 

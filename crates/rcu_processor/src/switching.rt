@@ -1,11 +1,11 @@
 //! The mode of a processor, what is asked of it, and whether it was urged.
 
-ghost use Rattle.std.specs.Prelude.{◌≡◌, ℕ, ◌/◌, true, false, not, nat_le, ◌&&◌, ◌||◌, if◌then◌else◌, [], IsOk, OnOk, OnErr};
+ghost use Rattle.std.specs.Prelude.{◌≡◌, ◌/◌, true, false, not, nat_le, ◌&&◌, ◌||◌, if◌then◌else◌, [], IsOk, OnOk, OnErr};
 ghost use Rattle.rcu_jobs.specs.declared.modes.Mode.TheVariants.{Local};
 ghost use Rattle.rcu_jobs.specs.Modes.{is_offloaded, is_offloading, is_deoffloading};
 ghost use Rattle.rcu_law.specs.Steps.{pours, leaves, heeds, settles};
 ghost use Rattle.rcu_processor.specs.Turns.{is_switching};
-ghost use Rattle.rcu_processor.specs.Views.{seen, AreGiven, KeepsGiven};
+ghost use Rattle.rcu_processor.specs.Views.{seen, KeepsGiven};
 
 use crate::bypassing::{is_clear, pour_all};
 use crate::processor::Processor;

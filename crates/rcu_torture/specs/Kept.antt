@@ -2,7 +2,6 @@
 -- counted.
 use Rattle.std.specs.Prelude.{◌≡◌, ℕ, ◌+◌, length}
 use Rattle.rcu_control.specs.Parts.{SameControl}
-use Rattle.rcu_control.specs.declared.control.Control.{Control}
 use Rattle.rcu_part_processor.specs.Processors.{IsSound, SameProcessor}
 use Rattle.rcu_part_processor.specs.declared.processor.Processor.{Processor}
 use Rattle.rcu_torture.specs.Retired.{IsVersion, version_of}

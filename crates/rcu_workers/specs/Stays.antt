@@ -1,7 +1,5 @@
 -- What a thread gives back of the part that it ran: the same part of its open.
 use Rattle.std.specs.Prelude.{ℕ}
-use Rattle.rcu_control.specs.declared.control.Control.{Control}
-use Rattle.rcu_control.specs.declared.driver.Driver.{Driver}
 use Rattle.rcu_part_group.specs.Groups.{SameGroup}
 use Rattle.rcu_part_group.specs.declared.group.Group.{Group}
 use Rattle.rcu_part_hand.specs.Hands.{IsSoundHand, SameHand}
