@@ -6,9 +6,9 @@ use Rattle.clap.specs.Simple.{HasMatchesOf, is_simple, subcommand_of}
 use Rattle.clap.specs.Words.{App, Text, takes}
 use Rattle.clap.specs.declared.parser.matches.ArgMatches.{ArgMatches}
 use Rattle.clap.proofs.OnLiterals.{clap_on_literals}
-use Rattle.rcuo.specs.declared.plan.Subcommand.{Subcommand}
-use Rattle.rcuo.specs.declared.plan.Subcommand.TheVariants as subcommand
-use Rattle.rcuo.specs.Plan.{Names, rcuo, word_of}
+use Rattle.rcu_plan.specs.declared.planning.Subcommand.{Subcommand}
+use Rattle.rcu_plan.specs.declared.planning.Subcommand.TheVariants as subcommand
+use Rattle.rcu_plan.specs.Plan.{Names, rcuo, word_of}
 
 pub is_taken : (s : Subcommand) → takes rcuo (word_of s ∷ []) ≡ true
 unfolding clap_on_literals

@@ -5,10 +5,10 @@ use Rattle.rcu_reading.specs.Reading.{IsFaultOf}
 use Rattle.rcu_setup.specs.Words.{Route}
 use Rattle.rcu_setup.specs.declared.setup.Setup.{Setup}
 use Rattle.rcu_versions.specs.Routes.{routes_of_calls, routes_of_rounds}
-use Rattle.rcuo.specs.declared.plan.Refusal.{Refusal}
-use Rattle.rcuo.specs.declared.plan.Refusal.TheVariants as refusal
-use Rattle.rcuo.specs.declared.plan.Subcommand.{Subcommand}
-use Rattle.rcuo.specs.declared.plan.Subcommand.TheVariants as subcommand
+use Rattle.rcu_plan.specs.declared.planning.Refusal.{Refusal}
+use Rattle.rcu_plan.specs.declared.planning.Refusal.TheVariants as refusal
+use Rattle.rcu_plan.specs.declared.planning.Subcommand.{Subcommand}
+use Rattle.rcu_plan.specs.declared.planning.Subcommand.TheVariants as subcommand
 use Rattle.clap.specs.Words.{App, new_app, with_subcommand}
 
 -- the words were refused

@@ -1,4 +1,4 @@
-use crate::plan::{Refusal, read_plan};
+use crate::planning::{Refusal, read_plan};
 use rcu_script::Fault;
 use rcu_setup::SetupFault;
 use std::io;

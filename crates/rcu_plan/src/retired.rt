@@ -3,9 +3,9 @@
 ghost use Rattle.std.specs.Prelude.{◌≡◌, IfOk, vec_len};
 ghost use Rattle.rcu_setup.specs.Arrays.{routes_view};
 ghost use Rattle.rcu_versions.specs.Versions.{AreVersions};
-ghost use Rattle.rcuo.specs.Plan.{calls_for, jobs_for};
+ghost use Rattle.rcu_plan.specs.Plan.{calls_for, jobs_for};
 
-use crate::plan::{Plan, Subcommand};
+use crate::planning::{Plan, Subcommand};
 use rcu_script::Fault;
 use rcu_versions::{Retired, versions_by_rounds, versions_by_script};
 use std::alloc::Global;

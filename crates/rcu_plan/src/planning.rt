@@ -5,7 +5,7 @@ ghost use Rattle.clap.specs.Words.{app_of, kind_of, new_app, shape_of};
 ghost use Rattle.clap.specs.declared.builder.command.Command.TheViews.{out-Command};
 ghost use Rattle.rcu_setup.specs.Setup.{setup_of, setup_view};
 ghost use Rattle.rcu_reading.specs.Reading.{TakesAtMost};
-ghost use Rattle.rcuo.specs.Plan.{NamesFaultOf, Names, RefusesWords, rcuo, rcuo_top};
+ghost use Rattle.rcu_plan.specs.Plan.{NamesFaultOf, Names, RefusesWords, rcuo, rcuo_top};
 
 use clap::error::ErrorKind;
 use rcu_reading::{MOST_READ, setup_of};
@@ -15,7 +15,7 @@ use std::alloc::{AllocError, AllocFailed, Global};
 use std::io::Read;
 
 /// Why there is no plan.
-#[derive(Debug, Drop)]
+#[derive(Drop)]
 pub enum Refusal {
     /// The words of the command line were refused; clap's text says why.
     Words(clap::Error),
@@ -44,7 +44,7 @@ impl<T: Drop> From<AllocFailed<T>> for Refusal {
 }
 
 /// The subcommands of the program.
-#[derive(Clone, Copy, Debug, PartialEq, Eq)]
+#[derive(Clone, Copy)]
 pub enum Subcommand {
     /// The script's commands in one thread.
     Replay,
@@ -53,7 +53,7 @@ pub enum Subcommand {
 }
 
 /// What a run is to do.
-#[derive(Debug, Drop)]
+#[derive(Drop)]
 pub struct Plan {
     pub subcommand: Subcommand,
     pub setup: Setup,

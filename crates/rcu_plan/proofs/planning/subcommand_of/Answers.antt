@@ -1,8 +1,8 @@
 use Rattle.std.proofs.Common.{ap₂, refl, sym, true≢false, ◌∙◌}
 use Rattle.std.proofs.lemmas.Result.{err_from_is_err_and}
 use Rattle.clap.specs.Words.{takes}
-use Rattle.rcuo.proofs.TakenWords.{is_replay, is_taken, is_threads}
-use Rattle.rcuo.proofs.plan.subcommand_of.Goals as goal
+use Rattle.rcu_plan.proofs.TakenWords.{is_replay, is_taken, is_threads}
+use Rattle.rcu_plan.proofs.planning.subcommand_of.Goals as goal
 
 pub returns-in_err-matches-clause-err : goal.returns-in_err-matches-clause-err
 returns-in_err-matches-clause-err c s named =

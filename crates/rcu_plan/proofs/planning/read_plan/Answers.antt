@@ -1,5 +1,5 @@
 use Rattle.std.proofs.Common.{Option, Some, None, IfSome}
-use Rattle.rcuo.proofs.plan.read_plan.Goals as goal
+use Rattle.rcu_plan.proofs.planning.read_plan.Goals as goal
 
 of_all : {A : Type 0} {P : A → Type 0} (o : Option A) → ((a : A) → P a) → IfSome o P
 of_all None all = tt
