@@ -1,5 +1,5 @@
 -- Calls one after another, and what they answer.
-use Rattle.std.proofs.Common.{◌≡◌, ℕ, suc, ◌+◌, ◌*◌, ◌<◌, take, get_or, Bool, Option, List, [], ◌∷◌, ◌++◌, map, length, append-nil, append_assoc, ap, sym, ◌∙◌, subst, refl, arith}
+use Rattle.std.proofs.Common.{◌≡◌, ℕ, suc, ◌+◌, ◌*◌, ◌<◌, take, get_or, List, [], ◌∷◌, ◌++◌, map, length, append-nil, append_assoc, ap, sym, ◌∙◌, subst, refl, arith}
 use Rattle.std.specs.Prelude.{All, IfErr, IfOk, Result}
 use Rattle.std.specs.Prelude.{Ok, Err}
 use Rattle.std.specs.List.{AllZip}

@@ -1,4 +1,4 @@
-use Rattle.std.proofs.Common.{◌≡◌, rules, arith, ap, length, [], ◌∷◌, ◌++◌, append_assoc, sym, ◌∙◌, subst}
+use Rattle.std.proofs.Common.{◌≡◌, rules, ap, length, [], ◌∷◌, ◌++◌, append_assoc, sym, ◌∙◌, subst}
 use Rattle.std.proofs.lemmas.List.{nil_from_length}
 use Rattle.std.specs.Vec.{vec_capacity, vec_len}
 use Rattle.rcu_crews.proofs.Zips.{all_of}

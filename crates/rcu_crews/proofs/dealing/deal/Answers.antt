@@ -1,4 +1,7 @@
-use Rattle.std.proofs.Common.{◌≡◌, ◌<◌, rules, length, ◌∷◌, [], ◌++◌, append_assoc, ap, sym, ◌∙◌}
+use Rattle.std.proofs.Common.{◌≡◌, ◌<◌, rules, length, ◌∷◌, [], ◌++◌, append_assoc, ap, map, subst, sym, ◌∙◌}
+use Rattle.std.proofs.lemmas.List.{nil_from_length}
+use Rattle.rcu_crews.specs.Dealing.{AreDealt}
+use Rattle.rcu_crews.proofs.Zips.{all_of}
 use Rattle.rcu_crews.proofs.Dealt.{deal_step, next_turn}
 use Rattle.rcu_crews.proofs.dealing.deal.Goals as goal
 
@@ -11,3 +14,9 @@ loop-job-preserved g c = let l = c.loop-job in let i = l.invariant in let done =
       processors = step.0;
       dealt = step.1;
     }
+
+pub returns : goal.returns
+returns g c = let l = c.loop-job in let i = l.invariant in let rest = l.job-iterator.rest.items in let none : length rest ≡ 0 = search rules in record {
+  processors = i.processors;
+  dealt = subst (λ jobs. AreDealt jobs (map (λ x. x.jobs.items) l.callers.items)) (all_of l.yielded rest c.args.jobs.items i.order (nil_from_length rest none)) i.dealt;
+}
