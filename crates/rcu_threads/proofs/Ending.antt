@@ -1,7 +1,7 @@
 -- What a run leaves to `close`, and what `close` finds: docs/specification/promises.md, "Headline on the running parts", close.
 use Rattle.std.proofs.Common.{◌≡◌, ℕ, suc, ◌+◌, ◌*◌, ◌/◌, ◌≤◌, List, [], ◌∷◌, ◌++◌, map, take, drop, length, get_or, ap, sym, ◌∙◌, subst, refl, arith}
 use Rattle.std.specs.Prelude.{All, Result}
-use Rattle.std.proofs.lemmas.List.{length-drop, length-map, take_all}
+use Rattle.std.proofs.lemmas.List.{length-map, take_all}
 use Rattle.std.proofs.lemmas.Simd.{map-map}
 use Rattle.rcu_board.specs.Seats.{accepted_of}
 use Rattle.rcu_board.specs.Views.{seen_at}
