@@ -1,7 +1,7 @@
 -- What a run leaves to `close`, and what `close` finds: docs/specification/promises.md, "Headline on the running parts", close.
 use Rattle.std.proofs.Common.{◌≡◌, ℕ, suc, ◌+◌, ◌*◌, ◌/◌, ◌≤◌, List, [], ◌∷◌, ◌++◌, map, take, drop, length, get_or, ap, sym, ◌∙◌, subst, refl, arith}
 use Rattle.std.specs.Prelude.{All, Result}
-use Rattle.std.proofs.lemmas.List.{length-drop, length-map, take_all}
+use Rattle.std.proofs.lemmas.List.{length-map, take_all}
 use Rattle.std.proofs.lemmas.Simd.{map-map}
 use Rattle.rcu_board.specs.Seats.{accepted_of}
 use Rattle.rcu_board.specs.Views.{seen_at}
@@ -27,12 +27,13 @@ use Rattle.rcu_parts.specs.SameParts.{AreSameParts}
 use Rattle.rcu_part_hand.specs.declared.hand.Hand.{Hand}
 use Rattle.rcu_part_processor.specs.declared.processor.Processor.{Processor}
 use Rattle.rcu_parts.specs.Drained.{HasNoneBack}
-use Rattle.rcu_threads.specs.Calls.{keys_in}
-use Rattle.rcu_threads.specs.Dealing.{HaveAllRun}
+use Rattle.rcu_crews.specs.Calls.{keys_in}
+use Rattle.rcu_crews.specs.Dealing.{HaveAllRun}
 use Rattle.rcu_threads.specs.Ends.{AreUnused, keys_ran}
-use Rattle.rcu_threads.specs.Parts.{HandStays}
-use Rattle.rcu_threads.specs.Runs.{HasRun, HaveRun}
-use Rattle.rcu_threads.proofs.Zips.{zip_all, zip_imp}
+use Rattle.rcu_crews.specs.Parts.{HandStays}
+use Rattle.rcu_crews.specs.Runs.{HasRun}
+use Rattle.rcu_threads.specs.Runs.{HaveRun}
+use Rattle.rcu_crews.proofs.Zips.{zip_all, zip_imp}
 
 no_longer : {X : Type 0} (l : List X) → length l ≤ 0 → l ≡ []
 no_longer [] short = refl

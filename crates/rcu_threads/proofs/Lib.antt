@@ -1,6 +1,1 @@
-pub mod Zips
-pub mod Kept
-pub mod Tickets
 pub mod Ending
-pub mod Answering
-pub mod Dealt

@@ -1,5 +1,2 @@
-pub mod Parts
-pub mod Calls
 pub mod Runs
 pub mod Ends
-pub mod Dealing

@@ -1,9 +1,7 @@
 //! What a run in threads leaves.
 
-use rcu_jobs::{Closed, Job, Refused, Ticket};
-
-/// What a call answered: the ticket of the job, or the job with why it was refused.
-pub type Answer<J> = Result<Ticket, Refused<J>>;
+use rcu_crews::Answer;
+use rcu_jobs::{Closed, Job};
 
 /// How a run in threads ended.
 #[derive(Drop)]

@@ -4,8 +4,8 @@ use Rattle.rcu_parts.specs.OneOpen.{AreSoundParts, Parts, hands_in, processors_i
 use Rattle.rcu_parts.specs.SameParts.{AreSameParts}
 use Rattle.rcu_part_hand.specs.Hands.{IsSoundHand}
 use Rattle.rcu_part_processor.specs.Processors.{IsSound, SameProcessor}
-use Rattle.rcu_threads.proofs.Zips.{zip_all, zip_imp}
-use Rattle.rcu_threads.specs.Parts.{HandStays}
+use Rattle.rcu_crews.proofs.Zips.{zip_all, zip_imp}
+use Rattle.rcu_crews.specs.Parts.{HandStays}
 use Rattle.rcu_torture.specs.Ends.{CpuKeeps, HaveKept}
 use Rattle.rcu_torture.specs.Retired.{IsVersion, version_of}
 use Rattle.rcu_torture.specs.declared.retire.Retire.{Retire}

@@ -3,7 +3,7 @@ use Rattle.std.specs.Prelude.{ℕ, ◌≤◌}
 use Rattle.std.specs.List.{AllZip}
 use Rattle.rcu_part_processor.specs.Processors.{IsSound, SameProcessor}
 use Rattle.rcu_parts.specs.OneOpen.{Parts, groups_in, hands_in, processors_in}
-use Rattle.rcu_threads.specs.Parts.{GroupStays, HandStays}
+use Rattle.rcu_crews.specs.Parts.{GroupStays, HandStays}
 use Rattle.rcu_torture.specs.Kept.{Cpu}
 use Rattle.rcu_torture.specs.Retired.{IsVersion, version_of}
 use Rattle.rcu_torture.specs.declared.retire.Retire.{Retire}

@@ -8,7 +8,7 @@ use Rattle.rcu_parts.specs.OneOpen.{Parts}
 use Rattle.rcu_parts.specs.Openings.{IsOpened}
 use Rattle.rcu_script.specs.Lines.{whole_totals}
 use Rattle.rcu_setup.specs.declared.setup.Setup.{Setup}
-use Rattle.rcu_threads.specs.Dealing.{HaveAllRun}
+use Rattle.rcu_crews.specs.Dealing.{HaveAllRun}
 use Rattle.rcu_threads.specs.Ends.{ClosesSame, keys_ran}
 
 -- A run in threads of jobs like these prints this text: all parts of the setup's shape are opened, the same parts are closed,

@@ -4,17 +4,13 @@
 
 ghost use Rattle.std.specs.Prelude.{◌≡◌};
 
-mod plan;
-#[cfg(test)]
-mod tests;
 #[cfg(test)]
 mod tests_threads;
 mod threading;
-mod versions;
 
-use plan::{Refusal, Subcommand, read_plan};
 use rcu_jobs::BoxedJob;
 use rcu_parts_replay::replay;
+use rcu_plan::{Refusal, Subcommand, read_plan, versions};
 use rcu_script::{Fault, write_fault};
 use rcu_versions::Retired;
 use std::io;
@@ -23,7 +19,6 @@ use std::rt::Clock;
 use std::sync::Wait;
 use std::thread::Threads;
 use threading::threads;
-use versions::versions;
 
 /// The words of the command line after the program's name.
 fn words(rt: &HostRuntime) -> Result<Vec<String>, Refusal> {

@@ -1,8 +1,8 @@
 ghost use Rattle.std.specs.Prelude.{◌≡◌};
 
-use crate::plan::read_plan;
 use crate::threading::threads;
 use rcu_jobs::BoxedJob;
+use rcu_plan::read_plan;
 use std::alloc::{AllocError, Global};
 use std::io::Cursor;
 use std::sync::Arc;

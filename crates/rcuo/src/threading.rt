@@ -7,9 +7,9 @@ ghost use Rattle.rcu_script.specs.Lines.{whole_totals};
 ghost use Rattle.rcu_script.specs.Scripts.{Writes};
 ghost use Rattle.rcuo.specs.Totals.{RunsInThreads};
 
-use crate::plan::Plan;
 use rcu_jobs::{BoxedJob, Closed};
 use rcu_parts::open;
+use rcu_plan::Plan;
 use rcu_script::{Fault, write_totals};
 use rcu_threads::{ThreadsFault, run_in_threads};
 use std::alloc::Global;

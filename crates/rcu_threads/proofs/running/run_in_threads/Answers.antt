@@ -1,5 +1,5 @@
 use Rattle.std.proofs.Common.{◌<◌, ◌∙◌, sym, map, vec_len, rules}
-use Rattle.rcu_threads.proofs.Dealt.{some_of}
+use Rattle.rcu_crews.proofs.Dealt.{some_of}
 use Rattle.rcu_threads.proofs.Ending.{all_have_run, all_same, all_sound, none_handed_back}
 use Rattle.rcu_threads.proofs.running.run_in_threads.Goals as goal
 

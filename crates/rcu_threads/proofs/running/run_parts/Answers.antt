@@ -1,4 +1,4 @@
-use Rattle.std.proofs.Common.{◌≡◌, ℕ, ◌<◌, length, map, ap, sym, subst, rules, arith}
+use Rattle.std.proofs.Common.{◌≡◌, ℕ, ◌<◌, length, map, ap, sym, subst, arith}
 use Rattle.std.specs.Prelude.{All}
 use Rattle.std.specs.List.{AllZip}
 use Rattle.std.proofs.lemmas.List.{length-map}
@@ -6,10 +6,10 @@ use Rattle.rcu_gathering.proofs.Lists.{all_map}
 use Rattle.rcu_part_processor.specs.declared.processor.Processor.{Processor}
 use Rattle.rcu_control.proofs.Stepping.{same_again}
 use Rattle.rcu_control.specs.Parts.{control_view}
-use Rattle.rcu_threads.specs.Parts.{GroupStays, HandStays}
-use Rattle.rcu_threads.specs.Runs.{HasRun}
-use Rattle.rcu_threads.proofs.Tickets.{all_halted, driver_kept}
-use Rattle.rcu_threads.proofs.Zips.{zip_kept}
+use Rattle.rcu_crews.specs.Parts.{GroupStays, HandStays}
+use Rattle.rcu_crews.specs.Runs.{HasRun}
+use Rattle.rcu_crews.proofs.Tickets.{all_halted, driver_kept}
+use Rattle.rcu_crews.proofs.Zips.{zip_kept}
 use Rattle.rcu_threads.proofs.running.run_parts.Goals as goal
 
 pub start_groups-groups-requires-send-J : goal.start_groups-groups-requires-send-J

@@ -1,5 +1,5 @@
 use Rattle.std.proofs.Common.{rules}
-use Rattle.rcu_threads.proofs.Zips.{started_more}
+use Rattle.rcu_crews.proofs.Zips.{started_more}
 use Rattle.rcu_torture.proofs.driving.start_actors.Goals as goal
 
 pub loop-processor-preserved : goal.loop-processor-preserved

@@ -1,7 +1,7 @@
 use Rattle.std.proofs.Common.{◌≡◌, length, subst}
-use Rattle.rcu_threads.specs.Parts.{GroupStays, HandStays}
-use Rattle.rcu_threads.proofs.Tickets.{driver_kept}
-use Rattle.rcu_threads.proofs.Zips.{zip_chain, zip_kept}
+use Rattle.rcu_crews.specs.Parts.{GroupStays, HandStays}
+use Rattle.rcu_crews.proofs.Tickets.{driver_kept}
+use Rattle.rcu_crews.proofs.Zips.{zip_chain, zip_kept}
 use Rattle.rcu_torture.proofs.Keeping.{cpu_keeps}
 use Rattle.rcu_torture.specs.Ends.{CpuKeeps}
 use Rattle.rcu_torture.specs.Kept.{Keeps}

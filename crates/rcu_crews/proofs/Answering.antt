@@ -1,0 +1,140 @@
+-- Calls one after another, and what they answer.
+use Rattle.std.proofs.Common.{◌≡◌, ℕ, suc, ◌+◌, ◌*◌, ◌<◌, take, get_or, List, [], ◌∷◌, ◌++◌, map, length, append-nil, append_assoc, ap, sym, ◌∙◌, subst, refl, arith}
+use Rattle.std.specs.Prelude.{All, IfErr, IfOk, Result}
+use Rattle.std.specs.Prelude.{Ok, Err}
+use Rattle.std.specs.List.{AllZip}
+use Rattle.std.proofs.Math.Seq.{take-suc}
+use Rattle.std.proofs.lemmas.List.{map-append, nil_from_length}
+use Rattle.rcu_board.proofs.Facts.{accepted-looked}
+use Rattle.rcu_board.specs.Seats.{accepted_of}
+use Rattle.rcu_board.specs.Words.{accepts_word, bits_of}
+use Rattle.rcu_board.specs.declared.view.Accepted.{Accepted as Entry}
+use Rattle.rcu_endings.specs.Ends.{keys_of}
+use Rattle.rcu_gathering.proofs.Lists.{all_head, all_tail}
+use Rattle.rcu_gathering.specs.Parts.{accepted_entry}
+use Rattle.rcu_jobs.specs.Refusals.{job_of}
+use Rattle.rcu_jobs.specs.declared.answers.Refused.{Refused}
+use Rattle.rcu_jobs.specs.declared.answers.Refused.TheVariants.{Limit, Memory, Closed}
+use Rattle.rcu_jobs.specs.declared.answers.Ticket.{Ticket}
+use Rattle.rcu_lists.specs.declared.pace.Kind.{Kind}
+use Rattle.rcu_part_processor.specs.Calls.{IsAccepted, IsRefusedAs, KeepsAll}
+use Rattle.rcu_part_processor.specs.Processors.{AcceptedStays, IsSound, SameProcessor, view_of}
+use Rattle.rcu_part_processor.specs.declared.processor.Processor.{Processor}
+use Rattle.rcu_crews.proofs.Zips.{zip_push}
+use Rattle.rcu_crews.specs.Calls.{HasAnswered, HaveAnswered, keys_in}
+use Rattle.rcu_crews.specs.Dealing.{IsAnswer, accepted_jobs, accepted_keys, tickets_in}
+use Rattle.rcu_crews.specs.Parts.{ProcessorStays}
+use Rattle.rcu_crews.proofs.Tickets.{called_again, called_later, called_more, called_once, called_still, calls_none}
+
+module _ {J : Type 0} where
+  pub tickets-append : (as' bs : List (Result Ticket (Refused J))) → tickets_in (as' ++ bs) ≡ tickets_in as' ++ tickets_in bs
+  tickets-append [] bs = refl
+  tickets-append (Ok t ∷ as') bs = ap (λ l. t ∷ l) (tickets-append as' bs)
+  tickets-append (Err r ∷ as') bs = tickets-append as' bs
+
+  jobs-append : (js : List J) (as' : List (Result Ticket (Refused J))) (j : J) (a : Result Ticket (Refused J)) → AllZip IsAnswer js as' → accepted_jobs (js ++ j ∷ []) (as' ++ a ∷ []) ≡ accepted_jobs js as' ++ accepted_jobs (j ∷ []) (a ∷ [])
+  jobs-append [] [] j a h = refl
+  jobs-append [] (b ∷ bs) j a h = absurd h
+  jobs-append (k ∷ ks) [] j a h = absurd h
+  jobs-append (k ∷ ks) (Ok t ∷ bs) j a h = ap (λ l. k ∷ l) (jobs-append ks bs j a h.1)
+  jobs-append (k ∷ ks) (Err r ∷ bs) j a h = jobs-append ks bs j a h.1
+
+  -- the tickets of one answer more
+  pub tickets_next : (all : List (Result Ticket (Refused J))) (i : ℕ) (a : Result Ticket (Refused J)) (before now : List Ticket) → i < length all → get_or all i a ≡ a → before ≡ now ++ tickets_in (take i all)
+      → before ++ tickets_in (a ∷ []) ≡ now ++ tickets_in (take (i + 1) all)
+  tickets_next all i a before now low is so_far =
+      let next : i + 1 ≡ suc i = omega arith in
+      let taken : take (i + 1) all ≡ take i all ++ a ∷ [] = ap (λ n. take n all) next ∙ (take-suc all i a low ∙ ap (λ x. take i all ++ x ∷ []) is) in
+      ap (λ l. l ++ tickets_in (a ∷ [])) so_far ∙ (append_assoc now (tickets_in (take i all)) (tickets_in (a ∷ []))
+      ∙ ap (λ l. now ++ l) (sym (tickets-append (take i all) (a ∷ [])) ∙ ap (λ l. tickets_in l) (sym taken)))
+
+module _ {J R : Type 0} (key_of : J → ℕ) (gives : ℕ → R → Type 0) where
+  pub answered_none : (p : Processor J R) → HasAnswered key_of gives [] [] p p
+  answered_none p = record { called = calls_none key_of gives [] p; answered = tt; keys = sym (append-nil (keys_in p)) }
+
+  -- a call after others
+  pub answered_more : (js : List J) (as' : List (Result Ticket (Refused J))) (j : J) (a : Result Ticket (Refused J)) (p q r : Processor J R) → HasAnswered key_of gives js as' p q → HasAnswered key_of gives (j ∷ []) (a ∷ []) q r → HasAnswered key_of gives (js ++ j ∷ []) (as' ++ a ∷ []) p r
+  answered_more js as' j a p q r x y =
+      let all = tickets_in (as' ++ a ∷ []) in let joined = tickets-append as' (a ∷ []) in record {
+        called = called_again key_of gives all p q r (called_more key_of gives (tickets_in as') (tickets_in (a ∷ [])) all p q joined x.called) (called_later key_of gives (tickets_in as') (tickets_in (a ∷ [])) all q r joined y.called);
+        answered = zip_push IsAnswer js as' j a x.answered y.answered.0;
+        keys = y.keys ∙ (ap (λ l. l ++ map key_of (accepted_jobs (j ∷ []) (a ∷ []))) x.keys
+            ∙ (append_assoc (keys_in p) (map key_of (accepted_jobs js as')) (map key_of (accepted_jobs (j ∷ []) (a ∷ [])))
+            ∙ ap (λ l. keys_in p ++ l) (sym (map-append key_of (accepted_jobs js as') (accepted_jobs (j ∷ []) (a ∷ []))) ∙ ap (map key_of) (sym (jobs-append js as' j a x.answered)))));
+      }
+
+  -- a report or a tick after calls
+  pub answered_still : (js : List J) (as' : List (Result Ticket (Refused J))) (p q r : Processor J R) → r.state.accepted ≡ q.state.accepted → SameProcessor q.state r.state → AcceptedStays q.state r.state → (IsSound key_of gives q.state → IsSound key_of gives r.state)
+      → HasAnswered key_of gives js as' p q → HasAnswered key_of gives js as' p r
+  answered_still js as' p q r count same stays sound x = record {
+    called = called_again key_of gives (tickets_in as') p q r x.called (called_still key_of gives (tickets_in as') q r count same sound);
+    answered = x.answered;
+    keys = ap (λ (l : List Entry). keys_of (map accepted_entry l)) stays ∙ x.keys;
+  }
+
+  keys_still : (p q : Processor J R) → accepted_of (view_of q.state) ≡ accepted_of (view_of p.state) → keys_in q ≡ keys_in p ++ []
+  keys_still p q e = ap (λ (l : List Entry). keys_of (map accepted_entry l)) e ∙ sym (append-nil (keys_in p))
+
+  refused_keeps : (job : J) (r : Refused J) (p q : Processor J R) → IsRefusedAs job r p.state q.state → (job_of r ≡ job) × (accepted_of (view_of q.state) ≡ accepted_of (view_of p.state))
+  refused_keeps job (Limit back) p q h = (h.0, ap accepted_of h.2)
+  refused_keeps job (Memory back) p q h = (h.0, ap accepted_of h.1)
+  refused_keeps job (Closed back) p q h = (h.0, ap accepted_of h.1)
+
+  -- one call
+  pub answered_by : (moment : ℕ) (kind : Kind) (job : J) (answer : Result Ticket (Refused J)) (p q : Processor J R) → SameProcessor p.state q.state → IfOk answer (λ t. IsAccepted moment kind (key_of job) job t p.state q.state) → IfErr answer (λ _. KeepsAll p.state q.state) → IfErr answer (λ r. IsRefusedAs job r p.state q.state)
+      → (IsSound key_of gives p.state → IsSound key_of gives q.state) → HasAnswered key_of gives (job ∷ []) (answer ∷ []) p q
+  answered_by moment kind job (Ok t) p q same ok keeps refused sound =
+      let s = p.state in record {
+        called = called_once key_of gives t [] (t ∷ []) p q refl ok.cpu ok.number ok.count same sound;
+        answered = (tt, tt);
+        keys =
+            let list = ap accepted_of ok.steps ∙ accepted-looked s.seat s.cpu (accepts_word s.cpu) (2 * s.accepted + 2) (key_of job) (bits_of ok.word) s.role in
+            ap (λ (l : List Entry). keys_of (map accepted_entry l)) list ∙ (ap keys_of (map-append accepted_entry (accepted_of (view_of s)) _) ∙ map-append _ _ _);
+      }
+  answered_by moment kind job (Err r) p q same ok keeps refused sound =
+      let why = refused_keeps job r p q refused in record {
+        called = called_still key_of gives [] p q keeps.count same sound;
+        answered = (why.0, tt);
+        keys = keys_still p q why.1;
+      }
+
+  stays_keys : (qs rs : List (Processor J R)) → AllZip (ProcessorStays key_of gives) qs rs → map (λ q. keys_in q) rs ≡ map (λ q. keys_in q) qs
+  stays_keys [] [] h = refl
+  stays_keys [] (r ∷ rs) h = absurd h
+  stays_keys (q ∷ qs) [] h = absurd h
+  stays_keys (q ∷ qs) (r ∷ rs) h =
+      let same : keys_in r ≡ keys_in q = ap (λ (l : List Entry). keys_of (map accepted_entry l)) h.0.accepted in
+      let rest = stays_keys qs rs h.1 in
+      ap (λ l. l ∷ map (λ q. keys_in q) rs) same ∙ ap (λ l. keys_in q ∷ l) rest
+
+  none_before : (p : Processor J R) → p.state.accepted ≡ 0 → keys_in p ≡ []
+  none_before p none =
+      let empty : accepted_of (view_of p.state) ≡ [] = nil_from_length (accepted_of (view_of p.state)) (p.state.lawful.counted ∙ none) in
+      ap (λ (l : List Entry). keys_of (map accepted_entry l)) empty
+
+  module _ {C D : Type 0} (processor : C → Processor J R) (jobs : C → List J) (after : D → Processor J R) (answers : D → List (Result Ticket (Refused J))) where
+    abbrev Called : C → D → Type 0
+    Called c d = HasAnswered key_of gives (jobs c) (answers d) (processor c) (after d)
+
+    each_answered : (cs : List C) (ds : List D) → AllZip Called cs ds → AllZip (AllZip IsAnswer) (map jobs cs) (map answers ds)
+    each_answered [] [] h = tt
+    each_answered [] (d ∷ ds) h = absurd h
+    each_answered (c ∷ cs) [] h = absurd h
+    each_answered (c ∷ cs) (d ∷ ds) h = (h.0.answered, each_answered cs ds h.1)
+
+    each_keys : (cs : List C) (ds : List D) → AllZip Called cs ds → All (λ c. (processor c).state.accepted ≡ 0) cs → map (λ q. keys_in q) (map after ds) ≡ accepted_keys key_of (map jobs cs) (map answers ds)
+    each_keys [] [] h none = refl
+    each_keys [] (d ∷ ds) h none = absurd h
+    each_keys (c ∷ cs) [] h none = absurd h
+    each_keys (c ∷ cs) (d ∷ ds) h none =
+        let Unused = λ (x : C). (processor x).state.accepted ≡ 0 in
+        let own : keys_in (after d) ≡ map key_of (accepted_jobs (jobs c) (answers d)) = h.0.keys ∙ ap (λ l. l ++ map key_of (accepted_jobs (jobs c) (answers d))) (none_before (processor c) (all_head Unused c cs none)) in
+        ap (λ l. l ∷ map (λ q. keys_in q) (map after ds)) own ∙ ap (λ l. map key_of (accepted_jobs (jobs c) (answers d)) ∷ l) (each_keys cs ds h.1 (all_tail Unused c cs none))
+
+    -- Processors that had accepted nothing called, and then ran.
+    pub all_answered : (cs : List C) (ds : List D) (qs rs : List (Processor J R)) (own : List (List (Result Ticket (Refused J)))) → qs ≡ map after ds → own ≡ map answers ds → AllZip Called cs ds → AllZip (ProcessorStays key_of gives) qs rs
+        → All (λ c. (processor c).state.accepted ≡ 0) cs → HaveAnswered key_of (map jobs cs) own rs
+    all_answered cs ds qs rs own after_is answers_are called stayed none = record {
+      answered = subst (λ (l : List (List (Result Ticket (Refused J)))). AllZip (AllZip IsAnswer) (map jobs cs) l) (sym answers_are) (each_answered cs ds called);
+      keys = stays_keys qs rs stayed ∙ (ap (λ l. map (λ q. keys_in q) l) after_is ∙ (each_keys cs ds called none ∙ ap (λ l. accepted_keys key_of (map jobs cs) l) (sym answers_are)));
+    }

@@ -1,0 +1,34 @@
+use Rattle.std.proofs.Common.{◌≡◌, rules, ap, length, [], ◌∷◌, ◌++◌, append_assoc, sym, ◌∙◌, subst}
+use Rattle.std.proofs.lemmas.List.{nil_from_length}
+use Rattle.std.specs.Vec.{vec_capacity, vec_len}
+use Rattle.rcu_crews.proofs.Zips.{all_of}
+use Rattle.rcu_crews.specs.Calls.{HasAnswered}
+use Rattle.rcu_crews.proofs.Answering.{answered_more, answered_none}
+use Rattle.rcu_crews.proofs.Zips.{room_for_more, room_for_one}
+use Rattle.rcu_crews.proofs.calling.call_all.Goals as goal
+
+pub loop-job-init : goal.loop-job-init
+loop-job-init g c = let caller = c.args.caller in record {
+  order = search rules;
+  answered = subst (λ l. HasAnswered g.J.Job.key_of g.J.Job.gives [] l caller.processor caller.processor) (sym caller.empty) (answered_none g.J.Job.key_of g.J.Job.gives caller.processor);
+  room = let none = caller.empty in let room = caller.room in search rules;
+}
+
+pub loop-job-preserved : goal.loop-job-preserved
+loop-job-preserved g c = let key_of = g.J.Job.key_of in let gives = g.J.Job.gives in let i = c.loop-job.invariant in let l = c.loop-job in
+    let job = c.in-Some.job in let done = l.yielded in let more = c.next.new.self.rest.items in record {
+      order = append_assoc done (job ∷ []) more ∙ (ap (λ x. done ++ x) (sym c.in-Some.ensures.steps.0) ∙ i.order);
+      answered = subst (λ x. HasAnswered key_of gives (done ++ job ∷ []) x c.args.caller.processor c.call_one-answer.new.processor) (sym c.push_reserved.ensures.items)
+          (answered_more key_of gives done l.answers.items job c.call_one-answer.result c.args.caller.processor l.processor c.call_one-answer.new.processor i.answered c.call_one-answer.ensures);
+      room = room_for_more (vec_len l.answers) (vec_len c.push_reserved.new.self) (vec_capacity l.answers) (vec_capacity c.push_reserved.new.self) l.job-iterator.rest.items more job i.room c.in-Some.ensures.steps.0 c.push_reserved.ensures.len c.push_reserved.ensures.capacity;
+    }
+
+pub push_reserved-requires : goal.push_reserved-requires
+push_reserved-requires g c = let l = c.loop-job in room_for_one (vec_len l.answers) (vec_capacity l.answers) l.job-iterator.rest.items c.next.new.self.rest.items c.in-Some.job l.invariant.room c.in-Some.ensures.steps.0
+
+pub call_one-answer-requires-send-J : goal.call_one-answer-requires-send-J
+call_one-answer-requires-send-J g c κs within = assumption
+
+pub returns : goal.returns
+returns g c = let l = c.loop-job in let rest = l.job-iterator.rest.items in let none : length rest ≡ 0 = search rules in
+    subst (λ x. HasAnswered g.J.Job.key_of g.J.Job.gives x l.answers.items c.args.caller.processor l.processor) (all_of l.yielded rest c.args.caller.jobs.items l.invariant.order (nil_from_length rest none)) l.invariant.answered

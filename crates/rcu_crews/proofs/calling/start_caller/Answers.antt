@@ -1,0 +1,16 @@
+use Rattle.rcu_crews.proofs.calling.start_caller.Goals as goal
+
+pub spawn_with-requires-room-P-Promise : goal.spawn_with-requires-room-P-Promise
+spawn_with-requires-room-P-Promise g c κs within = assumption
+
+pub spawn_with-requires-room-F-FnOnce : goal.spawn_with-requires-room-F-FnOnce
+spawn_with-requires-room-F-FnOnce g c κs within = assumption
+
+pub spawn_with-requires-room-P-Destruct : goal.spawn_with-requires-room-P-Destruct
+spawn_with-requires-room-P-Destruct g c κs within = assumption
+
+pub spawn_with-requires-room-F-Destruct : goal.spawn_with-requires-room-F-Destruct
+spawn_with-requires-room-F-Destruct g c κs within = assumption
+
+pub spawn_with-requires-room-T-Destruct : goal.spawn_with-requires-room-T-Destruct
+spawn_with-requires-room-T-Destruct g c κs within = assumption

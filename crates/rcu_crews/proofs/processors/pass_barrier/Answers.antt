@@ -1,0 +1,9 @@
+use Rattle.std.proofs.Common.{ap, sym, ◌∙◌}
+use Rattle.rcu_control.proofs.Stepping.{same_again}
+use Rattle.rcu_crews.proofs.processors.pass_barrier.Goals as goal
+
+pub wait-requires : goal.wait-requires
+wait-requires g c = record { «open» = ap (λ b. b.processors) c.barrier.ensures.same.board ∙ sym c.in-Ok.ensures.opens.0.many }
+
+pub returns-clause-same : goal.returns-clause-same
+returns-clause-same g c = same_again _ _ _ _ _ _ c.barrier.ensures.same c.wait.ensures.same

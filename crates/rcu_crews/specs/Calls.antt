@@ -1,0 +1,42 @@
+-- What a processor's calls in a thread of its own give: docs/specification/program.md, "threads".
+use Rattle.std.specs.Prelude.{◌≡◌, ℕ, ◌<◌, ◌≤◌, List, ◌++◌, map, Result}
+use Rattle.std.specs.List.{AllZip, Contains}
+use Rattle.rcu_endings.specs.Ends.{keys_of}
+use Rattle.rcu_gathering.specs.Parts.{accepted_list}
+use Rattle.rcu_jobs.specs.declared.answers.Refused.{Refused}
+use Rattle.rcu_jobs.specs.declared.answers.Ticket.{Ticket}
+use Rattle.rcu_part_processor.specs.Processors.{IsSound, SameProcessor, view_of}
+use Rattle.rcu_part_processor.specs.declared.processor.Processor.{Processor}
+use Rattle.rcu_crews.specs.Dealing.{IsAnswer, accepted_jobs, accepted_keys, tickets_in}
+
+abbrev pub ticket : ℕ → ℕ → Ticket
+ticket cpu number = record { cpu = cpu; number = number }
+
+-- There is a ticket for each number of a processor from one count up to another.
+abbrev pub AreTickets : ℕ → ℕ → ℕ → List Ticket → Type 0
+AreTickets cpu before after tickets = (k : ℕ) → before ≤ k → k < after → Contains tickets (ticket cpu k)
+
+module _ {J R : Type 0} where
+  -- The same processor of its open, which called: for each number that it accepted meanwhile there is a ticket.
+  pub record HasCalled (key_of : J → ℕ) (gives : ℕ → R → Type 0) (tickets : List Ticket) (p q : Processor J R) : Type 0 where
+    pub same : SameProcessor p.state q.state
+    pub count : p.state.accepted ≤ q.state.accepted
+    pub tickets_are : AreTickets p.state.cpu p.state.accepted q.state.accepted tickets
+    pub sound : IsSound key_of gives p.state → IsSound key_of gives q.state
+
+  -- the keys of all that a processor accepted
+  abbrev pub keys_in : Processor J R → List ℕ
+  keys_in p = keys_of (accepted_list (view_of p.state))
+
+  -- The same processor, which called with these jobs: each has its answer, and those that were accepted are what it accepted
+  -- besides, by their keys.
+  pub record HasAnswered (key_of : J → ℕ) (gives : ℕ → R → Type 0) (jobs : List J) (answers : List (Result Ticket (Refused J))) (p q : Processor J R) : Type 0 where
+    pub called : HasCalled key_of gives (tickets_in answers) p q
+    pub answered : AllZip IsAnswer jobs answers
+    pub keys : keys_in q ≡ keys_in p ++ map key_of (accepted_jobs jobs answers)
+
+  -- Of processors that had accepted nothing: each job has its answer, and what each processor accepted, by its keys, are those of
+  -- its jobs that were accepted.
+  pub record HaveAnswered (key_of : J → ℕ) (shares : List (List J)) (answers : List (List (Result Ticket (Refused J)))) (qs : List (Processor J R)) : Type 0 where
+    pub answered : AllZip (AllZip IsAnswer) shares answers
+    pub keys : map (λ q. keys_in q) qs ≡ accepted_keys key_of shares answers

@@ -1,0 +1,4 @@
+pub mod Parts
+pub mod Dealing
+pub mod Calls
+pub mod Runs
