@@ -137,31 +137,38 @@ fn check_tick(step: Step, ran: u64, stop: Stop) -> Result<Step, Fault> {
     let others = (step.before.local, step.before.member) == (step.after.local, step.after.member);
     stands(others, Growth::TickPut, "a tick changed another list")?;
     if stop == Stop::Memory {
-        stands(
-            left && done(new) > 0,
-            Growth::TickRecord,
-            "the callback isn't first",
-        )?;
+        let first = left && done(new) > 0;
+        stands(first, Growth::TickRecord, "the callback isn't first")?;
         return Ok(step.refused_by(Growth::TickRecord));
     }
-    if bypass(new) > 0 && mode(old) == Mode::Offloaded {
-        let same = (mode(new), bypass(new), length(new)) == (mode(old), bypass(old), length(old));
-        stands(
-            same,
-            Growth::TickPut,
-            "the batch isn't the bypass list again",
-        )?;
-        return Ok(step.refused_by(Growth::TickPut));
-    }
     if bypass(new) > 0 {
-        let poured = (mode(new), bypass(new), length(new)) == (Mode::Offloaded, length(old), 0);
-        stands(
-            poured,
-            Growth::TickPut,
-            "what was poured isn't the bypass list",
-        )?;
-        return Ok(step.refused_by(Growth::TickPut));
+        return check_put(step);
     }
+    check_switch(step, left)
+}
+
+/// A tick whose batch came back: the bypass list is what it was, or what was poured into it.
+fn check_put(step: Step) -> Result<Step, Fault> {
+    let (old, new) = (step.before.offloadable, step.after.offloadable);
+    let has = (mode(new), bypass(new), length(new));
+    let (expected, what) = if mode(old) == Mode::Offloaded {
+        (
+            (mode(old), bypass(old), length(old)),
+            "the batch isn't the bypass list again",
+        )
+    } else {
+        (
+            (Mode::Offloaded, length(old), 0),
+            "what was poured isn't the bypass list",
+        )
+    };
+    stands(has == expected, Growth::TickPut, what)?;
+    Ok(step.refused_by(Growth::TickPut))
+}
+
+/// A tick that left nothing in the bypass list: it heeded what was asked of it, unless the own list could not be poured.
+fn check_switch(step: Step, left: bool) -> Result<Step, Fault> {
+    let new = step.after.offloadable;
     if mode(new) == Mode::Offloading {
         stands(left, Growth::TickPour, "something moved")?;
         return Ok(step.refused_by(Growth::TickPour));

@@ -39,17 +39,16 @@ fn enqueue(refusals: &mut Refusals, list: &mut Segments<Work>, number: u64) -> R
     Ok(())
 }
 
-/// A list whose callbacks are done.
-fn fill(alloc: Global, refusals: &mut Refusals) -> Result<Segments<Work>, Fault> {
-    let mut list = Segments::new(alloc);
+/// Fills a list with callbacks, which then are done.
+fn fill(refusals: &mut Refusals, list: &mut Segments<Work>) -> Result<(), Fault> {
     for number in 0..CALLBACKS {
-        enqueue(refusals, &mut list, number)?;
+        enqueue(refusals, list, number)?;
     }
     if list.may_accelerate(4) {
         list.accelerate(4);
     }
     list.advance(4);
-    Ok(list)
+    Ok(())
 }
 
 /// Takes a batch of done callbacks.
@@ -61,8 +60,10 @@ fn take_batch(refusals: &mut Refusals, list: &mut Segments<Work>) -> Result<Batc
     refusals.note(Growth::TakeBatch)?;
     let same = before == (list.lengths(), list.numbers());
     stands(same, Growth::TakeBatch, "the list changed")?;
-    let again = list.take_batch(TAKEN);
-    again.map_err(|_| Fault::Broken(Growth::TakeBatch, "refused again"))
+    match list.take_batch(TAKEN) {
+        Ok(batch) => Ok(batch),
+        Err(_) => Err(Fault::Broken(Growth::TakeBatch, "refused again")),
+    }
 }
 
 /// Pours what is left.
@@ -78,8 +79,8 @@ fn pour(
     refusals.note(Growth::Pour)?;
     let same = before == (list.lengths(), list.numbers(), bypass.len());
     stands(same, Growth::Pour, "a list changed")?;
-    let again = list.pour(bypass);
-    again.map_err(|_| Fault::Broken(Growth::Pour, "refused again"))
+    let again = list.pour(bypass).is_ok();
+    stands(again, Growth::Pour, "refused again")
 }
 
 /// Adds a lazy callback to a bypass list, in room that is found before.
@@ -101,12 +102,19 @@ fn hold(refusals: &mut Refusals, bypass: &mut Bypass<Work>, number: u64) -> Resu
     }
 }
 
+/// Takes the first callback of a batch. Whether it is the one of this number.
+fn is_next(batch: &mut Batch<Work>, number: u64) -> bool {
+    match batch.take_first() {
+        Some(callback) => callback.number == number,
+        None => false,
+    }
+}
+
 /// The batch holds the callbacks from `first` up to `end`, in order.
 fn check_batch(mut batch: Batch<Work>, first: u64, end: u64) -> Result<(), Fault> {
     for number in first..end {
-        let taken = batch.take_first().map(|callback| callback.number);
         stands(
-            taken == Some(number),
+            is_next(&mut batch, number),
             Growth::TakeBatch,
             "a callback isn't in its place",
         )?;
@@ -118,16 +126,26 @@ fn check_batch(mut batch: Batch<Work>, first: u64, end: u64) -> Result<(), Fault
     )
 }
 
+/// Takes a batch of a list, pours what is left into a bypass list, and lets that grow.
+fn pass_on(
+    refusals: &mut Refusals,
+    list: &mut Segments<Work>,
+    bypass: &mut Bypass<Work>,
+) -> Result<(), Fault> {
+    check_batch(take_batch(refusals, list)?, 0, TAKEN as u64)?;
+    pour(refusals, list, bypass)?;
+    for number in CALLBACKS..2 * CALLBACKS {
+        hold(refusals, bypass, number)?;
+    }
+    check_batch(bypass.flush(), TAKEN as u64, 2 * CALLBACKS)
+}
+
 /// The scenario: a list that is filled, cut and poured into a bypass list, which then grows.
 pub fn play_lists(alloc: Global) -> Result<Refusals, Fault> {
     let mut refusals = Refusals::new();
-    let mut list = fill(alloc, &mut refusals)?;
-    check_batch(take_batch(&mut refusals, &mut list)?, 0, TAKEN as u64)?;
+    let mut list = Segments::new(alloc);
+    fill(&mut refusals, &mut list)?;
     let mut bypass = Bypass::new(alloc, 1000);
-    pour(&mut refusals, &mut list, &mut bypass)?;
-    for number in CALLBACKS..2 * CALLBACKS {
-        hold(&mut refusals, &mut bypass, number)?;
-    }
-    check_batch(bypass.flush(), TAKEN as u64, 2 * CALLBACKS)?;
+    pass_on(&mut refusals, &mut list, &mut bypass)?;
     Ok(refusals)
 }

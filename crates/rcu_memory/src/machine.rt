@@ -7,7 +7,7 @@ use rcu_jobs::{Closed, Counts, GroupTurn, Lists, Mode, Record, Stop, Ticket};
 use rcu_numbers::Shape;
 
 /// One of the two processors.
-#[derive(Clone, Copy, Debug, PartialEq, Eq)]
+#[derive(Clone, Copy)]
 pub enum Cpu {
     Local,
     Offloadable,
@@ -36,7 +36,7 @@ pub fn shape() -> Option<Shape> {
 }
 
 /// What a runtime shows of its lists.
-#[derive(Clone, Copy, Debug, PartialEq, Eq)]
+#[derive(Clone, Copy, PartialEq, Eq)]
 pub struct Shown {
     pub local: Lists,
     pub offloadable: Lists,
@@ -96,7 +96,7 @@ pub fn length(lists: Lists) -> u64 {
 }
 
 /// What a call answered.
-#[derive(Clone, Copy, Debug, PartialEq, Eq)]
+#[derive(Clone, Copy)]
 pub enum Answer {
     Accepted(Ticket),
     /// Want of memory, with the key of the job that came back.

@@ -182,13 +182,21 @@ fn close_parts(
     }
 }
 
+/// Each call of the table. Answers what the parts show then.
+fn perform_all(progress: &mut Progress, parts: &mut Parts<Work>) -> Result<Shown, Fault>
+    requires { AreDriven parts.old }
+    ensures { AreDriven parts.new }
+{
+    progress.perform_all(parts)?;
+    shown(parts)
+}
+
 /// The scenario: `open`, each call of the table, `close`.
 pub fn play_parts(alloc: Global) -> Result<Refusals, Fault> {
     let mut refusals = Refusals::new();
     let mut parts = open_parts(alloc, &mut refusals)?;
     let mut progress = Progress::new(refusals);
-    progress.perform_all(&mut parts)?;
-    let last = shown(&parts)?;
+    let last = perform_all(&mut progress, &mut parts)?;
     let closed = close_parts(alloc, &mut progress.refusals, parts)?;
     check_closed(Growth::Close, &closed, &last)?;
     Ok(progress.refusals)

@@ -5,7 +5,7 @@ use Action::{Ask, Barrier, Call, Drive, Group, Hand, Lazy, Poll, Report, Shut, T
 use Cpu::{Local, Offloadable};
 
 /// A call, or a turn of one part.
-#[derive(Clone, Copy, Debug, PartialEq, Eq)]
+#[derive(Clone, Copy)]
 pub enum Action {
     Call(Cpu),
     Lazy(Cpu),

@@ -4,7 +4,7 @@ use crate::growth::{Fault, Growth, Refusals, stands};
 use crate::work::Work;
 use rcu_jobs::{Closed, Lists, Mode, Record};
 use rcu_status::{line, totals};
-use std::alloc::Global;
+use std::alloc::{AllocError, Global};
 
 const SHOWN: Lists = Lists::Cpu {
     mode: Mode::Deoffloading,
@@ -35,23 +35,43 @@ fn closed(alloc: Global) -> Result<Closed<Work>, Fault> {
     })
 }
 
-/// The scenario: a line of `show`, and the totals.
-pub fn play_status(alloc: Global) -> Result<Refusals, Fault> {
-    let closed = closed(alloc)?;
-    let mut refusals = Refusals::new();
+/// Whether this text was written.
+fn is_text(written: &Result<String, AllocError>, text: &str) -> bool {
+    match written {
+        Ok(written) => written.as_str() == text,
+        Err(_) => false,
+    }
+}
+
+/// A line of `show`, again where memory was wanted.
+fn write_line(alloc: Global, refusals: &mut Refusals) -> Result<(), Fault> {
     let mut text = line(alloc, 31, &SHOWN);
     if text.is_err() {
         refusals.note(Growth::Line)?;
         text = line(alloc, 31, &SHOWN);
     }
-    let whole = matches!(&text, Ok(text) if text.as_str() == LINE);
-    stands(whole, Growth::Line, "another text")?;
-    let mut text = totals(alloc, &closed, true);
+    stands(is_text(&text, LINE), Growth::Line, "another text")
+}
+
+/// The totals, again where memory was wanted.
+fn write_totals(
+    alloc: Global,
+    refusals: &mut Refusals,
+    closed: &Closed<Work>,
+) -> Result<(), Fault> {
+    let mut text = totals(alloc, closed, true);
     if text.is_err() {
         refusals.note(Growth::Totals)?;
-        text = totals(alloc, &closed, true);
+        text = totals(alloc, closed, true);
     }
-    let whole = matches!(&text, Ok(text) if text.as_str() == TOTALS);
-    stands(whole, Growth::Totals, "another text")?;
+    stands(is_text(&text, TOTALS), Growth::Totals, "another text")
+}
+
+/// The scenario: a line of `show`, and the totals.
+pub fn play_status(alloc: Global) -> Result<Refusals, Fault> {
+    let closed = closed(alloc)?;
+    let mut refusals = Refusals::new();
+    write_line(alloc, &mut refusals)?;
+    write_totals(alloc, &mut refusals, &closed)?;
     Ok(refusals)
 }

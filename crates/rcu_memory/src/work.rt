@@ -5,7 +5,7 @@ ghost use Rattle.rcu_memory.specs.Works.{IsOwnKey, key_of_work};
 use rcu_jobs::Job;
 
 /// A job that takes no memory. Its receipt is its key.
-#[derive(Debug, Drop)]
+#[derive(Drop)]
 pub struct Work {
     pub key: u64,
 }

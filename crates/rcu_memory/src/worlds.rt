@@ -233,17 +233,35 @@ fn play_short(alloc: Global, refusals: Refusals, marks: u64) -> Result<Refusals,
     Ok(progress.refusals)
 }
 
-/// The scenario: `World::new`, each call of the table, `run`, `close`.
-pub fn play_world(alloc: Global) -> Result<Refusals, Fault> {
+/// The short script on histories of some lengths in a row.
+fn play_all_short(alloc: Global) -> Result<Refusals, Fault> {
     let mut refusals = Refusals::new();
     for marks in 0..LENGTHS {
         refusals = play_short(alloc, refusals, marks)?;
     }
+    Ok(refusals)
+}
+
+/// Each call of the table, and `run`. Answers what the world shows then.
+fn perform_all(
+    alloc: Global,
+    progress: &mut Progress,
+    world: &mut World<Work>,
+) -> Result<Shown, Fault>
+    requires { IsDrivenWorld world.old }
+    ensures { IsWorld key_of_work IsOwnKey world.new.core }
+{
+    progress.perform_all(world)?;
+    run_events(alloc, &mut progress.refusals, world)?;
+    shown(world)
+}
+
+/// The scenario: `World::new`, each call of the table, `run`, `close`.
+pub fn play_world(alloc: Global) -> Result<Refusals, Fault> {
+    let mut refusals = play_all_short(alloc)?;
     let mut world = open_world(alloc, &mut refusals)?;
     let mut progress = Progress::new(refusals);
-    progress.perform_all(&mut world)?;
-    run_events(alloc, &mut progress.refusals, &mut world)?;
-    let last = shown(&world)?;
+    let last = perform_all(alloc, &mut progress, &mut world)?;
     let closed = close_world(&mut progress.refusals, world)?;
     check_closed(Growth::WorldClose, &closed, &last)?;
     Ok(progress.refusals)

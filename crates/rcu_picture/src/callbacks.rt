@@ -1,17 +1,17 @@
 //! The rows of callbacks: where each waits, and how it ends.
 
+use crate::pen::Pen;
 use crate::places::{Place, place_of};
 use crate::playing::{Run, Step};
 use crate::rows::{COLUMN, left_of, middle_of};
 use rcu_script::{Line, Verb};
-use std::io;
 use std::io::Write;
 
 /// The height of a callback's bar.
 const BAR: u64 = 8;
 
 /// How a callback's row ends.
-#[derive(Clone, Copy, Debug, PartialEq, Eq)]
+#[derive(Clone, Copy)]
 enum End {
     /// The processor ran it, in its tick.
     Tick,
@@ -47,73 +47,51 @@ fn end_of(step: &Step) -> End {
 }
 
 /// Writes the bar of one column.
-fn write_bar<W: Write>(place: Place, column: usize, y: u64, writer: &mut W) -> io::Result<()> {
+fn write_bar<W: Write>(place: Place, column: usize, y: u64, pen: &mut Pen<W>) {
     let class = match place {
         Place::Own => "own",
         Place::Bypass => "bypass",
         Place::Group => "group",
     };
-    let x = middle_of(column);
     let top = y.saturating_sub(BAR / 2);
-    writeln!(
-        writer,
-        "<rect class=\"{class}\" x=\"{x}\" y=\"{top}\" width=\"{COLUMN}\" height=\"{BAR}\"/>"
-    )
+    pen.rect(class, (middle_of(column), top), (COLUMN, BAR));
 }
 
 /// Writes the end of a callback that ran.
-fn write_end<W: Write>(end: End, column: usize, y: u64, writer: &mut W) -> io::Result<()> {
+fn write_end<W: Write>(end: End, column: usize, y: u64, pen: &mut Pen<W>) {
     let x = middle_of(column);
     match end {
-        End::Tick => writeln!(
-            writer,
-            "<circle class=\"ran\" cx=\"{x}\" cy=\"{y}\" r=\"5\"/>"
-        ),
-        End::Hand => writeln!(
-            writer,
-            "<path class=\"ran\" transform=\"translate({x} {y})\" d=\"M0 -6L6 0L0 6L-6 0Z\"/>"
-        ),
+        End::Tick => pen.circle(x, y),
+        End::Hand => pen.ran(x, y, "M0 -6L6 0L0 6L-6 0Z"),
     }
 }
 
 /// Writes the end of a callback that is handed back when the runtime is closed.
-fn write_back<W: Write>(run: &Run, y: u64, writer: &mut W) -> io::Result<()> {
+fn write_back<W: Write>(run: &Run, y: u64, pen: &mut Pen<W>) {
     let x = middle_of(run.steps.len());
-    let (x, y) = (x.saturating_sub(5), y.saturating_sub(5));
-    writeln!(
-        writer,
-        "<rect class=\"back\" x=\"{x}\" y=\"{y}\" width=\"10\" height=\"10\"/>"
-    )
+    pen.rect("back", (x.saturating_sub(5), y.saturating_sub(5)), (10, 10));
 }
 
-/// Writes a callback's row, whose middle is at `y`.
-pub fn write_callback<W: Write>(
-    run: &Run,
-    cpu: u64,
-    number: u64,
-    y: u64,
-    writer: &mut W,
-) -> io::Result<()> {
+/// Writes where a callback waits after each command, and how it ends.
+fn write_bars<W: Write>(run: &Run, cpu: u64, number: u64, y: u64, pen: &mut Pen<W>) {
     for (column, step) in run.steps.iter().enumerate() {
         if has_run(step, cpu, number) {
-            return write_end(end_of(step), column, y, writer);
+            write_end(end_of(step), column, y, pen);
+            return;
         }
         if let Some(place) = place_after(step, cpu, number) {
-            write_bar(place, column, y, writer)?;
+            write_bar(place, column, y, pen);
         }
     }
-    if run.commands > run.steps.len() {
-        // (what becomes of it is beyond the picture)
-        return Ok(());
+    // (where commands are left out, what becomes of it is beyond the picture)
+    if run.commands <= run.steps.len() {
+        write_back(run, y, pen);
     }
-    write_back(run, y, writer)
 }
 
-/// Writes the name of a callback's row.
-pub fn write_number<W: Write>(number: u64, y: u64, writer: &mut W) -> io::Result<()> {
-    let (x, y) = (left_of(0).saturating_sub(8), y.saturating_add(3));
-    writeln!(
-        writer,
-        "<text class=\"number\" x=\"{x}\" y=\"{y}\">{number}</text>"
-    )
+/// Writes a callback's row, whose middle is at `y`, with its name.
+pub fn write_callback<W: Write>(run: &Run, cpu: u64, number: u64, y: u64, pen: &mut Pen<W>) {
+    let left = left_of(0).saturating_sub(8);
+    pen.text("number", left, y.saturating_add(3), number);
+    write_bars(run, cpu, number, y, pen);
 }

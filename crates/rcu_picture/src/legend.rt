@@ -1,8 +1,8 @@
 //! What the marks and colours of a picture mean.
 
 use crate::marks::{Mark, write_mark};
+use crate::pen::Pen;
 use crate::rows::LEFT;
-use std::io;
 use std::io::Write;
 
 /// The height of the legend.
@@ -54,12 +54,8 @@ const MODES: [(&str, &str); 4] = [
 const LINES: usize = 6;
 
 /// Writes a text of the legend.
-fn write_text<W: Write>(text: &str, x: u64, y: u64, writer: &mut W) -> io::Result<()> {
-    let (x, y) = (x.saturating_add(16), y.saturating_add(4));
-    writeln!(
-        writer,
-        "<text class=\"legend\" x=\"{x}\" y=\"{y}\">{text}</text>"
-    )
+fn write_text<W: Write>(text: &str, x: u64, y: u64, pen: &mut Pen<W>) {
+    pen.text("legend", x.saturating_add(16), y.saturating_add(4), text);
 }
 
 /// Where the `at`-th entry of the legend stands, which begins at `top`.
@@ -77,59 +73,49 @@ fn write_colour<W: Write>(
     text: &str,
     height: u64,
     (x, y): (u64, u64),
-    writer: &mut W,
-) -> io::Result<()> {
+    pen: &mut Pen<W>,
+) {
     let (left, above) = (x.saturating_sub(8), y.saturating_sub(height / 2));
-    writeln!(
-        writer,
-        "<rect class=\"{class}\" x=\"{left}\" y=\"{above}\" width=\"16\" height=\"{height}\"/>"
-    )?;
-    write_text(text, x, y, writer)
+    pen.rect(class, (left, above), (16, height));
+    write_text(text, x, y, pen);
 }
 
 /// Writes what the colours of callbacks' rows mean, and those of the bands.
-fn write_colours<W: Write>(top: u64, writer: &mut W) -> io::Result<()> {
+fn write_colours<W: Write>(top: u64, pen: &mut Pen<W>) {
     for (at, (class, text)) in COLOURS.iter().enumerate() {
-        write_colour(class, text, 8, place(at, top), writer)?;
+        write_colour(class, text, 8, place(at, top), pen);
     }
-    Ok(())
 }
 
 /// Writes what the marks mean.
-fn write_marks<W: Write>(top: u64, writer: &mut W) -> io::Result<()> {
+fn write_marks<W: Write>(top: u64, pen: &mut Pen<W>) {
     for (at, (mark, text)) in MARKS.iter().enumerate() {
         let (x, y) = place(at.saturating_add(6), top);
-        write_mark(*mark, x, y, writer)?;
-        write_text(text, x, y, writer)?;
+        write_mark(*mark, x, y, pen);
+        write_text(text, x, y, pen);
     }
-    Ok(())
 }
 
 /// Writes how a callback's run is shown.
-fn write_runs<W: Write>(top: u64, writer: &mut W) -> io::Result<()> {
+fn write_runs<W: Write>(top: u64, pen: &mut Pen<W>) {
     for (at, (path, text)) in RUNS.iter().enumerate() {
         let (x, y) = place(at.saturating_add(15), top);
-        writeln!(
-            writer,
-            "<path class=\"ran\" transform=\"translate({x} {y})\" d=\"{path}\"/>"
-        )?;
-        write_text(text, x, y, writer)?;
+        pen.ran(x, y, path);
+        write_text(text, x, y, pen);
     }
-    Ok(())
 }
 
 /// Writes what the strip below a processor's row means.
-fn write_modes<W: Write>(top: u64, writer: &mut W) -> io::Result<()> {
+fn write_modes<W: Write>(top: u64, pen: &mut Pen<W>) {
     for (at, (class, text)) in MODES.iter().enumerate() {
-        write_colour(class, text, 3, place(at.saturating_add(18), top), writer)?;
+        write_colour(class, text, 3, place(at.saturating_add(18), top), pen);
     }
-    Ok(())
 }
 
 /// Writes the legend from `top` on.
-pub fn write_legend<W: Write>(top: u64, writer: &mut W) -> io::Result<()> {
-    write_colours(top, writer)?;
-    write_marks(top, writer)?;
-    write_runs(top, writer)?;
-    write_modes(top, writer)
+pub fn write_legend<W: Write>(top: u64, pen: &mut Pen<W>) {
+    write_colours(top, pen);
+    write_marks(top, pen);
+    write_runs(top, pen);
+    write_modes(top, pen);
 }

@@ -10,6 +10,7 @@ mod drawing;
 mod legend;
 mod marks;
 mod page;
+mod pen;
 mod places;
 mod playing;
 mod rows;

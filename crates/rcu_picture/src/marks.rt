@@ -1,13 +1,13 @@
 //! The marks of the parts: what each command does, in the row of the part that does it.
 
+use crate::pen::Pen;
 use crate::rows::{Row, middle_of};
 use rcu_jobs::DriverTurn;
 use rcu_script::{Line, Verb};
-use std::io;
 use std::io::Write;
 
 /// What stands for a command in the row of its part.
-#[derive(Clone, Copy, Debug, PartialEq, Eq)]
+#[derive(Clone, Copy)]
 pub enum Mark {
     /// A plain call.
     Call,
@@ -71,46 +71,34 @@ pub fn mark_of(line: &Line) -> (Row, Mark) {
     }
 }
 
-/// Writes a mark around a point.
-pub fn write_mark<W: Write>(mark: Mark, x: u64, y: u64, writer: &mut W) -> io::Result<()> {
-    write!(writer, "<g transform=\"translate({x} {y})\">")?;
+/// How a mark is drawn.
+fn shape_of(mark: Mark) -> &'static str {
     match mark {
-        Mark::Call => write!(writer, "<path class=\"full\" d=\"M-5 -5H5L0 5Z\"/>"),
-        Mark::Lazy => write!(writer, "<path class=\"bare\" d=\"M-5 -5H5L0 5Z\"/>"),
-        Mark::Counted => write!(writer, "<path class=\"report\" d=\"M0 -8V8\"/>"),
-        Mark::Full => write!(writer, "<circle class=\"full\" r=\"4\"/>"),
-        Mark::Bare => write!(writer, "<circle class=\"bare\" r=\"4\"/>"),
-        Mark::Refused => write!(
-            writer,
-            "<path class=\"report\" d=\"M-4 -4L4 4M-4 4L4 -4\"/>"
-        ),
-        Mark::On => write!(
-            writer,
+        Mark::Call => "<path class=\"full\" d=\"M-5 -5H5L0 5Z\"/>",
+        Mark::Lazy => "<path class=\"bare\" d=\"M-5 -5H5L0 5Z\"/>",
+        Mark::Counted => "<path class=\"report\" d=\"M0 -8V8\"/>",
+        Mark::Full => "<circle class=\"full\" r=\"4\"/>",
+        Mark::Bare => "<circle class=\"bare\" r=\"4\"/>",
+        Mark::Refused => "<path class=\"report\" d=\"M-4 -4L4 4M-4 4L4 -4\"/>",
+        Mark::On => {
             "<path class=\"bare\" d=\"M-6 4H6L0 -6Z\"/><path class=\"report\" d=\"M-6 7H6\"/>"
-        ),
-        Mark::Off => write!(
-            writer,
+        }
+        Mark::Off => {
             "<path class=\"bare\" d=\"M-6 -6H6L0 4Z\"/><path class=\"report\" d=\"M-6 7H6\"/>"
-        ),
-        Mark::Shut => write!(
-            writer,
-            "<rect class=\"full\" x=\"-5\" y=\"-5\" width=\"10\" height=\"10\"/>"
-        ),
-    }?;
-    writeln!(writer, "</g>")
+        }
+        Mark::Shut => { "<rect class=\"full\" x=\"-5\" y=\"-5\" width=\"10\" height=\"10\"/>" }
+    }
+}
+
+/// Writes a mark around a point.
+pub fn write_mark<W: Write>(mark: Mark, x: u64, y: u64, pen: &mut Pen<W>) {
+    pen.shape(x, y, shape_of(mark));
 }
 
 /// Writes the mark of an answer where it belongs to this row, whose middle is at `y`.
-pub fn write_answer<W: Write>(
-    row: Row,
-    line: &Line,
-    column: usize,
-    y: u64,
-    writer: &mut W,
-) -> io::Result<()> {
+pub fn write_answer<W: Write>(row: Row, line: &Line, column: usize, y: u64, pen: &mut Pen<W>) {
     let (place, mark) = mark_of(line);
     if place == row {
-        write_mark(mark, middle_of(column), y, writer)?;
+        write_mark(mark, middle_of(column), y, pen);
     }
-    Ok(())
 }

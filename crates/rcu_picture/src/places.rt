@@ -6,7 +6,7 @@ ghost use Rattle.rcu_picture.specs.declared.places.Place.TheVariants as places;
 use rcu_jobs::Mode;
 
 /// What a processor shows after a command.
-#[derive(Clone, Copy, Debug, PartialEq, Eq)]
+#[derive(Clone, Copy)]
 pub struct Shown {
     pub mode: Mode,
     /// How many callbacks it accepted.
@@ -20,7 +20,7 @@ pub struct Shown {
 }
 
 /// Who has a callback that waits.
-#[derive(Clone, Copy, Debug, PartialEq, Eq)]
+#[derive(Clone, Copy)]
 pub enum Place {
     /// The processor's own list.
     Own,

@@ -1,7 +1,9 @@
 //! The run of a script over the core, command by command.
 
+ghost use Rattle.std.specs.Option.{is_some};
 ghost use Rattle.std.specs.Prelude.{◌≡◌};
 ghost use Rattle.rcu_picture.specs.Keys.{IsKey, key_in};
+ghost use Rattle.rcu_script.specs.Calls.{is_call};
 ghost use Rattle.rcu_world.specs.Turns.{IsAtRest};
 ghost use Rattle.rcu_world.specs.Views.{state};
 ghost use Rattle.rcu_world.specs.Worlds.{IsWorld};
@@ -10,7 +12,7 @@ use crate::places::Shown;
 use rcu_core_replay::answer;
 use rcu_jobs::{Job, Lists, Mode};
 use rcu_law::marks::Mark;
-use rcu_script::{Fault, Line, is_show, route_of};
+use rcu_script::{Fault, Line, is_show};
 use rcu_setup::{Command, Setup};
 use rcu_world::World;
 use std::alloc::Global;
@@ -127,6 +129,16 @@ fn all_shown(alloc: Global, world: &World<KeyJob>) -> Result<Vec<Shown>, Fault>
     Ok(all)
 }
 
+/// The job of this key, if the command is a call.
+fn job_of(command: &Command, key: u64) -> Option<KeyJob>
+    ensures { is_some result ≡ is_call command.now }
+{
+    match command {
+        Command::Call { .. } | Command::Lazy { .. } => Some(KeyJob { key }),
+        _ => None,
+    }
+}
+
 /// One command, with a job of this key if it is a call, and what it answers. `opened` is the name of the barrier that is open.
 fn perform(
     alloc: Global,
@@ -149,8 +161,7 @@ fn perform(
             shown,
         });
     }
-    let job = route_of(command).map(|_| KeyJob { key });
-    let line = answer(alloc, world, opened, command, job)?;
+    let line = answer(alloc, world, opened, command, job_of(command, key))?;
     let text = format!(in alloc; "{line}")?;
     let shown = all_shown(alloc, world)?;
     Ok(Step {

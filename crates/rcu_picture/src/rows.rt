@@ -2,6 +2,7 @@
 
 use crate::playing::Run;
 use std::alloc::{AllocError, Global};
+use std::fmt;
 
 /// How far from the left the first column begins: the names of the rows stand there.
 pub const LEFT: u64 = 130;
@@ -19,7 +20,7 @@ const PART_HEIGHT: u64 = 26;
 const CALLBACK_HEIGHT: u64 = 12;
 
 /// What a row shows.
-#[derive(Clone, Copy, Debug, PartialEq, Eq)]
+#[derive(Clone, Copy, PartialEq, Eq)]
 pub enum Row {
     /// The turns of the driver.
     Driver,
@@ -40,6 +41,20 @@ impl Row {
         match self {
             Row::Callback { .. } => CALLBACK_HEIGHT,
             _ => PART_HEIGHT,
+        }
+    }
+}
+
+/// The name of a row.
+impl fmt::Display for Row {
+    fn fmt<W: fmt::Write>(&self, f: &mut fmt::Formatter<W>) -> fmt::Result {
+        match self {
+            Row::Driver => f.write_str("driver"),
+            Row::Control => f.write_str("barriers, shut"),
+            Row::Group(group) => write!(f, "group {group}"),
+            Row::Processor(cpu) => write!(f, "processor {cpu}"),
+            Row::Hand(cpu) => write!(f, "hand {cpu}"),
+            Row::Callback { number, .. } => write!(f, "{number}"),
         }
     }
 }
@@ -74,22 +89,20 @@ fn accepted(run: &Run, cpu: usize) -> u64 {
     }
 }
 
-/// Adds the rows of the callbacks of a processor.
-fn add_callbacks(rows: &mut Vec<Row>, cpu: u64, accepted: u64) -> Result<(), AllocError> {
-    for number in 0..accepted {
-        let Ok(()) = rows.push(Row::Callback { cpu, number }) else {
-            return Err(AllocError);
-        };
-    }
-    Ok(())
-}
-
 /// Adds a row.
 fn add(rows: &mut Vec<Row>, row: Row) -> Result<(), AllocError> {
     match rows.push(row) {
         Ok(()) => Ok(()),
         Err(_) => Err(AllocError),
     }
+}
+
+/// Adds the rows of the callbacks of a processor.
+fn add_callbacks(rows: &mut Vec<Row>, cpu: u64, accepted: u64) -> Result<(), AllocError> {
+    for number in 0..accepted {
+        add(rows, Row::Callback { cpu, number })?;
+    }
+    Ok(())
 }
 
 /// Adds the rows of a processor, of its hand if it has one, and of its callbacks.
@@ -106,16 +119,33 @@ fn add_processor(
     add_callbacks(rows, cpu as u64, accepted(run, cpu))
 }
 
+/// Adds the rows of all groups.
+fn add_groups(rows: &mut Vec<Row>, run: &Run) -> Result<(), AllocError> {
+    for group in &run.groups {
+        add(rows, Row::Group(*group))?;
+    }
+    Ok(())
+}
+
+/// Adds the rows of all processors.
+fn add_processors(rows: &mut Vec<Row>, run: &Run) -> Result<(), AllocError> {
+    for (cpu, has_hand) in run.hands.iter().enumerate() {
+        add_processor(rows, run, cpu, *has_hand)?;
+    }
+    Ok(())
+}
+
+/// Adds the rows of a run.
+fn add_all(rows: &mut Vec<Row>, run: &Run) -> Result<(), AllocError> {
+    add(rows, Row::Driver)?;
+    add(rows, Row::Control)?;
+    add_groups(rows, run)?;
+    add_processors(rows, run)
+}
+
 /// The rows of a run.
 pub fn rows_of(alloc: Global, run: &Run) -> Result<Vec<Row>, AllocError> {
     let mut rows = Vec::new(alloc);
-    add(&mut rows, Row::Driver)?;
-    add(&mut rows, Row::Control)?;
-    for group in &run.groups {
-        add(&mut rows, Row::Group(*group))?;
-    }
-    for (cpu, has_hand) in run.hands.iter().enumerate() {
-        add_processor(&mut rows, run, cpu, *has_hand)?;
-    }
+    add_all(&mut rows, run)?;
     Ok(rows)
 }

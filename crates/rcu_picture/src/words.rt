@@ -7,7 +7,7 @@ use std::alloc::{AllocError, Global};
 use std::io;
 
 /// What is written.
-#[derive(Clone, Copy, Debug, PartialEq, Eq)]
+#[derive(Clone, Copy)]
 pub enum Form {
     /// The picture alone.
     Svg,
@@ -16,7 +16,7 @@ pub enum Form {
 }
 
 /// Why there is no picture.
-#[derive(Debug, Drop)]
+#[derive(Drop)]
 pub enum Refusal {
     /// The words of the command line were refused; clap's text says why.
     Words(clap::Error),
@@ -44,7 +44,6 @@ impl From<clap::Error> for Refusal {
 
 /// The words of the command line after the program's name.
 pub fn words(rt: &HostRuntime) -> Result<Vec<String>, Refusal> {
-    let mut words = Vec::new(rt.alloc());
     let given = match std::env::args(rt) {
         Ok(given) => given,
         Err(error) if error.kind() == io::ErrorKind::OutOfMemory => {
@@ -52,6 +51,7 @@ pub fn words(rt: &HostRuntime) -> Result<Vec<String>, Refusal> {
         }
         Err(_) => return Err(Refusal::NoText),
     };
+    let mut words = Vec::new(rt.alloc());
     for word in given.skip(1) {
         let Ok(()) = words.push(word) else {
             return Err(Refusal::Fault(Fault::memory()));
