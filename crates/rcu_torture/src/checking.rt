@@ -39,21 +39,33 @@ fn are_given(records: &[Record<u64>]) -> bool
     records.iter().all(|record| record.receipt == record.key)
 }
 
+/// Whether these keys are those of the records.
+fn are_ran(keys: &[u64], records: &[Record<u64>]) -> bool {
+    for (key, record) in keys.iter().zip(records.iter()) {
+        if *key != record.key {
+            return false;
+        }
+    }
+    true
+}
+
+/// Whether these keys are those of the jobs.
+fn are_back(keys: &[u64], jobs: &[Retire]) -> bool {
+    for (key, job) in keys.iter().zip(jobs.iter()) {
+        if *key != job.version {
+            return false;
+        }
+    }
+    true
+}
+
 /// Whether the keys of the records and then those of the jobs are these keys.
 fn are_keyed(keys: &[u64], records: &[Record<u64>], jobs: &[Retire]) -> bool {
     if keys.len() < records.len() {
         return false;
     }
     let (ran, back) = keys.split_at(records.len());
-    back.len() == jobs.len()
-        && ran
-            .iter()
-            .zip(records.iter())
-            .all(|(key, record)| *key == record.key)
-        && back
-            .iter()
-            .zip(jobs.iter())
-            .all(|(key, job)| *key == job.version)
+    back.len() == jobs.len() && are_ran(ran, records) && are_back(back, jobs)
 }
 
 /// What is left of one processor.

@@ -7,7 +7,7 @@ use std::sync::atomic::{AtomicU64, Ordering};
 pub const SLOTS: u64 = 16;
 
 /// What has become of a version.
-#[derive(Clone, Copy, Debug, PartialEq, Eq)]
+#[derive(Clone, Copy, PartialEq, Eq)]
 pub enum Age {
     /// It is in the table, or was never in it.
     Current,
@@ -103,9 +103,12 @@ impl Versions {
 
     /// How many versions are of this age.
     pub fn count(&self, age: Age) -> usize {
-        self.ages
-            .iter()
-            .filter(|word| word.load(Ordering::SeqCst) == age.word())
-            .count()
+        let mut count: usize = 0;
+        for word in self.ages.iter() {
+            if word.load(Ordering::SeqCst) == age.word() {
+                count = count.saturating_add(1);
+            }
+        }
+        count
     }
 }
