@@ -41,7 +41,7 @@ const BARRIERS: u64 = 4_000;
 const PACE: u64 = 3;
 
 /// How a call ended.
-#[derive(Clone, Copy, Debug, PartialEq, Eq)]
+#[derive(Clone, Copy, PartialEq, Eq)]
 pub(crate) enum Called {
     /// It was accepted.
     Accepted,

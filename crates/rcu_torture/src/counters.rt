@@ -3,7 +3,7 @@
 ghost use Rattle.rcu_torture.specs.Sums.{AddsCalls, AddsSections, AddsOthers};
 
 /// How often each thing was done or seen.
-#[derive(Clone, Copy, Debug, PartialEq, Eq)]
+#[derive(Clone, Copy)]
 pub struct Counters {
     /// Callbacks that were accepted.
     pub callbacks: u64,

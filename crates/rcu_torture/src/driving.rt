@@ -29,7 +29,7 @@ pub(crate) const MORE: u64 = 2_000;
 const MOST_ACTS: u64 = 1_000_000;
 
 /// What a processor's thread is to do.
-#[derive(Clone, Copy, Debug)]
+#[derive(Clone, Copy)]
 pub(crate) struct Orders {
     /// The processor's number.
     pub(crate) cpu: u64,

@@ -33,7 +33,7 @@ use std::sync::Wait;
 use std::thread::Threads;
 
 /// Why the program can't end with its line.
-#[derive(Debug, Drop)]
+#[derive(Drop)]
 enum Fault {
     /// The words of the command line were refused.
     Refused(Refusal),
@@ -69,12 +69,12 @@ impl From<io::Error> for Fault {
 
 /// The words of the command line after the program's name.
 fn words(rt: &HostRuntime) -> Result<Vec<String>, Refusal> {
-    let mut words = Vec::new(rt.alloc());
     let given = match std::env::args(rt) {
         Ok(given) => given,
         Err(error) if error.kind() == io::ErrorKind::OutOfMemory => return Err(Refusal::Memory),
         Err(_) => return Err(Refusal::NoText),
     };
+    let mut words = Vec::new(rt.alloc());
     for word in given.skip(1) {
         let Ok(()) = words.push(word) else {
             return Err(Refusal::Memory);

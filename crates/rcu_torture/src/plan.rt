@@ -24,7 +24,7 @@ const MOST_TURN: u64 = 50;
 const MOST_BYPASS: u64 = 1_000;
 
 /// Why there is no plan.
-#[derive(Debug, Drop)]
+#[derive(Drop)]
 pub enum Refusal {
     /// The words of the command line were refused; clap's text says why.
     Words(clap::Error),
@@ -53,7 +53,7 @@ impl From<clap::Error> for Refusal {
 }
 
 /// How a run ends once all processors have accepted their shares.
-#[derive(Clone, Copy, Debug, PartialEq, Eq)]
+#[derive(Clone, Copy)]
 pub enum Ending {
     /// A barrier with all tickets passes, and then control shuts.
     DrainThenShut,
@@ -66,7 +66,7 @@ pub enum Ending {
 }
 
 /// What is to be run.
-#[derive(Clone, Copy, Debug, PartialEq, Eq)]
+#[derive(Clone, Copy)]
 pub struct Plan {
     /// How many callbacks are to be accepted in each run.
     pub callbacks: u64,

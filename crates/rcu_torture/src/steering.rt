@@ -37,7 +37,7 @@ pub(crate) struct Steerer {
 }
 
 /// How a run ended.
-#[derive(Clone, Copy, Debug)]
+#[derive(Clone, Copy)]
 pub(crate) struct Farewell {
     /// What a shut counted, where there was one.
     pub(crate) shut: Option<Counts>,
