@@ -14,7 +14,7 @@ use Rattle.rcu_parts.specs.Drained.{IsCountedFor}
 use Rattle.rcu_parts.specs.OneOpen.{Parts, parts_board}
 use Rattle.rcu_parts.specs.SameParts.{AreSameParts}
 use Rattle.rcu_runtime.specs.Calls.{OnControl, Opens, Polls, ShutsAll}
-use Rattle.rcu_runtime.specs.Runtimes.{IsDrained, IsShutFor}
+use Rattle.rcu_runtime.specs.Runtimes.{IsDrained, IsShut, IsShutFor}
 
 any_first : {A : Type 0} (P : A → Type 0) (x : A) (xs : List A) → P x → Any P (x ∷ xs)
 any_first P x xs p = (0, x, (let some : 0 < length (x ∷ xs) = omega arith in some), refl, p)
@@ -32,6 +32,9 @@ module _ {J R : Type 0} where
     many = shut.many ∙ ap (λ b. b.processors) (sym same.control.board);
     counted = λ p low. still_counted (parts_board old).processors p counts (control_view old.control) (control_view new.control) (omega (arith, low, shut.many)) (control_later old new same) (shut.counted p low);
   }
+
+  pub all_shut : (counts : Counts) (parts : Parts J R) → IsShutFor counts parts → IsShut parts
+  all_shut counts parts shut p low = (shut.counted p (omega (arith, low, shut.many))).0
 
   -- a barrier that was opened once all were shut counts all that they accepted
   pub opened_for : (counts : Counts) (b : Barrier) (old between new : Parts J R) → OnControl (ShutsAll counts) old between → AreSameParts old between → OnControl (Opens [] (Ok b)) between new → AreSameParts between new → IsShutFor b.counts new

@@ -4,6 +4,14 @@ use Rattle.rcu_jobs.specs.Records.{Given}
 use Rattle.rcu_jobs.specs.declared.answers.Closed.{Closed}
 use Rattle.rcu_parts.specs.OneOpen.{Parts}
 use Rattle.rcu_runtime.specs.Runtimes.{accepted_in}
+use Rattle.rcu_runtime.specs.declared.any_fault.AnyFault.{AnyFault}
+use Rattle.rcu_runtime.specs.declared.any_fault.AnyFault.TheVariants.{Memory, NotDrained}
+
+-- why a runtime was not drained and closed: not all had run, or memory was refused
+abbrev pub IsOfDrain : AnyFault → Type 0
+IsOfDrain NotDrained = Unit {0}
+IsOfDrain (Memory refused) = Unit {0}
+IsOfDrain fault = ⊥
 
 module _ {J R : Type 0} where
   -- how many callbacks ran

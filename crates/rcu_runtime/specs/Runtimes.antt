@@ -1,5 +1,6 @@
 -- What is said of a whole runtime, in the words of its parts: docs/embedding.md.
 use Rattle.std.specs.Prelude.{◌≡◌, ℕ, ◌<◌, ◌≤◌, sum_by, All}
+use Rattle.rcu_board.specs.Seats.{SawShut}
 use Rattle.rcu_control.specs.Parts.{control_view}
 use Rattle.rcu_jobs.specs.declared.Counts.{Counts}
 use Rattle.rcu_parts.specs.Drained as at_close
@@ -21,6 +22,10 @@ module _ {J R : Type 0} where
   pub record IsShutFor (counts : Counts) (parts : Parts J R) : Type 0 where
     pub many : counts.n ≡ (parts_board parts).processors
     pub counted : (p : ℕ) → p < counts.n → IsCountedFor p counts (control_view parts.control)
+
+  -- Control saw every processor shut, so no call is accepted any more.
+  abbrev pub IsShut : Parts J R → Type 0
+  IsShut parts = (p : ℕ) → p < (parts_board parts).processors → SawShut p (control_view parts.control)
 
   -- The same runtime, later: each part is the same part of the same open, nothing that was accepted is forgotten, and once it is
   -- drained it stays so.

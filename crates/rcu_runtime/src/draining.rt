@@ -7,7 +7,7 @@ use rcu_jobs::Job;
 use rcu_parts::{AllParts, Barrier, Group, Hand, Processor};
 
 impl<J: Job> Whole<AllParts<Processor<J>, Group<J>, Hand<J>>> {
-    ghost use Rattle.rcu_runtime.specs.Runtimes.{Continues, IsDrained, IsShutFor, accepted_in};
+    ghost use Rattle.rcu_runtime.specs.Runtimes.{Continues, IsDrained, IsShut, IsShutFor, accepted_in};
 
     /// Ends acceptance, and opens a barrier for all that was accepted.
     fn shut_and_open(&mut self) -> Barrier
@@ -40,6 +40,7 @@ impl<J: Job> Whole<AllParts<Processor<J>, Group<J>, Hand<J>>> {
     /// Answers whether it has: then the runtime is drained, and [`close`](Whole::close) hands no job back.
     pub fn drain(&mut self, moment: u64, turns: u64) -> bool
         ensures continues { Continues self.old self.new }
+        ensures shut { IsShut self.new }
         ensures drained { IsTrue result → IsDrained self.new }
         ensures none { accepted_in self.new ≡ accepted_in self.old }
     {

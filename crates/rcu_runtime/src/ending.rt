@@ -1,9 +1,9 @@
 //! The end of a runtime whose program gives up where there is no memory for it.
 
-ghost use Rattle.std.specs.Prelude.{IfOk};
+ghost use Rattle.std.specs.Prelude.{IfErr, IfOk};
 ghost use Rattle.rcu_parts.specs.AtClose.{ClosesWith};
 ghost use Rattle.rcu_parts.specs.Drained.{HasNoneBack};
-ghost use Rattle.rcu_runtime.specs.Ends.{HaveReceipts, LosesNone};
+ghost use Rattle.rcu_runtime.specs.Ends.{HaveReceipts, IsOfDrain, LosesNone};
 ghost use Rattle.rcu_runtime.specs.Runtimes.{IsDrained};
 ghost use Rattle.rcu_runtime.specs.Settled.{HasRunAll};
 
@@ -46,11 +46,15 @@ impl<J: Job> Whole<AllParts<Processor<J>, Group<J>, Hand<J>>> {
         ensures none_lost { IfOk result (LosesNone self) }
         ensures receipts { IfOk result (λ closed. HaveReceipts J.gives closed) }
         ensures none_back { IfOk result (λ closed. HasNoneBack closed) }
+        ensures fault { IfErr result IsOfDrain }
     {
         let mut runtime = self;
         if !runtime.drain(moment, turns) {
             return Err(AnyFault::NotDrained);
         }
-        Ok(runtime.close_or_drop(alloc)?)
+        match runtime.close_or_drop(alloc) {
+            Ok(ended) => Ok(ended),
+            Err(refused) => Err(AnyFault::Memory(refused)),
+        }
     }
 }

@@ -1,6 +1,6 @@
 //! What is seen of a runtime, and read sections.
 
-ghost use Rattle.std.specs.Prelude.{◌≡◌, ◌+◌, ◌≤◌, IfErr, IfOk, length};
+ghost use Rattle.std.specs.Prelude.{◌≡◌, ◌+◌, ◌<◌, ◌≤◌, IfErr, IfOk, length};
 
 use crate::fault::NoProcessor;
 use crate::whole::Whole;
@@ -38,7 +38,8 @@ impl<J: Job> Whole<AllParts<Processor<J>, Group<J>, Hand<J>>> {
     ///
     /// There is no such processor.
     pub fn reading(&self, p: u64) -> Result<Reading<'_, J>, NoProcessor>
-        ensures { IfErr result (λ fault. IsNone p fault self.now) }
+        ensures there { IfOk result (λ _. p < length (processors_in self.now)) }
+        ensures err { IfErr result (λ fault. IsNone p fault self.now) }
     {
         Ok(self.processor(p)?.reading())
     }

@@ -62,6 +62,7 @@ impl<J: Job> Whole<AllParts<Processor<J>, Group<J>, Hand<J>>> {
         ensures continues { Continues self.old self.new }
         ensures ok { IfOk result (λ passed. OnControl (Polls barrier.now.counts passed) self.old self.new) }
         ensures err { IfErr result (λ _. barrier.now.counts.n ≢ (parts_board self.old).processors) }
+        ensures stays { IfErr result (λ _. self.new ≡ self.old) }
         ensures none { accepted_in self.new ≡ accepted_in self.old }
     {
         if barrier.counts.n != self.parts.control.processors() {
