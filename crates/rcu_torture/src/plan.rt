@@ -1,6 +1,7 @@
 //! What a run is to do: the words of the command line.
 
 ghost use Rattle.std.specs.Prelude.{◌≡◌, ◌*◌, ◌/◌, ◌<◌, ◌≤◌, ◌↔◌, IsSome, IfSome};
+ghost use Rattle.rcu_numbers.specs.declared.shape.TheConstants.{MOST_CALLBACKS, MOST_PROCESSORS};
 
 use crate::chance::Chance;
 use clap::error::ErrorKind;
