@@ -1,14 +1,13 @@
 -- What the calls on barriers do, by control or a processor in a slot.
 use Rattle.std.specs.Prelude.{◌≡◌, ◌≢◌, ℕ, Option, Result, MatchResult, []}
-use Rattle.std.specs.declared.result.Result.TheVariants.{Err, Ok}
-use Rattle.std.proofs.Common.{◌⊎◌}
+use Rattle.std.specs.declared.result.Result.TheVariants.{Ok}
 use Rattle.rcu_control.specs.Barriers.{OpensBy, PollsBy}
 use Rattle.rcu_control.specs.Parts.{control_board, control_view, SameControl}
 use Rattle.rcu_control.specs.declared.barrier.Barrier.{Barrier}
 use Rattle.rcu_control.specs.declared.control.Control.{Control as TheControl}
 use Rattle.rcu_jobs.specs.declared.Counts.{Counts}
 use Rattle.rcu_jobs.specs.declared.Passed.{Passed}
-use Rattle.rcu_lending.specs.Parts.{Makes, not_resting}
+use Rattle.rcu_lending.specs.Parts.{Gives, IsRefused, not_resting}
 use Rattle.rcu_lending.specs.Processors.{ForeignCpu, KeepsProcessor, OpensOne}
 use Rattle.rcu_lending.specs.declared.fault.Fault.{Fault}
 use Rattle.rcu_lending.specs.declared.fault.Fault.TheVariants.{Foreign}
@@ -22,11 +21,11 @@ pub record ControlOpens (b : Barrier) (c d : TheControl) : Type 0 where
   pub same : SameControl c d
   pub opens : OpensBy (control_board c).processors [] (Ok b) (control_view c) (control_view d)
 
--- control or a processor opened it
+-- control or a processor opened it, by what the part was
 abbrev pub OpensPart : Result Barrier Fault → Part → Part → Type 0
-OpensPart result old new = MatchResult result
-    (λ b. Makes Control (ControlOpens b) old new ⊎ Makes Processor (OpensOne b) old new)
-    (λ fault. (fault ≡ not_resting old) × (new ≡ old))
+OpensPart result (Control c) new = Gives Control ControlOpens result c new
+OpensPart result (Processor p) new = Gives Processor OpensOne result p new
+OpensPart result old new = IsRefused (not_resting old) result old new
 
 -- control read turn words: the barrier has passed, or not yet
 pub record PollsOne (counts : Counts) (passed : Option Passed) (c d : TheControl) : Type 0 where
@@ -58,4 +57,4 @@ PollsProcessor counts result p q = MatchResult result
 abbrev pub PollsPart : Counts → Result (Option Passed) Fault → Part → Part → Type 0
 PollsPart counts result (Control c) new = (d : TheControl) × (new ≡ Control d) × PollsControl counts result c d
 PollsPart counts result (Processor p) new = (q : ForeignCpu) × (new ≡ Processor q) × PollsProcessor counts result p q
-PollsPart counts result old new = (result ≡ Err (not_resting old)) × (new ≡ old)
+PollsPart counts result old new = IsRefused (not_resting old) result old new

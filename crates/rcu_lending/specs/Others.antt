@@ -2,7 +2,6 @@
 use Rattle.std.specs.Prelude.{◌≡◌, ℕ, Bool, Result, MatchResult}
 use Rattle.std.specs.declared.result.Result.TheVariants.{Ok, Err}
 use Rattle.std.specs.Int.{from_bool}
-use Rattle.std.proofs.Common.{◌⊎◌}
 use Rattle.rcu_board.specs.Plays.{touched}
 use Rattle.rcu_board.specs.Words.{halt_word}
 use Rattle.rcu_control.specs.Control.{Shuts, SwitchesBy}
@@ -15,7 +14,7 @@ use Rattle.rcu_jobs.specs.declared.DriverTurn.{DriverTurn}
 use Rattle.rcu_jobs.specs.declared.GroupTurn.{GroupTurn}
 use Rattle.rcu_jobs.specs.declared.SwitchFault.{SwitchFault}
 use Rattle.rcu_lending.specs.Faults.{switch_refusal}
-use Rattle.rcu_lending.specs.Parts.{Makes, IsOfAnotherKind, not_resting}
+use Rattle.rcu_lending.specs.Parts.{Gives, IsRefused, not_resting, wrong_kind}
 use Rattle.rcu_lending.specs.Processors.{ForeignCpu, HasKey, KeepsProcessor, foreign_key}
 use Rattle.rcu_lending.specs.Runs.{ForeignHand}
 use Rattle.rcu_lending.specs.declared.fault.Fault.{Fault}
@@ -61,21 +60,20 @@ pub record GroupReadsHalt (halted : Bool) (g h : TheGroup ForeignJob ForeignJob)
   pub members : members_of h.state ≡ members_of g.state
   pub reads : group_view h.state ≡ touched halt_word (from_bool halted) (group_view g.state)
 
-abbrev pub ReadsHalt : Bool → Part → Part → Type 0
-ReadsHalt halted old new = Makes Driver (DriverReadsHalt halted) old new
-    ⊎ Makes Processor (CpuReadsHalt halted) old new
-    ⊎ Makes Hand (HandReadsHalt halted) old new
-    ⊎ Makes Group (GroupReadsHalt halted) old new
-
 -- a switch was asked for (x: 1 for offloaded, 0 for local), or refused
 pub record SwitchesOne (p x : ℕ) (result : Result (Unit {0}) SwitchFault) (c d : TheControl) : Type 0 where
   pub same : SameControl c d
   pub asks : SwitchesBy (control_board c) p x result (control_view c) (control_view d)
 
-pub record RefusesSwitch (p x : ℕ) (fault : Fault) (old new : Part) : Type 0 where
+pub record RefusesSwitch (p x : ℕ) (fault : Fault) (c d : TheControl) : Type 0 where
   pub refused : SwitchFault
   pub named : fault ≡ switch_refusal refused
-  pub refuses : Makes Control (SwitchesOne p x (Err refused)) old new
+  pub refuses : SwitchesOne p x (Err refused) c d
+
+abbrev pub SwitchesControl : ℕ → ℕ → Result (Unit {0}) Fault → TheControl → TheControl → Type 0
+SwitchesControl p x result c d = MatchResult result
+    (λ _. SwitchesOne p x (Ok tt) c d)
+    (λ fault. RefusesSwitch p x fault c d)
 
 -- every processor was shut
 pub record ShutsAll (counts : Counts) (c d : TheControl) : Type 0 where
@@ -88,32 +86,31 @@ pub record Halts (c d : TheControl) : Type 0 where
   pub same : SameControl c d
   pub halts : control_view d ≡ touched halt_word 1 (control_view c)
 
+-- ---- by what the slot's part is
+
 abbrev pub GroupTurnsBy : Result GroupTurn Fault → Part → Part → Type 0
-GroupTurnsBy result old new = MatchResult result
-    (λ turn. Makes Group (TurnsOne turn) old new)
-    (λ fault. IsOfAnotherKind fault old new)
+GroupTurnsBy result (Group g) new = Gives Group TurnsOne result g new
+GroupTurnsBy result old new = IsRefused (wrong_kind old) result old new
 
 abbrev pub DriverTurnsBy : Result DriverTurn Fault → Part → Part → Type 0
-DriverTurnsBy result old new = MatchResult result
-    (λ turn. Makes Driver (DrivesOne turn) old new)
-    (λ fault. IsOfAnotherKind fault old new)
+DriverTurnsBy result (Driver d) new = Gives Driver DrivesOne result d new
+DriverTurnsBy result old new = IsRefused (wrong_kind old) result old new
 
 abbrev pub ReadsHaltBy : Result Bool Fault → Part → Part → Type 0
-ReadsHaltBy result old new = MatchResult result
-    (λ halted. ReadsHalt halted old new)
-    (λ fault. (fault ≡ not_resting old) × (new ≡ old))
+ReadsHaltBy result (Driver d) new = Gives Driver DriverReadsHalt result d new
+ReadsHaltBy result (Processor p) new = Gives Processor CpuReadsHalt result p new
+ReadsHaltBy result (Hand h) new = Gives Hand HandReadsHalt result h new
+ReadsHaltBy result (Group g) new = Gives Group GroupReadsHalt result g new
+ReadsHaltBy result old new = IsRefused (not_resting old) result old new
 
 abbrev pub SwitchesPart : ℕ → ℕ → Result (Unit {0}) Fault → Part → Part → Type 0
-SwitchesPart p x result old new = MatchResult result
-    (λ _. Makes Control (SwitchesOne p x (Ok tt)) old new)
-    (λ fault. RefusesSwitch p x fault old new ⊎ IsOfAnotherKind fault old new)
+SwitchesPart p x result (Control c) new = (d : TheControl) × (new ≡ Control d) × SwitchesControl p x result c d
+SwitchesPart p x result old new = IsRefused (wrong_kind old) result old new
 
 abbrev pub ShutsBy : Result Counts Fault → Part → Part → Type 0
-ShutsBy result old new = MatchResult result
-    (λ counts. Makes Control (ShutsAll counts) old new)
-    (λ fault. IsOfAnotherKind fault old new)
+ShutsBy result (Control c) new = Gives Control ShutsAll result c new
+ShutsBy result old new = IsRefused (wrong_kind old) result old new
 
 abbrev pub HaltsBy : Result (Unit {0}) Fault → Part → Part → Type 0
-HaltsBy result old new = MatchResult result
-    (λ _. Makes Control Halts old new)
-    (λ fault. IsOfAnotherKind fault old new)
+HaltsBy result (Control c) new = Gives Control (λ _ c d. Halts c d) result c new
+HaltsBy result old new = IsRefused (wrong_kind old) result old new

@@ -1,5 +1,6 @@
 -- Parts of any kind, and what a call on one does.
-use Rattle.std.specs.Prelude.{◌≡◌, Bool, true, false}
+use Rattle.std.specs.Prelude.{◌≡◌, Bool, true, false, Result}
+use Rattle.std.specs.declared.result.Result.TheVariants.{Err, Ok}
 use Rattle.rcu_lending.specs.declared.fault.Fault.{Fault}
 use Rattle.rcu_lending.specs.declared.fault.Fault.TheVariants.{Empty, NotRunning, Other, Running}
 use Rattle.rcu_lending.specs.declared.part.Part.{Part}
@@ -70,15 +71,14 @@ is_closed (Closing c) = false
 is_closed (Closed c) = true
 is_closed Nothing = false
 
--- Both are of one kind, and a call made of the one part the other.
-pub record Makes {X : Type 0} (kind : X → Part) (Does : X → X → Type 0) (old new : Part) : Type 0 where
-  pub before : X
+-- A call was made on a part of this kind, which stays of that kind, and it gave this answer.
+pub record Gives {A X : Type 0} (kind : X → Part) (Does : A → X → X → Type 0) (result : Result A Fault) (before : X) (new : Part) : Type 0 where
+  pub answer : A
   pub after : X
-  pub old_is : old ≡ kind before
+  pub result_is : result ≡ Ok answer
   pub new_is : new ≡ kind after
-  pub does : Does before after
+  pub does : Does answer before after
 
--- The part is of another kind, and stays as it was.
-pub record IsOfAnotherKind (fault : Fault) (old new : Part) : Type 0 where
-  pub why : fault ≡ wrong_kind old
-  pub stays : new ≡ old
+-- No call was made, for this reason, and the part stays as it was.
+abbrev pub IsRefused : {A : Type 0} → Fault → Result A Fault → Part → Part → Type 0
+IsRefused fault result old new = (result ≡ Err fault) × (new ≡ old)

@@ -1,13 +1,12 @@
 -- What calls on a processor in a slot do, in the words of the processor's own calls.
 use Rattle.std.specs.Prelude.{◌≡◌, ◌≢◌, ℕ, Option, Result, MatchResult}
-use Rattle.std.proofs.Common.{◌⊎◌}
 use Rattle.rcu_board.specs.Seats.{SawShut}
 use Rattle.rcu_control.specs.Barriers.{Opens, count_at}
 use Rattle.rcu_control.specs.declared.barrier.Barrier.{Barrier}
 use Rattle.rcu_jobs.specs.declared.answers.Refused.{Refused}
 use Rattle.rcu_jobs.specs.declared.answers.Ticket.{Ticket}
 use Rattle.rcu_lending.specs.Faults.{refusal}
-use Rattle.rcu_lending.specs.Parts.{Makes, IsOfAnotherKind}
+use Rattle.rcu_lending.specs.Parts.{Gives, IsRefused, wrong_kind}
 use Rattle.rcu_lending.specs.declared.fault.Fault.{Fault}
 use Rattle.rcu_lending.specs.declared.job.ForeignJob.{ForeignJob}
 use Rattle.rcu_lending.specs.declared.part.BegunProcessor.{BegunProcessor}
@@ -90,13 +89,6 @@ pub record RefusesBegun (job : ForeignJob) (refused : Refused ForeignJob) (p q :
   pub why : run.IsRefusedAs job refused p.processor.state q.processor.state
   pub full : p.processor.state.accepted ≡ p.processor.state.limit → IsLimit refused
 
--- ---- by what the slot's part is
-
-abbrev pub ReportsBy : Result (Option ℕ) Fault → Part → Part → Type 0
-ReportsBy result old new = MatchResult result
-    (λ counted. Makes Processor (ReportsOne counted) old new ⊎ Makes RunningProcessor (ReportsBegun counted) old new)
-    (λ fault. IsOfAnotherKind fault old new)
-
 -- what a call on a processor answers and does
 abbrev pub AnswersCall : Kind → ℕ → ForeignJob → Result Ticket (Refused ForeignJob) → ForeignCpu → ForeignCpu → Type 0
 AnswersCall kind moment job result p q = MatchResult result
@@ -108,17 +100,31 @@ AnswersBegun kind moment job result p q = MatchResult result
     (λ t. AcceptsBegun kind moment job t p q)
     (λ refused. RefusesBegun job refused p q)
 
--- The job was accepted by the processor, whether or not a callback of it runs.
-abbrev pub AcceptsBy : Kind → ℕ → ForeignJob → Ticket → Part → Part → Type 0
-AcceptsBy kind moment job t old new = Makes Processor (AcceptsOne kind moment job t) old new ⊎ Makes RunningProcessor (AcceptsBegun kind moment job t) old new
-
 -- The processor's refusal is named.
-pub record RefusesBy (job : ForeignJob) (fault : Fault) (old new : Part) : Type 0 where
+pub record RefusesBy (Refuses : Refused ForeignJob → Type 0) (fault : Fault) : Type 0 where
   pub refused : Refused ForeignJob
   pub named : fault ≡ refusal refused
-  pub refuses : Makes Processor (RefusesOne job refused) old new ⊎ Makes RunningProcessor (RefusesBegun job refused) old new
+  pub refuses : Refuses refused
+
+-- the same as a call on a part answers it
+abbrev pub CallsOne : Kind → ℕ → ForeignJob → Result Ticket Fault → ForeignCpu → ForeignCpu → Type 0
+CallsOne kind moment job result p q = MatchResult result
+    (λ t. AcceptsOne kind moment job t p q)
+    (λ fault. RefusesBy (λ refused. RefusesOne job refused p q) fault)
+
+abbrev pub CallsBegun : Kind → ℕ → ForeignJob → Result Ticket Fault → BegunProcessor → BegunProcessor → Type 0
+CallsBegun kind moment job result p q = MatchResult result
+    (λ t. AcceptsBegun kind moment job t p q)
+    (λ fault. RefusesBy (λ refused. RefusesBegun job refused p q) fault)
+
+-- ---- by what the slot's part is
+
+abbrev pub ReportsBy : Result (Option ℕ) Fault → Part → Part → Type 0
+ReportsBy result (Processor p) new = Gives Processor ReportsOne result p new
+ReportsBy result (RunningProcessor b) new = Gives RunningProcessor ReportsBegun result b new
+ReportsBy result old new = IsRefused (wrong_kind old) result old new
 
 abbrev pub CallsBy : Kind → ℕ → ForeignJob → Result Ticket Fault → Part → Part → Type 0
-CallsBy kind moment job result old new = MatchResult result
-    (λ t. AcceptsBy kind moment job t old new)
-    (λ fault. RefusesBy job fault old new ⊎ IsOfAnotherKind fault old new)
+CallsBy kind moment job result (Processor p) new = (q : ForeignCpu) × (new ≡ Processor q) × CallsOne kind moment job result p q
+CallsBy kind moment job result (RunningProcessor b) new = (e : BegunProcessor) × (new ≡ RunningProcessor e) × CallsBegun kind moment job result b e
+CallsBy kind moment job result old new = IsRefused (wrong_kind old) result old new

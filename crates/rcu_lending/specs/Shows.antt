@@ -1,45 +1,47 @@
 -- What parts in slots show.
-use Rattle.std.specs.Prelude.{◌≡◌, ℕ, ◌+◌, Option, None, Some, Result, MatchResult, slice_get}
+use Rattle.std.specs.Prelude.{◌≡◌, ℕ, ◌+◌, Option, None, Some, Result, slice_get}
 use Rattle.std.specs.Global.{Vec}
 use Rattle.std.specs.Option.{ok_or}
-use Rattle.std.specs.declared.result.Result.TheVariants.{Err}
-use Rattle.std.proofs.Common.{◌⊎◌}
+use Rattle.std.specs.declared.result.Result.TheVariants.{Err, Ok}
 use Rattle.rcu_holdings.specs.ProcessorLists.{cpu_lists}
 use Rattle.rcu_jobs.specs.declared.Lists.{Lists}
 use Rattle.rcu_jobs.specs.declared.callback.Record.{Record}
 use Rattle.rcu_lending.specs.Parts.{wrong_kind}
-use Rattle.rcu_lending.specs.Processors.{ForeignCpu}
 use Rattle.rcu_lending.specs.declared.fault.Fault.{Fault}
 use Rattle.rcu_lending.specs.declared.fault.Fault.TheVariants.{NoneLeft, NoProcessor}
 use Rattle.rcu_lending.specs.declared.job.ForeignJob.{ForeignJob}
-use Rattle.rcu_lending.specs.declared.part.BegunProcessor.{BegunProcessor}
 use Rattle.rcu_lending.specs.declared.part.Part.{Part}
 use Rattle.rcu_lending.specs.declared.part.Part.TheVariants.{Closed, Processor, RunningProcessor}
 use Rattle.rcu_part_processor.specs.Processors.{lists_of}
 use Rattle.rcu_part_processor.specs.Running.{running_lists}
 
--- A processor of which this is so, or one of which a callback runs.
-abbrev pub OfProcessor : (ForeignCpu → Type 0) → (BegunProcessor → Type 0) → Part → Type 0
-OfProcessor P Q part = ((p : ForeignCpu) × (part ≡ Processor p) × P p) ⊎ ((b : BegunProcessor) × (part ≡ RunningProcessor b) × Q b)
+-- ---- what a processor shows, whether or not a callback of it runs
 
-abbrev pub HasAccepted : ℕ → Part → Type 0
-HasAccepted n part = OfProcessor (λ p. n ≡ p.state.accepted) (λ b. n ≡ b.processor.state.accepted) part
+-- so many callbacks as it accepted
+abbrev pub accepted_by : Part → Result ℕ Fault
+accepted_by (Processor p) = Ok p.state.accepted
+accepted_by (RunningProcessor b) = Ok b.processor.state.accepted
+accepted_by part = Err (wrong_kind part)
 
 -- so many as are left of its limit
-abbrev pub HasLeft : ℕ → Part → Type 0
-HasLeft n part = OfProcessor (λ p. n + p.state.accepted ≡ p.state.limit) (λ b. n + b.processor.state.accepted ≡ b.processor.state.limit) part
+abbrev pub IsLeft : Result ℕ Fault → (limit accepted : ℕ) → Type 0
+IsLeft result limit accepted = (n : ℕ) × (result ≡ Ok n) × (n + accepted ≡ limit)
 
-abbrev pub HasLists : Lists → Part → Type 0
-HasLists shown part = OfProcessor (λ p. shown ≡ cpu_lists p.state.accepted (lists_of p.state)) (λ b. shown ≡ cpu_lists b.processor.state.accepted (running_lists b.processor.state)) part
+abbrev pub lists_by : Part → Result Lists Fault
+lists_by (Processor p) = Ok (cpu_lists p.state.accepted (lists_of p.state))
+lists_by (RunningProcessor b) = Ok (cpu_lists b.processor.state.accepted (running_lists b.processor.state))
+lists_by part = Err (wrong_kind part)
 
 abbrev pub ShowsAccepted : Result ℕ Fault → Part → Type 0
-ShowsAccepted result part = MatchResult result (λ n. HasAccepted n part) (λ fault. fault ≡ wrong_kind part)
+ShowsAccepted result part = result ≡ accepted_by part
 
 abbrev pub ShowsLeft : Result ℕ Fault → Part → Type 0
-ShowsLeft result part = MatchResult result (λ n. HasLeft n part) (λ fault. fault ≡ wrong_kind part)
+ShowsLeft result (Processor p) = IsLeft result p.state.limit p.state.accepted
+ShowsLeft result (RunningProcessor b) = IsLeft result b.processor.state.limit b.processor.state.accepted
+ShowsLeft result part = result ≡ Err (wrong_kind part)
 
 abbrev pub ShowsLists : Result Lists Fault → Part → Type 0
-ShowsLists result part = MatchResult result (λ shown. HasLists shown part) (λ fault. fault ≡ wrong_kind part)
+ShowsLists result part = result ≡ lists_by part
 
 -- ---- what is left of a runtime that was closed
 

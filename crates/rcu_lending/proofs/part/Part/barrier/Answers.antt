@@ -1,21 +1,23 @@
-use Rattle.std.proofs.Common.{refl}
-use mathlib.Core.Logic.{inl, inr}
+use Rattle.std.proofs.Common.{refl, subst, sym}
+use Rattle.std.specs.declared.result.Result.TheVariants.{Ok}
+use Rattle.rcu_lending.specs.Barriers.{OpensPart}
+use Rattle.rcu_lending.specs.declared.part.Part.TheVariants as part
 use Rattle.rcu_lending.proofs.part.Part.barrier.Goals as goal
 
 pub returns-in-Ok : goal.returns-in-Ok
-returns-in-Ok c = let e = c.in-Ok.ensures in inl (record {
-  before = c.in-Control.control;
+returns-in-Ok c = subst (λ old. OpensPart (Ok c.in-Ok.barrier) old (part.Control c.barrier.new.self)) (sym c.in-Control.is) (record {
+  answer = c.in-Ok.barrier;
   after = c.barrier.new.self;
-  old_is = c.in-Control.is;
+  result_is = refl;
   new_is = refl;
-  does = record { same = c.barrier.ensures.same; opens = e.opens };
+  does = record { same = c.barrier.ensures.same; opens = c.in-Ok.ensures.opens };
 })
 
 pub returns-in-Processor : goal.returns-in-Processor
-returns-in-Processor c = let e = c.barrier-in-Processor.ensures in inr (record {
-  before = c.in-Processor.processor;
+returns-in-Processor c = let e = c.barrier-in-Processor.ensures in subst (λ old. OpensPart (Ok c.barrier-in-Processor.result) old (part.Processor c.barrier-in-Processor.new.self)) (sym c.in-Processor.is) (record {
+  answer = c.barrier-in-Processor.result;
   after = c.barrier-in-Processor.new.self;
-  old_is = c.in-Processor.is;
+  result_is = refl;
   new_is = refl;
   does = record { kept = record { same = e.same; sound = e.sound }; lists = e.keeps; opens = e.opens; own = e.own };
 })

@@ -1,23 +1,37 @@
-use Rattle.std.proofs.Common.{refl}
-use mathlib.Core.Logic.{inl, inr}
+use Rattle.std.proofs.Common.{refl, subst, sym}
+use Rattle.std.specs.declared.result.Result.TheVariants.{Err, Ok}
+use Rattle.rcu_lending.specs.Processors.{CallsBy}
+use Rattle.rcu_lending.specs.declared.part.Part.TheVariants as part
 use Rattle.rcu_lending.proofs.part.Part.call.Goals as goal
 
 pub returns-in-Ok : goal.returns-in-Ok
-returns-in-Ok c = inl (record { before = c.in-Processor.processor; after = c.call_one.new.processor; old_is = c.in-Processor.is; new_is = refl; does = c.in-Ok.ensures })
+returns-in-Ok c = let q = c.call_one.new.processor in
+    subst (λ old. CallsBy c.args.kind c.args.moment c.args.job (Ok c.in-Ok.ticket) old (part.Processor q)) (sym c.in-Processor.is) (q, refl, c.in-Ok.ensures)
 
 pub returns-in-Err : goal.returns-in-Err
-returns-in-Err c = inl (record {
-  refused = c.in-Err.refused;
-  named = c.fault_of_refusal.ensures;
-  refuses = inl (record { before = c.in-Processor.processor; after = c.call_one.new.processor; old_is = c.in-Processor.is; new_is = refl; does = c.in-Err.ensures });
-})
+returns-in-Err c = let q = c.call_one.new.processor in
+    subst (λ old. CallsBy c.args.kind c.args.moment c.args.job (Err c.fault_of_refusal.result) old (part.Processor q)) (sym c.in-Processor.is) (
+      q,
+      refl,
+      record {
+        refused = c.in-Err.refused;
+        named = c.fault_of_refusal.ensures;
+        refuses = c.in-Err.ensures;
+      },
+    )
 
 pub returns-in-Ok-call_begun : goal.returns-in-Ok-call_begun
-returns-in-Ok-call_begun c = inr (record { before = c.in-RunningProcessor.begun; after = c.call_begun.new.begun; old_is = c.in-RunningProcessor.is; new_is = refl; does = c.in-Ok-call_begun.ensures })
+returns-in-Ok-call_begun c = let e = c.call_begun.new.begun in
+    subst (λ old. CallsBy c.args.kind c.args.moment c.args.job (Ok c.in-Ok-call_begun.ticket) old (part.RunningProcessor e)) (sym c.in-RunningProcessor.is) (e, refl, c.in-Ok-call_begun.ensures)
 
 pub returns-in-Err-call_begun : goal.returns-in-Err-call_begun
-returns-in-Err-call_begun c = inl (record {
-  refused = c.in-Err-call_begun.refused;
-  named = c.fault_of_refusal-in-Err-call_begun.ensures;
-  refuses = inr (record { before = c.in-RunningProcessor.begun; after = c.call_begun.new.begun; old_is = c.in-RunningProcessor.is; new_is = refl; does = c.in-Err-call_begun.ensures });
-})
+returns-in-Err-call_begun c = let e = c.call_begun.new.begun in
+    subst (λ old. CallsBy c.args.kind c.args.moment c.args.job (Err c.fault_of_refusal-in-Err-call_begun.result) old (part.RunningProcessor e)) (sym c.in-RunningProcessor.is) (
+      e,
+      refl,
+      record {
+        refused = c.in-Err-call_begun.refused;
+        named = c.fault_of_refusal-in-Err-call_begun.ensures;
+        refuses = c.in-Err-call_begun.ensures;
+      },
+    )

@@ -1,39 +1,41 @@
-use Rattle.std.proofs.Common.{refl}
-use mathlib.Core.Logic.{inl, inr}
+use Rattle.std.proofs.Common.{refl, subst, sym}
+use Rattle.std.specs.declared.result.Result.TheVariants.{Ok}
+use Rattle.rcu_lending.specs.Others.{ReadsHaltBy}
+use Rattle.rcu_lending.specs.declared.part.Part.TheVariants as part
 use Rattle.rcu_lending.proofs.part.Part.is_halted.Goals as goal
 
 pub returns-in-Driver : goal.returns-in-Driver
-returns-in-Driver c = let e = c.is_halted.ensures in inl (record {
-  before = c.in-Driver.driver;
+returns-in-Driver c = let e = c.is_halted.ensures in subst (λ old. ReadsHaltBy (Ok c.is_halted.result) old (part.Driver c.is_halted.new.self)) (sym c.in-Driver.is) (record {
+  answer = c.is_halted.result;
   after = c.is_halted.new.self;
-  old_is = c.in-Driver.is;
+  result_is = refl;
   new_is = refl;
   does = record { same = e.same; reads = e.view };
 })
 
 pub returns-in-Processor : goal.returns-in-Processor
-returns-in-Processor c = let e = c.is_halted-in-Processor.ensures in inr (inl (record {
-  before = c.in-Processor.processor;
+returns-in-Processor c = let e = c.is_halted-in-Processor.ensures in subst (λ old. ReadsHaltBy (Ok c.is_halted-in-Processor.result) old (part.Processor c.is_halted-in-Processor.new.self)) (sym c.in-Processor.is) (record {
+  answer = c.is_halted-in-Processor.result;
   after = c.is_halted-in-Processor.new.self;
-  old_is = c.in-Processor.is;
+  result_is = refl;
   new_is = refl;
   does = record { kept = record { same = e.same; sound = e.sound }; lists = e.keeps; reads = e.view };
-}))
+})
 
 pub returns-in-Hand : goal.returns-in-Hand
-returns-in-Hand c = let e = c.is_halted-in-Hand.ensures in inr (inr (inl (record {
-  before = c.in-Hand.hand;
+returns-in-Hand c = let e = c.is_halted-in-Hand.ensures in subst (λ old. ReadsHaltBy (Ok c.is_halted-in-Hand.result) old (part.Hand c.is_halted-in-Hand.new.self)) (sym c.in-Hand.is) (record {
+  answer = c.is_halted-in-Hand.result;
   after = c.is_halted-in-Hand.new.self;
-  old_is = c.in-Hand.is;
+  result_is = refl;
   new_is = refl;
   does = record { same = e.same; sound = e.sound; held = e.lists.0; drawn = e.lists.1; records = e.lists.2; reads = e.view };
-})))
+})
 
 pub returns-in-Group : goal.returns-in-Group
-returns-in-Group c = let e = c.is_halted-in-Group.ensures in inr (inr (inr (record {
-  before = c.in-Group.group;
+returns-in-Group c = let e = c.is_halted-in-Group.ensures in subst (λ old. ReadsHaltBy (Ok c.is_halted-in-Group.result) old (part.Group c.is_halted-in-Group.new.self)) (sym c.in-Group.is) (record {
+  answer = c.is_halted-in-Group.result;
   after = c.is_halted-in-Group.new.self;
-  old_is = c.in-Group.is;
+  result_is = refl;
   new_is = refl;
   does = record { same = e.same; members = e.members; reads = e.view };
-})))
+})

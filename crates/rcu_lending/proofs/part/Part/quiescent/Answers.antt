@@ -1,10 +1,23 @@
-use Rattle.std.proofs.Common.{refl}
-use mathlib.Core.Logic.{inl, inr}
+use Rattle.std.proofs.Common.{refl, subst, sym}
+use Rattle.std.specs.declared.result.Result.TheVariants.{Ok}
+use Rattle.rcu_lending.specs.Processors.{ReportsBy}
+use Rattle.rcu_lending.specs.declared.part.Part.TheVariants as part
 use Rattle.rcu_lending.proofs.part.Part.quiescent.Goals as goal
 
 pub returns-in-Processor : goal.returns-in-Processor
-returns-in-Processor c = let e = c.quiescent.ensures in
-    inl (record { before = c.in-Processor.processor; after = c.quiescent.new.self; old_is = c.in-Processor.is; new_is = refl; does = record { kept = record { same = e.same; sound = e.sound }; lists = e.keeps; reports = e.reports } })
+returns-in-Processor c = let e = c.quiescent.ensures in subst (λ old. ReportsBy (Ok c.quiescent.result) old (part.Processor c.quiescent.new.self)) (sym c.in-Processor.is) (record {
+  answer = c.quiescent.result;
+  after = c.quiescent.new.self;
+  result_is = refl;
+  new_is = refl;
+  does = record { kept = record { same = e.same; sound = e.sound }; lists = e.keeps; reports = e.reports };
+})
 
 pub returns-in-RunningProcessor : goal.returns-in-RunningProcessor
-returns-in-RunningProcessor c = inr (record { before = c.in-RunningProcessor.begun; after = c.report_begun.new.begun; old_is = c.in-RunningProcessor.is; new_is = refl; does = c.report_begun.ensures })
+returns-in-RunningProcessor c = subst (λ old. ReportsBy (Ok c.report_begun.result) old (part.RunningProcessor c.report_begun.new.begun)) (sym c.in-RunningProcessor.is) (record {
+  answer = c.report_begun.result;
+  after = c.report_begun.new.begun;
+  result_is = refl;
+  new_is = refl;
+  does = c.report_begun.ensures;
+})

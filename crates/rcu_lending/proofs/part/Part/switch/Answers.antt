@@ -1,25 +1,22 @@
-use Rattle.std.proofs.Common.{refl}
-use mathlib.Core.Logic.{inl}
+use Rattle.std.proofs.Common.{refl, subst, sym}
+use Rattle.std.specs.Int.{from_bool}
+use Rattle.std.specs.declared.result.Result.TheVariants.{Err, Ok}
+use Rattle.rcu_lending.specs.Others.{SwitchesPart}
+use Rattle.rcu_lending.specs.declared.part.Part.TheVariants as part
 use Rattle.rcu_lending.proofs.part.Part.switch.Goals as goal
 
 pub returns-in-Ok : goal.returns-in-Ok
-returns-in-Ok c = record {
-  before = c.in-Control.control;
-  after = c.switch_one.new.control;
-  old_is = c.in-Control.is;
-  new_is = refl;
-  does = c.in-Ok.ensures;
-}
+returns-in-Ok c = let d = c.switch_one.new.control in
+    subst (λ old. SwitchesPart c.args.processor (from_bool c.args.on) (Ok tt) old (part.Control d)) (sym c.in-Control.is) (d, refl, c.in-Ok.ensures)
 
 pub returns-in-Err : goal.returns-in-Err
-returns-in-Err c = inl (record {
-  refused = c.in-Err.fault;
-  named = c.fault_of_switch.ensures;
-  refuses = record {
-    before = c.in-Control.control;
-    after = c.switch_one.new.control;
-    old_is = c.in-Control.is;
-    new_is = refl;
-    does = c.in-Err.ensures;
-  };
-})
+returns-in-Err c = let d = c.switch_one.new.control in
+    subst (λ old. SwitchesPart c.args.processor (from_bool c.args.on) (Err c.fault_of_switch.result) old (part.Control d)) (sym c.in-Control.is) (
+      d,
+      refl,
+      record {
+        refused = c.in-Err.fault;
+        named = c.fault_of_switch.ensures;
+        refuses = c.in-Err.ensures;
+      },
+    )

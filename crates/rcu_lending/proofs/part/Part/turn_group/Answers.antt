@@ -1,11 +1,14 @@
-use Rattle.std.proofs.Common.{refl}
+use Rattle.std.proofs.Common.{refl, subst, sym}
+use Rattle.std.specs.declared.result.Result.TheVariants.{Ok}
+use Rattle.rcu_lending.specs.Others.{GroupTurnsBy}
+use Rattle.rcu_lending.specs.declared.part.Part.TheVariants as part
 use Rattle.rcu_lending.proofs.part.Part.turn_group.Goals as goal
 
 pub returns-in-Group : goal.returns-in-Group
-returns-in-Group c = let e = c.turn.ensures in record {
-  before = c.in-Group.group;
+returns-in-Group c = let e = c.turn.ensures in subst (λ old. GroupTurnsBy (Ok c.turn.result) old (part.Group c.turn.new.self)) (sym c.in-Group.is) (record {
+  answer = c.turn.result;
   after = c.turn.new.self;
-  old_is = c.in-Group.is;
+  result_is = refl;
   new_is = refl;
   does = record { same = e.same; turns = e.turn };
-}
+})
