@@ -2,7 +2,7 @@
 //! at them. docs/embedding.md walks through it.
 #![tactic(auto)]
 
-ghost use Rattle.std.specs.Prelude.{◌≡◌, ◌+◌, IfOk, OnErr, vec_len};
+ghost use Rattle.std.specs.Prelude.{◌≡◌, ◌+◌, ◌++◌, [], ◌∷◌, IfOk, OnErr, OnOk, vec_len};
 ghost use Rattle.std.specs.Arc.{arc_value};
 ghost use Rattle.rcu_runtime.specs.Ends.{HaveReceipts, back_in, ran_in};
 ghost use Rattle.rcu_runtime.specs.Runtimes.{accepted_in};
@@ -30,7 +30,8 @@ struct Version {
 impl Version {
     /// The next generation, which has one row more.
     fn with(&self, row: Row) -> Result<Version, AllocError>
-        ensures { IfOk result (λ next. next.generation ≡ self.now.generation + 1) }
+        ensures generation { IfOk result (λ next. next.generation ≡ self.now.generation + 1) }
+        ensures rows { IfOk result (λ next. next.rows.items ≡ self.now.rows.items ++ (row ∷ [])) }
     {
         let mut rows = self.rows.clone()?;
         rows.push(row)?;
@@ -100,7 +101,9 @@ struct Seen<'s> {
 
 impl Table {
     /// A table with no row.
-    fn new(alloc: Global) -> Result<Table, AnyFault> {
+    fn new(alloc: Global) -> Result<Table, AnyFault>
+        ensures { IfOk result (λ table. (arc_value table.current).rows.items ≡ []) }
+    {
         let shape = Shape::new(2, 0b10, 1, 10, 16, 100).ok_or(AnyFault::NoShape)?;
         let first = Version {
             generation: 0,
@@ -114,7 +117,9 @@ impl Table {
     }
 
     /// The current version, for a reader.
-    fn read<'s>(&self, section: &'s Reading<'s, Retired>) -> Result<Seen<'s>, AllocError> {
+    fn read<'s>(&self, section: &'s Reading<'s, Retired>) -> Result<Seen<'s>, AllocError>
+        ensures { IfOk result (λ seen. arc_value seen.version ≡ arc_value self.now.current) }
+    {
         let version = Arc::try_clone(&self.current)?;
         Ok(Seen { version, section })
     }
@@ -125,6 +130,7 @@ impl Table {
     ///
     /// Want of memory, or a refusal. Then the table is as before.
     fn update(&mut self, p: u64, moment: u64, row: Row) -> Result<Ticket, AnyFault>
+        ensures updated { OnOk result ((arc_value self.new.current).rows.items ≡ (arc_value self.old.current).rows.items ++ (row ∷ [])) }
         ensures refused { OnErr result (self.new.current ≡ self.old.current) }
     {
         let next = Arc::new(self.alloc, self.current.with(row)?)?;
@@ -151,6 +157,14 @@ fn retire(rt: &impl Print, table: &mut Table, p: u64, moment: u64) -> Result<Tic
     Ok(ticket)
 }
 
+/// A reader on processor `p` looks at the current version.
+fn look(rt: &impl Print, table: &Table, p: u64) -> Result<(), AnyFault> {
+    let section = table.runtime.reading(p)?;
+    let seen = table.read(&section)?;
+    println!(rt; "reader: hop to 7 is {:?}", seen.version.hop_to(7))?;
+    Ok(())
+}
+
 /// Versions of a table are retired, and its runtime is closed. Each version but the last is either let go or handed back, and
 /// each receipt is of the version that its record names.
 fn run_once(rt: &impl Print, alloc: Global) -> Result<(Arc<Version>, Closed<Retired>), AnyFault>
@@ -159,11 +173,7 @@ fn run_once(rt: &impl Print, alloc: Global) -> Result<(Arc<Version>, Closed<Reti
 {
     let mut table = Table::new(alloc)?;
     // Processor 0 retires a version that a reader on processor 1 looked at. It is let go once both have reported.
-    {
-        let section = table.runtime.reading(1)?;
-        let seen = table.read(&section)?;
-        println!(rt; "reader: hop to 7 is {:?}", seen.version.hop_to(7))?;
-    }
+    look(rt, &table, 1)?;
     retire(rt, &mut table, 0, 1)?;
     table.runtime.tick(0, 1)?;
     println!(rt; "driver: {:?}", table.runtime.turn_driver())?;
@@ -177,6 +187,7 @@ fn run_once(rt: &impl Print, alloc: Global) -> Result<(Arc<Version>, Closed<Reti
     let barrier = table.runtime.barrier(&tickets)?;
     table.runtime.turn_until_passed(&barrier, 4, 3)?;
     println!(rt; "the barrier has passed")?;
+    look(rt, &table, 0)?;
     // One more is retired that no turn is left to run.
     retire(rt, &mut table, 1, 20)?;
     table.runtime.shut();

@@ -1,6 +1,6 @@
 -- Where all that was accepted has run, no job comes back.
 use Rattle.std.proofs.Common.{◌≡◌, ℕ, zero, suc, ◌+◌, ◌/◌, ◌<◌, ◌≤◌, ◌∙◌, List, [], ◌∷◌, ◌++◌, Option, Some, Ok, map, drop, length, get_or, slice_index_or, ap, sym, subst, refl, arith}
-use Rattle.std.specs.Prelude.{All}
+use Rattle.std.specs.Prelude.{◌≢◌, All}
 use Rattle.std.proofs.lemmas.List.{length-map}
 use Rattle.rcu_board.specs.Seats.{accepted_of}
 use Rattle.rcu_board.specs.Views.{seen_at}
@@ -25,6 +25,7 @@ use Rattle.rcu_parts.specs.Drained.{HasNoneBack}
 use Rattle.rcu_parts.specs.OneOpen.{AreOfOneOpen, AreProcessorsFrom, Parts, hands_in, parts_board, processors_in}
 use Rattle.rcu_parts.specs.SameParts.{AreSameParts}
 use Rattle.rcu_runtime.specs.Calls.{OnControl, Opens, Polls}
+use Rattle.rcu_runtime.specs.Runtimes.{Continues}
 use Rattle.rcu_runtime.specs.Settled.{HasPassed, HasRunAll, IsCounted}
 
 no_longer : {X : Type 0} (l : List X) → length l ≤ 0 → l ≡ []
@@ -35,6 +36,17 @@ module _ {J R : Type 0} where
   -- a barrier that was polled and passed has passed
   pub passed_by : (counts : Counts) (passed : Passed) (old new : Parts J R) → OnControl (Polls counts (Some passed)) old new → HasPassed counts passed new
   passed_by counts passed old new polls = record { counts_are = polls.does.0; over = polls.does.1.over }
+
+  -- a runtime that went on has as many processors
+  pub as_many_on : (old new : Parts J R) → Continues old new → (parts_board new).processors ≡ (parts_board old).processors
+  as_many_on old new on = ap (λ (b : Board). b.processors) on.same.control.board
+
+  -- so a barrier that counts another number later counted another one at first, and one that counts as many, as many
+  pub other_on : (n : ℕ) (old new : Parts J R) → Continues old new → n ≢ (parts_board new).processors → n ≢ (parts_board old).processors
+  other_on n old new on other = subst (λ (m : ℕ). n ≢ m) (as_many_on old new on) other
+
+  pub number_on : (n : ℕ) (old new : Parts J R) → Continues old new → n ≡ (parts_board new).processors → n ≡ (parts_board old).processors
+  number_on n old new on same = same ∙ as_many_on old new on
 
   module _ (counts : Counts) (parts : Parts J R) (over : IsOver counts (control_view parts.control)) where
     -- of a processor all of whose accepted callbacks the barrier counted no job comes back

@@ -1,11 +1,19 @@
 -- That what was accepted has run: docs/embedding.md, "Barrier".
-use Rattle.std.specs.Prelude.{◌≡◌, ◌≤◌, All}
+use Rattle.std.specs.Prelude.{◌≡◌, ◌≢◌, ◌≤◌, ℕ, All}
 use Rattle.rcu_control.specs.Barriers.{IsOver, count_at}
 use Rattle.rcu_control.specs.Parts.{control_view}
 use Rattle.rcu_jobs.specs.declared.Counts.{Counts}
 use Rattle.rcu_jobs.specs.declared.Passed.{Passed}
 use Rattle.rcu_part_processor.specs.declared.processor.Processor.{Processor}
 use Rattle.rcu_parts.specs.OneOpen.{Parts, parts_board, processors_in}
+use Rattle.rcu_runtime.specs.declared.any_fault.AnyFault.{AnyFault}
+use Rattle.rcu_runtime.specs.declared.any_fault.AnyFault.TheVariants.{NotPassed, OtherBarrier}
+
+-- Why turns made no barrier pass: it counts another number of processors than there are, or else the turns are over.
+abbrev pub IsWhyNotPassed : (counted processors : ℕ) → AnyFault → Type 0
+IsWhyNotPassed counted processors (OtherBarrier other) = counted ≢ processors
+IsWhyNotPassed counted processors NotPassed = counted ≡ processors
+IsWhyNotPassed counted processors fault = ⊥
 
 module _ {J R : Type 0} where
   -- A barrier of these counts has passed: control saw that the claim of each callback that is counted had been finished.

@@ -1,6 +1,6 @@
 //! Waiting, by turns of all parts, until what was accepted has run.
 
-ghost use Rattle.std.specs.Prelude.{◌≡◌, All, IfOk, IsTrue};
+ghost use Rattle.std.specs.Prelude.{◌≡◌, All, IfErr, IfOk, IsTrue};
 ghost use Rattle.rcu_runtime.specs.Settled.{IsCounted};
 
 use crate::any_fault::AnyFault;
@@ -33,14 +33,16 @@ fn counts_all<J: Job>(processors: &Vec<Processor<J>>, counts: &Counts) -> bool
 }
 
 impl<J: Job> Whole<AllParts<Processor<J>, Group<J>, Hand<J>>> {
+    ghost use Rattle.rcu_parts.specs.OneOpen.{parts_board};
     ghost use Rattle.rcu_runtime.specs.Runtimes.{Continues, accepted_in};
-    ghost use Rattle.rcu_runtime.specs.Settled.{HasPassed, HasRunAll};
+    ghost use Rattle.rcu_runtime.specs.Settled.{HasPassed, HasRunAll, IsWhyNotPassed};
 
     /// Makes turns of all parts at this moment, at most so many, until the barrier has passed.
     ///
     /// # Errors
     ///
-    /// `NotPassed` where it hasn't by then; `OtherBarrier` where another runtime opened it.
+    /// `NotPassed` where it hasn't by then; `OtherBarrier` where it counts another number of processors, so that another
+    /// runtime opened it.
     pub fn turn_until_passed(
         &mut self,
         barrier: &Barrier,
@@ -49,17 +51,21 @@ impl<J: Job> Whole<AllParts<Processor<J>, Group<J>, Hand<J>>> {
     ) -> Result<Passed, AnyFault>
         ensures continues { Continues self.old self.new }
         ensures passed { IfOk result (λ passed. HasPassed barrier.now.counts passed self.new) }
+        ensures why { IfErr result (IsWhyNotPassed barrier.now.counts.n (parts_board self.old).processors) }
         ensures none { accepted_in self.new ≡ accepted_in self.old }
     {
         for _ in 0..turns {
-            if let Some(passed) = self.poll(barrier)? {
-                return Ok(passed);
+            match self.poll(barrier) {
+                Ok(Some(passed)) => return Ok(passed),
+                Ok(None) => {}
+                Err(other) => return Err(AnyFault::OtherBarrier(other)),
             }
             self.turn_all(moment);
         }
-        match self.poll(barrier)? {
-            Some(passed) => Ok(passed),
-            None => Err(AnyFault::NotPassed),
+        match self.poll(barrier) {
+            Ok(Some(passed)) => Ok(passed),
+            Ok(None) => Err(AnyFault::NotPassed),
+            Err(other) => Err(AnyFault::OtherBarrier(other)),
         }
     }
 

@@ -3,11 +3,12 @@
 //! threads. docs/embedding.md, "Limits", speaks of it.
 #![tactic(auto)]
 
-ghost use Rattle.std.specs.Prelude.{◌≡◌, IfOk, IsTrue};
+ghost use Rattle.std.specs.Prelude.{◌≡◌, ◌+◌, IfOk, IsTrue, vec_len};
+ghost use Rattle.rcu_turn_over.specs.Numbers.{AreNumberedFrom};
 ghost use Rattle.rcu_workers.specs.Ends.{HasNoneBack, LosesNone};
 
 use rcu_workers::{
-    Answer, AnyFault, Closed, Ending, Job, NoSteering, Runtime, Shape, Step, Worker, open,
+    Answer, AnyFault, Closed, Ending, Job, NoSteering, Record, Runtime, Shape, Step, Worker, open,
     run_or_drop,
 };
 use std::alloc::{AllocError, Global};
@@ -107,14 +108,20 @@ fn close(alloc: Global, runtime: Runtime<Number>, last: bool) -> Result<Closed<N
     Ok(runtime.close_or_drop(alloc)?)
 }
 
-/// Sees that all that ran had the numbers from `first` on, in order. Answers the number after the last one.
-fn follow(closed: &Closed<Number>, first: u64) -> Result<u64, AnyFault> {
+/// Sees that the receipts of these records are the numbers from `first` on, in order. Answers the number after the last one.
+fn follow(records: &Vec<Record<u64>>, first: u64) -> Result<u64, AnyFault>
+    ensures numbers { IfOk result (λ _. AreNumberedFrom first records.now.items (λ r. r.receipt)) }
+    ensures next { IfOk result (λ next. next ≡ first + vec_len records.now) }
+{
     let mut next = first;
-    for record in closed.ran.iter().flatten() {
+    for record in records {
         if record.receipt != next {
             return Err(AnyFault::Own("a job ran out of order"));
         }
-        next = next.saturating_add(1);
+        let Some(after) = next.checked_add(1) else {
+            return Err(AnyFault::Own("no number is left"));
+        };
+        next = after;
     }
     Ok(next)
 }
@@ -137,7 +144,9 @@ fn main(rt: HostRuntime) -> Result<(), AnyFault> {
         callers = worked.workers;
         let is_last = callers.iter().all(|caller| caller.has_called_all());
         let closed = close(alloc, worked.runtime, is_last)?;
-        ran = follow(&closed, ran)?;
+        for records in &closed.ran {
+            ran = follow(records, ran)?;
+        }
         if is_last {
             return Ok(println!(rt; "{ran} calls ran, each once and in order")?);
         }

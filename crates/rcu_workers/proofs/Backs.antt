@@ -1,13 +1,14 @@
 -- What comes back of a run, by its answer.
-use Rattle.std.proofs.Common.{◌≡◌, ◌∙◌, ap, ℕ, List, Result, Ok, Err, IfErr}
-use Rattle.std.specs.Prelude.{IfOk, MatchResult, vec_len}
+use Rattle.std.proofs.Common.{◌≡◌, ◌∙◌, ap, sym, ℕ, List, Result, Ok, Err, IfErr}
+use Rattle.std.specs.Prelude.{IfOk, MatchResult, [], vec_len}
 use Rattle.std.specs.declared.alloc.Global.{Global}
 use Rattle.std.specs.declared.vec.Vec.{Vec}
 use Rattle.rcu_parts.specs.OneOpen.{Parts}
 use Rattle.rcu_runtime.proofs.Wholes.{continues_again}
 use Rattle.rcu_runtime.specs.Runtimes.{Continues}
-use Rattle.rcu_workers.specs.Faults.{ComesBack, IsEarly, IsLate}
+use Rattle.rcu_workers.specs.Faults.{ComesBack, HaveEnded, IsEarly, IsLate, IsWhy}
 use Rattle.rcu_workers.specs.Runs.{ComeBack}
+use Rattle.rcu_workers.specs.declared.running.Ending.{Ending}
 use Rattle.rcu_workers.specs.declared.worker.End.{End}
 use Rattle.rcu_workers.specs.declared.fault.WorkersFault.{WorkersFault}
 use Rattle.rcu_workers.specs.declared.fault.WorkersFault.TheVariants.{Memory, OtherNumber, NoThread, NotDrained}
@@ -24,11 +25,44 @@ module _ {J R : Type 0} where
   early_back n m NoThread old new workers back e same all = absurd e
   early_back n m NotDrained old new workers back e same all = absurd e
 
-  pub late_back : {W : Type 0} (fault : WorkersFault) (old new : Parts J R) (workers back : List W) → IsLate fault → ComesBack fault old new workers back
-  late_back Memory old new workers back e = absurd e
-  late_back (OtherNumber a b) old new workers back e = absurd e
-  late_back NoThread old new workers back e = e
-  late_back NotDrained old new workers back e = e
+  pub late_back : {W : Type 0} (ending : Ending) (fault : WorkersFault) (old new : Parts J R) (workers back : List W) → IsLate ending fault → ComesBack fault old new workers back
+  late_back ending Memory old new workers back e = absurd e
+  late_back ending (OtherNumber a b) old new workers back e = absurd e
+  late_back ending NoThread old new workers back e = tt
+  late_back ending NotDrained old new workers back e = tt
+
+-- why a run wasn't made, early or late, and how many ends come back
+pub early_why : (n m : ℕ) (ending : Ending) (fault : WorkersFault) → IsEarly n m fault → IsWhy n m ending fault
+early_why n m ending Memory e = e
+early_why n m ending (OtherNumber a b) e = e
+early_why n m ending NoThread e = absurd e
+early_why n m ending NotDrained e = absurd e
+
+pub late_why : (n m : ℕ) (ending : Ending) (fault : WorkersFault) → m ≡ n → IsLate ending fault → IsWhy n m ending fault
+late_why n m ending Memory same e = absurd e
+late_why n m ending (OtherNumber a b) same e = absurd e
+late_why n m ending NoThread same e = same
+late_why n m ending NotDrained same e = (same, e)
+
+pub early_ends : (n m many : ℕ) (fault : WorkersFault) (ends : Vec End Global) → IsEarly n m fault → ends.items ≡ [] → HaveEnded fault many ends.items
+early_ends n m many Memory ends e none = none
+early_ends n m many (OtherNumber a b) ends e none = none
+early_ends n m many NoThread ends e none = absurd e
+early_ends n m many NotDrained ends e none = absurd e
+
+pub late_ends : (many : ℕ) (ending : Ending) (fault : WorkersFault) (ends : Vec End Global) → IsLate ending fault → vec_len ends ≡ many → HaveEnded fault many ends.items
+late_ends many ending Memory ends e same = absurd e
+late_ends many ending (OtherNumber a b) ends e same = absurd e
+late_ends many ending NoThread ends e same = sym ends.ok.0 ∙ same
+late_ends many ending NotDrained ends e same = sym ends.ok.0 ∙ same
+
+pub if_ok : {A B : Type 0} (P : Type 0) → P → (r : Result A B) → IfOk r (λ _. P)
+if_ok P p (Ok a) = p
+if_ok P p (Err b) = tt
+
+pub if_err_both : {A B : Type 0} (P Q S : B → Type 0) → ((b : B) → P b → Q b → S b) → (r : Result A B) → IfErr r P → IfErr r Q → IfErr r S
+if_err_both P Q S f (Ok a) p q = p
+if_err_both P Q S f (Err b) p q = f b p q
 
 pub if_err : {A B : Type 0} (P Q : B → Type 0) → ((b : B) → P b → Q b) → (r : Result A B) → IfErr r P → IfErr r Q
 if_err P Q f (Ok a) p = p

@@ -1,6 +1,7 @@
 //! A run in threads for programs that give up where it can't be made.
 
-ghost use Rattle.std.specs.Prelude.{◌≡◌, IfErr, IfOk};
+ghost use Rattle.std.specs.Prelude.{◌≡◌, IfErr, IfOk, length, vec_len};
+ghost use Rattle.rcu_parts.specs.OneOpen.{processors_in};
 ghost use Rattle.rcu_runtime.specs.Runtimes.{Continues, IsDrained};
 ghost use Rattle.rcu_runtime.specs.Settled.{HasRunAll};
 ghost use Rattle.rcu_workers.specs.Faults.{IsOfRun};
@@ -37,7 +38,8 @@ pub fn run_or_drop<
     steering: &mut G,
     ending: Ending,
 ) -> Result<Worked<J, W>, AnyFault>
-    ensures fault { IfErr result IsOfRun }
+    ensures fault { IfErr result (IsOfRun (length (processors_in runtime)) (vec_len workers) ending) }
+    ensures number { IfOk result (λ _. vec_len workers ≡ length (processors_in runtime)) }
     ensures continues { IfOk result (λ worked. Continues runtime worked.runtime) }
     ensures workers { IfOk result (λ worked. ComeBack workers worked.workers worked.ends) }
     ensures run { ending ≡ Ending.AfterBarrier → IfOk result (λ worked. HasRunAll worked.runtime) }

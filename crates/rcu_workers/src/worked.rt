@@ -1,10 +1,11 @@
 //! A whole runtime in threads, and back.
 
-ghost use Rattle.std.specs.Prelude.{◌≡◌, IfErr, IfOk, IsTrue, MatchResult, vec_len};
+ghost use Rattle.std.specs.Prelude.{◌≡◌, IfErr, IfOk, IsTrue, MatchResult, length, vec_len};
+ghost use Rattle.rcu_parts.specs.OneOpen.{processors_in};
 ghost use Rattle.rcu_runtime.specs.Runtimes.{Continues, IsDrained};
 ghost use Rattle.rcu_runtime.specs.Settled.{HasRunAll};
 ghost use Rattle.rcu_workers.specs.Rooms.{AreHalvesFor, IsRoomFor};
-ghost use Rattle.rcu_workers.specs.Faults.{ComesBack, IsEarly, IsLate};
+ghost use Rattle.rcu_workers.specs.Faults.{ComesBack, HaveEnded, IsEarly, IsLate, IsWhy};
 ghost use Rattle.rcu_workers.specs.Runs.{ComeBack};
 
 use crate::fault::WorkersFault;
@@ -65,6 +66,7 @@ fn find_room<J: Job, W: Worker<J>>(
 /// Whether the runtime is as the ending has it: all that was accepted has run, or it is drained, where that was asked for.
 fn is_settled<J: Job>(runtime: &mut Runtime<J>, ending: Ending) -> bool
     ensures continues { Continues runtime.old runtime.new }
+    ensures at_once { ending ≡ Ending.AtOnce → IsTrue result }
     ensures run { ending ≡ Ending.AfterBarrier → IsTrue result → HasRunAll runtime.new }
     ensures drained { ending ≡ Ending.Drained → IsTrue result → IsDrained runtime.new }
 {
@@ -84,9 +86,10 @@ fn answer<J: Job, W: Worker<J>>(
     ending: Ending,
 ) -> Result<Worked<J, W>, NotWorked<J, W>>
     ensures continues { MatchResult result (λ w. Continues runtime w.runtime) (λ refused. Continues runtime refused.worked.runtime) }
-    ensures fault { IfErr result (λ refused. IsLate refused.fault) }
+    ensures fault { IfErr result (λ refused. IsLate ending refused.fault) }
     ensures workers { IfOk result (λ w. (w.workers ≡ workers) × (w.ends ≡ ends)) }
     ensures back { IfErr result (λ refused. refused.worked.workers ≡ workers) }
+    ensures ends { IfErr result (λ refused. refused.worked.ends ≡ ends) }
     ensures run { ending ≡ Ending.AfterBarrier → IfOk result (λ w. HasRunAll w.runtime) }
     ensures drained { ending ≡ Ending.Drained → IfOk result (λ w. IsDrained w.runtime) }
 {
@@ -145,6 +148,9 @@ pub fn run_workers<
     ensures back { IfErr result (λ refused. ComesBack refused.fault runtime refused.worked.runtime workers.items refused.worked.workers.items) }
     ensures workers { IfOk result (λ worked. ComeBack workers worked.workers worked.ends) }
     ensures as_many { IfErr result (λ refused. vec_len refused.worked.workers ≡ vec_len workers) }
+    ensures number { IfOk result (λ _. vec_len workers ≡ length (processors_in runtime)) }
+    ensures why { IfErr result (λ refused. IsWhy (length (processors_in runtime)) (vec_len workers) ending refused.fault) }
+    ensures ends { IfErr result (λ refused. HaveEnded refused.fault (vec_len workers) refused.worked.ends.items) }
     ensures run { ending ≡ Ending.AfterBarrier → IfOk result (λ worked. HasRunAll worked.runtime) }
     ensures drained { ending ≡ Ending.Drained → IfOk result (λ worked. IsDrained worked.runtime) }
 {

@@ -13,7 +13,7 @@ pub run_workers-requires-send-S : goal.run_workers-requires-send-S
 run_workers-requires-send-S g c κs within = record { owned = c.type_bounds.send-S.owned; leaving = c.type_bounds.send-S.leaving }
 
 pub returns-in-Err-clause-fault : goal.returns-in-Err-clause-fault
-returns-in-Err-clause-fault g c = (c.in-Err.refused.fault, c.from.ensures)
+returns-in-Err-clause-fault g c = (c.in-Err.refused.fault, c.in-Err.ensures.why, c.from.ensures)
 
 pub run_workers-requires-after_bounds : goal.run_workers-requires-after_bounds
 run_workers-requires-after_bounds g c κs within = assumption

@@ -1,10 +1,11 @@
-use Rattle.std.proofs.Common.{◌∙◌, refl, subst, sym}
+use Rattle.std.proofs.Common.{◌≡◌, ◌∙◌, ap, length, refl, subst, sym}
 use Rattle.std.specs.Prelude.{vec_len}
 use mir.Syntax.{of_param}
 use Rattle.rcu_runtime.proofs.Wholes.{continues_itself}
 use Rattle.rcu_runtime.specs.Runtimes.{Continues}
-use Rattle.rcu_workers.specs.Faults.{ComesBack, IsLate}
-use Rattle.rcu_workers.proofs.Backs.{all_come_back, as_many_back, continues_either, early_back, if_err, late_back}
+use Rattle.rcu_parts.specs.OneOpen.{processors_in}
+use Rattle.rcu_workers.specs.Faults.{ComesBack, HaveEnded, IsLate, IsWhy}
+use Rattle.rcu_workers.proofs.Backs.{all_come_back, as_many_back, continues_either, early_back, early_ends, early_why, if_err, if_err_both, if_ok, late_back, late_ends, late_why}
 use Rattle.rcu_workers.proofs.Runs.{worked_continues, worked_whole}
 use Rattle.rcu_workers.proofs.worked.run_workers.Goals as goal
 
@@ -26,8 +27,29 @@ returns-clause-continues g c = let apart = c.take_apart-parts in let ran = worke
     continues_either (λ w. w.runtime) (λ refused. refused.worked.runtime) c.args.runtime c.put_together-runtime.result on c.answer.result c.answer.ensures.continues
 
 pub returns-clause-back : goal.returns-clause-back
-returns-clause-back g c = if_err (λ refused. IsLate refused.fault) (λ refused. ComesBack refused.fault c.args.runtime refused.worked.runtime c.args.workers.items refused.worked.workers.items)
-    (λ refused late. late_back refused.fault c.args.runtime refused.worked.runtime c.args.workers.items refused.worked.workers.items late) c.answer.result c.answer.ensures.fault
+returns-clause-back g c = if_err (λ refused. IsLate c.args.ending refused.fault) (λ refused. ComesBack refused.fault c.args.runtime refused.worked.runtime c.args.workers.items refused.worked.workers.items)
+    (λ refused late. late_back c.args.ending refused.fault c.args.runtime refused.worked.runtime c.args.workers.items refused.worked.workers.items late) c.answer.result c.answer.ensures.fault
+
+pub returns-in-Err-clause-why : goal.returns-in-Err-clause-why
+returns-in-Err-clause-why g c = let same = c.take_apart-parts.result.0.processors.ok.0 ∙ ap (λ parts. length (processors_in parts)) c.take_apart-parts.ensures.parts in
+    subst (λ n. IsWhy n (vec_len c.args.workers) c.args.ending c.in-Err.fault) same (subst (λ m. IsWhy (vec_len c.take_apart-parts.result.0.processors) m c.args.ending c.in-Err.fault) c.len.ensures
+    (early_why (vec_len c.take_apart-parts.result.0.processors) c.len.result c.args.ending c.in-Err.fault c.in-Err.ensures.fault))
+
+pub returns-in-Err-clause-ends : goal.returns-in-Err-clause-ends
+returns-in-Err-clause-ends g c = early_ends (vec_len c.take_apart-parts.result.0.processors) c.len.result (vec_len c.args.workers) c.in-Err.fault c.new.result c.in-Err.ensures.fault c.new.ensures.items
+
+pub returns-clause-number : goal.returns-clause-number
+returns-clause-number g c = if_ok (vec_len c.args.workers ≡ length (processors_in c.args.runtime)) (sym c.len.ensures ∙ (c.in-Ok.ensures.many ∙ (c.take_apart-parts.result.0.processors.ok.0 ∙ ap (λ parts. length (processors_in parts)) c.take_apart-parts.ensures.parts))) c.answer.result
+
+pub returns-clause-why : goal.returns-clause-why
+returns-clause-why g c = let same = sym c.len.ensures ∙ (c.in-Ok.ensures.many ∙ (c.take_apart-parts.result.0.processors.ok.0 ∙ ap (λ parts. length (processors_in parts)) c.take_apart-parts.ensures.parts)) in
+    if_err (λ refused. IsLate c.args.ending refused.fault) (λ refused. IsWhy (length (processors_in c.args.runtime)) (vec_len c.args.workers) c.args.ending refused.fault)
+    (λ refused late. late_why (length (processors_in c.args.runtime)) (vec_len c.args.workers) c.args.ending refused.fault same late) c.answer.result c.answer.ensures.fault
+
+pub returns-clause-ends : goal.returns-clause-ends
+returns-clause-ends g c = let ran = c.run_parts-ran in
+    if_err_both (λ refused. IsLate c.args.ending refused.fault) (λ refused. refused.worked.ends ≡ ran.result.ends) (λ refused. HaveEnded refused.fault (vec_len c.args.workers) refused.worked.ends.items)
+    (λ refused late same. late_ends (vec_len c.args.workers) c.args.ending refused.fault refused.worked.ends late (ap (λ v. vec_len v) same ∙ ran.ensures.workers.ends)) c.answer.result c.answer.ensures.fault c.answer.ensures.ends
 
 pub returns-clause-workers : goal.returns-clause-workers
 returns-clause-workers g c = let ran = c.run_parts-ran in all_come_back c.args.workers ran.result.workers ran.result.ends ran.ensures.workers (λ w. w.workers) (λ w. w.ends) c.answer.result c.answer.ensures.workers
