@@ -5,7 +5,7 @@ ghost use Rattle.rcu_lists.specs.Batches.{batch_items};
 ghost use Rattle.rcu_lists.specs.Parcels.{parcel_items, places_items, IsOnHeap};
 ghost use Rattle.rcu_lists.specs.declared.batch.TheConstants.{INLINE_PLACES};
 
-use crate::batch::Batch;
+use crate::batch::{Batch, INLINE_PLACES};
 use crate::parcel::{Parcel, Places, Room};
 use smallvec::SmallVec;
 use std::alloc::AllocFailed;
@@ -46,17 +46,42 @@ impl<J: Drop> Batch<J> {
         ensures items { batch_items self.new ≡ parcel_items parcel }
     {
         match parcel {
-            Parcel::One(callback) => {
+            Parcel::One(single) => {
                 self.free_places();
-                self.add(callback);
+                self.add(single);
             }
-            Parcel::Many(Places { slots, next }) => {
-                *self = Batch {
-                    slots: SmallVec::from_vec(slots),
-                    next,
-                };
-            }
+            Parcel::Many(places) => self.load_places(places),
         }
+    }
+
+    // Takes on what stands in such places. A few callbacks are moved into the batch itself, which moves less than to make
+    // the batch anew.
+    fn load_places(&mut self, mut places: Places<J>)
+        requires none { batch_items self.old ≡ [] }
+        ensures items { batch_items self.new ≡ places_items places }
+    {
+        if places.len() > INLINE_PLACES {
+            let Places { slots, next } = places;
+            *self = Batch {
+                slots: SmallVec::from_vec(slots),
+                next,
+            };
+            return;
+        }
+        self.free_places();
+        while let Some(callback) = places.take_first() {
+            self.add(callback);
+        }
+    }
+
+    /// Makes a parcel of all that it holds, where that is no more than stands in a batch itself, and leaves nothing.
+    /// Wants no memory.
+    pub fn pack_few(&mut self, room: Room<J>) -> Parcel<J>
+        requires few { length (batch_items self.old) ≤ INLINE_PLACES }
+        ensures packed { parcel_items result ≡ batch_items self.old }
+        ensures left { batch_items self.new ≡ [] }
+    {
+        Parcel::Many(move_into(self, room))
     }
 }
 
@@ -64,6 +89,7 @@ impl<J: Drop> Batch<J> {
 fn move_into<J: Drop>(batch: &mut Batch<J>, room: Room<J>) -> Places<J>
     requires few { length (batch_items batch.old) ≤ INLINE_PLACES }
     ensures moved { places_items result ≡ batch_items batch.old }
+    ensures left { batch_items batch.new ≡ [] }
 {
     let mut slots = room.slots;
     while let Some(callback) = batch.take_first() {
