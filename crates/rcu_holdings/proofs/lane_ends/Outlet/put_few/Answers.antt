@@ -1,4 +1,4 @@
-use Rattle.std.proofs.Common.{sym, ap, ◌∙◌, ◌++◌, refl, subst, length, arith, true≢false}
+use Rattle.std.proofs.Common.{sym, ap, ◌∙◌, ◌++◌, refl, subst, length, true≢false}
 use Rattle.std.proofs.lemmas.Bool.{false≢true}
 use Rattle.rcu_lanes.specs.Ends.{items_put}
 use Rattle.rcu_lists.specs.Parcels.{parcel_items}

@@ -1,8 +1,7 @@
 use Rattle.std.proofs.Common.{[], sym, ap, ◌∙◌, ◌++◌, refl, subst, arith, ◌∷◌, true≢false}
 use Rattle.std.proofs.lemmas.Bool.{false≢true}
 use Rattle.std.proofs.lemmas.List.Elements.{All-head}
-use Rattle.rcu_lists.specs.Batches.{batch_items}
-use Rattle.rcu_holdings.specs.Lanes.{put_calls, PutsOn, PutsFrom}
+use Rattle.rcu_holdings.specs.Lanes.{put_calls, PutsOn}
 use Rattle.rcu_holdings.specs.Limits.{IsSafe, AreFew, AreSafe}
 use Rattle.rcu_holdings.proofs.lane_ends.Outlet.put_from.Goals as goal
 

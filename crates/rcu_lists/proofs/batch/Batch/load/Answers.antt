@@ -1,5 +1,4 @@
-use Rattle.std.proofs.Common.{arith, sym, ap, ◌∙◌}
-use Rattle.rcu_lists.specs.Parcels.{parcel_items}
+use Rattle.std.proofs.Common.{arith, ◌∙◌}
 use Rattle.rcu_lists.proofs.batch.Batch.load.Goals as goal
 
 pub free_places-requires : goal.free_places-requires

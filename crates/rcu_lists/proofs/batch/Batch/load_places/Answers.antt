@@ -1,9 +1,8 @@
-use Rattle.std.proofs.Common.{◌≡◌, [], ◌∷◌, ◌++◌, arith, sym, ap, length, ◌∙◌, append_assoc, append-nil}
+use Rattle.std.proofs.Common.{◌≡◌, [], ◌∷◌, ◌++◌, arith, sym, ap, length, ◌∙◌, append_assoc}
 use Rattle.std.specs.Mem.{FitsInMemory}
 use Rattle.rcu_lists.specs.Batches.{batch_items}
-use Rattle.rcu_lists.specs.Filled.{filled}
 use Rattle.rcu_lists.specs.Parcels.{places_items}
-use Rattle.rcu_lists.proofs.Sizes.{in_first, in_places}
+use Rattle.rcu_lists.proofs.Sizes.{in_first}
 use Rattle.rcu_lists.specs.contracts.batch.Batch as row
 use denote.Param.{param}
 use Rattle.rcu_lists.proofs.batch.Batch.load_places.Goals as goal

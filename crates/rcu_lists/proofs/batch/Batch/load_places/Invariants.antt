@@ -1,4 +1,4 @@
-use Rattle.std.proofs.Common.{◌≡◌, ◌≤◌, ◌++◌, length}
+use Rattle.std.proofs.Common.{◌≡◌, ◌++◌, length}
 use Rattle.rcu_lists.specs.Batches.{batch_items, HasRoom}
 use Rattle.rcu_lists.specs.Parcels.{places_items}
 use Rattle.rcu_lists.proofs.batch.Batch.load_places.Given as goal

@@ -1,6 +1,4 @@
-use Rattle.std.proofs.Common.{refl, ◌≤◌, min, ap, subst, length}
 use Rattle.std.proofs.lemmas.Bool.{false≢true}
-use Rattle.rcu_lists.proofs.Outcomes.{if_ok_never, on_err_so}
 use Rattle.rcu_lists.proofs.segments.Segments.take_batch.Goals as goal
 
 pub returns-in_err-fill_batch-clause-inline : goal.returns-in_err-fill_batch-clause-inline
