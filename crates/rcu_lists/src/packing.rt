@@ -5,7 +5,7 @@ ghost use Rattle.rcu_lists.specs.Batches.{batch_items};
 ghost use Rattle.rcu_lists.specs.Parcels.{parcel_items, places_items, IsOnHeap};
 ghost use Rattle.rcu_lists.specs.declared.batch.TheConstants.{INLINE_PLACES};
 
-use crate::batch::{Batch, INLINE_PLACES};
+use crate::batch::Batch;
 use crate::parcel::{Parcel, Places, Room};
 use smallvec::SmallVec;
 use std::alloc::AllocFailed;
@@ -46,31 +46,16 @@ impl<J: Drop> Batch<J> {
         ensures items { batch_items self.new ≡ parcel_items parcel }
     {
         match parcel {
-            Parcel::One(single) => {
+            Parcel::One(callback) => {
                 self.free_places();
-                self.add(single);
+                self.add(callback);
             }
-            Parcel::Many(places) => self.load_places(places),
-        }
-    }
-
-    // Takes on what stands in such places. A few callbacks are moved into the batch itself, which moves less than to make
-    // the batch anew.
-    fn load_places(&mut self, mut places: Places<J>)
-        requires none { batch_items self.old ≡ [] }
-        ensures items { batch_items self.new ≡ places_items places }
-    {
-        if places.len() > INLINE_PLACES {
-            let Places { slots, next } = places;
-            *self = Batch {
-                slots: SmallVec::from_vec(slots),
-                next,
-            };
-            return;
-        }
-        self.free_places();
-        while let Some(callback) = places.take_first() {
-            self.add(callback);
+            Parcel::Many(Places { slots, next }) => {
+                *self = Batch {
+                    slots: SmallVec::from_vec(slots),
+                    next,
+                };
+            }
         }
     }
 

@@ -1,7 +1,7 @@
 //! What a lane carries for one release: a callback by itself, or the callbacks of a batch in a list on the heap. It is
 //! small, so that putting, drawing and keeping it move little, and a lane's slots take little memory.
 
-ghost use Rattle.std.specs.Prelude.{◌≡◌, ◌≤◌, [], ◌∷◌, length, drop, vec_capacity, MatchOption};
+ghost use Rattle.std.specs.Prelude.{◌≡◌, ◌≤◌, [], length, drop, vec_capacity};
 ghost use Rattle.rcu_lists.specs.Filled.{AreFilled};
 ghost use Rattle.rcu_lists.specs.declared.batch.TheConstants.{INLINE_PLACES};
 
@@ -26,35 +26,6 @@ pub struct Places<J> {
     pub(crate) next: usize,
     ghost within: { next ≤ length slots.items },
     ghost full: { AreFilled (drop next slots.items) },
-}
-
-impl<J: Drop> Places<J> {
-    ghost use Rattle.rcu_lists.specs.Parcels.{places_items};
-
-    // How many callbacks stand in it.
-    pub(crate) fn len(&self) -> usize
-        ensures { result ≡ length (places_items self.now) }
-    {
-        self.slots.len() - self.next
-    }
-
-    // Takes the first callback.
-    pub(crate) fn take_first(&mut self) -> Option<Callback<J>>
-        ensures { MatchOption result
-            ((places_items self.old ≡ []) × (places_items self.new ≡ []))
-            (λ c. places_items self.old ≡ c ∷ places_items self.new) }
-    {
-        let next = self.next;
-        if next >= self.slots.len() {
-            return None;
-        }
-        let Some(slot) = self.slots.get_mut(next) else {
-            unreachable!()
-        };
-        let first = slot.take();
-        self.next = next + 1;
-        first
-    }
 }
 
 /// Room on the heap for as many callbacks as stand in a batch itself.
