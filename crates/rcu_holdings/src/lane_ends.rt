@@ -1,11 +1,12 @@
 //! The ends of a lane between two running parts: what one puts on it and the other draws from it are parcels.
 
-ghost use Rattle.std.specs.Prelude.{⊤, ◌≡◌, ◌≢◌, ◌+◌, ◌<◌, ◌≤◌, true, false, [], ◌∷◌, ◌++◌, length, IfOk, IsOk, MatchResult};
+ghost use Rattle.std.specs.Prelude.{⊤, ◌≡◌, ◌≢◌, ◌+◌, ◌<◌, ◌≤◌, true, false, [], ◌∷◌, ◌++◌, length, IfNone, IfOk, IsOk, MatchResult};
 ghost use Rattle.rcu_lanes.specs.Ends.{SameFront, SameRear, items_drawn, items_put};
 ghost use Rattle.rcu_lanes.specs.declared.ends.TheConstants.{FIRST_SLOTS};
 ghost use Rattle.rcu_lists.specs.Batches.{batch_items};
 ghost use Rattle.rcu_lists.specs.Parcels.{parcel_items};
-ghost use Rattle.rcu_holdings.specs.Lanes.{put_calls, drawn_calls, DrawsOff, PutsOn};
+ghost use Rattle.rcu_lists.specs.declared.batch.TheConstants.{INLINE_PLACES};
+ghost use Rattle.rcu_holdings.specs.Lanes.{put_calls, drawn_calls, DrawsOff, PutsFrom, PutsOn};
 ghost use Rattle.rcu_holdings.specs.Limits.{AreFew, AreSafe, IsSafe};
 ghost use Rattle.rcu_holdings.specs.declared.fetched.Fetched.TheVariants.{Got};
 
@@ -13,7 +14,7 @@ use crate::fetched::Fetched;
 use crate::limits::LaneLimits;
 use rcu_jobs::Callback;
 use rcu_lanes::{Draw, FIRST_SLOTS, Front, Rear};
-use rcu_lists::{Batch, Parcel, Room};
+use rcu_lists::{Batch, INLINE_PLACES, Parcel, Room};
 use std::alloc::{AllocError, Global};
 use std::mem::ManuallyDrop;
 
@@ -102,11 +103,7 @@ impl<J: Drop> Outlet<J> {
         requires safe { AreSafe (batch_items batch.old) }
         requires few { AreFew (put_calls self.old.rear ++ batch_items batch.old) }
         ensures lane { SameRear self.old.rear self.new.rear }
-        ensures put { result ≡ true → PutsOn (batch_items batch.old) self.old.rear self.new.rear }
-        ensures left { result ≡ true → batch_items batch.new ≡ [] }
-        ensures stays { result ≡ false
-            → (items_put self.new.rear ≡ items_put self.old.rear) × (batch_items batch.new ≡ batch_items batch.old) }
-        ensures room { length (items_put self.old.rear) < FIRST_SLOTS → result ≡ true }
+        ensures puts { PutsFrom result (batch_items batch.old) (batch_items batch.new) self.old.rear self.new.rear }
     {
         match batch.take_single() {
             Some(callback) => match self.put_single(callback) {
@@ -116,13 +113,49 @@ impl<J: Drop> Outlet<J> {
                     false
                 }
             },
-            None => match self.put_batch(batch.take_all()) {
-                Ok(()) => true,
-                Err(back) => {
-                    *batch = back;
-                    false
+            None => {
+                if batch.len() > INLINE_PLACES as u64 {
+                    self.put_whole(batch)
+                } else {
+                    self.put_few(batch)
                 }
-            },
+            }
+        }
+    }
+
+    // Puts all that a batch holds, as it is. Where it can't be put it stays.
+    fn put_whole(&mut self, batch: &mut Batch<J>) -> bool
+        requires safe { AreSafe (batch_items batch.old) }
+        requires few { AreFew (put_calls self.old.rear ++ batch_items batch.old) }
+        ensures lane { SameRear self.old.rear self.new.rear }
+        ensures puts { PutsFrom result (batch_items batch.old) (batch_items batch.new) self.old.rear self.new.rear }
+    {
+        match self.put_batch(batch.take_all()) {
+            Ok(()) => true,
+            Err(back) => {
+                *batch = back;
+                false
+            }
+        }
+    }
+
+    // Puts what a batch holds, no more than stands in the batch itself, in a list on the heap. Where it can't be put it stays.
+    fn put_few(&mut self, batch: &mut Batch<J>) -> bool
+        requires little { length (batch_items batch.old) ≤ INLINE_PLACES }
+        requires safe { AreSafe (batch_items batch.old) }
+        requires few { AreFew (put_calls self.old.rear ++ batch_items batch.old) }
+        ensures lane { SameRear self.old.rear self.new.rear }
+        ensures puts { PutsFrom result (batch_items batch.old) (batch_items batch.new) self.old.rear self.new.rear }
+    {
+        let Some(room) = first_room(&mut self.rooms) else {
+            return false;
+        };
+        match self.rear.put(batch.pack_few(room)) {
+            Ok(()) => true,
+            Err(back) => {
+                batch.load(back);
+                false
+            }
         }
     }
 
@@ -136,6 +169,18 @@ impl<J: Drop> Outlet<J> {
             spare: _,
         } = self;
         rear
+    }
+}
+
+// The first room that there is, or a new one. None where there is no memory for one.
+fn first_room<J: Drop>(rooms: &mut Vec<Room<J>>) -> Option<Room<J>>
+    ensures left { length rooms.old.items ≤ length rooms.new.items + 1 }
+    ensures none { IfNone result (rooms.old.items ≡ []) }
+{
+    let alloc = *rooms.allocator();
+    match rooms.pop() {
+        Some(room) => Some(room),
+        None => Room::new(alloc).ok(),
     }
 }
 

@@ -81,8 +81,8 @@ impl<J: Drop> MemberLists<J> {
         if !self.out.is_empty() {
             return;
         }
-        match self.list.take_batch(blimit as usize) {
-            Ok(batch) => self.out = batch,
+        match self.list.fill_batch(blimit as usize, &mut self.out) {
+            Ok(()) => {}
             Err(_) => {}
         }
     }

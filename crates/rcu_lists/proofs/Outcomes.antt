@@ -16,3 +16,12 @@ module _ {T E : Type 0} where
   pub on_err_so : {P Q : Type 0} (r : Result T E) → (P → Q) → OnErr r P → OnErr r Q
   on_err_so (Ok x) f h = tt
   on_err_so (Err x) f h = f h
+
+  -- what follows from either outcome
+  pub either_way : (A B P : Type 0) (r : Result T E) → OnOk r A → OnErr r B → (A → P) → (B → P) → P
+  either_way A B P (Ok x) a b f h = f a
+  either_way A B P (Err x) a b f h = h b
+
+  pub on_ok_both : (A B : Type 0) (r : Result T E) → OnOk r A → OnOk r B → OnOk r (A × B)
+  on_ok_both A B (Ok x) a b = (a, b)
+  on_ok_both A B (Err x) a b = tt

@@ -58,12 +58,23 @@ impl<J: Drop> Batch<J> {
             }
         }
     }
+
+    /// Makes a parcel of all that it holds, where that is no more than stands in a batch itself, and leaves nothing.
+    /// Wants no memory.
+    pub fn pack_few(&mut self, room: Room<J>) -> Parcel<J>
+        requires few { length (batch_items self.old) ≤ INLINE_PLACES }
+        ensures packed { parcel_items result ≡ batch_items self.old }
+        ensures left { batch_items self.new ≡ [] }
+    {
+        Parcel::Many(move_into(self, room))
+    }
 }
 
 // Moves the callbacks of a batch that holds no more than stand in it.
 fn move_into<J: Drop>(batch: &mut Batch<J>, room: Room<J>) -> Places<J>
     requires few { length (batch_items batch.old) ≤ INLINE_PLACES }
     ensures moved { places_items result ≡ batch_items batch.old }
+    ensures left { batch_items batch.new ≡ [] }
 {
     let mut slots = room.slots;
     while let Some(callback) = batch.take_first() {

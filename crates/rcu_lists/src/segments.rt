@@ -207,12 +207,35 @@ impl<J: Drop> Segments<J> {
         ensures inline { min max (count is_done (labelled self.old)) ≤ INLINE_PLACES → IsOk result }
         ensures refused { OnErr result (SegmentsUnchanged self.old self.new) }
     {
-        let number = max.min(self.done);
         let mut batch = Batch::new(*self.list.allocator());
+        self.fill_batch(max, &mut batch)?;
+        Ok(batch)
+    }
+
+    /// Moves the first done callbacks, at most `max`, into a batch that holds nothing: a batch is large, so one that is
+    /// there already is filled in its place.
+    ///
+    /// # Errors
+    ///
+    /// Refusal 2, want of memory: everything is as it was.
+    pub fn fill_batch(&mut self, max: usize, batch: &mut Batch<J>) -> Result<(), AllocError>
+        requires none { batch_items batch.old ≡ [] }
+        ensures taken { OnOk result (labelled self.old ≡ marked Done (batch_items batch.new) ++ labelled self.new) }
+        ensures number { OnOk result (length (batch_items batch.new) ≡ min max (count is_done (labelled self.old))) }
+        ensures graced { OnOk result (All (λ c. snap_of c.stamp ≤ advanced_by self.old) (batch_items batch.new)) }
+        ensures advanced { advanced_by self.new ≡ advanced_by self.old }
+        ensures room { OnOk result ((k : ℕ) → SegmentsRoom self.old k → SegmentsRoom self.new (k + length (batch_items batch.new))) }
+
+        // Sixteen places stand in the batch itself.
+        ensures inline { min max (count is_done (labelled self.old)) ≤ INLINE_PLACES → IsOk result }
+        ensures refused { OnErr result (SegmentsUnchanged self.old self.new × (batch_items batch.new ≡ [])) }
+    {
+        let number = max.min(self.done);
+        batch.free_places();
         batch.reserve(number)?;
         batch.take_from(&mut self.list, number);
         self.done -= number;
-        Ok(batch)
+        Ok(())
     }
 
     /// Moves all callbacks to the end of a bypass list, in order, where they count as plain.

@@ -36,4 +36,4 @@ pub invariant_of-result : goal.invariant_of-result
 invariant_of-result g c = record { within = zero-le; full = c.loop-callback.invariant.full }
 
 pub returns : goal.returns
-returns g c = let slots = filled c.loop-callback.slots.items in record { moved = sym (append-nil slots) ∙ ap (λ l. slots ++ l) (sym c.in_default.ensures.0) ∙ c.loop-callback.invariant.moved }
+returns g c = let slots = filled c.loop-callback.slots.items in record { moved = sym (append-nil slots) ∙ ap (λ l. slots ++ l) (sym c.in_default.ensures.0) ∙ c.loop-callback.invariant.moved; left = c.in_default.ensures.1 }
