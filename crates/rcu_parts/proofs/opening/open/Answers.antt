@@ -15,14 +15,12 @@ use Rattle.rcu_control.specs.Parts.{control_board}
 use Rattle.rcu_holdings.proofs.Sizes.{in_struct}
 use Rattle.rcu_parts.specs.OneOpen.{HasHand, members_in}
 use Rattle.rcu_parts.specs.Openings.{AreFirstGroups, AreFirstHands, AreFirstProcessors}
-use Rattle.rcu_part_group.specs.contracts.members.GroupMember as group_member
 use Rattle.rcu_part_group.specs.contracts.group.Group as group
 use Rattle.rcu_part_hand.specs.contracts.hand.Hand as hand
 use Rattle.rcu_part_processor.specs.contracts.processor.Processor as processor
 use Rattle.rcu_part_group.specs.declared.members.GroupMember.{GroupMember}
 use Rattle.rcu_parts.proofs.Whole.{all_weigh, are_in_order, as_many, groups_here, groups_of_board, groups_weigh, hands_here, hands_of_board, hands_sound, hands_weigh, have_members, is_bare, many_fronts, none_drawn, offloadable_cpus, processors_sound, processors_weigh}
 use Rattle.rcu_parts.proofs.Zips.{as_many_seats}
-use Rattle.rcu_parts.proofs.opening.open.Given.{Over}
 use Rattle.rcu_lists.proofs.Outcomes.{if_ok_never}
 use Rattle.rcu_parts.proofs.opening.open.Goals as goal
 

@@ -1,4 +1,4 @@
-use Rattle.std.proofs.Common.{◌≡◌, ◌<◌, sym, subst, ◌∙◌, ap}
+use Rattle.std.proofs.Common.{◌<◌, sym, subst, ◌∙◌, ap}
 use Rattle.std.specs.Arc.{arc_value}
 use Rattle.std.specs.Mem.{FitsInMemory}
 use denote.Param.{param}
@@ -8,11 +8,9 @@ use Rattle.rcu_holdings.proofs.Sizes.{in_struct}
 use Rattle.rcu_holdings.specs.ProcessorLists.{rear_of}
 use Rattle.rcu_holdings.specs.declared.processor_lists.ProcessorLists.{ProcessorLists}
 use Rattle.rcu_lanes.specs.Ends.{IsNewLane}
-use Rattle.rcu_holdings.specs.contracts.processor_lists.ProcessorLists as processor_lists
 use Rattle.rcu_part_processor.specs.contracts.processor.Processor as row
 use Rattle.rcu_part_processor.proofs.Beginnings.{offloads_at}
 use Rattle.rcu_parts.proofs.Openings.{first_empty, first_processor}
-use Rattle.rcu_parts.proofs.opening.open_processor.Given.{Over}
 use Rattle.rcu_lists.proofs.Outcomes.{if_ok_never}
 use Rattle.rcu_parts.proofs.opening.open_processor.Goals as goal
 

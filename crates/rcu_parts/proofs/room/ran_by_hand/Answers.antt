@@ -1,4 +1,4 @@
-use Rattle.std.proofs.Common.{◌≡◌, ◌≤◌, ◌∙◌, length, drop, sym, ap, arith}
+use Rattle.std.proofs.Common.{◌≤◌, ◌∙◌, length, drop, sym, ap, arith}
 use Rattle.std.proofs.lemmas.List.{drop_all}
 use Rattle.rcu_parts.proofs.RoomFor.{all_left, hand_at, no_hand_at, none_after, none_for, others_after, ran_by_first}
 use Rattle.rcu_parts.proofs.room.ran_by_hand.Goals as goal
