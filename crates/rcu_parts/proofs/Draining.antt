@@ -1,5 +1,5 @@
 -- What is seen stays seen, and once all that was accepted has run no job comes back.
-use Rattle.std.proofs.Common.{◌≡◌, ℕ, zero, suc, ◌+◌, ◌*◌, ◌/◌, ◌%◌, ◌<◌, ◌≤◌, ◌∙◌, List, [], ◌∷◌, ◌++◌, map, drop, length, slice_index_or, get_or, sym, ap, subst, refl, arith}
+use Rattle.std.proofs.Common.{◌≡◌, ℕ, zero, suc, ◌/◌, ◌%◌, ◌<◌, ◌≤◌, ◌∙◌, List, [], ◌∷◌, ◌++◌, map, drop, length, slice_index_or, get_or, sym, ap, subst, refl, arith}
 use Rattle.std.specs.List.{All, AllZip, Any}
 use Rattle.rcu_board.specs.Seats.{NeverFalls}
 use Rattle.rcu_board.specs.Views.{seen_at}
@@ -9,7 +9,7 @@ use Rattle.rcu_board.specs.declared.view.View.{View}
 use Rattle.rcu_control.specs.Barriers.{IsOver, count_at}
 use Rattle.rcu_control.specs.Parts.{control_view}
 use Rattle.rcu_gathering.proofs.Closings.{as_many_ended}
-use Rattle.rcu_gathering.proofs.Lists.{all_cons, all_head, all_left, all_map, all_mapped, all_none, all_right, all_tail}
+use Rattle.rcu_gathering.proofs.Lists.{all_cons, all_head, all_map, all_mapped, all_none, all_right, all_tail}
 use Rattle.rcu_gathering.specs.Closing.{CpuEnd, EndsAs, processors_of, seats_of}
 use Rattle.rcu_gathering.specs.Parts.{CpuPart, accepted_list, hand_views, views_of}
 use Rattle.rcu_jobs.specs.declared.Counts.{Counts}

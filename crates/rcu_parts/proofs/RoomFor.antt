@@ -1,5 +1,5 @@
 -- Room that is found for one processor after another.
-use Rattle.std.proofs.Common.{◌≡◌, ℕ, zero, suc, ◌+◌, ◌<◌, ◌≤◌, ◌∙◌, true, cond, None, List, [], ◌∷◌, ◌++◌, length, drop, get_or, sym, ap, subst, refl, arith}
+use Rattle.std.proofs.Common.{◌≡◌, ℕ, zero, suc, ◌+◌, ◌<◌, ◌≤◌, ◌∙◌, true, false, cond, None, List, [], ◌∷◌, ◌++◌, length, drop, get_or, sym, ap, subst, refl, arith}
 use Rattle.std.proofs.Math.Seq.{drop-cons}
 use Rattle.std.specs.List.{AllZip}
 use Rattle.std.proofs.lemmas.List.{append_assoc, append-nil, drop_all, length-map}
@@ -36,6 +36,13 @@ module _ {J R : Type 0} where
 
   pub ran_by_first : (p : Processor J R) (hs : List (Hand J R)) → p.state.offloadable ≡ true → length (hand_ran (first_hand hs)) ≡ length (hand_ran (hand_for p hs))
   ran_by_first p hs e = ap (λ c. length (hand_ran (cond c (first_hand hs) None))) (sym e)
+
+  -- where a processor has no hand, nothing ran and none is taken
+  pub none_for : (p : Processor J R) (hs : List (Hand J R)) → p.state.offloadable ≡ false → 0 ≡ length (hand_ran (hand_for p hs))
+  none_for p hs e = ap (λ c. length (hand_ran (cond c (first_hand hs) None))) (sym e)
+
+  pub all_left : (p : Processor J R) (hs : List (Hand J R)) → p.state.offloadable ≡ false → hs ≡ hands_after p hs
+  all_left p hs e = ap (λ c. cond c (other_hands hs) hs) (sym e)
 
   -- what the hand in a place ran, and that nothing ran where there is none
   pub hand_at : (place : ℕ) (h : Hand J R) (all hs : List (Hand J R)) → all ≡ hs → h ≡ get_or all place h → place < length all → length (hand_records h.state) ≡ length (hand_ran (first_hand (drop place hs)))

@@ -3,8 +3,8 @@
 ghost use Rattle.std.specs.Prelude.{◌≡◌, ◌/◌, ◌<◌, [], ◌∷◌, List, IfOk, All, length};
 ghost use Rattle.std.specs.Arc.{arc_value};
 ghost use Rattle.std.specs.List.{AllZip};
-ghost use Rattle.rcu_board.specs.Opened.{InOrder, IsNewGroup, IsNewHand, IsNewProcessor, SeatForEach, has_offloadable, is_offloadable, numbers_where};
-ghost use Rattle.rcu_holdings.specs.ProcessorLists.{first_holding, holding, rear_of};
+ghost use Rattle.rcu_board.specs.Opened.{AreNew, InOrder, IsNewGroup, IsNewHand, IsNewProcessor, SeatForEach, has_offloadable, is_offloadable, numbers_where};
+ghost use Rattle.rcu_holdings.specs.ProcessorLists.{rear_of};
 ghost use Rattle.rcu_holdings.specs.MemberLists.{front_of};
 ghost use Rattle.rcu_lanes.specs.Ends.{IsNewLane, items_drawn};
 ghost use Rattle.rcu_part_group.specs.GroupLaw.{cpus_of, group_members_in};
@@ -28,20 +28,6 @@ use std::alloc::{AllocError, Global};
 use std::collections::VecDeque;
 use std::sync::Arc;
 
-/// A processor's lists, which are empty, and the other end of its lane.
-fn open_lists<J: Drop>(
-    alloc: Global,
-    offloadable: bool,
-    qhimark: u64,
-) -> Result<(ProcessorLists<J>, Front<Parcel<J>, LaneLimits>), AllocError>
-    ensures lists { IfOk result (λ t. holding t.0 ≡ first_holding offloadable qhimark) }
-    ensures lane { IfOk result (λ t. IsNewLane t.1 (rear_of t.0)) }
-{
-    let (front, rear) = ruled_lane::<Parcel<J>, LaneLimits>(alloc)?;
-    let lists = ProcessorLists::new(alloc, rear, offloadable, qhimark)?;
-    Ok((lists, front))
-}
-
 /// A processor's part, and the other end of its lane.
 fn open_processor<J: Job>(
     alloc: Global,
@@ -55,7 +41,9 @@ fn open_processor<J: Job>(
     ensures processor { IfOk result (λ t. IsFirstProcessor shape.now (arc_value board.now) cpu t.0) }
     ensures lane { IfOk result (λ t. IsNewLane t.1 (rear_of t.0.state.lists)) }
 {
-    let (lists, front) = open_lists(alloc, board.is_offloadable(cpu), shape.qhimark)?;
+    let (front, rear) = ruled_lane::<Parcel<J>, LaneLimits>(alloc)?;
+    let offloadable = board.is_offloadable(cpu);
+    let lists = ProcessorLists::new(alloc, rear, offloadable, shape.qhimark)?;
     let own = Arc::try_clone(board)?;
     let processor = Processor::new(alloc, shape, own, seat, cpu, lists);
     Ok((processor, front))
@@ -205,6 +193,22 @@ fn open_groups<J: Job>(
     Ok(groups)
 }
 
+/// A new board for all parts and for the driver's, and its seats.
+fn share_board(
+    alloc: Global,
+    shape: Shape,
+) -> Result<(Arc<Board, Global>, Arc<Board, Global>, Seats), AllocError>
+    ensures many { IfOk result (λ t. (arc_value t.0).processors ≡ shape.processors) }
+    ensures mask { IfOk result (λ t. (arc_value t.0).offloadable ≡ shape.offloadable) }
+    ensures same { IfOk result (λ t. arc_value t.1 ≡ arc_value t.0) }
+    ensures seats { IfOk result (λ t. AreNew shape (arc_value t.0) t.2) }
+{
+    let (board, seats) = open_board(alloc, shape)?;
+    let board = Arc::new(alloc, board)?;
+    let drivers = Arc::try_clone(&board)?;
+    Ok((board, drivers, seats))
+}
+
 /// Opens all parts of a new board of this shape (docs/specification/surface.md, "rcu_parts"). All lists and counts are
 /// empty; exactly the offloadable processors are Offloaded and have a hand.
 ///
@@ -216,7 +220,7 @@ pub fn open<J: Job>(alloc: Global, shape: Shape) -> Result<Parts<J>, AllocError>
     ensures one { IfOk result (λ parts. AreOfOneOpen parts) }
     ensures sound { IfOk result (λ parts. AreSoundParts J.key_of J.gives parts) }
 {
-    let (board, seats) = open_board(alloc, shape)?;
+    let (board, drivers, seats) = share_board(alloc, shape)?;
     let Seats {
         processors,
         hands,
@@ -224,8 +228,7 @@ pub fn open<J: Job>(alloc: Global, shape: Shape) -> Result<Parts<J>, AllocError>
         driver,
         control,
     } = seats;
-    let board = Arc::new(alloc, board)?;
-    let driver = Driver::new(Arc::try_clone(&board)?, driver);
+    let driver = Driver::new(drivers, driver);
     let (processors, fronts) = open_processors(alloc, &shape, &board, processors)?;
     let (group_members, hands) = open_hands(alloc, &shape, &board, hands, fronts)?;
     let groups = open_groups(alloc, &shape, &board, groups, group_members)?;

@@ -3,7 +3,7 @@
 ghost use Rattle.std.specs.Prelude.{◌≡◌, IfOk, Option, drop, length};
 ghost use Rattle.std.specs.List.{AllZip};
 ghost use Rattle.rcu_gathering.specs.Parts.{HandPart, hand_ran, hand_taken};
-ghost use Rattle.rcu_parts.specs.AtClose.{cpu_part, cpu_parts, first_hand, hand_for, hands_after};
+ghost use Rattle.rcu_parts.specs.AtClose.{cpu_part, cpu_parts, hand_for, hands_after};
 ghost use Rattle.rcu_parts.specs.Rooms.{FitsAll, FitsCpu};
 
 use rcu_endings::Ended;
@@ -75,20 +75,9 @@ fn ran_by_hand<J: Job>(
     if !processor.is_offloadable() {
         return (0, before);
     }
-    let ran = ran_by(hands, before);
-    if before >= hands.len() {
-        return (ran, before);
-    }
-    (ran, before + 1)
-}
-
-/// How many callbacks the hand in this place ran, if there is one.
-fn ran_by<J: Job>(hands: &Vec<Hand<J>>, place: usize) -> usize
-    ensures { result ≡ length (hand_ran (first_hand (drop place hands.now.items))) }
-{
-    match hands.get(place) {
-        Some(hand) => hand.ran(),
-        None => 0,
+    match hands.get(before) {
+        Some(hand) => (hand.ran(), before + 1),
+        None => (0, before),
     }
 }
 

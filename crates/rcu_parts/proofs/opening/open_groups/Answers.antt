@@ -9,7 +9,7 @@ use Rattle.rcu_board.specs.declared.board.Board.{Board}
 use Rattle.rcu_holdings.proofs.Sizes.{in_struct}
 use Rattle.rcu_part_group.specs.GroupLaw.{cpus_of, group_members_in}
 use Rattle.rcu_parts.specs.OneOpen.{members_in}
-use Rattle.rcu_parts.specs.Openings.{IsFirstGroup}
+use Rattle.rcu_parts.specs.Openings.{IsFirstGroup, is_member}
 use Rattle.rcu_part_group.specs.contracts.members.GroupMember as group_member
 use Rattle.rcu_part_group.specs.contracts.members.GroupMembers as members
 use Rattle.rcu_part_group.specs.contracts.group.Group as group
@@ -75,21 +75,33 @@ new-requires-after_bounds g c κs within = let b = arc_value c.args.board.now in
       ),
     )
 
-pub loop-seat-preserved : goal.loop-seat-preserved
-loop-seat-preserved g c = let b = arc_value c.args.board.now in let P = IsNewGroup b in let i = c.loop-seat.invariant in let stride = c.args.shape.now.stride in let number = c.in-Group.number in
+-- the seat's number is the group's, and those of the groups that are left then
+taken : (g : Over) (c : goal.In_ok-push g) → let b = arc_value c.args.board.now in let k = c.in-Group.number in
+    (js : List ℕ) × (c.loop-seat.invariant.left ≡ k ∷ js) × IsNewGroup b k c.in-Some.seat × SeatForEach (IsNewGroup b) js c.next.new.self.rest.items
+taken g c = let P = IsNewGroup (arc_value c.args.board.now) in let i = c.loop-seat.invariant in
     let t = seat_and_rest P i.left c.in-Some.seat c.next.new.self.rest.items (subst (SeatForEach P i.left) c.in-Some.ensures.steps.0 i.seats) in
-    let same : t.0 ≡ number = ap group_of_role (sym t.3.who ∙ sym c.role.ensures ∙ c.in-Group.is) in
-    let next : i.left ≡ number ∷ t.1 = t.2 ∙ ap (λ (k : ℕ). k ∷ t.1) same in
-    let grouped = subst (λ (l : List ℕ). AreGrouped b.offloadable stride b.processors l (cpus_of c.loop-seat.group_members.items)) next i.grouped in
+    let same : t.0 ≡ c.in-Group.number = ap group_of_role (sym t.3.who ∙ sym c.role.ensures ∙ c.in-Group.is) in
+    (t.1, t.2 ∙ ap (λ (k : ℕ). k ∷ t.1) same, subst (λ (k : ℕ). P k c.in-Some.seat) same t.3, t.4)
+
+-- what is taken are the group's members, and the other groups are left
+members_taken : (g : Over) (c : goal.In_ok-push g) → let b = arc_value c.args.board.now in let stride = c.args.shape.now.stride in
+    (cpus_of (group_members_in c.in_ok-members.members) ≡ numbers_where (is_member b.offloadable stride c.in-Group.number) 0 b.processors)
+    × AreGrouped b.offloadable stride b.processors (taken g c).0 (cpus_of c.take_members.new.group_members.items)
+members_taken g c = let b = arc_value c.args.board.now in let stride = c.args.shape.now.stride in let all = c.loop-seat.group_members.items in
+    let grouped = subst (λ (l : List ℕ). AreGrouped b.offloadable stride b.processors l (cpus_of all)) (taken g c).1 c.loop-seat.invariant.grouped in
+    group_taken b.offloadable stride b.processors c.in-Group.number (taken g c).0 (group_members_in c.in_ok-members.members) all c.take_members.new.group_members.items grouped c.in_ok-members.ensures
+
+pub loop-seat-preserved : goal.loop-seat-preserved
+loop-seat-preserved g c = let b = arc_value c.args.board.now in let i = c.loop-seat.invariant in let number = c.in-Group.number in
+    let t = taken g c in let of = members_taken g c in let made = c.new.ensures in
     let took = c.in_ok-members.ensures in let ms = group_members_in c.in_ok-members.members in let rest = c.take_members.new.group_members.items in
-    let of = group_taken b.offloadable stride b.processors number t.1 ms c.loop-seat.group_members.items rest grouped took in
-    let empty = empty_parts ms c.loop-seat.group_members.items rest took.order i.empty in let made = c.new.ensures in
-    let first = group_made c.args.shape.now (arc_value c.in_ok-own.own) b number c.in-Some.seat ms c.new.result c.in_ok-own.ensures (subst (λ (k : ℕ). P k c.in-Some.seat) same t.3) of.0 empty.0 made in
+    let empty = empty_parts ms c.loop-seat.group_members.items rest took.order i.empty in
+    let first = group_made c.args.shape.now (arc_value c.in_ok-own.own) b number c.in-Some.seat ms c.new.result c.in_ok-own.ensures t.2 of.0 empty.0 made in
     let e = c.in_ok-push.ensures.items in record {
       done = i.done ++ number ∷ [];
-      left = t.1;
-      all = append_assoc i.done (number ∷ []) t.1 ∙ ap (λ (l : List ℕ). i.done ++ l) (sym next) ∙ i.all;
-      seats = t.4;
+      left = t.0;
+      all = append_assoc i.done (number ∷ []) t.0 ∙ ap (λ (l : List ℕ). i.done ++ l) (sym t.1) ∙ i.all;
+      seats = t.3;
       grouped = of.1;
       members = grouped_more c.loop-seat.groups.items c.push.new.self.items c.new.result ms c.loop-seat.group_members.items rest c.args.group_members.items i.members took.order made.members_are e;
       empty = empty.1;

@@ -1,4 +1,4 @@
-use Rattle.std.proofs.Common.{◌≡◌, ℕ, rules, arith, List, [], ◌++◌, length, ap, sym, ◌∙◌, subst}
+use Rattle.std.proofs.Common.{◌≡◌, ℕ, rules, arith, List, [], ◌∷◌, ◌++◌, length, ap, sym, ◌∙◌, subst}
 use Rattle.std.specs.Prelude.{All}
 use Rattle.std.specs.Arc.{arc_value}
 use Rattle.std.specs.List.{AllZip}
@@ -65,9 +65,14 @@ open_hand-requires-after_bounds g c κs within = let P = IsNewHand (arc_value c.
       ),
     )
 
+-- the seat's number, and those that are left then
+taken : (g : Over) (c : goal.In_ok-push g) → let b = arc_value c.args.board.now in (k : ℕ) × (js : List ℕ) × (c.loop-seat.invariant.left ≡ k ∷ js) × IsNewHand b k c.in-Some.seat × SeatForEach (IsNewHand b) js c.next.new.self.rest.items
+taken g c = let P = IsNewHand (arc_value c.args.board.now) in let i = c.loop-seat.invariant in
+    seat_and_rest P i.left c.in-Some.seat c.next.new.self.rest.items (subst (SeatForEach P i.left) c.in-Some.ensures.steps.0 i.seats)
+
 pub loop-seat-preserved : goal.loop-seat-preserved
-loop-seat-preserved g c = let b = arc_value c.args.board.now in let P = IsNewHand b in let i = c.loop-seat.invariant in let ks = numbers_where (is_offloadable b.offloadable) 0 b.processors in
-    let t = seat_and_rest P i.left c.in-Some.seat c.next.new.self.rest.items (subst (SeatForEach P i.left) c.in-Some.ensures.steps.0 i.seats) in
+loop-seat-preserved g c = let b = arc_value c.args.board.now in let i = c.loop-seat.invariant in let ks = numbers_where (is_offloadable b.offloadable) 0 b.processors in
+    let t = taken g c in
     let same : c.in-Hand.cpu ≡ t.0 = ap cpu_of_role (sym c.in-Hand.is ∙ c.role.ensures ∙ t.3.who) in
     let drawn = λ (f : Front (Parcel g.row.J.Denot) LaneLimits). items_drawn f ≡ [] in
     let cut = c.in-Some-pop_front.ensures.items in let group_member = c.in_ok-group_member.group_member in let e = c.in_ok-push_back.ensures.items in let made = c.in_ok-group_member.ensures in

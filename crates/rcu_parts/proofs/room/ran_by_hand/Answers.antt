@@ -1,24 +1,37 @@
-use Rattle.std.proofs.Common.{rules, ◌≡◌, ◌≤◌, ◌∙◌, true, length, drop, arith}
+use Rattle.std.proofs.Common.{◌≤◌, ◌∙◌, length, drop, sym, ap, arith}
 use Rattle.std.proofs.lemmas.List.{drop_all}
-use Rattle.rcu_parts.proofs.RoomFor.{none_after, others_after, ran_by_first}
+use Rattle.rcu_parts.proofs.RoomFor.{all_left, hand_at, no_hand_at, none_after, none_for, others_after, ran_by_first}
 use Rattle.rcu_parts.proofs.room.ran_by_hand.Goals as goal
 
-pub returns-clause-ran : goal.returns-clause-ran
-returns-clause-ran g c =
-    let e : c.args.processor.now.state.offloadable ≡ true = search rules in
-    c.ran_by-ran.ensures ∙ ran_by_first c.args.processor.now (drop c.args.before c.args.hands.now.items) e
+pub returns-in-Some-clause-ran : goal.returns-in-Some-clause-ran
+returns-in-Some-clause-ran g c = let found = c.in-Some.ensures.lookup in let hands = c.args.hands.now.items in
+    c.ran.ensures ∙ hand_at c.args.before c.in-Some.hand.now _ hands c.deref.ensures.value found.1 found.3.0
+    ∙ ran_by_first c.args.processor.now (drop c.args.before hands) (sym c.is_offloadable.ensures ∙ c.if-not-is_offloadable.false)
 
-pub returns-clause-left : goal.returns-clause-left
-returns-clause-left g c = let e : c.args.processor.now.state.offloadable ≡ true = search rules in others_after c.args.before c.args.processor.now c.args.hands.now.items e
+pub returns-in-Some-clause-left : goal.returns-in-Some-clause-left
+returns-in-Some-clause-left g c = others_after c.args.before c.args.processor.now c.args.hands.now.items (sym c.is_offloadable.ensures ∙ c.if-not-is_offloadable.false)
 
-pub returns-then-before-len-clause-left : goal.returns-then-before-len-clause-left
-returns-then-before-len-clause-left g c =
-    let e : c.args.processor.now.state.offloadable ≡ true = search rules in
-    let n : length c.args.hands.now.items ≤ c.args.before = (let o = c.args.hands.now.ok.0 in let l = c.len.ensures in let t = c.if-before-len.true in omega (arith, o, l, t)) in
-    none_after c.args.processor.now (drop c.args.before c.args.hands.now.items) e (drop_all c.args.before c.args.hands.now.items n)
+pub returns-in-None-clause-ran : goal.returns-in-None-clause-ran
+returns-in-None-clause-ran g c = let hands = c.args.hands.now.items in
+    no_hand_at c.args.before _ hands c.deref.ensures.value c.in-None.ensures.lookup.3
+    ∙ ran_by_first c.args.processor.now (drop c.args.before hands) (sym c.is_offloadable.ensures ∙ c.if-not-is_offloadable.false)
+
+pub returns-in-None-clause-left : goal.returns-in-None-clause-left
+returns-in-None-clause-left g c = let hands = c.args.hands.now.items in
+    let none : length hands ≤ c.args.before = (let l = c.in-None.ensures.lookup.3 in let same = ap length c.deref.ensures.value in omega (arith, l, same)) in
+    none_after c.args.processor.now (drop c.args.before hands) (sym c.is_offloadable.ensures ∙ c.if-not-is_offloadable.false) (drop_all c.args.before hands none)
+
+pub returns-then-not-is_offloadable-clause-ran : goal.returns-then-not-is_offloadable-clause-ran
+returns-then-not-is_offloadable-clause-ran g c = none_for c.args.processor.now (drop c.args.before c.args.hands.now.items) (sym c.is_offloadable.ensures ∙ c.if-not-is_offloadable.true)
+
+pub returns-then-not-is_offloadable-clause-left : goal.returns-then-not-is_offloadable-clause-left
+returns-then-not-is_offloadable-clause-left g c = all_left c.args.processor.now (drop c.args.before c.args.hands.now.items) (sym c.is_offloadable.ensures ∙ c.if-not-is_offloadable.true)
 
 pub is_offloadable-requires : goal.is_offloadable-requires
 is_offloadable-requires g c = assumption
 
-pub ran_by-ran-requires : goal.ran_by-ran-requires
-ran_by-ran-requires g c = assumption
+pub ran-requires : goal.ran-requires
+ran-requires g c = assumption
+
+pub get-requires : goal.get-requires
+get-requires g c κs = assumption
