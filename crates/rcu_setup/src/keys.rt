@@ -22,15 +22,18 @@ pub(crate) fn at<'a>(table: &'a Table, name: &str) -> Option<&'a Value>
 fn is_key(name: &str) -> bool
     ensures { result ≡ is_key name.now }
 {
-    name == "processors"
-        || name == "nocbs"
-        || name == "stride"
-        || name == "blimit"
-        || name == "qhimark"
-        || name == "limit"
-        || name == "routes"
-        || name == "script"
-        || name == "calls"
+    match name {
+        "processors"
+        | "nocbs"
+        | "stride"
+        | "blimit"
+        | "qhimark"
+        | "limit"
+        | "routes"
+        | "script"
+        | "calls" => true,
+        _ => false,
+    }
 }
 
 fn are_key_bytes(name: &str) -> bool
