@@ -17,12 +17,12 @@ impl fmt::Display for ModeName {
     ghost output = { λ name. Some (mode_name name.mode) };
 
     fn fmt<W: fmt::Write>(&self, f: &mut fmt::Formatter<W>) -> fmt::Result {
-        match self.mode {
-            Mode::Local => write!(f, "Local"),
-            Mode::Offloading => write!(f, "Offloading"),
-            Mode::Offloaded => write!(f, "Offloaded"),
-            Mode::Deoffloading => write!(f, "Deoffloading"),
-        }
+        f.write_str(match self.mode {
+            Mode::Local => "Local",
+            Mode::Offloading => "Offloading",
+            Mode::Offloaded => "Offloaded",
+            Mode::Deoffloading => "Deoffloading",
+        })
     }
 }
 
