@@ -1,7 +1,7 @@
 //! The lines of `show`.
 
 ghost use Rattle.std.specs.Prelude.{◌≡◌, ◌++◌, IfOk, string_bytes, Some};
-ghost use Rattle.rcu_status.specs.Line.{line_text, mode_name, segments_text, wait_text};
+ghost use Rattle.rcu_status.specs.Line.{line_text, mode_name, segments_text};
 
 use rcu_jobs::{Lists, Mode};
 use std::alloc::{AllocError, Global};
@@ -26,23 +26,6 @@ impl fmt::Display for ModeName {
     }
 }
 
-/// The length of a segment, and the number that it waits for: `W@X`.
-#[derive(Drop)]
-struct Wait {
-    length: u64,
-    number: u64,
-}
-
-impl fmt::Display for Wait {
-    ghost output = { λ wait. Some (wait_text wait.length wait.number) };
-
-    fn fmt<W: fmt::Write>(&self, f: &mut fmt::Formatter<W>) -> fmt::Result {
-        let length = self.length;
-        let number = self.number;
-        write!(f, "{length}@{number}")
-    }
-}
-
 /// The four segments of a callback list: `done D wait W@X ready R@Y next N`.
 #[derive(Drop)]
 struct Segments {
@@ -56,15 +39,10 @@ impl fmt::Display for Segments {
     fn fmt<W: fmt::Write>(&self, f: &mut fmt::Formatter<W>) -> fmt::Result {
         let [done, wait, ready, next] = self.lengths;
         let [wait_number, ready_number] = self.numbers;
-        let wait = Wait {
-            length: wait,
-            number: wait_number,
-        };
-        let ready = Wait {
-            length: ready,
-            number: ready_number,
-        };
-        write!(f, "done {done} wait {wait} ready {ready} next {next}")
+        write!(
+            f,
+            "done {done} wait {wait}@{wait_number} ready {ready}@{ready_number} next {next}"
+        )
     }
 }
 
