@@ -22,11 +22,12 @@ pub enum Key {
     Calls,
 }
 
-impl fmt::Display for Key {
-    ghost output = { λ key. Some (key_name key) };
-
-    fn fmt<W: fmt::Write>(&self, f: &mut fmt::Formatter<W>) -> fmt::Result {
-        f.write_str(match self {
+impl Key {
+    /// The key as it is written.
+    pub(crate) fn name(self) -> &'static str
+        ensures { result.now ≡ key_name self }
+    {
+        match self {
             Key::Processors => "processors",
             Key::Nocbs => "nocbs",
             Key::Stride => "stride",
@@ -36,7 +37,15 @@ impl fmt::Display for Key {
             Key::Routes => "routes",
             Key::Script => "script",
             Key::Calls => "calls",
-        })
+        }
+    }
+}
+
+impl fmt::Display for Key {
+    ghost output = { λ key. Some (key_name key) };
+
+    fn fmt<W: fmt::Write>(&self, f: &mut fmt::Formatter<W>) -> fmt::Result {
+        f.write_str(self.name())
     }
 }
 
