@@ -2,7 +2,7 @@
 
 ghost use Rattle.std.specs.Prelude.{◌≡◌, ◌++◌, OnOk, Some, codes};
 ghost use Rattle.std.specs.Io.KnownBytes.{Appends};
-ghost use Rattle.rcu_script.specs.Lines.{driver_text, line_text, lists_line, verb_text, whole_totals};
+ghost use Rattle.rcu_script.specs.Lines.{line_text, lists_line, verb_text, whole_totals};
 ghost use Rattle.rcu_script.specs.declared.lines.Line.TheVariants.{Refused};
 
 use crate::fault::Fault;
@@ -127,24 +127,6 @@ impl Line {
     }
 }
 
-/// What a turn of the driver says after the word `driver`.
-#[derive(Drop)]
-struct Turned(DriverTurn);
-
-impl fmt::Display for Turned {
-    ghost output = { λ turned. Some (driver_text turned.0) };
-
-    fn fmt<W: fmt::Write>(&self, f: &mut fmt::Formatter<W>) -> fmt::Result {
-        match self.0 {
-            DriverTurn::Idle => f.write_str("idle"),
-            DriverTurn::Started(seq) => write!(f, "started {seq}"),
-            DriverTurn::Ended(seq) => write!(f, "ended {seq}"),
-            DriverTurn::Waits(_) => f.write_str("waits"),
-            DriverTurn::Spent => f.write_str("spent"),
-        }
-    }
-}
-
 impl fmt::Display for Line {
     ghost output = { λ line. Some (line_text line) };
 
@@ -161,10 +143,11 @@ impl fmt::Display for Line {
             Line::Ran { verb, cpu, ran } => write!(f, "{verb} {cpu} ran {ran}"),
             Line::Group { group, took, gave } => write!(f, "group {group} took {took} gave {gave}"),
             Line::Asked { verb, cpu } => write!(f, "{verb} {cpu} asked"),
-            Line::Driver(turn) => {
-                let turned = Turned(*turn);
-                write!(f, "driver {turned}")
-            }
+            Line::Driver(DriverTurn::Idle) => f.write_str("driver idle"),
+            Line::Driver(DriverTurn::Started(seq)) => write!(f, "driver started {seq}"),
+            Line::Driver(DriverTurn::Ended(seq)) => write!(f, "driver ended {seq}"),
+            Line::Driver(DriverTurn::Waits(_)) => f.write_str("driver waits"),
+            Line::Driver(DriverTurn::Spent) => f.write_str("driver spent"),
             Line::Opened => f.write_str("barrier opened"),
             Line::Passed => f.write_str("barrier passed"),
             Line::Waits => f.write_str("barrier waits"),
