@@ -7,22 +7,15 @@ use rcu_jobs::{Lists, Mode};
 use std::alloc::{AllocError, Global};
 use std::fmt;
 
-/// A mode by its name.
-#[derive(Drop)]
-struct ModeName {
-    mode: Mode,
-}
-
-impl fmt::Display for ModeName {
-    ghost output = { λ name. Some (mode_name name.mode) };
-
-    fn fmt<W: fmt::Write>(&self, f: &mut fmt::Formatter<W>) -> fmt::Result {
-        f.write_str(match self.mode {
-            Mode::Local => "Local",
-            Mode::Offloading => "Offloading",
-            Mode::Offloaded => "Offloaded",
-            Mode::Deoffloading => "Deoffloading",
-        })
+/// A mode's name.
+fn mode_name(mode: Mode) -> &'static str
+    ensures { result.now ≡ mode_name mode }
+{
+    match mode {
+        Mode::Local => "Local",
+        Mode::Offloading => "Offloading",
+        Mode::Offloaded => "Offloaded",
+        Mode::Deoffloading => "Deoffloading",
     }
 }
 
@@ -58,7 +51,7 @@ pub fn line(alloc: Global, p: u64, lists: &Lists) -> Result<String, AllocError>
             lengths,
             numbers,
         } => {
-            let mode = ModeName { mode };
+            let mode = mode_name(mode);
             let segments = Segments { lengths, numbers };
             format!(in alloc; "cpu {p} {mode} accepted {accepted} bypass {bypass} {segments}\n")
         }
