@@ -24,7 +24,7 @@ use std::sync::Wait;
 use std::thread::Threads;
 
 /// Why the program can't end with its figures.
-#[derive(Debug, Drop)]
+#[derive(Drop)]
 enum Fault {
     /// The words of the command line were refused.
     Refused(Refusal),

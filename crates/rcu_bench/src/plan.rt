@@ -20,7 +20,7 @@ const EVERY: u64 = 64;
 const SPACING: u64 = 1_000;
 
 /// Why there is no plan.
-#[derive(Debug, Drop)]
+#[derive(Drop)]
 pub enum Refusal {
     /// The words of the command line were refused; clap's text says why.
     Words(clap::Error),
@@ -47,7 +47,7 @@ impl From<clap::Error> for Refusal {
 }
 
 /// What is to be measured.
-#[derive(Clone, Copy, Debug, PartialEq, Eq)]
+#[derive(Clone, Copy)]
 pub struct Plan {
     /// Whether it is measured how long a single callback waits, and not what calls cost.
     pub latency: bool,

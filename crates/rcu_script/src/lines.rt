@@ -2,7 +2,7 @@
 
 ghost use Rattle.std.specs.Prelude.{◌≡◌, ◌++◌, OnOk, Some, codes};
 ghost use Rattle.std.specs.Io.KnownBytes.{Appends};
-ghost use Rattle.rcu_script.specs.Lines.{driver_text, line_text, lists_line, verb_text, whole_totals};
+ghost use Rattle.rcu_script.specs.Lines.{line_text, lists_line, verb_text, whole_totals};
 ghost use Rattle.rcu_script.specs.declared.lines.Line.TheVariants.{Refused};
 
 use crate::fault::Fault;
@@ -13,7 +13,7 @@ use std::fmt;
 use std::io::Write;
 
 /// The word of a command that names a processor or a group.
-#[derive(Clone, Copy, Debug, PartialEq, Eq)]
+#[derive(Clone, Copy, PartialEq, Eq)]
 pub enum Verb {
     Call,
     Lazy,
@@ -29,21 +29,21 @@ impl fmt::Display for Verb {
     ghost output = { λ verb. Some (verb_text verb) };
 
     fn fmt<W: fmt::Write>(&self, f: &mut fmt::Formatter<W>) -> fmt::Result {
-        match self {
-            Verb::Call => write!(f, "call"),
-            Verb::Lazy => write!(f, "lazy"),
-            Verb::Quiet => write!(f, "quiet"),
-            Verb::Tick => write!(f, "tick"),
-            Verb::Group => write!(f, "group"),
-            Verb::Hand => write!(f, "hand"),
-            Verb::Offload => write!(f, "offload"),
-            Verb::Deoffload => write!(f, "deoffload"),
-        }
+        f.write_str(match self {
+            Verb::Call => "call",
+            Verb::Lazy => "lazy",
+            Verb::Quiet => "quiet",
+            Verb::Tick => "tick",
+            Verb::Group => "group",
+            Verb::Hand => "hand",
+            Verb::Offload => "offload",
+            Verb::Deoffload => "deoffload",
+        })
     }
 }
 
 /// The line of one answer.
-#[derive(Debug, Drop)]
+#[derive(Drop)]
 pub enum Line {
     /// The call on processor `cpu` was accepted as callback `number`.
     Number {
@@ -127,24 +127,6 @@ impl Line {
     }
 }
 
-/// What a turn of the driver says after the word `driver`.
-#[derive(Drop)]
-struct Turned(DriverTurn);
-
-impl fmt::Display for Turned {
-    ghost output = { λ turned. Some (driver_text turned.0) };
-
-    fn fmt<W: fmt::Write>(&self, f: &mut fmt::Formatter<W>) -> fmt::Result {
-        match self.0 {
-            DriverTurn::Idle => write!(f, "idle"),
-            DriverTurn::Started(seq) => write!(f, "started {seq}"),
-            DriverTurn::Ended(seq) => write!(f, "ended {seq}"),
-            DriverTurn::Waits(_) => write!(f, "waits"),
-            DriverTurn::Spent => write!(f, "spent"),
-        }
-    }
-}
-
 impl fmt::Display for Line {
     ghost output = { λ line. Some (line_text line) };
 
@@ -161,14 +143,15 @@ impl fmt::Display for Line {
             Line::Ran { verb, cpu, ran } => write!(f, "{verb} {cpu} ran {ran}"),
             Line::Group { group, took, gave } => write!(f, "group {group} took {took} gave {gave}"),
             Line::Asked { verb, cpu } => write!(f, "{verb} {cpu} asked"),
-            Line::Driver(turn) => {
-                let turned = Turned(*turn);
-                write!(f, "driver {turned}")
-            }
-            Line::Opened => write!(f, "barrier opened"),
-            Line::Passed => write!(f, "barrier passed"),
-            Line::Waits => write!(f, "barrier waits"),
-            Line::NoBarrier => write!(f, "barrier none"),
+            Line::Driver(DriverTurn::Idle) => f.write_str("driver idle"),
+            Line::Driver(DriverTurn::Started(seq)) => write!(f, "driver started {seq}"),
+            Line::Driver(DriverTurn::Ended(seq)) => write!(f, "driver ended {seq}"),
+            Line::Driver(DriverTurn::Waits(_)) => f.write_str("driver waits"),
+            Line::Driver(DriverTurn::Spent) => f.write_str("driver spent"),
+            Line::Opened => f.write_str("barrier opened"),
+            Line::Passed => f.write_str("barrier passed"),
+            Line::Waits => f.write_str("barrier waits"),
+            Line::NoBarrier => f.write_str("barrier none"),
             Line::Shut(counts) => write!(f, "shut {counts}"),
         }
     }

@@ -1,5 +1,6 @@
 -- What an answer says: docs/specification/tables.md, "Fault lines".
-use Rattle.std.specs.Prelude.{◌≡◌, ℕ, List, Option, Some, None, Result, Ok, Err, IfSome, string_bytes, codes}
+use Rattle.std.specs.Prelude.{◌≡◌, ◌++◌, ℕ, List, Option, Some, None, Result, Ok, Err, IfSome, string_bytes, codes}
+use Rattle.std.specs.Fmt.{decimal}
 use Rattle.rcu_setup.specs.declared.fault.Key.{Key}
 use Rattle.rcu_setup.specs.declared.fault.Key.TheVariants as key
 use Rattle.rcu_setup.specs.declared.fault.SetupFault.{SetupFault}
@@ -59,3 +60,17 @@ key_name key.Limit = codes "limit"
 key_name key.Routes = codes "routes"
 key_name key.Script = codes "script"
 key_name key.Calls = codes "calls"
+
+-- what the line of a fault says after the word `fault`
+abbrev pub setup_fault_text : SetupFault → List ℕ
+setup_fault_text fault.Memory = codes "2: no memory"
+setup_fault_text fault.NotToml = codes "10: not a TOML document"
+setup_fault_text (fault.UnknownKey k) = codes "11: unknown key " ++ string_bytes k
+setup_fault_text fault.MissingProcessors = codes "12: missing key processors"
+setup_fault_text (fault.WrongKind k) = codes "13: wrong kind of " ++ key_name k
+setup_fault_text (fault.OutOfRange k) = codes "14: " ++ (key_name k ++ codes " is out of range")
+setup_fault_text fault.BadList = codes "15: bad list"
+setup_fault_text (fault.Reversed a b) = codes "16: reversed range " ++ (decimal a ++ (codes "-" ++ decimal b))
+setup_fault_text (fault.NoProcessor p) = codes "17: no processor " ++ decimal p
+setup_fault_text (fault.BadLine i) = codes "18: bad line " ++ decimal i
+setup_fault_text (fault.BadRoute i) = codes "18: bad route " ++ decimal i

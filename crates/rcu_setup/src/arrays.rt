@@ -1,15 +1,17 @@
 //! The keys that are arrays of strings, `routes` and `script`.
 
-ghost use Rattle.std.specs.Prelude.{◌≡◌, ◌≤◌, [], map, option_map, IfOk, length, vec_len};
-ghost use Rattle.toml.specs.View.{view};
-ghost use Rattle.rcu_setup.specs.Faults.{Gives};
+ghost use Rattle.std.specs.Prelude.{◌≡◌, ◌≤◌, [], map, IfOk, length, vec_len};
+ghost use Rattle.toml.specs.Data.{get_member};
+ghost use Rattle.toml.specs.View.{table_view, view};
+ghost use Rattle.rcu_setup.specs.Faults.{Gives, key_name};
 ghost use Rattle.rcu_setup.specs.Arrays.{lines_of, lines_view, routes_of, routes_view, texts_in, texts_or_none, texts_view};
 
 use crate::fault::{Key, SetupFault};
+use crate::keys::at;
 use crate::line::{Command, script_line};
 use crate::words::route;
 use std::alloc::Global;
-use toml::Value;
+use toml::{Table, Value};
 
 /// The texts of an array.
 fn texts<'a>(alloc: Global, key: Key, value: &'a Value) -> Result<Vec<&'a str>, SetupFault>
@@ -28,18 +30,18 @@ fn texts<'a>(alloc: Global, key: Key, value: &'a Value) -> Result<Vec<&'a str>, 
     Ok(found)
 }
 
-/// The texts of an array of `most` items at most, and none where there is no array.
+/// The texts of the array at a key, `most` at most, and none where the key is absent.
 #[tactic(auto, unfolding(crate::specs::Arrays::texts_or_none))]
-pub(crate) fn texts_or_none<'a>(
+pub(crate) fn texts_or_none(
     alloc: Global,
+    table: &Table,
     key: Key,
     most: usize,
-    value: Option<&'a Value>,
-) -> Result<Vec<&'a str>, SetupFault>
-    ensures answer { Gives texts_view result (texts_or_none key most (option_map (λ v. view v.now) value.entry)) }
+) -> Result<Vec<&str>, SetupFault>
+    ensures answer { Gives texts_view result (texts_or_none key most (get_member (key_name key) (table_view table.now))) }
     ensures few { IfOk result (λ found. vec_len found ≤ most) }
 {
-    let Some(value) = value else {
+    let Some(value) = at(table, key) else {
         return Ok(Vec::new(alloc));
     };
     let texts = texts(alloc, key, value)?;

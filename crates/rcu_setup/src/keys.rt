@@ -4,33 +4,36 @@ ghost use Rattle.std.specs.Prelude.{◌≡◌, true, IfSome, option_map};
 ghost use Rattle.std.specs.List.{list_all};
 ghost use Rattle.toml.specs.Data.{get_member};
 ghost use Rattle.toml.specs.View.{table_view, view};
-ghost use Rattle.rcu_setup.specs.Faults.{Gives, named, unknown_key};
+ghost use Rattle.rcu_setup.specs.Faults.{Gives, key_name, named, unknown_key};
 ghost use Rattle.rcu_setup.specs.Keys.{is_key, is_key_byte, known, shown};
 
-use crate::fault::SetupFault;
+use crate::fault::{Key, SetupFault};
 use std::alloc::Global;
 use toml::{Table, Value};
 
 /// The value at a key.
-pub(crate) fn at<'a>(table: &'a Table, name: &str) -> Option<&'a Value>
-    ensures { option_map (λ v. view v.now) result ≡ get_member name.now (table_view table.now) }
+pub(crate) fn at(table: &Table, key: Key) -> Option<&Value>
+    ensures { option_map (λ v. view v.now) result ≡ get_member (key_name key) (table_view table.now) }
 {
-    table.get(name)
+    table.get(key.name())
 }
 
 #[tactic(auto, unfolding(crate::specs::Keys::is_key))]
 fn is_key(name: &str) -> bool
     ensures { result ≡ is_key name.now }
 {
-    name == "processors"
-        || name == "nocbs"
-        || name == "stride"
-        || name == "blimit"
-        || name == "qhimark"
-        || name == "limit"
-        || name == "routes"
-        || name == "script"
-        || name == "calls"
+    match name {
+        "processors"
+        | "nocbs"
+        | "stride"
+        | "blimit"
+        | "qhimark"
+        | "limit"
+        | "routes"
+        | "script"
+        | "calls" => true,
+        _ => false,
+    }
 }
 
 fn are_key_bytes(name: &str) -> bool

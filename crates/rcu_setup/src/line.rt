@@ -10,7 +10,7 @@ use crate::words::{hop, is_name, number};
 use std::alloc::Global;
 
 /// A line of a script. Its numbers are as written; whether there is such a processor or group is not asked here.
-#[derive(Debug, Drop)]
+#[derive(Drop)]
 pub enum Command {
     /// `call P M NAME HOP`
     Call {
@@ -76,18 +76,13 @@ struct CallWords<'a> {
 fn bare(word: &str) -> Option<Command>
     ensures { option_map line_of result ≡ bare word.now }
 {
-    if word == "driver" {
-        Some(Command::Driver)
-    } else if word == "barrier" {
-        Some(Command::Barrier)
-    } else if word == "poll" {
-        Some(Command::Poll)
-    } else if word == "shut" {
-        Some(Command::Shut)
-    } else if word == "show" {
-        Some(Command::Show)
-    } else {
-        None
+    match word {
+        "driver" => Some(Command::Driver),
+        "barrier" => Some(Command::Barrier),
+        "poll" => Some(Command::Poll),
+        "shut" => Some(Command::Shut),
+        "show" => Some(Command::Show),
+        _ => None,
     }
 }
 
@@ -96,18 +91,13 @@ fn bare(word: &str) -> Option<Command>
 fn placed(word: &str, place: u64) -> Option<Command>
     ensures { option_map line_of result ≡ placed word.now place }
 {
-    if word == "quiet" {
-        Some(Command::Quiet { cpu: place })
-    } else if word == "group" {
-        Some(Command::Group { group: place })
-    } else if word == "hand" {
-        Some(Command::Hand { cpu: place })
-    } else if word == "offload" {
-        Some(Command::Offload { cpu: place })
-    } else if word == "deoffload" {
-        Some(Command::Deoffload { cpu: place })
-    } else {
-        None
+    match word {
+        "quiet" => Some(Command::Quiet { cpu: place }),
+        "group" => Some(Command::Group { group: place }),
+        "hand" => Some(Command::Hand { cpu: place }),
+        "offload" => Some(Command::Offload { cpu: place }),
+        "deoffload" => Some(Command::Deoffload { cpu: place }),
+        _ => None,
     }
 }
 

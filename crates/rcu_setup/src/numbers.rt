@@ -1,9 +1,10 @@
 //! The keys that make the shape, and other whole numbers: docs/specification/rules.md, "Limits".
 
-ghost use Rattle.std.specs.Prelude.{◌≡◌, ◌<◌, ◌≤◌, ◌^◌, Ok, Err, IfOk, option_map};
+ghost use Rattle.std.specs.Prelude.{◌≡◌, ◌<◌, ◌≤◌, ◌^◌, Ok, Err, IfOk, codes};
 ghost use Rattle.rcu_numbers.specs.declared.shape.TheConstants.{MOST_PROCESSORS};
+ghost use Rattle.toml.specs.Data.{get_member};
 ghost use Rattle.toml.specs.View.{table_view, view};
-ghost use Rattle.rcu_setup.specs.Faults.{Gives, missing_processors};
+ghost use Rattle.rcu_setup.specs.Faults.{Gives, key_name, missing_processors};
 ghost use Rattle.rcu_setup.specs.Numbers.{default_stride_of, nocbs_of, shape_of, shape_view, whole_in, whole_or};
 
 use crate::fault::{Key, SetupFault};
@@ -29,31 +30,31 @@ fn whole(key: Key, least: u64, most: u64, value: &Value) -> Result<u64, SetupFau
     }
 }
 
-/// The same, or `other` where there is no value.
+/// The number at a key, or `other` where the key is absent.
 #[tactic(auto, unfolding(crate::specs::Numbers::whole_or))]
 pub(crate) fn whole_or(
+    table: &Table,
     key: Key,
     least: u64,
     most: u64,
     other: u64,
-    value: Option<&Value>,
 ) -> Result<u64, SetupFault>
     requires { (least ≤ other) × (other ≤ most) }
-    ensures answer { Gives (λ n. n) result (whole_or key least most (Ok other) (option_map (λ v. view v.now) value.entry)) }
+    ensures answer { Gives (λ n. n) result (whole_or key least most (Ok other) (get_member (key_name key) (table_view table.now))) }
     ensures within { IfOk result (λ n. (least ≤ n) × (n ≤ most)) }
 {
-    match value {
+    match at(table, key) {
         Some(value) => whole(key, least, most, value),
         None => Ok(other),
     }
 }
 
 #[tactic(auto, unfolding(crate::specs::Numbers::whole_or))]
-fn processors(value: Option<&Value>) -> Result<u64, SetupFault>
-    ensures answer { Gives (λ n. n) result (whole_or Key.Processors 1 MOST_PROCESSORS (Err missing_processors) (option_map (λ v. view v.now) value.entry)) }
+fn processors(table: &Table) -> Result<u64, SetupFault>
+    ensures answer { Gives (λ n. n) result (whole_or Key.Processors 1 MOST_PROCESSORS (Err missing_processors) (get_member (codes "processors") (table_view table.now))) }
     ensures within { IfOk result (λ n. (1 ≤ n) × (n ≤ MOST_PROCESSORS)) }
 {
-    match value {
+    match at(table, Key::Processors) {
         Some(value) => whole(Key::Processors, 1, MOST_PROCESSORS, value),
         None => Err(SetupFault::MissingProcessors),
     }
@@ -61,12 +62,12 @@ fn processors(value: Option<&Value>) -> Result<u64, SetupFault>
 
 /// The mask of the offloadable processors, among `n`.
 #[tactic(auto, unfolding(crate::specs::Numbers::nocbs_of))]
-fn nocbs(n: u64, value: Option<&Value>) -> Result<u32, SetupFault>
+fn nocbs(table: &Table, n: u64) -> Result<u32, SetupFault>
     requires { n ≤ MOST_PROCESSORS }
-    ensures answer { Gives (λ m. m) result (nocbs_of n (option_map (λ v. view v.now) value.entry)) }
+    ensures answer { Gives (λ m. m) result (nocbs_of n (get_member (codes "nocbs") (table_view table.now))) }
     ensures within { IfOk result (λ m. m < 2 ^ n) }
 {
-    let Some(value) = value else {
+    let Some(value) = at(table, Key::Nocbs) else {
         return Ok(0);
     };
     match value.as_str() {
@@ -89,16 +90,12 @@ fn stride_of(n: u64) -> u64
 pub(crate) fn shape(table: &Table) -> Result<Shape, SetupFault>
     ensures { Gives shape_view result (shape_of (table_view table.now)) }
 {
-    let n = processors(at(table, "processors"))?;
-    let offloadable = nocbs(n, at(table, "nocbs"))?;
-    let stride = at(table, "stride");
-    let stride = whole_or(Key::Stride, 1, MOST_PROCESSORS, stride_of(n), stride)?;
-    let blimit = at(table, "blimit");
-    let blimit = whole_or(Key::Blimit, 1, MOST_CALLBACKS, DEFAULT_BLIMIT, blimit)?;
-    let qhimark = at(table, "qhimark");
-    let qhimark = whole_or(Key::Qhimark, 1, MOST_CALLBACKS, DEFAULT_QHIMARK, qhimark)?;
-    let limit = at(table, "limit");
-    let limit = whole_or(Key::Limit, 1, MOST_CALLBACKS, DEFAULT_LIMIT, limit)?;
+    let n = processors(table)?;
+    let offloadable = nocbs(table, n)?;
+    let stride = whole_or(table, Key::Stride, 1, MOST_PROCESSORS, stride_of(n))?;
+    let blimit = whole_or(table, Key::Blimit, 1, MOST_CALLBACKS, DEFAULT_BLIMIT)?;
+    let qhimark = whole_or(table, Key::Qhimark, 1, MOST_CALLBACKS, DEFAULT_QHIMARK)?;
+    let limit = whole_or(table, Key::Limit, 1, MOST_CALLBACKS, DEFAULT_LIMIT)?;
     Ok(Shape {
         processors: n,
         offloadable,

@@ -7,7 +7,7 @@ ghost use Rattle.rcu_setup.specs.Setup.{setup_of, setup_view, table_setup};
 
 use crate::arrays::{lines, routes, texts_or_none};
 use crate::fault::{Key, SetupFault};
-use crate::keys::{at, known};
+use crate::keys::known;
 use crate::limits::{MOST_BYTES, MOST_CALLS, MOST_LINES, MOST_ROUTES};
 use crate::numbers::{shape, whole_or};
 use crate::setup::Setup;
@@ -20,12 +20,16 @@ fn table_setup(alloc: Global, table: &Table) -> Result<Setup, SetupFault>
 {
     known(alloc, table)?;
     let shape = shape(table)?;
-    let route_texts = texts_or_none(alloc, Key::Routes, MOST_ROUTES, at(table, "routes"))?;
-    let routes = routes(alloc, route_texts.as_slice())?;
-    let script_texts = texts_or_none(alloc, Key::Script, MOST_LINES, at(table, "script"))?;
-    let script = lines(alloc, script_texts.as_slice())?;
+    let routes = {
+        let texts = texts_or_none(alloc, table, Key::Routes, MOST_ROUTES)?;
+        routes(alloc, texts.as_slice())?
+    };
+    let script = {
+        let texts = texts_or_none(alloc, table, Key::Script, MOST_LINES)?;
+        lines(alloc, texts.as_slice())?
+    };
     let most_calls = shape.limit.min(MOST_CALLS);
-    let calls = whole_or(Key::Calls, 0, most_calls, 0, at(table, "calls"))?;
+    let calls = whole_or(table, Key::Calls, 0, most_calls, 0)?;
     Ok(Setup {
         shape,
         calls,

@@ -6,7 +6,7 @@ use crate::line::Command;
 use rcu_numbers::Shape;
 
 /// A setup.
-#[derive(Debug, Drop)]
+#[derive(Drop)]
 pub struct Setup {
     pub shape: Shape,
     /// How many calls `threads` makes on each processor.

@@ -3,7 +3,7 @@
 ghost use Rattle.std.specs.Prelude.{◌≡◌, ◌≤◌, ◌<◌, ◌++◌, IfOk, string_bytes, vec_len};
 ghost use Rattle.rcu_status.specs.Totals.{receipts_of, reports_text, total_text, totals_text};
 
-use crate::numbers::commas;
+use crate::numbers::{append, commas};
 use rcu_jobs::{Closed, Job, Record};
 use std::alloc::{AllocError, Global};
 
@@ -32,6 +32,7 @@ fn total(
 }
 
 /// The lines of all processors.
+#[tactic(auto, using(crate::proofs::Appended::appended))]
 fn processors<J: Job<Receipt = u64>>(
     alloc: Global,
     closed: &Closed<J>,
@@ -40,14 +41,17 @@ fn processors<J: Job<Receipt = u64>>(
 {
     let mut text = String::new(alloc);
     for (p, (ran, back)) in closed.ran.iter().zip(closed.back.iter()).enumerate() {
-        let line = total(alloc, p, ran.len(), back.len(), receipts(ran))?;
-        text.push_str(line.as_str())?;
+        append(
+            &mut text,
+            total(alloc, p, ran.len(), back.len(), receipts(ran)),
+        )?;
     }
     Ok(text)
 }
 
 /// The totals: for each processor how many of its callbacks ran, how many were handed back, and the sum of its
 /// receipts, and then, where `reports` is true, how many counted reports each made. Each line ends with a line feed.
+#[tactic(auto, using(crate::proofs::Appended::appended))]
 pub fn totals<J: Job<Receipt = u64>>(
     alloc: Global,
     closed: &Closed<J>,
@@ -58,8 +62,7 @@ pub fn totals<J: Job<Receipt = u64>>(
     let mut text = processors(alloc, closed)?;
     if reports {
         let counts = commas(alloc, closed.reports.as_slice())?;
-        let line = format!(in alloc; "reports {counts}\n")?;
-        text.push_str(line.as_str())?;
+        append(&mut text, format!(in alloc; "reports {counts}\n"))?;
     }
     Ok(text)
 }

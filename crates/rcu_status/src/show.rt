@@ -1,45 +1,21 @@
 //! The lines of `show`.
 
 ghost use Rattle.std.specs.Prelude.{◌≡◌, ◌++◌, IfOk, string_bytes, Some};
-ghost use Rattle.rcu_status.specs.Line.{line_text, mode_name, segments_text, wait_text};
+ghost use Rattle.rcu_status.specs.Line.{line_text, mode_name, segments_text};
 
 use rcu_jobs::{Lists, Mode};
 use std::alloc::{AllocError, Global};
 use std::fmt;
 
-/// A mode by its name.
-#[derive(Drop)]
-struct ModeName {
-    mode: Mode,
-}
-
-impl fmt::Display for ModeName {
-    ghost output = { λ name. Some (mode_name name.mode) };
-
-    fn fmt<W: fmt::Write>(&self, f: &mut fmt::Formatter<W>) -> fmt::Result {
-        match self.mode {
-            Mode::Local => write!(f, "Local"),
-            Mode::Offloading => write!(f, "Offloading"),
-            Mode::Offloaded => write!(f, "Offloaded"),
-            Mode::Deoffloading => write!(f, "Deoffloading"),
-        }
-    }
-}
-
-/// The length of a segment, and the number that it waits for: `W@X`.
-#[derive(Drop)]
-struct Wait {
-    length: u64,
-    number: u64,
-}
-
-impl fmt::Display for Wait {
-    ghost output = { λ wait. Some (wait_text wait.length wait.number) };
-
-    fn fmt<W: fmt::Write>(&self, f: &mut fmt::Formatter<W>) -> fmt::Result {
-        let length = self.length;
-        let number = self.number;
-        write!(f, "{length}@{number}")
+/// A mode's name.
+fn mode_name(mode: Mode) -> &'static str
+    ensures { result.now ≡ mode_name mode }
+{
+    match mode {
+        Mode::Local => "Local",
+        Mode::Offloading => "Offloading",
+        Mode::Offloaded => "Offloaded",
+        Mode::Deoffloading => "Deoffloading",
     }
 }
 
@@ -56,15 +32,10 @@ impl fmt::Display for Segments {
     fn fmt<W: fmt::Write>(&self, f: &mut fmt::Formatter<W>) -> fmt::Result {
         let [done, wait, ready, next] = self.lengths;
         let [wait_number, ready_number] = self.numbers;
-        let wait = Wait {
-            length: wait,
-            number: wait_number,
-        };
-        let ready = Wait {
-            length: ready,
-            number: ready_number,
-        };
-        write!(f, "done {done} wait {wait} ready {ready} next {next}")
+        write!(
+            f,
+            "done {done} wait {wait}@{wait_number} ready {ready}@{ready_number} next {next}"
+        )
     }
 }
 
@@ -80,7 +51,7 @@ pub fn line(alloc: Global, p: u64, lists: &Lists) -> Result<String, AllocError>
             lengths,
             numbers,
         } => {
-            let mode = ModeName { mode };
+            let mode = mode_name(mode);
             let segments = Segments { lengths, numbers };
             format!(in alloc; "cpu {p} {mode} accepted {accepted} bypass {bypass} {segments}\n")
         }
