@@ -1,44 +1,87 @@
 //! The run of all parts of one open, from the first call to the end.
 
-ghost use Rattle.std.specs.Prelude.{◌≡◌, ◌<◌, map, length, All, IfOk, vec_len};
+ghost use Rattle.std.specs.Prelude.{◌≡◌, ◌<◌, map, length, All, IfOk, OnOk, is_ok, true, vec_len};
 ghost use Rattle.std.specs.List.{AllZip};
 ghost use Rattle.rcu_parts.specs.OneOpen.{AreOfOneOpen, AreSoundParts};
 ghost use Rattle.rcu_parts.specs.Drained.{HasNoneBack};
 ghost use Rattle.rcu_crews.specs.Calls.{keys_in};
-ghost use Rattle.rcu_crews.specs.Dealing.{HaveAllRun};
+ghost use Rattle.rcu_crews.specs.Dealing.{AreDealt, HaveAllRun};
 ghost use Rattle.rcu_threads.specs.Ends.{AreUnused, ClosesSame, keys_ran};
 ghost use Rattle.rcu_threads.specs.Runs.{HaveRun};
 
 use crate::ended::Ended;
 use rcu_crews::{
-    Answer, Answered, ThreadsFault, deal, join_all, join_driver, run_processors, start_driver,
-    start_groups, start_hands,
+    Answer, Answered, Caller, ThreadsFault, deal, join_all, join_driver, run_processors,
+    start_driver, start_groups, start_hands,
 };
-use rcu_jobs::Job;
+use rcu_jobs::{Job, Ticket};
 use rcu_parts::{AllParts, Parts, close, same_parts};
 use std::alloc::Global;
 use std::rt::Clock;
 use std::sync::Wait;
 use std::thread::Threads;
 
+/// The processors with the jobs that are dealt to each, and room for the tickets of all calls.
+///
+/// # Errors
+///
+/// There is no processor, or want of memory.
+fn ready<P: Drop, J: Drop>(
+    alloc: Global,
+    processors: Vec<P>,
+    jobs: Vec<J>,
+) -> Result<(Vec<Caller<P, J>>, Vec<Ticket>), ThreadsFault>
+    ensures some { IfOk result (λ _. 0 < vec_len processors) }
+    ensures processors { IfOk result (λ ready. map (λ c. c.processor) ready.0.items ≡ processors.items) }
+    ensures dealt { IfOk result (λ ready. AreDealt jobs.items (map (λ c. c.jobs.items) ready.0.items)) }
+{
+    if processors.is_empty() {
+        return Err(ThreadsFault::CannotRun);
+    }
+    let Ok(room) = Vec::with_capacity(alloc, jobs.len()) else {
+        return Err(ThreadsFault::Memory);
+    };
+    let Ok(callers) = deal(alloc, processors, jobs) else {
+        return Err(ThreadsFault::Memory);
+    };
+    Ok((callers, room))
+}
+
+/// The first fault, if there is one.
+fn first_fault<D, G, H, A>(
+    driver: &Result<D, ThreadsFault>,
+    groups: &Result<G, ThreadsFault>,
+    hands: &Result<H, ThreadsFault>,
+    answered: &Result<A, ThreadsFault>,
+) -> Result<(), ThreadsFault>
+    ensures driver { OnOk result (is_ok driver.now ≡ true) }
+    ensures groups { OnOk result (is_ok groups.now ≡ true) }
+    ensures hands { OnOk result (is_ok hands.now ≡ true) }
+    ensures answered { OnOk result (is_ok answered.now ≡ true) }
+{
+    match (driver, groups, hands, answered) {
+        (Err(fault), ..) | (_, Err(fault), ..) | (_, _, Err(fault), _) | (.., Err(fault)) => {
+            Err(*fault)
+        }
+        _ => Ok(()),
+    }
+}
+
 /// Runs all parts, with these jobs for the processors in turn, until a barrier with all tickets has passed.
 ///
 /// # Errors
 ///
-/// A thread can't be made, the barrier is refused, or want of memory. All threads that were started have ended.
+/// A thread can't be made, the barrier is refused, there is no processor, or want of memory. All threads that were started
+/// have ended.
 fn run_parts<J: Job<Receipt = u64> + 'static, R: Threads + Wait + Clock + Copy + Send + 'static>(
     rt: &R,
     alloc: Global,
     parts: Parts<J>,
     jobs: Vec<J>,
 ) -> Result<(Parts<J>, Vec<Vec<Answer<J>>>), ThreadsFault>
-    requires { 0 < vec_len parts.processors }
     ensures ran { IfOk result (λ ended. HaveRun J.key_of J.gives parts ended.0) }
     ensures answered { AreUnused parts → IfOk result (λ ended. HaveAllRun J.key_of jobs.items (map (λ own. own.items) ended.1.items) (map (λ p. keys_in p) ended.0.processors.items)) }
 {
-    let Ok(room) = Vec::with_capacity(alloc, jobs.len()) else {
-        return Err(ThreadsFault::Memory);
-    };
     let AllParts {
         processors,
         driver,
@@ -46,9 +89,7 @@ fn run_parts<J: Job<Receipt = u64> + 'static, R: Threads + Wait + Clock + Copy +
         hands,
         mut control,
     } = parts;
-    let Ok(callers) = deal(alloc, processors, jobs) else {
-        return Err(ThreadsFault::Memory);
-    };
+    let (callers, room) = ready(alloc, processors, jobs)?;
     let driver = start_driver(rt, driver);
     let groups = start_groups(rt, alloc, groups);
     let hands = start_hands(rt, alloc, hands);
@@ -58,19 +99,20 @@ fn run_parts<J: Job<Receipt = u64> + 'static, R: Threads + Wait + Clock + Copy +
     let driver = join_driver(rt, driver);
     let groups = join_all(rt, groups);
     let hands = join_all(rt, hands);
-    let (driver, groups, hands) = (driver?, groups?, hands?);
-    let Answered {
-        processors,
-        answers,
-    } = answered?;
+    // (asked of all four at once: each `?` of its own would have to drop what the others gave)
+    first_fault(&driver, &groups, &hands, &answered)?;
+    let driver = driver.unwrap();
+    let groups = groups.unwrap();
+    let hands = hands.unwrap();
+    let answered = answered.unwrap();
     let parts = AllParts {
         driver,
         groups,
         hands,
-        processors,
+        processors: answered.processors,
         control,
     };
-    Ok((parts, answers))
+    Ok((parts, answered.answers))
 }
 
 /// Runs all parts of an open, each in a thread of its own (docs/specification/program.md, "threads"). The jobs are dealt to
@@ -92,9 +134,6 @@ pub fn run_in_threads<
     ensures ran { AreUnused parts → IfOk result (λ ended. HasNoneBack ended.closed) }
     ensures all { AreUnused parts → IfOk result (λ ended. HaveAllRun J.key_of jobs.items (map (λ own. own.items) ended.answers.items) (keys_ran ended.closed)) }
 {
-    if parts.processors.is_empty() {
-        return Err(ThreadsFault::CannotRun);
-    }
     let (ended, answers) = run_parts(rt, alloc, parts, jobs)?;
     same_parts::<J>();
     let Ok(closed) = close(alloc, ended) else {

@@ -2,7 +2,8 @@
 //! what each call answers; or it runs such a runtime in threads. docs/specification/program.md has its surface.
 #![tactic(auto)]
 
-ghost use Rattle.std.specs.Prelude.{◌≡◌};
+ghost use Rattle.std.specs.Prelude.{◌≡◌, ◌+◌, IfOk, OnOk, vec_len};
+ghost use Rattle.rcu_plan.specs.Plan.{jobs_for};
 
 #[cfg(test)]
 mod tests_threads;
@@ -10,9 +11,10 @@ mod threading;
 
 use rcu_jobs::BoxedJob;
 use rcu_parts_replay::replay;
-use rcu_plan::{Refusal, Subcommand, read_plan, versions};
+use rcu_plan::{Plan, Refusal, Subcommand, read_plan, versions};
 use rcu_script::{Fault, write_fault};
 use rcu_versions::Retired;
+use std::alloc::{AllocError, Global};
 use std::io;
 use std::process::ExitCode;
 use std::rt::Clock;
@@ -20,66 +22,113 @@ use std::sync::Wait;
 use std::thread::Threads;
 use threading::threads;
 
+/// Why the words of the command line can't be read.
+fn unread(error: &io::Error) -> Refusal {
+    match error.kind() {
+        io::ErrorKind::OutOfMemory => Refusal::Fault(Fault::memory()),
+        _ => Refusal::NoText,
+    }
+}
+
 /// The words of the command line after the program's name.
 fn words(rt: &HostRuntime) -> Result<Vec<String>, Refusal> {
-    let mut words = Vec::new(rt.alloc());
     let given = match std::env::args(rt) {
         Ok(given) => given,
-        Err(error) if error.kind() == io::ErrorKind::OutOfMemory => {
-            return Err(Refusal::Fault(Fault::memory()));
-        }
-        Err(_) => return Err(Refusal::NoText),
+        Err(error) => return Err(unread(&error)),
     };
+    let mut words = Vec::new(rt.alloc());
     for word in given.skip(1) {
         words.push(word)?;
     }
     Ok(words)
 }
 
-/// Does what the words and the setup say. Each version that is retired makes a job, which owns it, drops it, and answers
-/// how many routes it held. `rt` is the runtime of `host`, by what threads need of it.
+/// Adds the job that a retired version makes. The job owns the version, drops it, and answers how many routes it held.
+fn add_job(
+    alloc: Global,
+    retired: Retired,
+    jobs: &mut Vec<BoxedJob<65536>>,
+) -> Result<(), AllocError>
+    ensures { OnOk result (vec_len jobs.new ≡ vec_len jobs.old + 1) }
+{
+    let Retired { key, table } = retired;
+    let routes = table.len() as u64;
+    let call: Box<dyn FnOnce() -> u64 + Send> = Box::new(
+        alloc,
+        move || -> u64
+            ensures { result ≡ routes }
+        {
+            drop(table);
+            routes
+        },
+    )?;
+    jobs.push(BoxedJob::new(key, call))?;
+    Ok(())
+}
+
+/// A job of each version that is retired, in order.
+fn jobs_of(alloc: Global, plan: &Plan) -> Result<Vec<BoxedJob<65536>>, Fault>
+    ensures { IfOk result (λ jobs. vec_len jobs ≡ jobs_for plan.now.subcommand plan.now.setup) }
+{
+    let versions = versions(alloc, plan)?;
+    let mut jobs = Vec::new(alloc);
+    for retired in versions {
+        add_job(alloc, retired, &mut jobs)?;
+    }
+    Ok(jobs)
+}
+
+/// Does what the plan says. `rt` is the runtime of `host`, by what threads need of it.
+fn perform<R: Threads + Wait + Clock + Copy + Send + 'static>(
+    host: &HostRuntime,
+    rt: &R,
+    plan: &Plan,
+) -> Result<(), Fault> {
+    let alloc = host.alloc();
+    let jobs = jobs_of(alloc, plan)?;
+    let mut writer = io::writer(host);
+    match plan.subcommand {
+        Subcommand::Replay => replay(alloc, &plan.setup, jobs, &mut writer),
+        Subcommand::Threads => threads(rt, alloc, plan, jobs, &mut writer),
+    }
+}
+
+/// What the words and the setup ask for.
+fn asked(host: &HostRuntime) -> Result<Plan, Refusal> {
+    let words = words(host)?;
+    read_plan(host.alloc(), words.as_slice(), &mut host.stdin())
+}
+
+/// Does what the words and the setup say.
 fn run<R: Threads + Wait + Clock + Copy + Send + 'static>(
     host: &HostRuntime,
     rt: &R,
 ) -> Result<(), Refusal> {
-    let alloc = host.alloc();
-    let words = words(host)?;
-    let plan = read_plan(alloc, words.as_slice(), &mut host.stdin())?;
-    let mut jobs = Vec::new(alloc);
-    for Retired { key, table } in versions(alloc, &plan)? {
-        let routes = table.len() as u64;
-        let call: Box<dyn FnOnce() -> u64 + Send> = Box::new(
-            alloc,
-            move || -> u64
-                ensures { result ≡ routes }
-            {
-                drop(table);
-                routes
-            },
-        )?;
-        jobs.push(BoxedJob::<65536>::new(key, call))?;
-    }
-    let mut writer = io::writer(host);
-    match plan.subcommand {
-        Subcommand::Replay => Ok(replay(alloc, &plan.setup, jobs, &mut writer)?),
-        Subcommand::Threads => Ok(threads(rt, alloc, &plan, jobs, &mut writer)?),
+    let plan = asked(host)?;
+    Ok(perform(host, rt, &plan)?)
+}
+
+/// Says why the program refused, and gives its status.
+fn refuse(host: &HostRuntime, refusal: &Refusal) -> ExitCode {
+    match refusal {
+        Refusal::Words(error) => {
+            let _ = host.eprint(error);
+            ExitCode::from(2)
+        }
+        Refusal::NoText => {
+            let _ = host.eprint("error: a word of the command line is no text\n");
+            ExitCode::from(2)
+        }
+        Refusal::Fault(fault) => {
+            let _ = write_fault(fault, &mut host.stderr());
+            ExitCode::from(1)
+        }
     }
 }
 
 fn main(rt: HostRuntime) -> ExitCode {
     match run(&rt, &rt) {
         Ok(()) => ExitCode::SUCCESS,
-        Err(Refusal::Words(error)) => {
-            let _ = rt.eprint(&error);
-            ExitCode::from(2)
-        }
-        Err(Refusal::NoText) => {
-            let _ = rt.eprint("error: a word of the command line is no text\n");
-            ExitCode::from(2)
-        }
-        Err(Refusal::Fault(fault)) => {
-            let _ = write_fault(&fault, &mut rt.stderr());
-            ExitCode::from(1)
-        }
+        Err(refusal) => refuse(&rt, &refusal),
     }
 }

@@ -40,8 +40,15 @@ pub fn threads<R: Threads + Wait + Clock + Copy + Send + 'static, W: Write>(
     let parts = open(alloc, plan.setup.shape)?;
     match run_in_threads(rt, alloc, parts, jobs) {
         Ok(ended) => print_totals(alloc, &ended.closed, writer),
-        Err(ThreadsFault::Memory) => Err(Fault::memory()),
-        Err(ThreadsFault::CannotRun) => Err(Fault::CannotRun),
+        Err(fault) => Err(not_run(fault)),
+    }
+}
+
+/// The fault of a runtime that was not run in threads.
+fn not_run(fault: ThreadsFault) -> Fault {
+    match fault {
+        ThreadsFault::Memory => Fault::memory(),
+        ThreadsFault::CannotRun => Fault::CannotRun,
     }
 }
 

@@ -1,5 +1,4 @@
-use Rattle.std.proofs.Common.{◌<◌, ◌∙◌, sym, map, vec_len, rules}
-use Rattle.rcu_crews.proofs.Dealt.{some_of}
+use Rattle.std.proofs.Common.{map, rules}
 use Rattle.rcu_threads.proofs.Ending.{all_have_run, all_same, all_sound, none_handed_back}
 use Rattle.rcu_threads.proofs.running.run_in_threads.Goals as goal
 
@@ -16,7 +15,7 @@ pub close-requires-send-J-Receipt : goal.close-requires-send-J-Receipt
 close-requires-send-J-Receipt g c κs within = search rules
 
 pub run_parts-requires-after_bounds : goal.run_parts-requires-after_bounds
-run_parts-requires-after_bounds g c κs within = let some : 0 < vec_len c.args.parts.processors = some_of (vec_len c.args.parts.processors) (sym c.is_empty.ensures ∙ c.if-is_empty.false) in (assumption, (assumption, (assumption, some)))
+run_parts-requires-after_bounds g c κs within = (assumption, (assumption, assumption))
 
 pub close-requires-clause-parts : goal.close-requires-clause-parts
 close-requires-clause-parts g c κs within = let key_of = g.J.Job.key_of in let gives = g.J.Job.gives in let old = c.args.parts in let new = c.in_ok-ended.ended in let ran = c.in_ok-ended.ensures.ran in

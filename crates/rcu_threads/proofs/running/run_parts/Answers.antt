@@ -2,6 +2,7 @@ use Rattle.std.proofs.Common.{◌≡◌, ℕ, ◌<◌, length, map, ap, sym, sub
 use Rattle.std.specs.Prelude.{All}
 use Rattle.std.specs.List.{AllZip}
 use Rattle.std.proofs.lemmas.List.{length-map}
+use Rattle.std.proofs.lemmas.Result.{IfOk-at_ok}
 use Rattle.rcu_gathering.proofs.Lists.{all_map}
 use Rattle.rcu_part_processor.specs.declared.processor.Processor.{Processor}
 use Rattle.rcu_control.proofs.Stepping.{same_again}
@@ -40,39 +41,37 @@ pub run_processors-answered-requires-after_bounds : goal.run_processors-answered
 run_processors-answered-requires-after_bounds g c κs within = assumption
 
 pub returns-clause-ran : goal.returns-clause-ran
-returns-clause-ran g c = let key_of = g.J.Job.key_of in let gives = g.J.Job.gives in let parts = c.args.parts in let rs = c.in_ok-processors.field-0.processors.items in
+returns-clause-ran g c = let key_of = g.J.Job.key_of in let gives = g.J.Job.gives in let parts = c.args.parts in let rs = c.unwrap-answered.result.processors.items in
+    -- what each of the four gave
+    let driver = IfOk-at_ok _ c.unwrap-driver.ensures c.join_driver-driver.ensures in
+    let groups = IfOk-at_ok _ c.unwrap-groups.ensures c.join_all-groups.ensures.whole in
+    let groups_kept = IfOk-at_ok _ c.unwrap-groups.ensures c.join_all-groups.ensures.kept in
+    let hands = IfOk-at_ok _ c.unwrap-hands.ensures c.join_all-hands.ensures.whole in
+    let hands_kept = IfOk-at_ok _ c.unwrap-hands.ensures c.join_all-hands.ensures.kept in
+    let have_run = IfOk-at_ok _ c.unwrap-answered.ensures c.run_processors-answered.ensures.ran in
     let v = control_view c.run_processors-answered.new.control in
-    let ran = subst (λ ps. AllZip (HasRun key_of gives v) ps rs) c.in-Ok-deal.ensures.processors c.in_ok-processors.ensures.ran in record {
+    let ran = subst (λ ps. AllZip (HasRun key_of gives v) ps rs) c.in_ok-callers.ensures.processors have_run in record {
       control = same_again _ _ _ _ _ _ c.run_processors-answered.ensures.same c.finish.ensures.same;
-      driver = driver_kept (λ t. t.promise.0.value) c.start_driver-driver.result parts.driver c.in_ok-driver.driver c.start_driver-driver.ensures c.in_ok-driver.ensures;
-      groups = zip_kept (λ t. t.promise.0.value) (λ t q. GroupStays t.promise.0.value q) GroupStays (λ t q kept. kept) parts.groups.items c.start_groups-groups.result.threads.items c.in_ok-groups.groups.items (c.start_groups-groups.ensures c.in_ok-groups.ensures.whole) c.in_ok-groups.ensures.kept;
-      hands = zip_kept (λ t. t.promise.0.value) (λ t q. HandStays key_of gives t.promise.0.value q) (HandStays key_of gives) (λ t q kept. kept) parts.hands.items c.start_hands-hands.result.threads.items c.in_ok-hands.hands.items (c.start_hands-hands.ensures c.in_ok-hands.ensures.whole) c.in_ok-hands.ensures.kept;
+      driver = driver_kept (λ t. t.promise.0.value) c.start_driver-driver.result parts.driver c.unwrap-driver.result c.start_driver-driver.ensures driver;
+      groups = zip_kept (λ t. t.promise.0.value) (λ t q. GroupStays t.promise.0.value q) GroupStays (λ t q kept. kept) parts.groups.items c.start_groups-groups.result.threads.items c.unwrap-groups.result.items (c.start_groups-groups.ensures groups) groups_kept;
+      hands = zip_kept (λ t. t.promise.0.value) (λ t q. HandStays key_of gives t.promise.0.value q) (HandStays key_of gives) (λ t q kept. kept) parts.hands.items c.start_hands-hands.result.threads.items c.unwrap-hands.result.items (c.start_hands-hands.ensures hands) hands_kept;
       processors = all_halted key_of gives v (control_view c.finish.new.self) 1 parts.processors.items rs c.finish.ensures.halts ran;
     }
 
 pub returns-clause-answered : goal.returns-clause-answered
-returns-clause-answered g c = λ unused. let callers = c.in-Ok-deal.callers.items in let ps = c.args.parts.processors.items in
+returns-clause-answered g c = λ unused. let callers = c.in_ok-callers.callers.items in let ps = c.args.parts.processors.items in
     let Unused : Processor g.row.J.Denot ℕ → Type 0 = λ p. p.state.accepted ≡ 0 in
-    let none = all_map Unused (λ y. y.processor) callers (subst (λ l. All Unused l) (sym c.in-Ok-deal.ensures.processors) unused) in
-    let answered = c.in_ok-processors.ensures.answered none in
-    let some : 0 < length ps = subst (λ n. 0 < n) c.args.parts.processors.ok.0 c.requires in
-    let many = ap (λ l. length l) c.in-Ok-deal.ensures.processors in
+    let none = all_map Unused (λ y. y.processor) callers (subst (λ l. All Unused l) (sym c.in_ok-callers.ensures.processors) unused) in
+    let answered = IfOk-at_ok _ c.unwrap-answered.ensures (c.run_processors-answered.ensures.answered none) in
+    let some : 0 < length ps = subst (λ n. 0 < n) c.args.parts.processors.ok.0 c.in_ok-callers.ensures.some in
+    let many = ap (λ l. length l) c.in_ok-callers.ensures.processors in
     let jobs = length-map callers (λ y. y.jobs.items) in let parts = length-map callers (λ y. y.processor) in record {
       shares = map (λ y. y.jobs.items) callers;
       some = omega (arith, some, many, jobs, parts);
-      dealt = c.in-Ok-deal.ensures.dealt;
+      dealt = c.in_ok-callers.ensures.dealt;
       answered = answered.answered;
       accepted = answered.keys;
     }
-
-pub drop-parts-requires-room-T-Destruct : goal.drop-parts-requires-room-T-Destruct
-drop-parts-requires-room-T-Destruct g c κs within = assumption
-
-pub drop-parts-requires-in_default-3-room-T-Destruct : goal.drop-parts-requires-in_default-3-room-T-Destruct
-drop-parts-requires-in_default-3-room-T-Destruct g c κs within = assumption
-
-pub drop-parts-requires-in_default-4-room-T-Destruct : goal.drop-parts-requires-in_default-4-room-T-Destruct
-drop-parts-requires-in_default-4-room-T-Destruct g c κs within = assumption
 
 pub join_all-groups-requires-room-P-Promise : goal.join_all-groups-requires-room-P-Promise
 join_all-groups-requires-room-P-Promise g c κs within = assumption
@@ -91,9 +90,3 @@ drop-hands-requires-room-T-Destruct g c κs within = assumption
 
 pub drop-groups-requires-room-T-Destruct : goal.drop-groups-requires-room-T-Destruct
 drop-groups-requires-room-T-Destruct g c κs within = assumption
-
-pub drop-hands-requires-in_err-groups-room-T-Destruct : goal.drop-hands-requires-in_err-groups-room-T-Destruct
-drop-hands-requires-in_err-groups-room-T-Destruct g c κs within = assumption
-
-pub drop-branch-requires-in_err-hands-room-T-Destruct : goal.drop-branch-requires-in_err-hands-room-T-Destruct
-drop-branch-requires-in_err-hands-room-T-Destruct g c κs within = assumption
