@@ -5,6 +5,9 @@ ghost use Rattle.clap.specs.Words.{app_of, kind_of, new_app, shape_of};
 ghost use Rattle.clap.specs.declared.builder.command.Command.TheViews.{out-Command};
 ghost use Rattle.rcu_setup.specs.Setup.{setup_of, setup_view};
 ghost use Rattle.rcu_reading.specs.Reading.{TakesAtMost};
+ghost use Rattle.rcu_plan.specs.declared.planning.Refusal.TheVariants.{Fault};
+ghost use Rattle.rcu_script.specs.declared.fault.Fault.TheVariants.{Setup};
+ghost use Rattle.rcu_setup.specs.declared.fault.SetupFault.TheVariants.{Memory};
 ghost use Rattle.rcu_plan.specs.Plan.{NamesFaultOf, Names, RefusesWords, rcuo, rcuo_top};
 
 use clap::error::ErrorKind;
@@ -26,18 +29,24 @@ pub enum Refusal {
 }
 
 impl From<Fault> for Refusal {
+    ghost from_gives = { λ fault refusal. refusal ≡ Fault fault };
+
     fn from(fault: Fault) -> Refusal {
         Refusal::Fault(fault)
     }
 }
 
 impl From<AllocError> for Refusal {
+    ghost from_gives = { λ _ refusal. refusal ≡ Fault (Setup Memory) };
+
     fn from(_error: AllocError) -> Refusal {
         Refusal::Fault(Fault::memory())
     }
 }
 
 impl<T: Drop> From<AllocFailed<T>> for Refusal {
+    ghost from_gives = { λ _ refusal. refusal ≡ Fault (Setup Memory) };
+
     fn from(_error: AllocFailed<T>) -> Refusal {
         Refusal::Fault(Fault::memory())
     }

@@ -1,7 +1,8 @@
 //! The versions of the route table that a plan's run retires: docs/specification/program.md, "Route table".
 
-ghost use Rattle.std.specs.Prelude.{◌≡◌, IfOk, vec_len};
+ghost use Rattle.std.specs.Prelude.{◌≡◌, IfErr, IfOk, vec_len};
 ghost use Rattle.rcu_setup.specs.Arrays.{routes_view};
+ghost use Rattle.rcu_versions.specs.Faults.{IsWantOfMemory};
 ghost use Rattle.rcu_versions.specs.Versions.{AreVersions};
 ghost use Rattle.rcu_plan.specs.Plan.{calls_for, jobs_for};
 
@@ -19,6 +20,7 @@ use std::alloc::Global;
 pub fn versions(alloc: Global, plan: &Plan) -> Result<Vec<Retired>, Fault>
     ensures many { IfOk result (λ retired. vec_len retired ≡ jobs_for plan.now.subcommand plan.now.setup) }
     ensures versions { IfOk result (AreVersions (routes_view plan.now.setup.routes) (calls_for plan.now.subcommand plan.now.setup)) }
+    ensures memory { IfErr result IsWantOfMemory }
 {
     match plan.subcommand {
         Subcommand::Replay => versions_by_script(alloc, &plan.setup),

@@ -1,12 +1,13 @@
 //! The versions that are retired, one for each call.
 
-ghost use Rattle.std.specs.Prelude.{◌≡◌, ◌≤◌, ◌+◌, ◌*◌, ◌<◌, [], ◌∷◌, ◌++◌, IfOk, OnOk, List, count_by, length, option_to_list, vec_len};
+ghost use Rattle.std.specs.Prelude.{◌≡◌, ◌≤◌, ◌+◌, ◌*◌, ◌<◌, [], ◌∷◌, ◌++◌, IfErr, IfOk, OnOk, List, count_by, length, option_to_list, vec_len};
 ghost use Rattle.std.specs.Option.{option_len};
 ghost use Rattle.indexmap.specs.IndexMap.{index_map_len};
 ghost use Rattle.rcu_setup.specs.Arrays.{routes_view};
 ghost use Rattle.rcu_setup.specs.Words.{Route};
 ghost use Rattle.rcu_script.specs.Calls.{is_call, route_in};
 ghost use Rattle.rcu_versions.specs.Routes.{routes_of_calls, routes_of_round, routes_of_rounds, with_routes};
+ghost use Rattle.rcu_versions.specs.Faults.{IsWantOfMemory};
 ghost use Rattle.rcu_versions.specs.Versions.{AreVersions, HasRetired};
 
 use crate::table::{KEY_STEP, Retired, Version, added_bytes, first_version, next_version};
@@ -36,6 +37,7 @@ impl Retiring {
         ensures none { IfOk result (λ retiring. vec_len retiring.retired ≡ 0) }
         ensures first { IfOk result (HasRetired (with_routes [] (routes_view setup.now.routes)) []) }
         ensures small { IfOk result (λ retiring. index_map_len retiring.current ≤ 64) }
+        ensures memory { IfErr result IsWantOfMemory }
     {
         let (current, bytes) = first_version(alloc, setup.routes.as_slice())?;
         Ok(Retiring {
@@ -56,6 +58,7 @@ impl Retiring {
         ensures spent { OnOk result (self.new.left + self.new.bytes ≡ self.old.left) }
         ensures version { (first calls : List Route) → HasRetired first calls self.old
             → OnOk result (HasRetired first (calls ++ (name.now, hop) ∷ []) self.new) }
+        ensures memory { IfErr result IsWantOfMemory }
     {
         let bytes = self.bytes.saturating_add(added_bytes(&self.current, name));
         let Some(left) = self.left.checked_sub(bytes) else {
@@ -79,6 +82,7 @@ fn retire_for(alloc: Global, retiring: &mut Retiring, command: &Command) -> Resu
     ensures small { OnOk result (index_map_len retiring.new.current ≤ index_map_len retiring.old.current + 1) }
     ensures versions { (first calls : List Route) → HasRetired first calls retiring.old
         → OnOk result (HasRetired first (calls ++ option_to_list (route_in command.now)) retiring.new) }
+    ensures memory { IfErr result IsWantOfMemory }
 {
     match route_of(command) {
         Some((name, hop)) => retiring.retire(alloc, name, hop),
@@ -94,6 +98,7 @@ fn retire_by_script(alloc: Global, retiring: &mut Retiring, script: &[Command]) 
     ensures many { OnOk result (vec_len retiring.new.retired ≡ count_by is_call script.now) }
     ensures versions { (first : List Route) → HasRetired first [] retiring.old
         → OnOk result (HasRetired first (routes_of_calls script.now) retiring.new) }
+    ensures memory { IfErr result IsWantOfMemory }
 {
     for command in script {
         retire_for(alloc, retiring, command)?;
@@ -117,6 +122,7 @@ fn retire_round(
     ensures small { OnOk result (index_map_len retiring.new.current ≤ 64 + vec_len retiring.new.retired) }
     ensures versions { (first calls : List Route) → HasRetired first calls retiring.old
         → OnOk result (HasRetired first (calls ++ routes_of_round round processors) retiring.new) }
+    ensures memory { IfErr result IsWantOfMemory }
 {
     for cpu in 0..processors {
         let name = format!(in alloc; "c{cpu}")?;
@@ -139,6 +145,7 @@ fn retire_by_rounds(
     ensures many { OnOk result (vec_len retiring.new.retired ≡ calls * processors) }
     ensures versions { (first : List Route) → HasRetired first [] retiring.old
         → OnOk result (HasRetired first (routes_of_rounds processors calls) retiring.new) }
+    ensures memory { IfErr result IsWantOfMemory }
 {
     for round in 0..calls {
         retire_round(alloc, retiring, processors, round)?;
@@ -154,6 +161,7 @@ fn retire_by_rounds(
 pub fn versions_by_script(alloc: Global, setup: &Setup) -> Result<Vec<Retired>, Fault>
     ensures many { IfOk result (λ retired. vec_len retired ≡ count_by is_call setup.now.script.items) }
     ensures versions { IfOk result (AreVersions (routes_view setup.now.routes) (routes_of_calls setup.now.script.items)) }
+    ensures memory { IfErr result IsWantOfMemory }
 {
     let mut retiring = Retiring::of_routes(alloc, setup)?;
     retire_by_script(alloc, &mut retiring, setup.script.as_slice())?;
@@ -170,6 +178,7 @@ pub fn versions_by_rounds(alloc: Global, setup: &Setup) -> Result<Vec<Retired>, 
     ensures many { IfOk result (λ retired. vec_len retired ≡ setup.now.calls * setup.now.shape.processors) }
     ensures versions { IfOk result (AreVersions (routes_view setup.now.routes)
         (routes_of_rounds setup.now.shape.processors setup.now.calls)) }
+    ensures memory { IfErr result IsWantOfMemory }
 {
     let mut retiring = Retiring::of_routes(alloc, setup)?;
     retire_by_rounds(alloc, &mut retiring, setup.shape.processors, setup.calls)?;

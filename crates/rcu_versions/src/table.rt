@@ -1,9 +1,10 @@
 //! One version of the route table.
 
-ghost use Rattle.std.specs.Prelude.{◌≡◌, ◌≤◌, ◌+◌, ◌%◌, [], IfOk, OnOk, length, map};
+ghost use Rattle.std.specs.Prelude.{◌≡◌, ◌≤◌, ◌+◌, ◌%◌, [], IfErr, IfOk, OnOk, length, map};
 ghost use Rattle.indexmap.specs.IndexMap.{index_map_len};
 ghost use Rattle.rcu_setup.specs.Arrays.{route_view};
 ghost use Rattle.rcu_versions.specs.Routes.{routes_in, with_route, with_routes};
+ghost use Rattle.rcu_versions.specs.Faults.{IsWantOfMemory};
 
 use indexmap::IndexMap;
 use rcu_script::Fault;
@@ -44,6 +45,7 @@ pub fn added_bytes(version: &Version, name: &str) -> u64 {
 fn set_route(alloc: Global, version: &mut Version, name: &str, hop: u32) -> Result<(), Fault>
     ensures small { OnOk result (index_map_len version.new ≤ index_map_len version.old + 1) }
     ensures routes { OnOk result (routes_in version.new ≡ with_route (routes_in version.old) (name.now, hop)) }
+    ensures memory { IfErr result IsWantOfMemory }
 {
     let name = String::from_str(alloc, name)?;
     version.insert(name, hop)?;
@@ -59,6 +61,7 @@ pub fn next_version(
 ) -> Result<Version, Fault>
     ensures small { IfOk result (λ v. index_map_len v ≤ index_map_len version.now + 1) }
     ensures routes { IfOk result (λ v. routes_in v ≡ with_route (routes_in version.now) (name.now, hop)) }
+    ensures memory { IfErr result IsWantOfMemory }
 {
     let mut copy = version.clone()?;
     set_route(alloc, &mut copy, name, hop)?;
@@ -69,6 +72,7 @@ pub fn next_version(
 pub fn first_version(alloc: Global, routes: &[(String, u32)]) -> Result<(Version, u64), Fault>
     ensures small { IfOk result (λ v. index_map_len v.0 ≤ length routes.now) }
     ensures routes { IfOk result (λ v. routes_in v.0 ≡ with_routes [] (map route_view routes.now)) }
+    ensures memory { IfErr result IsWantOfMemory }
 {
     let mut version = Version::new(alloc);
     let mut bytes = 0u64;
