@@ -2,8 +2,7 @@
 //! what each call answers; or it runs such a runtime in threads. docs/specification/program.md has its surface.
 #![tactic(auto)]
 
-ghost use Rattle.std.specs.Prelude.{◌≡◌, ◌+◌, IfOk, OnOk, vec_len};
-ghost use Rattle.rcu_plan.specs.Plan.{jobs_for};
+ghost use Rattle.std.specs.Prelude.{◌≡◌};
 
 #[cfg(test)]
 mod tests_threads;
@@ -14,7 +13,6 @@ use rcu_parts_replay::replay;
 use rcu_plan::{Plan, Refusal, Subcommand, read_plan, versions};
 use rcu_script::{Fault, write_fault};
 use rcu_versions::Retired;
-use std::alloc::{AllocError, Global};
 use std::io;
 use std::process::ExitCode;
 use std::rt::Clock;
@@ -43,49 +41,29 @@ fn words(rt: &HostRuntime) -> Result<Vec<String>, Refusal> {
     Ok(words)
 }
 
-/// Adds the job that a retired version makes. The job owns the version, drops it, and answers how many routes it held.
-fn add_job(
-    alloc: Global,
-    retired: Retired,
-    jobs: &mut Vec<BoxedJob<65536>>,
-) -> Result<(), AllocError>
-    ensures { OnOk result (vec_len jobs.new ≡ vec_len jobs.old + 1) }
-{
-    let Retired { key, table } = retired;
-    let routes = table.len() as u64;
-    let call: Box<dyn FnOnce() -> u64 + Send> = Box::new(
-        alloc,
-        move || -> u64
-            ensures { result ≡ routes }
-        {
-            drop(table);
-            routes
-        },
-    )?;
-    jobs.push(BoxedJob::new(key, call))?;
-    Ok(())
-}
-
-/// A job of each version that is retired, in order.
-fn jobs_of(alloc: Global, plan: &Plan) -> Result<Vec<BoxedJob<65536>>, Fault>
-    ensures { IfOk result (λ jobs. vec_len jobs ≡ jobs_for plan.now.subcommand plan.now.setup) }
-{
-    let versions = versions(alloc, plan)?;
-    let mut jobs = Vec::new(alloc);
-    for retired in versions {
-        add_job(alloc, retired, &mut jobs)?;
-    }
-    Ok(jobs)
-}
-
-/// Does what the plan says. `rt` is the runtime of `host`, by what threads need of it.
+/// Does what the plan says. Each version that is retired makes a job, which owns it, drops it, and answers how many routes it
+/// held; jobs are made where they are handed on, since a function that gave boxed closures back could promise nothing of them.
+/// `rt` is the runtime of `host`, by what threads need of it.
 fn perform<R: Threads + Wait + Clock + Copy + Send + 'static>(
     host: &HostRuntime,
     rt: &R,
     plan: &Plan,
 ) -> Result<(), Fault> {
     let alloc = host.alloc();
-    let jobs = jobs_of(alloc, plan)?;
+    let mut jobs = Vec::new(alloc);
+    for Retired { key, table } in versions(alloc, plan)? {
+        let routes = table.len() as u64;
+        let call: Box<dyn FnOnce() -> u64 + Send> = Box::new(
+            alloc,
+            move || -> u64
+                ensures { result ≡ routes }
+            {
+                drop(table);
+                routes
+            },
+        )?;
+        jobs.push(BoxedJob::<65536>::new(key, call))?;
+    }
     let mut writer = io::writer(host);
     match plan.subcommand {
         Subcommand::Replay => replay(alloc, &plan.setup, jobs, &mut writer),
