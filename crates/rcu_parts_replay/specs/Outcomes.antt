@@ -1,11 +1,14 @@
 -- What each command does to the parts, and the line of its answer: docs/specification/tables.md, "Script commands and what they print". What a call of a part does and answers is its contract in rcu_parts and rcu_control.
-use Rattle.std.specs.Prelude.{ℕ, suc, ◌≡◌, ◌≢◌, ◌≤◌, ◌<◌, ◌++◌, List, [], ◌∷◌, Option, None, Some, Ok, Err, Result, MatchResult, All, Any, length, take, string_bytes, if◌then◌else◌, nat_lt}
+use Rattle.std.specs.Prelude.{ℕ, suc, ◌≡◌, ◌≢◌, ◌≤◌, ◌<◌, ◌++◌, List, [], ◌∷◌, Option, None, Some, IfSome, Ok, Err, Result, MatchResult, All, Any, length, take, string_bytes, if◌then◌else◌, nat_lt}
 use Rattle.rcu_board.specs.declared.board.Board.{Board}
 use Rattle.rcu_board.specs.declared.view.View.{View}
 use Rattle.rcu_control.specs.Barriers.{OpensBy, PollsBy}
 use Rattle.rcu_control.specs.Control.{Shuts, SwitchesBy}
 use Rattle.rcu_control.specs.Driving.{DrivesBy}
+use Rattle.rcu_control.specs.Parts.{control_board, control_view, driver_board, driver_view}
 use Rattle.rcu_control.specs.declared.barrier.Barrier.{Barrier}
+use Rattle.rcu_control.specs.declared.control.Control.{Control}
+use Rattle.rcu_control.specs.declared.driver.Driver.{Driver}
 use Rattle.rcu_holdings.specs.ProcessorLists.{cpu_lists}
 use Rattle.rcu_jobs.specs.Refusals.{number_of, switch_number}
 use Rattle.rcu_jobs.specs.declared.SwitchFault.{SwitchFault}
@@ -34,7 +37,7 @@ use Rattle.rcu_script.specs.declared.lines.Verb.TheVariants as verb
 use Rattle.rcu_script.specs.declared.lines.Line.{Line}
 use Rattle.rcu_script.specs.declared.lines.Line.TheVariants as line
 use Rattle.rcu_status.specs.Commas.{with_commas}
-use Rattle.rcu_parts_replay.specs.Changes.{ChangesAt}
+use Rattle.rcu_parts_replay.specs.Changes.{ChangesAt, HoldsAt}
 
 -- There is no place k, so the command is refused by number 6, and nothing changes.
 abbrev pub IsNoSuch : {X : Type 0} → Verb → ℕ → Line → List X → List X → Type 0
@@ -88,6 +91,14 @@ module _ {J R : Type 0} where
       (place ≡ number) × ((k : ℕ) × ChangesAt k (λ g h. (g.state.group ≡ number) × ((t : GroupTurn) × (t.took ≡ took) × (t.gave ≡ gave) × TurnsGroup t g.state h.state)) olds news)
   IsGroup number l olds news = All (λ g. g.state.group ≢ number) olds × (l ≡ line.Refused verb.Group number 6) × (news ≡ olds)
 
+  -- the part in this place is that of the group of this number
+  abbrev pub IsGroupAt : ℕ → ℕ → List (Group J R) → Type 0
+  IsGroupAt place number groups = HoldsAt place (λ g. g.state.group ≡ number) groups
+
+  -- the part in this place is the hand of this processor
+  abbrev pub IsHandAt : ℕ → ℕ → List (Hand J R) → Type 0
+  IsHandAt place cpu hands = HoldsAt place (λ h. h.state.cpu ≡ cpu) hands
+
   -- `hand`, where so many processors are there: those that aren't offloadable have no hand
   abbrev pub IsHand : ℕ → ℕ → Line → List (Hand J R) → List (Hand J R) → Type 0
   IsHand n cpu (line.Ran v place ran) olds news =
@@ -128,6 +139,26 @@ IsPoll opened l v w still = ⊥
 abbrev pub IsShut : ℕ → Line → View → View → Type 0
 IsShut n (line.Shut text) v w = (counts : Counts) × (counts.n ≡ n) × Shuts n counts v w × (string_bytes text ≡ with_commas (take counts.n counts.counts))
 IsShut n l v w = ⊥
+
+-- a barrier that is open counts as many processors as there are on this board
+abbrev pub IsOfBoard : Board → Option Barrier → Type 0
+IsOfBoard board opened = IfSome opened (λ b. board.processors ≡ b.counts.n)
+
+-- the same, of the driver and of control themselves
+abbrev pub TurnsDriver : Line → Driver → Driver → Type 0
+TurnsDriver l old new = IsDriver (driver_board old).processors l (driver_view old) (driver_view new)
+
+abbrev pub Switches : Verb → ℕ → Line → Control → Control → Type 0
+Switches v cpu l old new = IsSwitch (control_board old) v cpu l (control_view old) (control_view new)
+
+abbrev pub OpensBarrier : Line → Control → Control → Option Barrier → Type 0
+OpensBarrier l old new still = IsBarrier (control_board old).processors l (control_view old) (control_view new) still
+
+abbrev pub PollsBarrier : Option Barrier → Line → Control → Control → Option Barrier → Type 0
+PollsBarrier opened l old new still = IsPoll opened l (control_view old) (control_view new) still
+
+abbrev pub ShutsAll : Line → Control → Control → Type 0
+ShutsAll l old new = IsShut (control_board old).processors l (control_view old) (control_view new)
 
 -- ---- show
 

@@ -1,5 +1,5 @@
 -- What a command prints: docs/specification/program.md, "replay"
-use Rattle.std.specs.Prelude.{ℕ, ◌≡◌, List, ◌++◌, length, true, false, Option, None, Some, IfSome, codes}
+use Rattle.std.specs.Prelude.{ℕ, ◌≡◌, List, ◌++◌, length, true, false, Option, None, Some, codes}
 use Rattle.rcu_control.specs.Parts.{control_view, driver_board, driver_view}
 use Rattle.rcu_control.specs.declared.barrier.Barrier.{Barrier}
 use Rattle.rcu_parts.specs.OneOpen.{AreSoundParts, Parts, groups_in, hands_in, parts_board, processors_in}
@@ -11,11 +11,11 @@ use Rattle.rcu_script.specs.declared.lines.Verb.{Verb}
 use Rattle.rcu_script.specs.declared.lines.Verb.TheVariants as verb
 use Rattle.rcu_setup.specs.declared.line.Command.{Command}
 use Rattle.rcu_setup.specs.declared.line.Command.TheVariants as command
-use Rattle.rcu_parts_replay.specs.Outcomes.{IsBarrier, IsCall, IsDriver, IsGroup, IsHand, IsPoll, IsQuiet, IsShut, IsSwitch, IsTick, ShowsFrom}
+use Rattle.rcu_parts_replay.specs.Outcomes.{IsBarrier, IsCall, IsDriver, IsGroup, IsHand, IsOfBoard, IsPoll, IsQuiet, IsShut, IsSwitch, IsTick, ShowsFrom}
 
 -- A barrier that is open is one of these parts' board.
 abbrev pub IsOfParts : {J R : Type 0} → Parts J R → Option Barrier → Type 0
-IsOfParts parts opened = IfSome opened (λ b. (parts_board parts).processors ≡ b.counts.n)
+IsOfParts parts opened = IsOfBoard (parts_board parts) opened
 
 -- ---- which parts change
 

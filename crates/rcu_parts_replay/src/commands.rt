@@ -1,14 +1,11 @@
 //! The commands of a script: the call of a part that each makes, and the line of its answer.
 
-ghost use Rattle.std.specs.Prelude.{◌≡◌, ◌≢◌, ℕ, List, All, IfNone, IfOk, IfSome, OnOk};
-ghost use Rattle.std.specs.Io.KnownBytes.{Appends};
-ghost use Rattle.std.specs.List.{AllZip};
-ghost use Rattle.rcu_control.specs.Parts.{control_board, control_view, driver_board, driver_view, SameControl, SameDriver};
-ghost use Rattle.rcu_part_group.specs.Groups.{SameGroup};
-ghost use Rattle.rcu_part_hand.specs.Hands.{IsSoundHand, SameHand};
-ghost use Rattle.rcu_part_processor.specs.Processors.{IsSound, SameProcessor};
-ghost use Rattle.rcu_parts_replay.specs.Changes.{HoldsAt};
-ghost use Rattle.rcu_parts_replay.specs.Outcomes.{Calls, IsBarrier, IsCall, IsDriver, IsGroup, IsHand, IsPoll, IsQuiet, IsShut, IsSwitch, IsTick, ShownIn, ShowsFrom, ShowsOne};
+ghost use Rattle.std.specs.Prelude.{◌≡◌, ◌≢◌, All, IfNone, IfOk, IfSome, OnOk};
+ghost use Rattle.rcu_control.specs.Parts.{control_board, SameControl, SameDriver};
+ghost use Rattle.rcu_part_processor.specs.Processors.{KeepsSound, SameProcessor};
+ghost use Rattle.rcu_parts_replay.specs.Changes.{KeepSound, KeepSoundHands, SameGroups, SameHands, SameProcessors};
+ghost use Rattle.rcu_parts_replay.specs.Outcomes.{Calls, IsCall, IsGroup, IsGroupAt, IsHand, IsHandAt, IsOfBoard, IsQuiet, IsTick, OpensBarrier, PollsBarrier, ShownIn, ShowsFrom, ShowsOne, ShutsAll, Switches, TurnsDriver};
+ghost use Rattle.rcu_script.specs.Scripts.{Writes};
 
 use rcu_jobs::{Job, Lists, Refused, Ticket};
 use rcu_parts::{Barrier, Control, Driver, Group, Hand, Processor};
@@ -26,7 +23,7 @@ fn call_one<J: Job>(
 ) -> Result<Ticket, Refused<J>>
     ensures calls { Calls J.key_of verb moment job result processor.old processor.new }
     ensures same { SameProcessor processor.old.state processor.new.state }
-    ensures sound { IsSound J.key_of J.gives processor.old.state → IsSound J.key_of J.gives processor.new.state }
+    ensures sound { KeepsSound J.key_of J.gives processor.old.state processor.new.state }
 {
     match verb {
         Verb::Lazy => processor.call_rcu_lazy(moment, job),
@@ -43,8 +40,8 @@ pub fn call<J: Job>(
     job: J,
 ) -> Line
     ensures line { IsCall J.key_of verb cpu moment job result processors.old.items processors.new.items }
-    ensures same { AllZip (λ p q. SameProcessor p.state q.state) processors.old.items processors.new.items }
-    ensures sound { All (λ p. IsSound J.key_of J.gives p.state) processors.old.items → All (λ p. IsSound J.key_of J.gives p.state) processors.new.items }
+    ensures same { SameProcessors processors.old.items processors.new.items }
+    ensures sound { KeepSound J.key_of J.gives processors.old.items processors.new.items }
 {
     let place = cpu as usize;
     if place >= processors.len() {
@@ -67,8 +64,8 @@ pub fn call<J: Job>(
 /// `quiet`: a report of a quiescent state.
 pub fn quiet<J: Job>(processors: &mut Vec<Processor<J>>, cpu: u64) -> Line
     ensures line { IsQuiet cpu result processors.old.items processors.new.items }
-    ensures same { AllZip (λ p q. SameProcessor p.state q.state) processors.old.items processors.new.items }
-    ensures sound { All (λ p. IsSound J.key_of J.gives p.state) processors.old.items → All (λ p. IsSound J.key_of J.gives p.state) processors.new.items }
+    ensures same { SameProcessors processors.old.items processors.new.items }
+    ensures sound { KeepSound J.key_of J.gives processors.old.items processors.new.items }
 {
     let place = cpu as usize;
     if place >= processors.len() {
@@ -83,8 +80,8 @@ pub fn quiet<J: Job>(processors: &mut Vec<Processor<J>>, cpu: u64) -> Line
 /// `tick`: a processor's turn.
 pub fn tick<J: Job>(processors: &mut Vec<Processor<J>>, cpu: u64, moment: u64) -> Line
     ensures line { IsTick cpu moment result processors.old.items processors.new.items }
-    ensures same { AllZip (λ p q. SameProcessor p.state q.state) processors.old.items processors.new.items }
-    ensures sound { All (λ p. IsSound J.key_of J.gives p.state) processors.old.items → All (λ p. IsSound J.key_of J.gives p.state) processors.new.items }
+    ensures same { SameProcessors processors.old.items processors.new.items }
+    ensures sound { KeepSound J.key_of J.gives processors.old.items processors.new.items }
 {
     let place = cpu as usize;
     if place >= processors.len() {
@@ -100,7 +97,7 @@ pub fn tick<J: Job>(processors: &mut Vec<Processor<J>>, cpu: u64, moment: u64) -
 
 /// `driver`: a turn of the driver.
 pub fn driver(driver: &mut Driver) -> Line
-    ensures line { IsDriver (driver_board driver.old).processors result (driver_view driver.old) (driver_view driver.new) }
+    ensures line { TurnsDriver result driver.old driver.new }
     ensures same { SameDriver driver.old driver.new }
 {
     Line::Driver(driver.turn())
@@ -108,7 +105,7 @@ pub fn driver(driver: &mut Driver) -> Line
 
 /// Where the part of a group stands.
 fn place_of_group<J: Job>(groups: &Vec<Group<J>>, number: u64) -> Option<usize>
-    ensures found { IfSome result (λ place. HoldsAt place (λ g. g.state.group ≡ number) groups.now.items) }
+    ensures found { IfSome result (λ place. IsGroupAt place number groups.now.items) }
     ensures none { IfNone result (All (λ g. g.state.group ≢ number) groups.now.items) }
 {
     for place in 0..groups.len() {
@@ -122,7 +119,7 @@ fn place_of_group<J: Job>(groups: &Vec<Group<J>>, number: u64) -> Option<usize>
 /// `group`: a group's turn.
 pub fn group<J: Job>(groups: &mut Vec<Group<J>>, number: u64) -> Line
     ensures line { IsGroup number result groups.old.items groups.new.items }
-    ensures same { AllZip (λ g h. SameGroup g.state h.state) groups.old.items groups.new.items }
+    ensures same { SameGroups groups.old.items groups.new.items }
 {
     let Some(place) = place_of_group(groups, number) else {
         return Line::no_such(Verb::Group, number);
@@ -137,7 +134,7 @@ pub fn group<J: Job>(groups: &mut Vec<Group<J>>, number: u64) -> Line
 
 /// Where the part of a processor's hand stands.
 fn place_of_hand<J: Job>(hands: &Vec<Hand<J>>, cpu: u64) -> Option<usize>
-    ensures found { IfSome result (λ place. HoldsAt place (λ h. h.state.cpu ≡ cpu) hands.now.items) }
+    ensures found { IfSome result (λ place. IsHandAt place cpu hands.now.items) }
     ensures none { IfNone result (All (λ h. h.state.cpu ≢ cpu) hands.now.items) }
 {
     for place in 0..hands.len() {
@@ -151,8 +148,8 @@ fn place_of_hand<J: Job>(hands: &Vec<Hand<J>>, cpu: u64) -> Option<usize>
 /// `hand`: the turn of a processor's hand. There are `n` processors.
 pub fn hand<J: Job>(hands: &mut Vec<Hand<J>>, n: usize, cpu: u64) -> Line
     ensures line { IsHand n cpu result hands.old.items hands.new.items }
-    ensures same { AllZip (λ h i. SameHand h.state i.state) hands.old.items hands.new.items }
-    ensures sound { All (λ h. IsSoundHand J.key_of J.gives h.state) hands.old.items → All (λ h. IsSoundHand J.key_of J.gives h.state) hands.new.items }
+    ensures same { SameHands hands.old.items hands.new.items }
+    ensures sound { KeepSoundHands J.key_of J.gives hands.old.items hands.new.items }
 {
     let Some(place) = place_of_hand(hands, cpu) else {
         if cpu < n as u64 {
@@ -170,7 +167,7 @@ pub fn hand<J: Job>(hands: &mut Vec<Hand<J>>, n: usize, cpu: u64) -> Line
 
 /// `offload` and `deoffload`: asks for the switch.
 pub fn switch(control: &mut Control, verb: Verb, cpu: u64) -> Line
-    ensures line { IsSwitch (control_board control.old) verb cpu result (control_view control.old) (control_view control.new) }
+    ensures line { Switches verb cpu result control.old control.new }
     ensures same { SameControl control.old control.new }
 {
     let answer = match verb {
@@ -189,9 +186,9 @@ pub fn switch(control: &mut Control, verb: Verb, cpu: u64) -> Line
 
 /// `barrier`: opens a barrier, in place of the one that was open.
 pub fn barrier(control: &mut Control, opened: &mut Option<Barrier>) -> Line
-    ensures line { IsBarrier (control_board control.old).processors result (control_view control.old) (control_view control.new) opened.new }
+    ensures line { OpensBarrier result control.old control.new opened.new }
     ensures same { SameControl control.old control.new }
-    ensures many { IfSome opened.new (λ b. (control_board control.new).processors ≡ b.counts.n) }
+    ensures many { IsOfBoard (control_board control.new) opened.new }
 {
     let Ok(barrier) = control.barrier(&[]) else {
         // (a barrier without tickets is never refused)
@@ -203,10 +200,10 @@ pub fn barrier(control: &mut Control, opened: &mut Option<Barrier>) -> Line
 
 /// `poll`: asks whether the barrier that is open has passed. If it has, it is open no longer.
 pub fn poll(control: &mut Control, opened: &mut Option<Barrier>) -> Line
-    requires open { IfSome opened.old (λ b. (control_board control.old).processors ≡ b.counts.n) }
-    ensures line { IsPoll opened.old result (control_view control.old) (control_view control.new) opened.new }
+    requires open { IsOfBoard (control_board control.old) opened.old }
+    ensures line { PollsBarrier opened.old result control.old control.new opened.new }
     ensures same { SameControl control.old control.new }
-    ensures many { IfSome opened.new (λ b. (control_board control.new).processors ≡ b.counts.n) }
+    ensures many { IsOfBoard (control_board control.new) opened.new }
 {
     let Some(mut barrier) = *opened else {
         return Line::NoBarrier;
@@ -222,7 +219,7 @@ pub fn poll(control: &mut Control, opened: &mut Option<Barrier>) -> Line
 
 /// `shut`: shuts all processors.
 pub fn shut(alloc: Global, control: &mut Control) -> Result<Line, Fault>
-    ensures line { IfOk result (λ line. IsShut (control_board control.old).processors line (control_view control.old) (control_view control.new)) }
+    ensures line { IfOk result (λ line. ShutsAll line control.old control.new) }
     ensures same { SameControl control.old control.new }
 {
     let last = control.shut();
@@ -249,7 +246,8 @@ fn show_one<J: Job, W: Write>(
     groups: &Vec<Group<J>>,
     writer: &mut W,
 ) -> Result<(), Fault>
-    ensures { OnOk result ((text : List ℕ) × ShowsOne cpu processor.now groups.now.items text × Appends (W.contents writer.old) (W.contents writer.new) text) }
+    ensures { OnOk result (Writes (W.contents writer.old) (W.contents writer.new)
+        (ShowsOne cpu processor.now groups.now.items)) }
 {
     write_lists(alloc, cpu, &processor.lists(), writer)?;
     match shown_in(groups, cpu) {
@@ -265,7 +263,8 @@ pub fn show<J: Job, W: Write>(
     groups: &Vec<Group<J>>,
     writer: &mut W,
 ) -> Result<(), Fault>
-    ensures { OnOk result ((text : List ℕ) × ShowsFrom 0 processors.now.items groups.now.items text × Appends (W.contents writer.old) (W.contents writer.new) text) }
+    ensures { OnOk result (Writes (W.contents writer.old) (W.contents writer.new)
+        (ShowsFrom 0 processors.now.items groups.now.items)) }
 {
     for cpu in 0..processors.len() {
         show_one(alloc, cpu as u64, &processors[cpu], groups, writer)?;

@@ -78,7 +78,8 @@ fn perform<J: Job<Receipt = u64>, W: Write>(
 ) -> Result<(), Fault>
     requires job { is_some job ≡ is_call command.now }
     requires ours { IsOfParts parts.old opened.old }
-    ensures prints { OnOk result ((text : List ℕ) × Prints J.key_of parts.old opened.old command.now job text parts.new opened.new × Appends (W.contents writer.old) (W.contents writer.new) text) }
+    ensures prints { OnOk result (Writes (W.contents writer.old) (W.contents writer.new)
+        (λ text. Prints J.key_of parts.old opened.old command.now job text parts.new opened.new)) }
     ensures kept { KeepsParts J.key_of J.gives parts.old parts.new }
     ensures ours { IsOfParts parts.new opened.new }
 {
@@ -100,7 +101,8 @@ fn answer<J: Job<Receipt = u64>>(
     requires job { is_some job ≡ is_call command.now }
     requires line { is_show command.now ≡ false }
     requires ours { IsOfParts parts.old opened.old }
-    ensures line { IfOk result (λ line. IsAnswer J.key_of parts.old opened.old command.now job line parts.new opened.new) }
+    ensures line { IfOk result (λ line.
+        IsAnswer J.key_of parts.old opened.old command.now job line parts.new opened.new) }
     ensures barrier { is_barrier command.now ≡ false → opened.new ≡ opened.old }
     ensures kept { KeepsParts J.key_of J.gives parts.old parts.new }
     ensures ours { IsOfParts parts.new opened.new }
