@@ -1,7 +1,8 @@
 //! The commands of a script: the call that each makes, and the line of its answer.
 
-ghost use Rattle.std.specs.Prelude.{◌≡◌, ◌<◌, ◌≤◌, ◌++◌, ℕ, length, true, false, IfOk, OnOk, None};
+ghost use Rattle.std.specs.Prelude.{◌≡◌, ◌<◌, ◌≤◌, ◌++◌, ℕ, length, true, false, IfErr, IfOk, OnOk, None};
 ghost use Rattle.std.specs.Io.KnownBytes.{Appends};
+ghost use Rattle.rcu_script.specs.Faults.{IsFaultOfOutput, IsWantOfMemory};
 ghost use Rattle.rcu_world.specs.Turns.{IsAtRest};
 ghost use Rattle.rcu_world.specs.Views.{state};
 ghost use Rattle.rcu_world.specs.Worlds.{IsWorld};
@@ -50,6 +51,7 @@ pub fn quiet<J: Job>(world: &mut World<J>, cpu: u64) -> Result<Line, Fault>
     requires world { IsWorld J.key_of J.gives world.old.core }
     requires rest { IsAtRest (state J.key_of world.old.core) }
     ensures line { IfOk result (λ line. IsQuiet (state J.key_of world.old.core) cpu line (state J.key_of world.new.core)) }
+    ensures why { IfErr result IsWantOfMemory }
     ensures kept { IsWorld J.key_of J.gives world.new.core }
     ensures rest { IsAtRest (state J.key_of world.new.core) }
 {
@@ -67,6 +69,7 @@ pub fn tick<J: Job>(world: &mut World<J>, cpu: u64, moment: u64) -> Result<Line,
     requires world { IsWorld J.key_of J.gives world.old.core }
     requires rest { IsAtRest (state J.key_of world.old.core) }
     ensures line { IfOk result (λ line. IsTick (state J.key_of world.old.core) cpu moment line (state J.key_of world.new.core)) }
+    ensures why { IfErr result IsWantOfMemory }
     ensures kept { IsWorld J.key_of J.gives world.new.core }
     ensures rest { IsAtRest (state J.key_of world.new.core) }
 {
@@ -86,6 +89,7 @@ pub fn driver<J: Job>(world: &mut World<J>) -> Result<Line, Fault>
     requires world { IsWorld J.key_of J.gives world.old.core }
     requires rest { IsAtRest (state J.key_of world.old.core) }
     ensures line { IfOk result (λ line. IsDriver (state J.key_of world.old.core) line (state J.key_of world.new.core)) }
+    ensures why { IfErr result IsWantOfMemory }
     ensures kept { IsWorld J.key_of J.gives world.new.core }
     ensures rest { IsAtRest (state J.key_of world.new.core) }
 {
@@ -97,6 +101,7 @@ pub fn group<J: Job>(world: &mut World<J>, group: u64) -> Result<Line, Fault>
     requires world { IsWorld J.key_of J.gives world.old.core }
     requires rest { IsAtRest (state J.key_of world.old.core) }
     ensures line { IfOk result (λ line. IsGroup (state J.key_of world.old.core) group line (state J.key_of world.new.core)) }
+    ensures why { IfErr result IsWantOfMemory }
     ensures kept { IsWorld J.key_of J.gives world.new.core }
     ensures rest { IsAtRest (state J.key_of world.new.core) }
 {
@@ -117,6 +122,7 @@ pub fn hand<J: Job>(world: &mut World<J>, cpu: u64) -> Result<Line, Fault>
     requires world { IsWorld J.key_of J.gives world.old.core }
     requires rest { IsAtRest (state J.key_of world.old.core) }
     ensures line { IfOk result (λ line. IsHand (state J.key_of world.old.core) cpu line (state J.key_of world.new.core)) }
+    ensures why { IfErr result IsWantOfMemory }
     ensures kept { IsWorld J.key_of J.gives world.new.core }
     ensures rest { IsAtRest (state J.key_of world.new.core) }
 {
@@ -162,6 +168,7 @@ pub fn barrier<J: Job>(world: &mut World<J>, opened: &mut Option<u64>) -> Result
     requires world { IsWorld J.key_of J.gives world.old.core }
     requires rest { IsAtRest (state J.key_of world.old.core) }
     ensures line { IfOk result (λ line. IsBarrier (state J.key_of world.old.core) line (state J.key_of world.new.core) opened.new) }
+    ensures why { IfErr result IsWantOfMemory }
     ensures kept { IsWorld J.key_of J.gives world.new.core }
     ensures rest { IsAtRest (state J.key_of world.new.core) }
 {
@@ -178,6 +185,7 @@ pub fn poll<J: Job>(world: &mut World<J>, opened: &mut Option<u64>) -> Result<Li
     requires world { IsWorld J.key_of J.gives world.old.core }
     requires rest { IsAtRest (state J.key_of world.old.core) }
     ensures line { IfOk result (λ line. IsPoll (state J.key_of world.old.core) opened.old line (state J.key_of world.new.core) opened.new) }
+    ensures why { IfErr result IsWantOfMemory }
     ensures kept { IsWorld J.key_of J.gives world.new.core }
     ensures rest { IsAtRest (state J.key_of world.new.core) }
 {
@@ -196,6 +204,7 @@ pub fn shut<J: Job>(alloc: Global, world: &mut World<J>) -> Result<Line, Fault>
     requires world { IsWorld J.key_of J.gives world.old.core }
     requires rest { IsAtRest (state J.key_of world.old.core) }
     ensures line { IfOk result (λ line. IsShut (state J.key_of world.old.core) line (state J.key_of world.new.core)) }
+    ensures why { IfErr result IsWantOfMemory }
     ensures kept { IsWorld J.key_of J.gives world.new.core }
     ensures rest { IsAtRest (state J.key_of world.new.core) }
 {
@@ -211,7 +220,9 @@ fn show_one<J: Job, W: Write>(
     writer: &mut W,
 ) -> Result<(), Fault>
     requires { cpu < length (state J.key_of world.now.core).cpus }
-    ensures { OnOk result (Appends (W.contents writer.old) (W.contents writer.new) (shown_one (state J.key_of world.now.core) cpu)) }
+    ensures shows { OnOk result (Appends (W.contents writer.old) (W.contents writer.new)
+        (shown_one (state J.key_of world.now.core) cpu)) }
+    ensures why { IfErr result IsFaultOfOutput }
 {
     write_lists(alloc, cpu, &world.lists(cpu), writer)?;
     match world.group_lists(cpu) {
@@ -223,7 +234,9 @@ fn show_one<J: Job, W: Write>(
 /// `show`: the lists of each processor, and of its group where it is offloadable.
 pub fn show<J: Job, W: Write>(alloc: Global, world: &World<J>, writer: &mut W) -> Result<(), Fault>
     requires { IsWorld J.key_of J.gives world.now.core }
-    ensures { OnOk result (Appends (W.contents writer.old) (W.contents writer.new) (shown (length (state J.key_of world.now.core).cpus) (state J.key_of world.now.core))) }
+    ensures shows { OnOk result (Appends (W.contents writer.old) (W.contents writer.new)
+        (shown (length (state J.key_of world.now.core).cpus) (state J.key_of world.now.core))) }
+    ensures why { IfErr result IsFaultOfOutput }
 {
     for cpu in 0..world.processors() {
         show_one(alloc, world, cpu, writer)?;

@@ -1,9 +1,9 @@
 //! The commands of a script, one call of a world each, and the totals.
 
-ghost use Rattle.std.specs.Prelude.{◌≡◌, ℕ, List, IfOk, OnOk, count_by, false, vec_len};
-ghost use Rattle.std.specs.Io.KnownBytes.{Appends};
+ghost use Rattle.std.specs.Prelude.{◌≡◌, IfErr, IfOk, OnOk, count_by, false, vec_len};
 ghost use Rattle.std.specs.Option.{is_some};
 ghost use Rattle.rcu_script.specs.Calls.{is_barrier, is_call, is_show};
+ghost use Rattle.rcu_script.specs.Faults.{IsFaultOfOutput, IsWantOfMemory};
 ghost use Rattle.rcu_script.specs.Scripts.{PrintsScript, Writes};
 ghost use Rattle.rcu_core_replay.specs.Printed.{IsAnswer, Prints};
 ghost use Rattle.rcu_core_replay.specs.Scripts.{Replays};
@@ -36,6 +36,7 @@ pub fn replay<W: Write>(
     requires jobs { vec_len jobs ≡ count_by is_call setup.now.script.items }
     ensures prints { OnOk result (Writes (W.contents writer.old) (W.contents writer.new)
         (Replays (λ job. job.key) (Promised 65536) setup.now jobs.items)) }
+    ensures why { IfErr result IsFaultOfOutput }
 {
     let mut world = World::new(alloc, setup.shape)?;
     perform_all(alloc, &mut world, setup, jobs, writer)?;
@@ -59,6 +60,7 @@ fn perform_all<J: Job<Receipt = u64>, W: Write>(
     ensures prints { OnOk result (Writes (W.contents writer.old) (W.contents writer.new)
         (PrintsScript (Prints J.key_of) (state J.key_of world.old.core) (state J.key_of world.new.core)
         setup.now.script.items jobs.items)) }
+    ensures why { IfErr result IsFaultOfOutput }
     ensures kept { IsWorld J.key_of J.gives world.new.core }
 {
     let mut opened = None;
@@ -88,6 +90,7 @@ pub fn answer<J: Job<Receipt = u64>>(
     requires job { is_some job ≡ is_call command.now }
     requires line { is_show command.now ≡ false }
     ensures line { IfOk result (λ line. IsAnswer J.key_of (state J.key_of world.old.core) opened.old command.now job line (state J.key_of world.new.core) opened.new) }
+    ensures why { IfErr result IsWantOfMemory }
     ensures barrier { is_barrier command.now ≡ false → opened.new ≡ opened.old }
     ensures kept { IsWorld J.key_of J.gives world.new.core }
     ensures rest { IsAtRest (state J.key_of world.new.core) }
@@ -125,7 +128,9 @@ fn perform<J: Job<Receipt = u64>, W: Write>(
     requires world { IsWorld J.key_of J.gives world.old.core }
     requires rest { IsAtRest (state J.key_of world.old.core) }
     requires job { is_some job ≡ is_call command.now }
-    ensures prints { OnOk result ((text : List ℕ) × Prints J.key_of (state J.key_of world.old.core) opened.old command.now job text (state J.key_of world.new.core) opened.new × Appends (W.contents writer.old) (W.contents writer.new) text) }
+    ensures prints { OnOk result (Writes (W.contents writer.old) (W.contents writer.new) (λ text.
+        Prints J.key_of (state J.key_of world.old.core) opened.old command.now job text (state J.key_of world.new.core) opened.new)) }
+    ensures why { IfErr result IsFaultOfOutput }
     ensures kept { IsWorld J.key_of J.gives world.new.core }
     ensures rest { IsAtRest (state J.key_of world.new.core) }
 {

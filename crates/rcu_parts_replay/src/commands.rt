@@ -1,10 +1,11 @@
 //! The commands of a script: the call of a part that each makes, and the line of its answer.
 
-ghost use Rattle.std.specs.Prelude.{◌≡◌, ◌≢◌, All, IfNone, IfOk, IfSome, OnOk};
+ghost use Rattle.std.specs.Prelude.{◌≡◌, ◌≢◌, All, IfErr, IfNone, IfOk, IfSome, OnOk};
 ghost use Rattle.rcu_control.specs.Parts.{control_board, SameControl, SameDriver};
 ghost use Rattle.rcu_part_processor.specs.Processors.{KeepsSound, SameProcessor};
 ghost use Rattle.rcu_parts_replay.specs.Changes.{KeepSound, KeepSoundHands, SameGroups, SameHands, SameProcessors};
 ghost use Rattle.rcu_parts_replay.specs.Outcomes.{Calls, IsCall, IsGroup, IsGroupAt, IsHand, IsHandAt, IsOfBoard, IsQuiet, IsTick, OpensBarrier, PollsBarrier, ShownIn, ShowsFrom, ShowsOne, ShutsAll, Switches, TurnsDriver};
+ghost use Rattle.rcu_script.specs.Faults.{IsFaultOfOutput, IsWantOfMemory};
 ghost use Rattle.rcu_script.specs.Scripts.{Writes};
 
 use rcu_jobs::{Job, Lists, Refused, Ticket};
@@ -220,6 +221,7 @@ pub fn poll(control: &mut Control, opened: &mut Option<Barrier>) -> Line
 /// `shut`: shuts all processors.
 pub fn shut(alloc: Global, control: &mut Control) -> Result<Line, Fault>
     ensures line { IfOk result (λ line. ShutsAll line control.old control.new) }
+    ensures why { IfErr result IsWantOfMemory }
     ensures same { SameControl control.old control.new }
 {
     let last = control.shut();
@@ -246,8 +248,9 @@ fn show_one<J: Job, W: Write>(
     groups: &Vec<Group<J>>,
     writer: &mut W,
 ) -> Result<(), Fault>
-    ensures { OnOk result (Writes (W.contents writer.old) (W.contents writer.new)
+    ensures shows { OnOk result (Writes (W.contents writer.old) (W.contents writer.new)
         (ShowsOne cpu processor.now groups.now.items)) }
+    ensures why { IfErr result IsFaultOfOutput }
 {
     write_lists(alloc, cpu, &processor.lists(), writer)?;
     match shown_in(groups, cpu) {
@@ -263,8 +266,9 @@ pub fn show<J: Job, W: Write>(
     groups: &Vec<Group<J>>,
     writer: &mut W,
 ) -> Result<(), Fault>
-    ensures { OnOk result (Writes (W.contents writer.old) (W.contents writer.new)
+    ensures shows { OnOk result (Writes (W.contents writer.old) (W.contents writer.new)
         (ShowsFrom 0 processors.now.items groups.now.items)) }
+    ensures why { IfErr result IsFaultOfOutput }
 {
     for cpu in 0..processors.len() {
         show_one(alloc, cpu as u64, &processors[cpu], groups, writer)?;

@@ -1,11 +1,11 @@
 //! The commands of a script, one call of a part each, and the totals.
 
-ghost use Rattle.std.specs.Prelude.{◌≡◌, ℕ, List, IfOk, OnOk, count_by, false, vec_len};
-ghost use Rattle.std.specs.Io.KnownBytes.{Appends};
+ghost use Rattle.std.specs.Prelude.{◌≡◌, IfErr, IfOk, OnOk, count_by, false, vec_len};
 ghost use Rattle.std.specs.Option.{is_some};
 ghost use Rattle.rcu_jobs.specs.Promised.{Promised};
 ghost use Rattle.rcu_parts.specs.OneOpen.{AreOfOneOpen, AreSoundParts};
 ghost use Rattle.rcu_script.specs.Calls.{is_barrier, is_call, is_show};
+ghost use Rattle.rcu_script.specs.Faults.{IsFaultOfOutput, IsWantOfMemory};
 ghost use Rattle.rcu_script.specs.Scripts.{PrintsScript, Writes};
 ghost use Rattle.rcu_parts_replay.specs.Printed.{IsAnswer, IsOfParts, KeepsParts, Prints};
 ghost use Rattle.rcu_parts_replay.specs.Scripts.{Replays};
@@ -35,6 +35,7 @@ pub fn replay<W: Write>(
     requires jobs { vec_len jobs ≡ count_by is_call setup.now.script.items }
     ensures prints { OnOk result (Writes (W.contents writer.old) (W.contents writer.new)
         (Replays (λ job. job.key) (Promised 65536) setup.now jobs.items)) }
+    ensures why { IfErr result IsFaultOfOutput }
 {
     let mut parts = open(alloc, setup.shape)?;
     perform_all(alloc, &mut parts, setup, jobs, writer)?;
@@ -55,6 +56,7 @@ fn perform_all<J: Job<Receipt = u64>, W: Write>(
     requires jobs { vec_len jobs ≡ count_by is_call setup.now.script.items }
     ensures prints { OnOk result (Writes (W.contents writer.old) (W.contents writer.new)
         (PrintsScript (Prints J.key_of) parts.old parts.new setup.now.script.items jobs.items)) }
+    ensures why { IfErr result IsFaultOfOutput }
     ensures one { AreOfOneOpen parts.old → AreOfOneOpen parts.new }
     ensures sound { AreSoundParts J.key_of J.gives parts.old → AreSoundParts J.key_of J.gives parts.new }
 {
@@ -80,6 +82,7 @@ fn perform<J: Job<Receipt = u64>, W: Write>(
     requires ours { IsOfParts parts.old opened.old }
     ensures prints { OnOk result (Writes (W.contents writer.old) (W.contents writer.new)
         (λ text. Prints J.key_of parts.old opened.old command.now job text parts.new opened.new)) }
+    ensures why { IfErr result IsFaultOfOutput }
     ensures kept { KeepsParts J.key_of J.gives parts.old parts.new }
     ensures ours { IsOfParts parts.new opened.new }
 {
@@ -103,6 +106,7 @@ fn answer<J: Job<Receipt = u64>>(
     requires ours { IsOfParts parts.old opened.old }
     ensures line { IfOk result (λ line.
         IsAnswer J.key_of parts.old opened.old command.now job line parts.new opened.new) }
+    ensures why { IfErr result IsWantOfMemory }
     ensures barrier { is_barrier command.now ≡ false → opened.new ≡ opened.old }
     ensures kept { KeepsParts J.key_of J.gives parts.old parts.new }
     ensures ours { IsOfParts parts.new opened.new }

@@ -2,7 +2,7 @@
 
 ghost use Rattle.std.specs.Prelude.{◌≡◌, IfErr, IfOk, vec_len};
 ghost use Rattle.rcu_setup.specs.Arrays.{routes_view};
-ghost use Rattle.rcu_versions.specs.Faults.{IsWantOfMemory};
+ghost use Rattle.rcu_script.specs.Faults.{IsWantOfMemory};
 ghost use Rattle.rcu_versions.specs.Versions.{AreVersions};
 ghost use Rattle.rcu_plan.specs.Plan.{calls_for, jobs_for};
 

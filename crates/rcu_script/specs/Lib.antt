@@ -1,4 +1,5 @@
 pub mod Calls
 pub mod FaultLines
+pub mod Faults
 pub mod Lines
 pub mod Scripts

@@ -1,8 +1,10 @@
 //! What a script prints for each command: docs/specification/tables.md, "Script commands and what they print".
 
-ghost use Rattle.std.specs.Prelude.{◌≡◌, ◌++◌, OnOk, Some, codes};
+ghost use Rattle.std.specs.Prelude.{◌≡◌, ◌++◌, IfErr, OnOk, Some, codes};
 ghost use Rattle.std.specs.Io.KnownBytes.{Appends};
+ghost use Rattle.rcu_script.specs.Faults.{IsFaultOfOutput};
 ghost use Rattle.rcu_script.specs.Lines.{line_text, lists_line, verb_text, whole_totals};
+ghost use Rattle.rcu_script.specs.declared.fault.Fault.TheVariants.{CannotWrite};
 ghost use Rattle.rcu_script.specs.declared.lines.Line.TheVariants.{Refused};
 
 use crate::fault::Fault;
@@ -159,7 +161,9 @@ impl fmt::Display for Line {
 
 /// Writes a line, with its line feed.
 pub fn write_line<W: Write>(line: Line, writer: &mut W) -> Result<(), Fault>
-    ensures { OnOk result (Appends (W.contents writer.old) (W.contents writer.new) (line_text line ++ codes "\n")) }
+    ensures writes { OnOk result (Appends (W.contents writer.old) (W.contents writer.new)
+        (line_text line ++ codes "\n")) }
+    ensures why { IfErr result (λ fault. fault ≡ CannotWrite) }
 {
     match writeln!(writer, "{line}") {
         Ok(()) => Ok(()),
@@ -169,7 +173,9 @@ pub fn write_line<W: Write>(line: Line, writer: &mut W) -> Result<(), Fault>
 
 /// Writes a text as it is.
 pub fn write_text<W: Write>(text: &str, writer: &mut W) -> Result<(), Fault>
-    ensures { OnOk result (Appends (W.contents writer.old) (W.contents writer.new) text.now) }
+    ensures writes { OnOk result (Appends (W.contents writer.old) (W.contents writer.new)
+        text.now) }
+    ensures why { IfErr result (λ fault. fault ≡ CannotWrite) }
 {
     match writer.write_all(text.as_bytes()) {
         Ok(()) => Ok(()),
@@ -185,7 +191,9 @@ pub fn write_lists<W: Write>(
     lists: &Lists,
     writer: &mut W,
 ) -> Result<(), Fault>
-    ensures { OnOk result (Appends (W.contents writer.old) (W.contents writer.new) (lists_line cpu lists.now)) }
+    ensures writes { OnOk result (Appends (W.contents writer.old) (W.contents writer.new)
+        (lists_line cpu lists.now)) }
+    ensures why { IfErr result IsFaultOfOutput }
 {
     let text = line(alloc, cpu, lists)?;
     write_text(text.as_str(), writer)
@@ -203,7 +211,9 @@ pub fn write_totals<J: Job<Receipt = u64>, W: Write>(
     reports: bool,
     writer: &mut W,
 ) -> Result<(), Fault>
-    ensures { OnOk result (Appends (W.contents writer.old) (W.contents writer.new) (whole_totals reports closed.now)) }
+    ensures writes { OnOk result (Appends (W.contents writer.old) (W.contents writer.new)
+        (whole_totals reports closed.now)) }
+    ensures why { IfErr result IsFaultOfOutput }
 {
     let text = totals(alloc, closed, reports)?;
     write_text(text.as_str(), writer)?;

@@ -1,10 +1,12 @@
 -- What a run in threads does to parts: docs/specification/program.md, "threads".
-use Rattle.std.specs.Prelude.{ℕ}
+use Rattle.std.specs.Prelude.{◌≡◌, ℕ, Err, Result}
+use Rattle.std.proofs.Common.{◌⊎◌}
 use Rattle.std.specs.List.{AllZip}
 use Rattle.rcu_control.specs.Parts.{control_view, SameControl, SameDriver}
 use Rattle.rcu_parts.specs.OneOpen.{Parts, groups_in, hands_in, processors_in}
 use Rattle.rcu_crews.specs.Parts.{GroupStays, HandStays}
 use Rattle.rcu_crews.specs.Runs.{HasRun}
+use Rattle.rcu_crews.specs.declared.fault.ThreadsFault.{ThreadsFault}
 
 module _ {J R : Type 0} where
   -- All parts are the same parts, and of each processor all callbacks have run, by what control has seen.
@@ -14,3 +16,8 @@ module _ {J R : Type 0} where
     pub groups : AllZip GroupStays (groups_in old) (groups_in new)
     pub hands : AllZip (HandStays key_of gives) (hands_in old) (hands_in new)
     pub processors : AllZip (HasRun key_of gives (control_view new.control)) (processors_in old) (processors_in new)
+
+-- the fault is that of the driver's thread, of the groups', of the hands' or of the calls
+abbrev pub IsFaultOf : {D G H A : Type 0} → Result D ThreadsFault → Result G ThreadsFault → Result H ThreadsFault → Result A ThreadsFault → ThreadsFault → Type 0
+IsFaultOf driver groups hands answered fault =
+    (driver ≡ Err fault) ⊎ ((groups ≡ Err fault) ⊎ ((hands ≡ Err fault) ⊎ (answered ≡ Err fault)))

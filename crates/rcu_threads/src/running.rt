@@ -1,13 +1,13 @@
 //! The run of all parts of one open, from the first call to the end.
 
-ghost use Rattle.std.specs.Prelude.{◌≡◌, ◌<◌, map, length, All, IfOk, OnOk, is_ok, true, vec_len};
+ghost use Rattle.std.specs.Prelude.{◌≡◌, ◌<◌, map, length, All, IfErr, IfOk, OnOk, is_ok, true, vec_len};
 ghost use Rattle.std.specs.List.{AllZip};
 ghost use Rattle.rcu_parts.specs.OneOpen.{AreOfOneOpen, AreSoundParts};
 ghost use Rattle.rcu_parts.specs.Drained.{HasNoneBack};
 ghost use Rattle.rcu_crews.specs.Calls.{keys_in};
 ghost use Rattle.rcu_crews.specs.Dealing.{AreDealt, HaveAllRun};
 ghost use Rattle.rcu_threads.specs.Ends.{AreUnused, ClosesSame, keys_ran};
-ghost use Rattle.rcu_threads.specs.Runs.{HaveRun};
+ghost use Rattle.rcu_threads.specs.Runs.{HaveRun, IsFaultOf};
 
 use crate::ended::Ended;
 use rcu_crews::{
@@ -32,6 +32,7 @@ fn ready<P: Drop, J: Drop>(
     jobs: Vec<J>,
 ) -> Result<(Vec<Caller<P, J>>, Vec<Ticket>), ThreadsFault>
     ensures some { IfOk result (λ _. 0 < vec_len processors) }
+    ensures none { IfErr result (λ fault. fault ≡ ThreadsFault.CannotRun → vec_len processors ≡ 0) }
     ensures processors { IfOk result (λ ready. map (λ c. c.processor) ready.0.items ≡ processors.items) }
     ensures dealt { IfOk result (λ ready. AreDealt jobs.items (map (λ c. c.jobs.items) ready.0.items)) }
 {
@@ -58,6 +59,7 @@ fn first_fault<D, G, H, A>(
     ensures groups { OnOk result (is_ok groups.now ≡ true) }
     ensures hands { OnOk result (is_ok hands.now ≡ true) }
     ensures answered { OnOk result (is_ok answered.now ≡ true) }
+    ensures why { IfErr result (IsFaultOf driver.now groups.now hands.now answered.now) }
 {
     match (driver, groups, hands, answered) {
         (Err(fault), ..) | (_, Err(fault), ..) | (_, _, Err(fault), _) | (.., Err(fault)) => {

@@ -7,7 +7,7 @@ ghost use Rattle.rcu_setup.specs.Arrays.{routes_view};
 ghost use Rattle.rcu_setup.specs.Words.{Route};
 ghost use Rattle.rcu_script.specs.Calls.{is_call, route_in};
 ghost use Rattle.rcu_versions.specs.Routes.{routes_of_calls, routes_of_round, routes_of_rounds, with_routes};
-ghost use Rattle.rcu_versions.specs.Faults.{IsWantOfMemory};
+ghost use Rattle.rcu_script.specs.Faults.{IsWantOfMemory};
 ghost use Rattle.rcu_versions.specs.Versions.{AreVersions, HasRetired};
 
 use crate::table::{KEY_STEP, Retired, Version, added_bytes, first_version, next_version};

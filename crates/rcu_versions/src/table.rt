@@ -4,7 +4,7 @@ ghost use Rattle.std.specs.Prelude.{◌≡◌, ◌≤◌, ◌+◌, ◌%◌, [], 
 ghost use Rattle.indexmap.specs.IndexMap.{index_map_len};
 ghost use Rattle.rcu_setup.specs.Arrays.{route_view};
 ghost use Rattle.rcu_versions.specs.Routes.{routes_in, with_route, with_routes};
-ghost use Rattle.rcu_versions.specs.Faults.{IsWantOfMemory};
+ghost use Rattle.rcu_script.specs.Faults.{IsWantOfMemory};
 
 use indexmap::IndexMap;
 use rcu_script::Fault;

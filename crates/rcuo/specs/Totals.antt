@@ -1,12 +1,16 @@
 -- What `rcuo threads` prints: docs/specification/program.md, "threads"
 use Rattle.std.specs.Prelude.{◌≡◌, ℕ, List, Result, false}
+use Rattle.std.proofs.Common.{◌⊎◌}
 use Rattle.rcu_jobs.specs.declared.answers.Closed.{Closed}
 use Rattle.rcu_jobs.specs.declared.answers.Refused.{Refused}
 use Rattle.rcu_jobs.specs.declared.answers.Ticket.{Ticket}
 use Rattle.rcu_parts.specs.Drained.{HasNoneBack}
 use Rattle.rcu_parts.specs.OneOpen.{Parts}
 use Rattle.rcu_parts.specs.Openings.{IsOpened}
+use Rattle.rcu_script.specs.Faults.{IsFaultOfOutput}
 use Rattle.rcu_script.specs.Lines.{whole_totals}
+use Rattle.rcu_script.specs.declared.fault.Fault.{Fault}
+use Rattle.rcu_script.specs.declared.fault.Fault.TheVariants.{CannotRun}
 use Rattle.rcu_setup.specs.declared.setup.Setup.{Setup}
 use Rattle.rcu_crews.specs.Dealing.{HaveAllRun}
 use Rattle.rcu_threads.specs.Ends.{ClosesSame, keys_ran}
@@ -23,3 +27,7 @@ pub record RunsInThreads {J : Type 0} (key_of : J → ℕ) (gives : ℕ → ℕ 
   pub answers : List (List (Result Ticket (Refused J)))
   pub all : HaveAllRun key_of jobs answers (keys_ran closed)
   pub whole : text ≡ whole_totals false closed
+
+-- why there are no totals: want of memory, a failed write, or threads that can't be run
+abbrev pub IsFaultOfThreads : Fault → Type 0
+IsFaultOfThreads fault = IsFaultOfOutput fault ⊎ (fault ≡ CannotRun)

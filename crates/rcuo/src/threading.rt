@@ -1,11 +1,12 @@
 //! `rcuo threads`: all parts in threads of their own, and the totals.
 
-ghost use Rattle.std.specs.Prelude.{◌≡◌, ◌*◌, OnOk, false, vec_len};
+ghost use Rattle.std.specs.Prelude.{◌≡◌, ◌*◌, IfErr, OnOk, false, vec_len};
 ghost use Rattle.std.specs.Io.KnownBytes.{Appends};
 ghost use Rattle.rcu_jobs.specs.Promised.{Promised};
+ghost use Rattle.rcu_script.specs.Faults.{IsFaultOfOutput};
 ghost use Rattle.rcu_script.specs.Lines.{whole_totals};
 ghost use Rattle.rcu_script.specs.Scripts.{Writes};
-ghost use Rattle.rcuo.specs.Totals.{RunsInThreads};
+ghost use Rattle.rcuo.specs.Totals.{IsFaultOfThreads, RunsInThreads};
 
 use rcu_jobs::{BoxedJob, Closed};
 use rcu_parts::open;
@@ -36,6 +37,7 @@ pub fn threads<R: Threads + Wait + Clock + Copy + Send + 'static, W: Write>(
     requires jobs { vec_len jobs ≡ plan.now.setup.calls * plan.now.setup.shape.processors }
     ensures prints { OnOk result (Writes (W.contents writer.old) (W.contents writer.new)
         (RunsInThreads (λ job. job.key) (Promised 65536) plan.now.setup jobs.items)) }
+    ensures why { IfErr result IsFaultOfThreads }
 {
     let parts = open(alloc, plan.setup.shape)?;
     match run_in_threads(rt, alloc, parts, jobs) {
@@ -45,7 +47,9 @@ pub fn threads<R: Threads + Wait + Clock + Copy + Send + 'static, W: Write>(
 }
 
 /// The fault of a runtime that was not run in threads.
-fn not_run(fault: ThreadsFault) -> Fault {
+fn not_run(fault: ThreadsFault) -> Fault
+    ensures { IsFaultOfThreads result }
+{
     match fault {
         ThreadsFault::Memory => Fault::memory(),
         ThreadsFault::CannotRun => Fault::CannotRun,
@@ -59,7 +63,9 @@ fn print_totals<W: Write>(
     closed: &Closed<BoxedJob<65536>>,
     writer: &mut W,
 ) -> Result<(), Fault>
-    ensures { OnOk result (Appends (W.contents writer.old) (W.contents writer.new) (whole_totals false closed.now)) }
+    ensures writes { OnOk result (Appends (W.contents writer.old) (W.contents writer.new)
+        (whole_totals false closed.now)) }
+    ensures why { IfErr result IsFaultOfOutput }
 {
     write_totals(alloc, closed, false, writer)
 }

@@ -10,10 +10,10 @@ pub loop-cpu-init : goal.loop-cpu-init
 loop-cpu-init g c = shown_first _ _
 
 pub loop-cpu-preserved : goal.loop-cpu-preserved
-loop-cpu-preserved g c = shown_more _ c.loop-cpu.cpu _ _ _ c.loop-cpu.invariant c.in_ok-show_one.ensures
+loop-cpu-preserved g c = shown_more _ c.loop-cpu.cpu _ _ _ c.loop-cpu.invariant c.in_ok-show_one.ensures.shows
 
-pub returns : goal.returns
-returns g c =
+pub returns-clause-shows : goal.returns-clause-shows
+returns-clause-shows g c =
     let all : c.loop-cpu.cpu ≡ c.processors-cpu-end.result = search rules in
     subst (λ n. Appends (g.W.Write.contents c.args.writer.now) (g.W.Write.contents c.loop-cpu.writer) (shown n (state g.J.Job.key_of c.args.world.now.core))) (all ∙ c.processors-cpu-end.ensures) c.loop-cpu.invariant
 
@@ -32,5 +32,5 @@ processors-cpu-end-requires-after_bounds g c κs within = assumption
 pub show_one-requires-after_bounds : goal.show_one-requires-after_bounds
 show_one-requires-after_bounds g c κs within = (assumption, subst (λ n. c.loop-cpu.cpu < n) c.processors-cpu-end.ensures c.loop-cpu-test.true)
 
-pub returns-in_err-show_one : goal.returns-in_err-show_one
-returns-in_err-show_one g c = if_ok_never _ _ c.from_residual.ensures
+pub returns-in_err-show_one-clause-shows : goal.returns-in_err-show_one-clause-shows
+returns-in_err-show_one-clause-shows g c = if_ok_never _ _ c.from_residual.ensures

@@ -9,10 +9,10 @@ loop-cpu-init g c = ([], shows_none c.args.groups.now.items 0, Appends-none (g.W
 
 pub loop-cpu-preserved : goal.loop-cpu-preserved
 loop-cpu-preserved g c =
-    one_shown c.args.groups.now.items c.args.processors.now.items c.loop-cpu.cpu c.index.result.now (omega arith) c.index.ensures (g.W.Write.contents c.args.writer.now) (g.W.Write.contents c.loop-cpu.writer) (g.W.Write.contents c.show_one.new.writer) c.loop-cpu.invariant c.in_ok-show_one.ensures
+    one_shown c.args.groups.now.items c.args.processors.now.items c.loop-cpu.cpu c.index.result.now (omega arith) c.index.ensures (g.W.Write.contents c.args.writer.now) (g.W.Write.contents c.loop-cpu.writer) (g.W.Write.contents c.show_one.new.writer) c.loop-cpu.invariant c.in_ok-show_one.ensures.shows
 
-pub returns : goal.returns
-returns g c =
+pub returns-clause-shows : goal.returns-clause-shows
+returns-clause-shows g c =
     all_shown c.args.groups.now.items c.args.processors.now.items c.loop-cpu.cpu (take_all c.loop-cpu.cpu c.args.processors.now.items (omega arith)) (g.W.Write.contents c.args.writer.now) (g.W.Write.contents c.loop-cpu.writer) c.loop-cpu.invariant
 
 pub show_one-requires-send-J : goal.show_one-requires-send-J

@@ -1,12 +1,12 @@
 use Rattle.rcu_parts_replay.proofs.ShowingParts.{own_alone, own_and_group}
 use Rattle.rcu_parts_replay.proofs.commands.show_one.Goals as goal
 
-pub returns-in-Some : goal.returns-in-Some
-returns-in-Some g c =
-    own_and_group c.args.groups.now.items c.args.cpu c.args.processor.now c.lists.result c.lists.ensures _ _ c.in_ok-write_lists.ensures c.write_lists-in-Some.result _ c.in-Some.lists c.in-Some.ensures c.write_lists-in-Some.ensures
+pub returns-in-Some-clause-shows : goal.returns-in-Some-clause-shows
+returns-in-Some-clause-shows g c =
+    own_and_group c.args.groups.now.items c.args.cpu c.args.processor.now c.lists.result c.lists.ensures _ _ c.in_ok-write_lists.ensures.writes c.write_lists-in-Some.result _ c.in-Some.lists c.in-Some.ensures c.write_lists-in-Some.ensures.writes
 
-pub returns-in-None : goal.returns-in-None
-returns-in-None g c = own_alone c.args.groups.now.items c.args.cpu c.args.processor.now c.lists.result c.lists.ensures _ _ c.in_ok-write_lists.ensures c.in-None.ensures
+pub returns-in-None-clause-shows : goal.returns-in-None-clause-shows
+returns-in-None-clause-shows g c = own_alone c.args.groups.now.items c.args.cpu c.args.processor.now c.lists.result c.lists.ensures _ _ c.in_ok-write_lists.ensures.writes c.in-None.ensures
 
 pub lists-requires-send-J : goal.lists-requires-send-J
 lists-requires-send-J g c κs within = c.type_bounds.send-J

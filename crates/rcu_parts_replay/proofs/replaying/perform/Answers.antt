@@ -1,10 +1,13 @@
-use Rattle.std.proofs.Common.{◌∙◌, sym}
+use Rattle.std.proofs.Common.{◌≡◌, ◌∙◌, sym, inr}
+use Rattle.std.proofs.lemmas.Result.{IfErr-weaker}
 use Rattle.std.specs.Mem.{FitsInMemory}
 use denote.Builtin.{u64 as receipt}
 use denote.Param.{param}
 use Rattle.rcu_part_group.specs.contracts.group.Group as group_row
 use Rattle.rcu_part_hand.specs.contracts.hand.Hand as hand_row
 use Rattle.rcu_part_processor.specs.contracts.processor.Processor as processor_row
+use Rattle.rcu_script.specs.Faults.{IsFaultOfOutput}
+use Rattle.rcu_script.specs.declared.fault.Fault.TheVariants.{CannotWrite}
 use Rattle.rcu_parts_replay.proofs.Keeping.{all_kept}
 use Rattle.rcu_parts_replay.proofs.Writing.{line_written, lists_written}
 use Rattle.rcu_parts_replay.proofs.replaying.perform.Goals as goal
@@ -12,7 +15,7 @@ use Rattle.rcu_parts_replay.proofs.replaying.perform.Goals as goal
 pub returns-then-is_show-clause-prints : goal.returns-then-is_show-clause-prints
 returns-then-is_show-clause-prints g c =
     lists_written g.J.Job.key_of c.args.parts.now c.args.opened.now c.args.command.now c.args.job c.show.result (g.W.Write.contents c.args.writer.now) (g.W.Write.contents c.show.new.writer)
-    (sym c.is_show.ensures ∙ c.if-is_show.true) c.show.ensures
+    (sym c.is_show.ensures ∙ c.if-is_show.true) c.show.ensures.shows
 
 pub returns-then-is_show-clause-kept : goal.returns-then-is_show-clause-kept
 returns-then-is_show-clause-kept g c = all_kept g.J.Job.key_of g.J.Job.gives c.args.parts.now
@@ -20,7 +23,10 @@ returns-then-is_show-clause-kept g c = all_kept g.J.Job.key_of g.J.Job.gives c.a
 pub returns-clause-prints : goal.returns-clause-prints
 returns-clause-prints g c =
     line_written g.J.Job.key_of c.args.parts.now c.args.opened.now c.args.command.now c.args.job c.write_line.result (g.W.Write.contents c.args.writer.now) (g.W.Write.contents c.write_line.new.writer)
-    c.answer.new.parts c.answer.new.opened c.in_ok-line.line (sym c.is_show.ensures ∙ c.if-is_show.false) c.in_ok-line.ensures.line c.answer.ensures.barrier c.write_line.ensures
+    c.answer.new.parts c.answer.new.opened c.in_ok-line.line (sym c.is_show.ensures ∙ c.if-is_show.false) c.in_ok-line.ensures.line c.answer.ensures.barrier c.write_line.ensures.writes
+
+pub returns-clause-why : goal.returns-clause-why
+returns-clause-why g c = IfErr-weaker c.write_line.result (λ fault. fault ≡ CannotWrite) IsFaultOfOutput (λ fault why. inr why) c.write_line.ensures.why
 
 pub answer-requires-after_bounds : goal.answer-requires-after_bounds
 answer-requires-after_bounds g c κs within =

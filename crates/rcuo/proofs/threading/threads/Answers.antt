@@ -1,14 +1,15 @@
-use Rattle.std.proofs.Common.{◌≡◌, map, refl, false}
-use Rattle.std.proofs.lemmas.Result.{on_ok_weaker}
+use Rattle.std.proofs.Common.{◌≡◌, map, refl, false, inl}
+use Rattle.std.proofs.lemmas.Result.{IfErr-weaker, on_ok_weaker}
 use Rattle.std.specs.List.{range_with_len}
 use Rattle.rcu_jobs.specs.Promised.{Promised}
 use Rattle.rcu_parts.proofs.Zips.{zip_all}
 use Rattle.rcu_parts.specs.OneOpen.{parts_board, processors_in}
 use Rattle.rcu_parts.specs.Openings.{IsFirstProcessor}
 use Rattle.rcu_threads.specs.Ends.{AreUnused}
+use Rattle.rcu_script.specs.Faults.{IsFaultOfOutput}
 use Rattle.rcu_script.specs.Lines.{whole_totals}
 use Rattle.rcu_script.specs.Scripts.{Writes}
-use Rattle.rcuo.specs.Totals.{RunsInThreads}
+use Rattle.rcuo.specs.Totals.{IsFaultOfThreads, RunsInThreads}
 use Rattle.rcuo.proofs.threading.threads.Goals as goal
 
 pub returns-in-Ok : goal.returns-in-Ok
@@ -36,5 +37,6 @@ returns-in-Ok g c =
       prints = on_ok_weaker
           {Q = Writes (g.W.Write.contents c.args.writer.now) (g.W.Write.contents c.print_totals.new.writer)
           (RunsInThreads (λ job. job.key) (Promised 65536) setup c.args.jobs.items)}
-          c.print_totals.result (λ written. (whole_totals false closed, runs, written)) c.print_totals.ensures;
+          c.print_totals.result (λ written. (whole_totals false closed, runs, written)) c.print_totals.ensures.writes;
+      why = IfErr-weaker c.print_totals.result IsFaultOfOutput IsFaultOfThreads (λ fault why. inl why) c.print_totals.ensures.why;
     }
