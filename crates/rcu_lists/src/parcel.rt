@@ -44,7 +44,7 @@ impl<J: Drop> Room<J> {
     /// Want of memory.
     pub fn new(alloc: Global) -> Result<Room<J>, AllocError> {
         Ok(Room {
-            slots: Vec::with_capacity(alloc, INLINE_PLACES)?,
+            slots: Vec::with_capacity(alloc, INLINE_PLACES + 1)?,
         })
     }
 }
