@@ -15,6 +15,10 @@ use std::mem;
 /// How many callbacks of a batch stand in the value itself.
 pub const INLINE_PLACES: usize = 16;
 
+/// For how many callbacks more room is found at least, where there is none: a batch that outgrows its own places goes to a
+/// list of 64 at once, and not over one of 32.
+const FEWEST_MORE: usize = 32;
+
 /// Callbacks in order. The first sixteen need no memory.
 #[derive(Drop)]
 pub struct Batch<J> {
@@ -68,7 +72,10 @@ impl<J: Drop> Batch<J> {
         ensures room { (k : ℕ) → HasRoom self.old k → HasRoom self.new k }
         ensures refused { OnErr result (self.new ≡ self.old) }
     {
-        self.slots.reserve(more)
+        if more <= self.slots.capacity() - self.slots.len() {
+            return Ok(());
+        }
+        self.slots.reserve(more.max(FEWEST_MORE))
     }
 
     /// Adds a callback at the end, in the room that there is.

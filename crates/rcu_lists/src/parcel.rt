@@ -28,7 +28,8 @@ pub struct Places<J> {
     ghost full: { AreFilled (drop next slots.items) },
 }
 
-/// Room on the heap for as many callbacks as stand in a batch itself.
+/// Room on the heap for as many callbacks as stand in a batch itself, and one more: a list with no more places than a batch
+/// has itself would be moved into the batch that loads it.
 #[derive(Drop)]
 pub struct Room<J> {
     pub(crate) slots: Vec<Option<Callback<J>>>,
@@ -44,7 +45,7 @@ impl<J: Drop> Room<J> {
     /// Want of memory.
     pub fn new(alloc: Global) -> Result<Room<J>, AllocError> {
         Ok(Room {
-            slots: Vec::with_capacity(alloc, INLINE_PLACES)?,
+            slots: Vec::with_capacity(alloc, INLINE_PLACES + 1)?,
         })
     }
 }

@@ -73,7 +73,12 @@ impl<J: Drop> Segments<J> {
         ensures found { OnOk result (SegmentsRoom self.new more) }
         ensures had { SegmentsRoom self.old more → IsOk result }
     {
-        self.list.reserve(more)
+        let (len, places) = (self.list.len(), self.list.capacity());
+        // (a full list grows where it stands, and so does one whose callbacks are moved to its start)
+        if len == places || more <= places - len {
+            return self.list.reserve(more);
+        }
+        self.list.reserve_exact(more.max(places))
     }
 
     /// Adds a callback at the end of next, in the room that there is.
