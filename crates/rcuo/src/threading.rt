@@ -3,9 +3,10 @@
 ghost use Rattle.std.specs.Prelude.{◌≡◌, ◌*◌, IfErr, OnOk, false, vec_len};
 ghost use Rattle.std.specs.Io.KnownBytes.{Appends};
 ghost use Rattle.rcu_jobs.specs.Promised.{Promised};
-ghost use Rattle.rcu_script.specs.Faults.{IsFaultOfOutput};
+ghost use Rattle.rcu_script.specs.Faults.{IsFaultOfOutput, IsWantOfMemory};
 ghost use Rattle.rcu_script.specs.Lines.{whole_totals};
 ghost use Rattle.rcu_script.specs.Scripts.{Writes};
+ghost use Rattle.rcu_script.specs.declared.fault.Fault.TheVariants.{CannotRun};
 ghost use Rattle.rcuo.specs.Totals.{IsFaultOfThreads, RunsInThreads};
 
 use rcu_jobs::{BoxedJob, Closed};
@@ -48,7 +49,9 @@ pub fn threads<R: Threads + Wait + Clock + Copy + Send + 'static, W: Write>(
 
 /// The fault of a runtime that was not run in threads.
 fn not_run(fault: ThreadsFault) -> Fault
-    ensures { IsFaultOfThreads result }
+    ensures memory { fault ≡ ThreadsFault.Memory → IsWantOfMemory result }
+    ensures threads { fault ≡ ThreadsFault.CannotRun → result ≡ CannotRun }
+    ensures why { IsFaultOfThreads result }
 {
     match fault {
         ThreadsFault::Memory => Fault::memory(),
