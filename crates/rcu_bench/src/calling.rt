@@ -35,6 +35,7 @@ impl Pace {
         ensures due { IsTrue result ↔ (plan.now.every ≤ self.old.calls + 1) }
         ensures again { IsTrue result → self.new.calls ≡ 0 }
         ensures counted { result ≡ false → self.new.calls ≡ self.old.calls + 1 }
+        ensures stays { (self.new.ticks ≡ self.old.ticks) × (self.new.moment ≡ self.old.moment) }
     {
         self.calls = self.calls.saturating_add(1);
         let due = self.calls >= plan.every;
