@@ -1,6 +1,7 @@
 //! Threads in which processors call, and threads that run processors afterwards.
 
 ghost use denote.Param.Send.{IsSend};
+ghost use Rattle.std.specs.Prelude.{◌≡◌, ◌+◌, ◌≤◌, ◌↔◌, IsTrue, false};
 
 use crate::jobs::{Work, nanoseconds};
 use crate::plan::Plan;
@@ -30,7 +31,12 @@ struct Pace {
 
 impl Pace {
     /// Counts a call. Answers whether the processor is to report and tick.
-    fn call(&mut self, plan: &Plan) -> bool {
+    fn call(&mut self, plan: &Plan) -> bool
+        ensures due { IsTrue result ↔ (plan.now.every ≤ self.old.calls + 1) }
+        ensures again { IsTrue result → self.new.calls ≡ 0 }
+        ensures counted { result ≡ false → self.new.calls ≡ self.old.calls + 1 }
+        ensures stays { (self.new.ticks ≡ self.old.ticks) × (self.new.moment ≡ self.old.moment) }
+    {
         self.calls = self.calls.saturating_add(1);
         let due = self.calls >= plan.every;
         if due {

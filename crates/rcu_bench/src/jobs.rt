@@ -1,5 +1,8 @@
 //! The job: of two words, whatever it is to do.
 
+ghost use Rattle.std.specs.Prelude.{◌≡◌, Ok, false};
+ghost use Rattle.rcu_bench.specs.declared.jobs.Work.TheVariants.{Plain};
+
 use rcu_jobs::Job;
 use std::alloc::{AllocError, Global};
 use std::rt::Clock;
@@ -52,7 +55,9 @@ impl Work {
     /// # Errors
     ///
     /// Want of memory.
-    pub fn new(alloc: Global, boxed: bool) -> Result<Work, AllocError> {
+    pub fn new(alloc: Global, boxed: bool) -> Result<Work, AllocError>
+        ensures plain { boxed ≡ false → result ≡ Ok (Plain 1) }
+    {
         if !boxed {
             return Ok(Work::Plain(1));
         }

@@ -1,6 +1,10 @@
 //! What is to be measured: the words of the command line.
 
-ghost use Rattle.std.specs.Prelude.{◌≡◌, IfSome};
+ghost use Rattle.std.specs.Prelude.{◌≡◌, IfSome, IsSome, true, false};
+ghost use Rattle.rcu_numbers.specs.Limits.{IsWithin};
+ghost use Rattle.rcu_numbers.specs.Words.{all_of};
+ghost use Rattle.rcu_numbers.specs.declared.shape.TheConstants.{MOST_CALLBACKS, MOST_PROCESSORS};
+ghost use Rattle.rcu_bench.specs.declared.plan.Refusal.TheVariants.{Memory};
 
 use clap::error::ErrorKind;
 use clap::{Arg, ArgAction, value_parser};
@@ -31,6 +35,8 @@ pub enum Refusal {
 }
 
 impl From<AllocError> for Refusal {
+    ghost from_gives = { λ _ refusal. refusal ≡ Memory };
+
     fn from(_error: AllocError) -> Refusal {
         Refusal::Memory
     }
@@ -78,8 +84,12 @@ pub struct Plan {
 impl Plan {
     /// The shape of a runtime with this plan's processors. None outside the limits of a shape.
     pub fn shape(&self) -> Option<Shape>
+        ensures some { IsWithin 1 MOST_PROCESSORS self.now.threads
+            → IsWithin 1 MOST_CALLBACKS self.now.blimit → IsWithin 1 MOST_CALLBACKS self.now.qhimark → IsSome result }
         ensures threads { IfSome result (λ s. s.processors ≡ self.now.threads) }
         ensures limits { IfSome result (λ s. (s.blimit ≡ self.now.blimit) × (s.qhimark ≡ self.now.qhimark)) }
+        ensures local { self.now.offloaded ≡ false → IfSome result (λ s. s.offloadable ≡ 0) }
+        ensures offloaded { self.now.offloaded ≡ true → IfSome result (λ s. s.offloadable ≡ all_of self.now.threads) }
     {
         if self.threads == 0 || self.threads > MOST_PROCESSORS {
             return None;

@@ -1,5 +1,7 @@
 //! Which growth was refused, and what did not stand after it.
 
+ghost use Rattle.std.specs.Prelude.{◌≡◌, ◌↔◌, IsOk, IsTrue, IfOk, None, Some};
+
 use std::alloc::{AllocError, AllocFailed};
 use std::fmt;
 use thiserror::Error;
@@ -112,7 +114,9 @@ impl<T: Drop> From<AllocFailed<T>> for Fault {
 }
 
 /// Ok where `holds`, which is what stands after a call.
-pub fn stands(holds: bool, at: Growth, what: &'static str) -> Result<(), Fault> {
+pub fn stands(holds: bool, at: Growth, what: &'static str) -> Result<(), Fault>
+    ensures { IsOk result ↔ IsTrue holds }
+{
     if holds {
         Ok(())
     } else {
@@ -127,17 +131,24 @@ pub struct Refusals {
 }
 
 impl Refusals {
-    pub fn new() -> Refusals {
+    pub fn new() -> Refusals
+        ensures { result.first ≡ None }
+    {
         Refusals { first: None }
     }
 
     /// The growth that was refused, if one was.
-    pub fn first(self) -> Option<Growth> {
+    pub fn first(self) -> Option<Growth>
+        ensures { result ≡ self.first }
+    {
         self.first
     }
 
     /// Notes a refusal. Whoever refuses one allocation never sees two.
-    pub fn note(&mut self, growth: Growth) -> Result<(), Fault> {
+    pub fn note(&mut self, growth: Growth) -> Result<(), Fault>
+        ensures once { IfOk result (λ _. self.old.first ≡ None) }
+        ensures noted { IfOk result (λ _. self.new.first ≡ Some growth) }
+    {
         stands(
             self.first.is_none(),
             growth,

@@ -1,9 +1,11 @@
 //! The thread of the processors.
 
-ghost use Rattle.std.specs.Prelude.{All, IfOk};
+ghost use Rattle.std.specs.Prelude.{◌≡◌, ◌≤◌, All, IfErr, IfOk, length};
 ghost use Rattle.std.specs.List.{AllZip};
 ghost use Rattle.rcu_part_processor.specs.Processors.{IsSound, SameProcessor};
+ghost use Rattle.rcu_jobs.specs.Refusals.{number_of};
 ghost use Rattle.rcu_phases.specs.Kept.{ProcessorsKeep};
+ghost use Rattle.rcu_phases.specs.declared.phase.Answer.TheVariants.{Accepted, NoProcessor};
 
 use crate::phase::{Act, Answer, Step};
 use rcu_jobs::{Job, Refused, Ticket};
@@ -18,7 +20,10 @@ pub(crate) struct Callers<P> {
 }
 
 /// What a call of either kind answered. A refused job is dropped.
-fn accepted<J: Drop>(called: Result<Ticket, Refused<J>>) -> Answer {
+fn accepted<J: Drop>(called: Result<Ticket, Refused<J>>) -> Answer
+    ensures ok { IfOk called (λ ticket. result ≡ Accepted ticket) }
+    ensures err { IfErr called (λ refused. result ≡ Answer.Refused (number_of refused)) }
+{
     match called {
         Ok(ticket) => Answer::Accepted(ticket),
         Err(refused) => Answer::Refused(refused.number()),
@@ -46,6 +51,7 @@ fn act_at<J: Job<Receipt = u64>>(
 ) -> Answer
     ensures same { AllZip (λ p q. SameProcessor p.state q.state) processors.old.items processors.new.items }
     ensures sound { All (λ p. IsSound J.key_of J.gives p.state) processors.old.items → All (λ p. IsSound J.key_of J.gives p.state) processors.new.items }
+    ensures none { length processors.old.items ≤ cpu → result ≡ NoProcessor }
 {
     if cpu >= processors.len() {
         return Answer::NoProcessor;

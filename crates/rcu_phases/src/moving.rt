@@ -1,8 +1,9 @@
 //! The thread of the driver and control.
 
-ghost use Rattle.std.specs.Prelude.{◌≡◌, IfOk};
+ghost use Rattle.std.specs.Prelude.{◌≡◌, ◌↔◌, IfOk, IsSome, None};
 ghost use Rattle.std.proofs.Props.{props};
 ghost use Rattle.rcu_phases.specs.Kept.{IsOurs};
+ghost use Rattle.rcu_phases.specs.declared.phase.Reply.TheVariants.{NoBarrier, Opened};
 ghost use Rattle.rcu_control.specs.Parts.{SameControl, SameDriver};
 
 use crate::phase::{Move, Reply};
@@ -24,6 +25,7 @@ pub(crate) struct Center {
 fn open_barrier(control: &mut Control, barrier: &mut Option<Barrier>, tickets: &[Ticket]) -> Reply
     ensures control { SameControl control.old control.new }
     ensures ours { IsOurs control.new barrier.new }
+    ensures opened { (result ≡ Opened) ↔ IsSome barrier.new }
 {
     match control.barrier(tickets) {
         Ok(opened) => {
@@ -41,6 +43,7 @@ fn open_barrier(control: &mut Control, barrier: &mut Option<Barrier>, tickets: &
 fn poll_barrier(control: &mut Control, barrier: &Option<Barrier>) -> Reply
     requires ours { IsOurs control.old barrier.now }
     ensures control { SameControl control.old control.new }
+    ensures none { (result ≡ NoBarrier) ↔ (barrier.now ≡ None) }
 {
     let Some(mut polled) = *barrier else {
         return Reply::NoBarrier;

@@ -1,5 +1,5 @@
 -- What a run keeps of all parts.
-use Rattle.std.specs.Prelude.{ℕ, ◌≤◌}
+use Rattle.std.specs.Prelude.{ℕ}
 use Rattle.std.specs.List.{AllZip}
 use Rattle.rcu_part_processor.specs.Processors.{IsSound, SameProcessor}
 use Rattle.rcu_parts.specs.OneOpen.{Parts, groups_in, hands_in, processors_in}

@@ -22,3 +22,13 @@ pub record AddsOthers (old more new : Counters) : Type 0 where
   pub barriers : new.barriers ≡ sum_up old.barriers more.barriers
   pub passed : new.passed ≡ sum_up old.passed more.passed
   pub switches : new.switches ≡ sum_up old.switches more.switches
+
+-- one read section more whose version was in the table at its end, was removed, or was freed
+abbrev pub one_current : Counters → Counters
+one_current c = record c { current = sum_up c.current 1 }
+
+abbrev pub one_removed : Counters → Counters
+one_removed c = record c { removed = sum_up c.removed 1 }
+
+abbrev pub one_freed : Counters → Counters
+one_freed c = record c { freed = sum_up c.freed 1 }

@@ -1,7 +1,10 @@
 //! What a processor's thread does: random calls, read sections, reports, ticks and barriers.
 
-ghost use Rattle.std.specs.Prelude.{IfErr, IfOk, ◌≡◌, []};
+ghost use Rattle.std.specs.Prelude.{IfErr, IfOk, IsTrue, Some, ◌≡◌, ◌↔◌, []};
 ghost use Rattle.rcu_torture.specs.Kept.{Accepts, GoesOn};
+ghost use Rattle.rcu_torture.specs.Left.{IsCount};
+ghost use Rattle.rcu_torture.specs.Sums.{one_current, one_freed, one_removed};
+ghost use Rattle.rcu_torture.specs.declared.versions.Age.TheVariants.{Current, Freed, Removed};
 
 use crate::chance::Chance;
 use crate::counters::Counters;
@@ -96,7 +99,11 @@ fn look(_section: &Reading<Retire>, versions: &Versions, slot: u64, yields: u64)
 }
 
 /// A read section of this processor. Answers what has become of the version that it found when it ends.
-fn read(processor: &Processor<Retire>, versions: &Versions, chance: &mut Chance) -> Option<Age> {
+pub(crate) fn read(
+    processor: &Processor<Retire>,
+    versions: &Versions,
+    chance: &mut Chance,
+) -> Option<Age> {
     let most = if chance.once_in(LONG) {
         LONGEST
     } else {
@@ -107,7 +114,11 @@ fn read(processor: &Processor<Retire>, versions: &Versions, chance: &mut Chance)
 }
 
 /// Counts a read section that saw this at its end.
-fn saw(counters: &mut Counters, flaws: &Flaws, seen: Option<Age>) {
+pub(crate) fn saw(counters: &mut Counters, flaws: &Flaws, seen: Option<Age>)
+    ensures current { seen ≡ Some Current → counters.new ≡ one_current counters.old }
+    ensures removed { seen ≡ Some Removed → counters.new ≡ one_removed counters.old }
+    ensures freed { seen ≡ Some Freed → counters.new ≡ one_freed counters.old }
+{
     match seen {
         Some(Age::Current) => counters.current = counters.current.saturating_add(1),
         Some(Age::Removed) => counters.removed = counters.removed.saturating_add(1),
@@ -128,7 +139,9 @@ fn next_burst(chance: &mut Chance) -> u64 {
 }
 
 /// Whether a barrier that processor `cpu` opened counts so many callbacks of its own.
-fn counts_own(barrier: &Barrier, cpu: u64, accepted: u64) -> bool {
+fn counts_own(barrier: &Barrier, cpu: u64, accepted: u64) -> bool
+    ensures { IsTrue result ↔ IsCount cpu accepted barrier.now.counts }
+{
     let own = barrier.counts.of_processors().get(cpu as usize).copied();
     own == Some(accepted)
 }
@@ -208,7 +221,7 @@ impl Actor {
     }
 
     /// An update of the table: the version that is taken out is retired by a call.
-    fn update(&mut self) -> Called
+    pub(crate) fn update(&mut self) -> Called
         ensures { GoesOn self.old self.new }
     {
         let ticket = Ticket {
@@ -233,7 +246,7 @@ impl Actor {
     }
 
     /// Opens a barrier, and leaves it to control to poll it.
-    fn open_barrier(&mut self)
+    pub(crate) fn open_barrier(&mut self)
         ensures { GoesOn self.old self.new }
     {
         let barrier = self.processor.barrier();

@@ -1,7 +1,7 @@
 //! The checks at the end of a run: what `close` answers beside what each thread counted.
 
-ghost use Rattle.std.specs.Prelude.{◌≡◌, ◌++◌, ◌↔◌, IsTrue, All, map};
-ghost use Rattle.rcu_torture.specs.Left.{AreNumbered, AreReady};
+ghost use Rattle.std.specs.Prelude.{◌↔◌, IsTrue, All};
+ghost use Rattle.rcu_torture.specs.Left.{AreAt, AreKeyed, AreNumbered, AreReady};
 ghost use Rattle.rcu_torture.specs.Retired.{IsVersion, version_of};
 
 use crate::counters::Counters;
@@ -39,21 +39,29 @@ fn are_given(records: &[Record<u64>]) -> bool
     records.iter().all(|record| record.receipt == record.key)
 }
 
+/// Whether each record's key stands at its place.
+fn are_of_records(keys: &[u64], records: &[Record<u64>]) -> bool
+    ensures { IsTrue result ↔ AreAt (λ r. r.key) keys.now records.now }
+{
+    records.iter().enumerate().all(|(place, record)| keys.get(place).copied() == Some(record.key))
+}
+
+/// Whether each job's key stands at its place.
+fn are_of_jobs(keys: &[u64], jobs: &[Retire]) -> bool
+    ensures { IsTrue result ↔ AreAt version_of keys.now jobs.now }
+{
+    jobs.iter().enumerate().all(|(place, job)| keys.get(place).copied() == Some(job.version))
+}
+
 /// Whether the keys of the records and then those of the jobs are these keys.
-fn are_keyed(keys: &[u64], records: &[Record<u64>], jobs: &[Retire]) -> bool {
+fn are_keyed(keys: &[u64], records: &[Record<u64>], jobs: &[Retire]) -> bool
+    ensures { IsTrue result → AreKeyed keys.now records.now jobs.now }
+{
     if keys.len() < records.len() {
         return false;
     }
     let (ran, back) = keys.split_at(records.len());
-    back.len() == jobs.len()
-        && ran
-            .iter()
-            .zip(records.iter())
-            .all(|(key, record)| *key == record.key)
-        && back
-            .iter()
-            .zip(jobs.iter())
-            .all(|(key, job)| *key == job.version)
+    back.len() == jobs.len() && are_of_records(ran, records) && are_of_jobs(back, jobs)
 }
 
 /// What is left of one processor.

@@ -12,6 +12,7 @@ mod counters;
 mod driving;
 mod flaw;
 mod line;
+mod meeting;
 mod plan;
 mod retire;
 mod running;
@@ -22,9 +23,10 @@ mod versions;
 use counters::Counters;
 use flaw::{Flaw, Flaws};
 use line::line;
+use meeting::meet_all;
 use plan::{Plan, Refusal, read_plan};
 use rcu_threads::ThreadsFault;
-use running::run_once;
+use running::{Report, run_once};
 use std::alloc::{AllocError, Global};
 use std::io;
 use std::process::ExitCode;
@@ -83,6 +85,22 @@ fn words(rt: &HostRuntime) -> Result<Vec<String>, Refusal> {
     Ok(words)
 }
 
+/// A run of a plan, or in its place each flaw, met on purpose.
+fn run_or_meet<R: Threads + Wait + Clock + Copy + Send + 'static>(
+    rt: &R,
+    alloc: Global,
+    plan: &Plan,
+    run: u64,
+) -> Result<Report, ThreadsFault> {
+    if !plan.flawed {
+        return run_once(rt, alloc, plan, run);
+    }
+    match meet_all(alloc) {
+        Ok(report) => Ok(report),
+        Err(_) => Err(ThreadsFault::Memory),
+    }
+}
+
 /// All runs of a plan: what they counted.
 fn run_all<R: Threads + Wait + Clock + Copy + Send + 'static>(
     rt: &R,
@@ -92,7 +110,7 @@ fn run_all<R: Threads + Wait + Clock + Copy + Send + 'static>(
 ) -> Result<Counters, ThreadsFault> {
     let mut counters = Counters::NONE;
     for run in 0..plan.runs {
-        let report = run_once(rt, alloc, plan, run)?;
+        let report = run_or_meet(rt, alloc, plan, run)?;
         counters.add(&report.counters);
         flaws.add(&report.shared.flaws);
     }

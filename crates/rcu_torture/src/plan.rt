@@ -1,11 +1,12 @@
 //! What a run is to do: the words of the command line.
 
-ghost use Rattle.std.specs.Prelude.{◌≡◌, ◌*◌, ◌/◌, ◌<◌, ◌≤◌, ◌↔◌, IsSome, IfSome};
+ghost use Rattle.std.specs.Prelude.{◌≡◌, ◌+◌, ◌*◌, ◌/◌, ◌%◌, ◌<◌, ◌≤◌, ◌↔◌, IsSome, IfSome, false};
 ghost use Rattle.rcu_numbers.specs.declared.shape.TheConstants.{MOST_CALLBACKS, MOST_PROCESSORS};
+ghost use Rattle.rcu_torture.specs.declared.plan.Refusal.TheVariants.{Memory};
 
 use crate::chance::Chance;
 use clap::error::ErrorKind;
-use clap::{Arg, value_parser};
+use clap::{Arg, ArgAction, value_parser};
 use rcu_numbers::{MOST_CALLBACKS, MOST_PROCESSORS, Shape, all_processors};
 use std::alloc::{AllocError, Global};
 
@@ -38,6 +39,8 @@ pub enum Refusal {
 }
 
 impl From<AllocError> for Refusal {
+    ghost from_gives = { λ _ refusal. refusal ≡ Memory };
+
     fn from(_error: AllocError) -> Refusal {
         Refusal::Memory
     }
@@ -77,6 +80,8 @@ pub struct Plan {
     pub runs: u64,
     /// By which all random numbers are drawn.
     pub seed: u64,
+    /// Whether in place of each run the checks are handed cases that they must refuse.
+    pub flawed: bool,
     pub ghost some: { 0 < processors × processors ≤ MOST_PROCESSORS },
     pub ghost within: { callbacks ≤ processors * MOST_CALLBACKS },
 }
@@ -86,7 +91,9 @@ impl Plan {
     /// they accept.
     pub fn new(callbacks: u64, processors: u64, runs: u64, seed: u64) -> Option<Plan>
         ensures within { IsSome result ↔ (0 < processors × processors ≤ MOST_PROCESSORS × callbacks ≤ processors * MOST_CALLBACKS) }
-        ensures plan { IfSome result (λ p. (p.callbacks ≡ callbacks) × (p.processors ≡ processors) × (p.runs ≡ runs) × (p.seed ≡ seed)) }
+        ensures plan { IfSome result (λ p. (p.callbacks ≡ callbacks) × (p.processors ≡ processors)) }
+        ensures runs { IfSome result (λ p. (p.runs ≡ runs) × (p.seed ≡ seed)) }
+        ensures sound { IfSome result (λ p. p.flawed ≡ false) }
     {
         if processors == 0 || processors > MOST_PROCESSORS {
             return None;
@@ -99,6 +106,7 @@ impl Plan {
             processors,
             runs,
             seed,
+            flawed: false,
         })
     }
 
@@ -106,6 +114,11 @@ impl Plan {
     pub fn share(&self, p: u64) -> u64
         ensures least { self.now.callbacks / self.now.processors ≤ result }
         ensures most { result ≤ MOST_CALLBACKS }
+        // (what is left over goes to the first processors, one to each)
+        ensures first { p < self.now.callbacks % self.now.processors
+            → result ≡ self.now.callbacks / self.now.processors + 1 }
+        ensures others { self.now.callbacks % self.now.processors ≤ p
+            → result ≡ self.now.callbacks / self.now.processors }
     {
         let even = self.callbacks / self.processors;
         if p < self.callbacks % self.processors {
@@ -127,7 +140,10 @@ impl Plan {
 
     /// The shape of a run: which processors are offloadable, the stride, and the limits of a turn and of bypass lists are
     /// drawn.
-    pub fn shape(&self, chance: &mut Chance) -> Option<Shape> {
+    pub fn shape(&self, chance: &mut Chance) -> Option<Shape>
+        ensures processors { IfSome result (λ s. s.processors ≡ self.now.processors) }
+        ensures limit { IfSome result (λ s. s.limit ≡ MOST_CALLBACKS) }
+    {
         let some = chance.word() | chance.word();
         Shape::new(
             self.processors,
@@ -154,10 +170,16 @@ fn command<'a>(alloc: Global) -> Result<clap::Command<'a>, AllocError> {
         .arg(number(alloc, "callbacks", 0))?
         .arg(number(alloc, "processors", 1))?
         .arg(number(alloc, "runs", 1))?
-        .arg(number(alloc, "seed", 0))
+        .arg(number(alloc, "seed", 0))?
+        .arg(
+            Arg::new(alloc, "flaws")
+                .long("flaws")
+                .help("meet each flaw once, by cases that the checks must refuse")
+                .action(ArgAction::SetTrue),
+        )
 }
 
-/// What the words after the program's name say: `--callbacks N`, `--processors N`, `--runs N` and `--seed N`.
+/// What the words after the program's name say: `--callbacks N`, `--processors N`, `--runs N`, `--seed N` and `--flaws`.
 ///
 /// # Errors
 ///
@@ -169,5 +191,7 @@ pub fn read_plan(alloc: Global, words: &[String]) -> Result<Plan, Refusal> {
     let processors = matches.get_one("processors").unwrap_or(PROCESSORS);
     let runs = matches.get_one("runs").unwrap_or(1);
     let seed = matches.get_one("seed").unwrap_or(SEED);
-    Plan::new(callbacks, processors, runs, seed).ok_or(Refusal::TooMany)
+    let mut plan = Plan::new(callbacks, processors, runs, seed).ok_or(Refusal::TooMany)?;
+    plan.flawed = matches.get_flag("flaws");
+    Ok(plan)
 }

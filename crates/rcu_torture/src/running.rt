@@ -15,7 +15,7 @@ use crate::driving::{Log, MORE, MOST_REFUSED, Parted, part, start_actors};
 use crate::flaw::Flaws;
 use crate::plan::Plan;
 use crate::retire::Retire;
-use crate::shared::Shared;
+use crate::shared::{Shared, share};
 use crate::steering::{Farewell, Steerer};
 use rcu_jobs::Closed;
 use rcu_parts::{AllParts, Control, Parts, close, open, same_parts};
@@ -25,14 +25,20 @@ use std::rt::Clock;
 use std::sync::{Arc, Wait};
 use std::thread::Threads;
 
+/// How control led a run.
+#[derive(Clone, Copy)]
+struct Course {
+    farewell: Farewell,
+    /// What control counted.
+    counters: Counters,
+}
+
 /// What is left when all threads of a run have ended.
 #[derive(Drop)]
 struct Ended {
     parts: Parts<Retire>,
     logs: Vec<Log>,
-    farewell: Farewell,
-    /// What control counted.
-    counters: Counters,
+    course: Course,
 }
 
 /// What is left of a run.
@@ -40,14 +46,6 @@ struct Ended {
 pub(crate) struct Outcome {
     pub(crate) closed: Closed<Retire>,
     pub(crate) counters: Counters,
-}
-
-/// What control came to.
-#[derive(Drop)]
-struct Led {
-    control: Control,
-    counters: Counters,
-    farewell: Farewell,
 }
 
 /// Leads a run by control, and then sets the halt word.
@@ -59,8 +57,8 @@ fn lead<R: Wait + Clock>(
     plan: &Plan,
     run: u64,
     are_running: bool,
-) -> Led
-    ensures { SameControl control result.control }
+) -> (Control, Course)
+    ensures { SameControl control result.0 }
 {
     let mut steerer = Steerer {
         control,
@@ -76,11 +74,7 @@ fn lead<R: Wait + Clock>(
         ..
     } = steerer;
     control.finish();
-    Led {
-        control,
-        counters,
-        farewell,
-    }
+    (control, Course { farewell, counters })
 }
 
 /// Runs all parts of an open in threads of their own.
@@ -116,11 +110,7 @@ fn run_parts<R: Threads + Wait + Clock + Copy + Send + 'static>(
         && groups.is_whole()
         && hands.is_whole()
         && actors.is_whole();
-    let Led {
-        control,
-        counters,
-        farewell,
-    } = lead(rt, alloc, control, own, plan, run, are_running);
+    let (control, course) = lead(rt, alloc, control, own, plan, run, are_running);
     let driver = join_driver(rt, driver);
     let groups = join_all(rt, groups);
     let hands = join_all(rt, hands);
@@ -137,8 +127,7 @@ fn run_parts<R: Threads + Wait + Clock + Copy + Send + 'static>(
             control,
         },
         logs,
-        farewell,
-        counters,
+        course,
     })
 }
 
@@ -179,13 +168,12 @@ fn run_to_end<R: Threads + Wait + Clock + Copy + Send + 'static>(
     let Ended {
         parts,
         logs,
-        farewell,
-        mut counters,
+        course,
     } = ended;
     same_parts::<Retire>();
     let closed = close_all(alloc, parts)?;
-    let sum = check(shared, &closed, logs.as_slice(), &farewell);
-    counters.add(&sum);
+    let mut counters = check(shared, &closed, logs.as_slice(), &course.farewell);
+    counters.add(&course.counters);
     Ok(Outcome { closed, counters })
 }
 
@@ -220,10 +208,7 @@ pub fn run_once<R: Threads + Wait + Clock + Copy + Send + 'static>(
     let Some(shape) = plan.shape(&mut chance) else {
         return Err(ThreadsFault::CannotRun);
     };
-    let Ok(shared) = Shared::new(alloc, plan.processors, versions_of(plan)) else {
-        return Err(ThreadsFault::Memory);
-    };
-    let Ok(shared) = Arc::new(alloc, shared) else {
+    let Ok(shared) = share(alloc, plan.processors, versions_of(plan)) else {
         return Err(ThreadsFault::Memory);
     };
     let Ok(parts) = open(alloc, shape) else {

@@ -5,8 +5,8 @@ use crate::versions::{Age, Versions};
 use rcu_jobs::{Counts, Ticket};
 use rcu_parts::Barrier;
 use std::alloc::{AllocError, Global};
-use std::sync::Mutex;
 use std::sync::atomic::{AtomicU64, Ordering};
+use std::sync::{Arc, Mutex};
 use std::thread;
 
 /// What is seen of one processor's callbacks while they run.
@@ -63,23 +63,32 @@ impl Shared {
         })
     }
 
-    /// What the callback of this number of a processor does: it frees a version. It notes where another callback of the
-    /// processor is running, where it isn't this one's turn, and where the version was freed before. It yields so many
-    /// times meanwhile.
+    /// The callback of this ticket begins. It notes where another callback of the processor is running, and where it isn't
+    /// this one's turn.
+    pub fn begin(&self, ticket: Ticket) {
+        if let Some(watch) = self.watches.get(ticket.cpu as usize) {
+            let alone = watch.running.swap(1, Ordering::SeqCst) == 0;
+            self.flaws.check(alone, Flaw::Beside);
+            let turn = watch.ran.load(Ordering::SeqCst) == ticket.number;
+            self.flaws.check(turn, Flaw::OutOfOrder);
+        }
+    }
+
+    /// A callback of a processor ends: it frees a version, and notes where that wasn't removed, or was freed before.
+    pub fn end(&self, cpu: u64, version: u64) {
+        if let Some(watch) = self.watches.get(cpu as usize) {
+            let age = self.versions.pass(version, Age::Freed);
+            self.flaws.check(age == Some(Age::Removed), Flaw::Twice);
+            watch.ran.fetch_add(1, Ordering::SeqCst);
+            watch.running.store(0, Ordering::SeqCst);
+        }
+    }
+
+    /// What the callback of this ticket does: it frees a version, and yields so many times before.
     pub fn free(&self, ticket: Ticket, version: u64, yields: u64) {
-        let Ticket { cpu, number } = ticket;
-        let Some(watch) = self.watches.get(cpu as usize) else {
-            return;
-        };
-        let alone = watch.running.swap(1, Ordering::SeqCst) == 0;
-        self.flaws.check(alone, Flaw::Beside);
-        let turn = watch.ran.load(Ordering::SeqCst) == number;
-        self.flaws.check(turn, Flaw::OutOfOrder);
+        self.begin(ticket);
         rest(yields);
-        let age = self.versions.pass(version, Age::Freed);
-        self.flaws.check(age == Some(Age::Removed), Flaw::Twice);
-        watch.ran.fetch_add(1, Ordering::SeqCst);
-        watch.running.store(0, Ordering::SeqCst);
+        self.end(ticket.cpu, version);
     }
 
     /// How many callbacks of a processor have run.
@@ -144,6 +153,19 @@ impl Shared {
     /// Whether all processors have accepted their shares.
     pub fn have_arrived(&self) -> bool {
         self.arrived.load(Ordering::SeqCst) >= self.watches.len() as u64
+    }
+}
+
+/// What the threads of `processors` processors share, with room for so many versions, to be handed to each.
+///
+/// # Errors
+///
+/// Want of memory.
+pub fn share(alloc: Global, processors: u64, versions: u64) -> Result<Arc<Shared>, AllocError> {
+    let shared = Shared::new(alloc, processors, versions)?;
+    match Arc::new(alloc, shared) {
+        Ok(shared) => Ok(shared),
+        Err(_) => Err(AllocError),
     }
 }
 

@@ -19,3 +19,6 @@ act_one-requires-send-J g c κs within = assumption
 
 pub act_one-requires-after_bounds : goal.act_one-requires-after_bounds
 act_one-requires-after_bounds g c κs within = assumption
+
+pub returns-clause-none : goal.returns-clause-none
+returns-clause-none g c long = absurd (let z : ⊥ = omega (arith, long) in z)
