@@ -43,10 +43,8 @@ impl Version {
 
     /// The hop of the newest row for a destination.
     fn hop_to(&self, destination: u32) -> Option<u32>
-        ensures {
-            let newest = find (λ row. row.destination == destination) (reverse self.now.rows.items) in
-            result ≡ option_map (λ row. row.hop) newest
-        }
+        ensures { let newest = find (λ row. row.destination == destination) (reverse self.now.rows.items) in
+            result ≡ option_map (λ row. row.hop) newest }
     {
         let mut newest_first = self.rows.iter().rev();
         let newest = newest_first.find(|row| row.destination == destination)?;
@@ -141,11 +139,9 @@ impl Table {
     fn update(&mut self, p: u64, moment: u64, row: Row) -> Result<Ticket, AnyFault>
         ensures updated { OnOk result ((arc_value self.new.current).rows.items ≡ (arc_value self.old.current).rows.items ++ (row ∷ [])) }
         ensures refused { OnErr result (self.new.current ≡ self.old.current) }
-        ensures retires {
-            let key = (arc_value self.old.current).generation in
+        ensures retires { let key = (arc_value self.old.current).generation in
             let job : TheRetired = record { 0 = self.old.current } in
-            IfOk result (λ t. OnProcessor p (AcceptsPlain moment key job t) self.old.runtime self.new.runtime)
-        }
+            IfOk result (λ t. OnProcessor p (AcceptsPlain moment key job t) self.old.runtime self.new.runtime) }
     {
         let next = Arc::new(self.alloc, self.current.with(row)?)?;
         let old = mem::replace(&mut self.current, next);
