@@ -2,8 +2,10 @@
 //! at them. docs/embedding.md walks through it.
 #![tactic(auto)]
 
-ghost use Rattle.std.specs.Prelude.{◌≡◌, ◌+◌, ◌++◌, [], ◌∷◌, IfOk, OnErr, OnOk, vec_len};
+ghost use Rattle.std.specs.Prelude.{◌≡◌, ◌==◌, ◌+◌, ◌++◌, [], ◌∷◌, IfOk, OnErr, OnOk, find, reverse, vec_len};
+ghost use Rattle.std.specs.Option.{option_map};
 ghost use Rattle.std.specs.Arc.{arc_value};
+ghost use Rattle.rcu_runtime.specs.Calls.{AcceptsPlain, OnProcessor};
 ghost use Rattle.rcu_runtime.specs.Ends.{HaveReceipts, back_in, ran_in};
 ghost use Rattle.rcu_runtime.specs.Runtimes.{accepted_in};
 
@@ -40,7 +42,10 @@ impl Version {
     }
 
     /// The hop of the newest row for a destination.
-    fn hop_to(&self, destination: u32) -> Option<u32> {
+    fn hop_to(&self, destination: u32) -> Option<u32>
+        ensures { let newest = find (λ row. row.destination == destination) (reverse self.now.rows.items) in
+            result ≡ option_map (λ row. row.hop) newest }
+    {
         let mut newest_first = self.rows.iter().rev();
         let newest = newest_first.find(|row| row.destination == destination)?;
         Some(newest.hop)
@@ -100,6 +105,8 @@ struct Seen<'s> {
 }
 
 impl Table {
+    ghost use Rattle.rcu_embedding.specs.declared.Retired.{Retired as TheRetired};
+
     /// A table with no row.
     fn new(alloc: Global) -> Result<Table, AnyFault>
         ensures { IfOk result (λ table. (arc_value table.current).rows.items ≡ []) }
@@ -132,6 +139,9 @@ impl Table {
     fn update(&mut self, p: u64, moment: u64, row: Row) -> Result<Ticket, AnyFault>
         ensures updated { OnOk result ((arc_value self.new.current).rows.items ≡ (arc_value self.old.current).rows.items ++ (row ∷ [])) }
         ensures refused { OnErr result (self.new.current ≡ self.old.current) }
+        ensures retires { let key = (arc_value self.old.current).generation in
+            let job : TheRetired = record { 0 = self.old.current } in
+            IfOk result (λ t. OnProcessor p (AcceptsPlain moment key job t) self.old.runtime self.new.runtime) }
     {
         let next = Arc::new(self.alloc, self.current.with(row)?)?;
         let old = mem::replace(&mut self.current, next);

@@ -3,7 +3,8 @@
 //! threads. docs/embedding.md, "Limits", speaks of it.
 #![tactic(auto)]
 
-ghost use Rattle.std.specs.Prelude.{◌≡◌, ◌+◌, IfOk, IsTrue, vec_len};
+ghost use Rattle.std.specs.Prelude.{◌≡◌, ◌+◌, ◌<◌, ◌≤◌, ◌↔◌, IfOk, IsTrue, OnOk, drop, max, vec_len};
+ghost use Rattle.rcu_turn_over.specs.Callers.{CallsFirst, HasCalledAll, next_job};
 ghost use Rattle.rcu_turn_over.specs.Numbers.{AreNumberedFrom};
 ghost use Rattle.rcu_workers.specs.Ends.{HasNoneBack, LosesNone};
 
@@ -59,21 +60,31 @@ struct Caller {
 
 impl Caller {
     /// Takes what came back of a runtime: in the next one it is called first, then what wasn't accepted.
-    fn take_back(&mut self, back: Vec<Number>) -> Result<(), AllocError> {
-        let rest = mem::replace(&mut self.back, VecDeque::from(back));
-        for job in self.refused.take().into_iter().chain(rest) {
+    fn take_back(&mut self, back: Vec<Number>) -> Result<(), AllocError>
+        ensures { OnOk result (CallsFirst back.items self.old self.new) }
+    {
+        let mut rest = mem::replace(&mut self.back, VecDeque::from(back));
+        if let Some(job) = self.refused.take() {
             self.back.push_back(job)?;
         }
-        Ok(())
+        self.back.append(&mut rest)
     }
 
     /// Whether no call is left.
-    fn has_called_all(&self) -> bool {
+    fn has_called_all(&self) -> bool
+        ensures { IsTrue result ↔ HasCalledAll self.now }
+    {
         self.next >= CALLS && self.back.is_empty() && self.refused.is_none()
     }
 
     /// The next call, of a job that came back before a new one.
-    fn call(&mut self) -> Step<Number> {
+    fn call(&mut self) -> Step<Number>
+        ensures calls { next_job self.old < CALLS → result ≡ Step.Call 0 (record { 0 = next_job self.old }) }
+        ensures done { CALLS ≤ next_job self.old → result ≡ Step.Done }
+        ensures back { self.new.back.items ≡ drop 1 self.old.back.items }
+        ensures next { next_job self.old < CALLS → self.new.next ≡ max self.old.next (next_job self.old + 1) }
+        ensures refused { self.new.refused ≡ self.old.refused }
+    {
         let job = self.back.pop_front().unwrap_or(Number(self.next));
         if job.0 >= CALLS {
             return Step::Done;

@@ -12,6 +12,8 @@ use Rattle.rcu_workers.specs.Steps.{Does, ProcessorWorks}
 use Rattle.rcu_workers.specs.declared.acting.Acted.{Acted}
 use Rattle.rcu_workers.specs.declared.acting.Acted.TheVariants as acted
 use Rattle.rcu_workers.specs.declared.worker.Answer.TheVariants as answer
+use Rattle.rcu_workers.specs.declared.worker.End.TheVariants as end
+use Rattle.rcu_workers.specs.declared.worker.Step.{Step}
 use Rattle.rcu_workers.specs.declared.worker.Step.TheVariants as step
 
 module _ {J R : Type 0} (key_of : J → ℕ) (moment : ℕ) (job : J) (p q : Processor J R) where
@@ -33,3 +35,16 @@ module _ {J R : Type 0} (key_of : J → ℕ) (moment : ℕ) (job : J) (p q : Pro
   pub called_works : (gives : ℕ → R → Type 0) (kind : Kind) (r : Result Ticket (Refused J)) → Answers moment kind (key_of job) job r p q → (IsSound key_of gives p.state → IsSound key_of gives q.state) → ProcessorWorks key_of gives p q
   called_works gives kind (Ok t) w sound = record { keeps = record { same = w.same; sound = sound }; count = (let h = w.ok.count in omega (arith, h)) }
   called_works gives kind (Err x) w sound = record { keeps = record { same = w.same; sound = sound }; count = (let h = w.err.count in omega (arith, h)) }
+
+-- no step ends as one that wasn't made
+pub none_ends_unbegun : {J R : Type 0} (key_of : J → ℕ) (s : Step J) (p q : Processor J R) → Does key_of s (acted.Ends end.NotBegun) p q → ⊥
+none_ends_unbegun key_of (step.Call moment job) p q d = d
+none_ends_unbegun key_of (step.CallLazy moment job) p q d = d
+none_ends_unbegun key_of step.Read p q d = d
+none_ends_unbegun key_of step.Report p q d = d
+none_ends_unbegun key_of (step.Tick moment) p q d = d
+none_ends_unbegun key_of step.OpenBarrier p q d = d
+none_ends_unbegun key_of (step.PollBarrier barrier) p q d = d
+none_ends_unbegun key_of step.Pause p q d = d
+none_ends_unbegun key_of step.Done p q d = d
+none_ends_unbegun key_of step.Fail p q d = d

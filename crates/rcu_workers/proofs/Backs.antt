@@ -1,15 +1,16 @@
 -- What comes back of a run, by its answer.
-use Rattle.std.proofs.Common.{◌≡◌, ◌∙◌, ap, sym, ℕ, List, Result, Ok, Err, IfErr}
-use Rattle.std.specs.Prelude.{IfOk, MatchResult, [], vec_len}
+use Rattle.std.proofs.Common.{◌≡◌, ◌∙◌, ap, subst, sym, ℕ, Bool, List, Result, Ok, Err, IfErr, Some}
+use Rattle.std.specs.Prelude.{IfOk, MatchResult, [], slice_get, vec_len}
 use Rattle.std.specs.declared.alloc.Global.{Global}
 use Rattle.std.specs.declared.vec.Vec.{Vec}
 use Rattle.rcu_parts.specs.OneOpen.{Parts}
 use Rattle.rcu_runtime.proofs.Wholes.{continues_again}
 use Rattle.rcu_runtime.specs.Runtimes.{Continues}
 use Rattle.rcu_workers.specs.Faults.{ComesBack, HaveEnded, IsEarly, IsLate, IsWhy}
-use Rattle.rcu_workers.specs.Runs.{ComeBack}
+use Rattle.rcu_workers.specs.Runs.{ComeBack, KeepsUnbegun}
 use Rattle.rcu_workers.specs.declared.running.Ending.{Ending}
 use Rattle.rcu_workers.specs.declared.worker.End.{End}
+use Rattle.rcu_workers.specs.declared.worker.End.TheVariants.{NotBegun}
 use Rattle.rcu_workers.specs.declared.fault.WorkersFault.{WorkersFault}
 use Rattle.rcu_workers.specs.declared.fault.WorkersFault.TheVariants.{Memory, OtherNumber, NoThread, NotDrained}
 
@@ -25,11 +26,11 @@ module _ {J R : Type 0} where
   early_back n m NoThread old new workers back e same all = absurd e
   early_back n m NotDrained old new workers back e same all = absurd e
 
-  pub late_back : {W : Type 0} (ending : Ending) (fault : WorkersFault) (old new : Parts J R) (workers back : List W) → IsLate ending fault → ComesBack fault old new workers back
-  late_back ending Memory old new workers back e = absurd e
-  late_back ending (OtherNumber a b) old new workers back e = absurd e
-  late_back ending NoThread old new workers back e = tt
-  late_back ending NotDrained old new workers back e = tt
+  pub late_back : {W : Type 0} (has_begun : Bool) (ending : Ending) (fault : WorkersFault) (old new : Parts J R) (workers back : List W) → IsLate has_begun ending fault → ComesBack fault old new workers back
+  late_back has_begun ending Memory old new workers back e = absurd e
+  late_back has_begun ending (OtherNumber a b) old new workers back e = absurd e
+  late_back has_begun ending NoThread old new workers back e = tt
+  late_back has_begun ending NotDrained old new workers back e = tt
 
 -- why a run wasn't made, early or late, and how many ends come back
 pub early_why : (n m : ℕ) (ending : Ending) (fault : WorkersFault) → IsEarly n m fault → IsWhy n m ending fault
@@ -38,11 +39,11 @@ early_why n m ending (OtherNumber a b) e = e
 early_why n m ending NoThread e = absurd e
 early_why n m ending NotDrained e = absurd e
 
-pub late_why : (n m : ℕ) (ending : Ending) (fault : WorkersFault) → m ≡ n → IsLate ending fault → IsWhy n m ending fault
-late_why n m ending Memory same e = absurd e
-late_why n m ending (OtherNumber a b) same e = absurd e
-late_why n m ending NoThread same e = same
-late_why n m ending NotDrained same e = (same, e)
+pub late_why : (n m : ℕ) (has_begun : Bool) (ending : Ending) (fault : WorkersFault) → m ≡ n → IsLate has_begun ending fault → IsWhy n m ending fault
+late_why n m has_begun ending Memory same e = absurd e
+late_why n m has_begun ending (OtherNumber a b) same e = absurd e
+late_why n m has_begun ending NoThread same e = same
+late_why n m has_begun ending NotDrained same e = (same, e.1)
 
 pub early_ends : (n m many : ℕ) (fault : WorkersFault) (ends : Vec End Global) → IsEarly n m fault → ends.items ≡ [] → HaveEnded fault many ends.items
 early_ends n m many Memory ends e none = none
@@ -50,11 +51,11 @@ early_ends n m many (OtherNumber a b) ends e none = none
 early_ends n m many NoThread ends e none = absurd e
 early_ends n m many NotDrained ends e none = absurd e
 
-pub late_ends : (many : ℕ) (ending : Ending) (fault : WorkersFault) (ends : Vec End Global) → IsLate ending fault → vec_len ends ≡ many → HaveEnded fault many ends.items
-late_ends many ending Memory ends e same = absurd e
-late_ends many ending (OtherNumber a b) ends e same = absurd e
-late_ends many ending NoThread ends e same = sym ends.ok.0 ∙ same
-late_ends many ending NotDrained ends e same = sym ends.ok.0 ∙ same
+pub late_ends : (many : ℕ) (has_begun : Bool) (ending : Ending) (fault : WorkersFault) (ends : Vec End Global) → IsLate has_begun ending fault → vec_len ends ≡ many → HaveEnded fault many ends.items
+late_ends many has_begun ending Memory ends e same = absurd e
+late_ends many has_begun ending (OtherNumber a b) ends e same = absurd e
+late_ends many has_begun ending NoThread ends e same = sym ends.ok.0 ∙ same
+late_ends many has_begun ending NotDrained ends e same = sym ends.ok.0 ∙ same
 
 pub if_ok : {A B : Type 0} (P : Type 0) → P → (r : Result A B) → IfOk r (λ _. P)
 if_ok P p (Ok a) = p
@@ -77,3 +78,15 @@ module _ {A B W : Type 0} (workers left : Vec W Global) (ends : Vec End Global) 
   pub as_many_back : (f : B → Vec W Global) (r : Result A B) → IfErr r (λ b. f b ≡ left) → IfErr r (λ b. vec_len (f b) ≡ vec_len workers)
   as_many_back f (Ok a) same = same
   as_many_back f (Err b) same = ap (λ v. vec_len v) same ∙ came.workers
+
+-- what a run left is what comes back, so a worker that made no step is as it was
+kept_by : {W : Type 0} (workers left now : Vec W Global) (ends said : Vec End Global) → KeepsUnbegun workers left ends → now ≡ left → said ≡ ends → KeepsUnbegun workers now said
+kept_by workers left now ends said kept same told = λ k none. ap (λ v. slice_get v.items k) same ∙ kept k (subst (λ v. slice_get v.items k ≡ Some NotBegun) told none)
+
+module _ {A B W : Type 0} (workers left : Vec W Global) (ends : Vec End Global) (kept : KeepsUnbegun workers left ends) where
+  pub unbegun_come : (f : A → Vec W Global) (g : A → Vec End Global) (r : Result A B) → IfOk r (λ a. (f a ≡ left) × (g a ≡ ends)) → IfOk r (λ a. KeepsUnbegun workers (f a) (g a))
+  unbegun_come f g (Ok a) same = kept_by workers left (f a) ends (g a) kept same.0 same.1
+  unbegun_come f g (Err b) same = same
+
+  pub unbegun_back : (f : B → Vec W Global) (g : B → Vec End Global) (r : Result A B) → IfErr r (λ b. f b ≡ left) → IfErr r (λ b. g b ≡ ends) → IfErr r (λ b. KeepsUnbegun workers (f b) (g b))
+  unbegun_back f g r same told = if_err_both (λ b. f b ≡ left) (λ b. g b ≡ ends) (λ b. KeepsUnbegun workers (f b) (g b)) (λ b s t. kept_by workers left (f b) ends (g b) kept s t) r same told

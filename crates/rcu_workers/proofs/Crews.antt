@@ -1,11 +1,14 @@
 -- Lists place by place: what was started, what came back, and what is known of both.
-use Rattle.std.proofs.Common.{◌≡◌, ℕ, ◌+◌, ◌<◌, ◌≤◌, List, [], ◌∷◌, ◌++◌, map, length, append_assoc, ap, sym, ◌∙◌, refl, subst, arith}
-use Rattle.std.specs.List.{AllZip}
+use Rattle.std.proofs.Common.{◌≡◌, ℕ, zero, suc, ◌+◌, ◌<◌, ◌≤◌, Some, List, [], ◌∷◌, ◌++◌, map, length, append_assoc, ap, sym, ◌∙◌, refl, subst, arith}
+use Rattle.std.specs.List.{AllZip, slice_get}
+use Rattle.std.specs.Prelude.{unwrap_or}
 use Rattle.std.proofs.lemmas.List.{length-map, nil_from_length}
 use Rattle.rcu_parts.proofs.Zips.{all_of}
 use Rattle.rcu_workers.specs.Crews.{HasBegun, HasEnded}
 use Rattle.rcu_workers.specs.declared.crew.Started.{Started}
 use Rattle.rcu_workers.specs.declared.crew.Started.TheVariants.{Running, Back}
+use Rattle.rcu_workers.specs.declared.post.Post.{Post}
+use Rattle.rcu_workers.specs.declared.worker.End.TheVariants.{NotBegun}
 
 module _ {A B : Type 0} (R : A → B → Type 0) where
   zip_push : (xs : List A) (ys : List B) (x : A) (y : B) → AllZip R xs ys → R x y → AllZip R (xs ++ x ∷ []) (ys ++ y ∷ [])
@@ -70,3 +73,12 @@ as_many f xs ys e = sym (length-map xs f) ∙ ap (λ l. length l) e
 -- what is said of all that came is said of the whole list, where none is left
 pub all_done : {A B : Type 0} (R : A → B → Type 0) (done rest all : List A) (ys : List B) → done ++ rest ≡ all → length rest ≡ 0 → AllZip R done ys → AllZip R all ys
 all_done R done rest all ys order none z = subst (λ l. AllZip R l ys) (all_of done rest all order (nil_from_length rest none)) z
+
+-- what is left as it was has its worker, in its place
+pub unbegun_at : {P W : Type 0} (ps qs : List (Post P W)) → AllZip (λ p q. q.end ≡ NotBegun → q ≡ p) ps qs → (k : ℕ) → slice_get (map (λ q. q.end) qs) k ≡ Some NotBegun
+    → slice_get (map (λ q. q.worker) qs) k ≡ slice_get (map (λ p. p.worker) ps) k
+unbegun_at [] [] z k none = refl
+unbegun_at [] (q ∷ qs) z k none = absurd z
+unbegun_at (p ∷ ps) [] z k none = absurd z
+unbegun_at (p ∷ ps) (q ∷ qs) z zero none = ap (λ x. Some x.worker) (z.0 (ap (λ e. unwrap_or e q.end) none))
+unbegun_at (p ∷ ps) (q ∷ qs) z (suc k) none = unbegun_at ps qs z.1 k none

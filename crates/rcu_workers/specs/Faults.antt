@@ -1,5 +1,5 @@
 -- What comes back of a run that wasn't made as it was asked for.
-use Rattle.std.specs.Prelude.{◌≡◌, ◌≢◌, ℕ, List, [], length}
+use Rattle.std.specs.Prelude.{◌≡◌, ◌≢◌, ℕ, Bool, true, false, List, [], length}
 use Rattle.rcu_parts.specs.OneOpen.{Parts}
 use Rattle.rcu_runtime.specs.declared.any_fault.AnyFault.{AnyFault}
 use Rattle.rcu_runtime.specs.declared.any_fault.AnyFault.TheVariants as any_fault
@@ -16,12 +16,12 @@ IsEarly processors workers (OtherNumber n m) = (n ≡ processors) × (m ≡ work
 IsEarly processors workers NoThread = ⊥
 IsEarly processors workers NotDrained = ⊥
 
--- threads were started, and where not all has run that was asked for
-abbrev pub IsLate : Ending → WorkersFault → Type 0
-IsLate ending Memory = ⊥
-IsLate ending (OtherNumber n m) = ⊥
-IsLate ending NoThread = Unit {0}
-IsLate ending NotDrained = ending ≢ AtOnce
+-- threads were started: some part had none, or all had one, and not all has run that was asked for
+abbrev pub IsLate : (has_begun : Bool) → Ending → WorkersFault → Type 0
+IsLate has_begun ending Memory = ⊥
+IsLate has_begun ending (OtherNumber n m) = ⊥
+IsLate has_begun ending NoThread = has_begun ≡ false
+IsLate has_begun ending NotDrained = (has_begun ≡ true) × (ending ≢ AtOnce)
 
 -- Why a run wasn't made as it was asked for: one of the two, and the numbers are named exactly where they differ.
 abbrev pub IsWhy : (processors workers : ℕ) → Ending → WorkersFault → Type 0

@@ -1,5 +1,5 @@
 -- What a run in threads does to a whole runtime.
-use Rattle.std.specs.Prelude.{◌≡◌, ℕ, vec_len}
+use Rattle.std.specs.Prelude.{◌≡◌, ℕ, Some, slice_get, vec_len}
 use Rattle.std.specs.List.{AllZip}
 use Rattle.std.specs.declared.alloc.Global.{Global}
 use Rattle.std.specs.declared.vec.Vec.{Vec}
@@ -7,6 +7,7 @@ use Rattle.rcu_parts.specs.OneOpen.{Parts, groups_in, hands_in, processors_in}
 use Rattle.rcu_workers.specs.Stays.{GroupStays, HandStays}
 use Rattle.rcu_workers.specs.Steps.{ProcessorWorks}
 use Rattle.rcu_workers.specs.declared.worker.End.{End}
+use Rattle.rcu_workers.specs.declared.worker.End.TheVariants.{NotBegun}
 use Rattle.rcu_control.specs.Parts.{SameControl, SameDriver}
 
 module _ {J R : Type 0} where
@@ -22,3 +23,7 @@ module _ {J R : Type 0} where
 pub record ComeBack {W : Type 0} (old new : Vec W Global) (said : Vec End Global) : Type 0 where
   pub workers : vec_len new ≡ vec_len old
   pub ends : vec_len said ≡ vec_len old
+
+-- A worker that made no step comes back as it was, in its place.
+abbrev pub KeepsUnbegun : {W : Type 0} → Vec W Global → Vec W Global → Vec End Global → Type 0
+KeepsUnbegun old new said = (k : ℕ) → slice_get said.items k ≡ Some NotBegun → slice_get new.items k ≡ slice_get old.items k

@@ -21,9 +21,10 @@ module _ {J R : Type 0} where
     pub keeps : KeepsProcessor key_of gives p q
     pub count : p.state.accepted ≤ q.state.accepted
 
-  -- the same of a processor with its worker
-  abbrev pub PostWorks : {W : Type 0} → (J → ℕ) → (ℕ → R → Type 0) → Post (Processor J R) W → Post (Processor J R) W → Type 0
-  PostWorks key_of gives p q = ProcessorWorks key_of gives p.processor q.processor
+  -- The same of a processor with its worker. Where the worker made no step, both are as they were.
+  pub record PostWorks {W : Type 0} (key_of : J → ℕ) (gives : ℕ → R → Type 0) (p q : Post (Processor J R) W) : Type 0 where
+    pub processor : ProcessorWorks key_of gives p.processor q.processor
+    pub unbegun : q.end ≡ end.NotBegun → q ≡ p
 
   -- Each step is that call of the processor, and what is answered is what the call answered.
   abbrev pub Does : (J → ℕ) → Step J → Acted J → Processor J R → Processor J R → Type 0

@@ -5,7 +5,7 @@ ghost use Rattle.rcu_parts.specs.OneOpen.{processors_in};
 ghost use Rattle.rcu_runtime.specs.Runtimes.{Continues, IsDrained};
 ghost use Rattle.rcu_runtime.specs.Settled.{HasRunAll};
 ghost use Rattle.rcu_workers.specs.Faults.{IsOfRun};
-ghost use Rattle.rcu_workers.specs.Runs.{ComeBack};
+ghost use Rattle.rcu_workers.specs.Runs.{ComeBack, KeepsUnbegun};
 
 use crate::running::Ending;
 use crate::steering::Steering;
@@ -42,6 +42,7 @@ pub fn run_or_drop<
     ensures number { IfOk result (λ _. vec_len workers ≡ length (processors_in runtime)) }
     ensures continues { IfOk result (λ worked. Continues runtime worked.runtime) }
     ensures workers { IfOk result (λ worked. ComeBack workers worked.workers worked.ends) }
+    ensures unbegun { IfOk result (λ worked. KeepsUnbegun workers worked.workers worked.ends) }
     ensures run { ending ≡ Ending.AfterBarrier → IfOk result (λ worked. HasRunAll worked.runtime) }
     ensures drained { ending ≡ Ending.Drained → IfOk result (λ worked. IsDrained worked.runtime) }
 {

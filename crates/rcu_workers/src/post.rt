@@ -1,6 +1,7 @@
 //! A processor with its worker, in a thread of their own.
 
-ghost use Rattle.std.specs.Prelude.{◌≡◌};
+ghost use Rattle.std.specs.Prelude.{◌≡◌, ◌≢◌};
+ghost use Rattle.rcu_runtime.specs.Turns.{ReportsAndTicks};
 ghost use Rattle.rcu_workers.specs.Steps.{PostWorks, ProcessorWorks};
 
 use crate::acting::{Acted, act};
@@ -42,7 +43,8 @@ fn work<J: Job, W: Worker<J>, R: Wait + Clock>(
     processor: &mut Processor<J>,
     worker: &mut W,
 ) -> End
-    ensures { ProcessorWorks J.key_of J.gives processor.old processor.new }
+    ensures works { ProcessorWorks J.key_of J.gives processor.old processor.new }
+    ensures begun { result ≢ End.NotBegun }
 {
     worker.begin(processor.cpu());
     let mut answer = Answer::Began;
@@ -60,7 +62,8 @@ fn work<J: Job, W: Worker<J>, R: Wait + Clock>(
 
 /// Reports and ticks. Answers whether a report was counted or a callback ran.
 fn report_and_tick<J: Job>(processor: &mut Processor<J>, moment: u64) -> bool
-    ensures { ProcessorWorks J.key_of J.gives processor.old processor.new }
+    ensures works { ProcessorWorks J.key_of J.gives processor.old processor.new }
+    ensures turns { ReportsAndTicks moment processor.old processor.new }
 {
     let counted = processor.quiescent().is_some();
     let ticked = processor.tick(moment);

@@ -2,7 +2,8 @@
 
 ghost use Rattle.std.specs.Prelude.{◌≡◌, vec_len};
 ghost use Rattle.rcu_workers.specs.Rooms.{AreHalvesFor, IsRoomFor};
-ghost use Rattle.rcu_workers.specs.Runs.{ComeBack, HaveWorked};
+ghost use Rattle.rcu_workers.specs.Runs.{ComeBack, HaveWorked, KeepsUnbegun};
+ghost use Rattle.rcu_workers.specs.Steers.{Passes, ShutsAndPasses};
 ghost use Rattle.rcu_control.specs.Parts.{SameControl};
 
 use crate::crew::{join, join_all};
@@ -43,24 +44,29 @@ fn wait_for_workers<R: Wait + Clock>(rt: &R, signals: &Signals, many: u64) {
     unreachable!()
 }
 
-/// Shuts, where the runtime is to be drained.
-fn shut_for(control: &mut Control, ending: Ending)
-    ensures { SameControl control.old control.new }
+/// Opens a barrier, and waits until it has passed.
+fn pass<R: Wait + Clock>(rt: &R, control: &mut Control)
+    ensures same { SameControl control.old control.new }
+    ensures passes { Passes control.old control.new }
 {
-    if ending == Ending::Drained {
-        control.shut();
-    }
+    open(control).wait(rt, control);
 }
 
 /// Waits for what the ending waits for.
 fn settle<R: Wait + Clock>(rt: &R, control: &mut Control, ending: Ending)
-    ensures { SameControl control.old control.new }
+    ensures same { SameControl control.old control.new }
+    ensures at_once { ending ≡ Ending.AtOnce → control.new ≡ control.old }
+    ensures after_barrier { ending ≡ Ending.AfterBarrier → Passes control.old control.new }
+    ensures drained { ending ≡ Ending.Drained → ShutsAndPasses control.old control.new }
 {
-    if ending == Ending::AtOnce {
-        return;
+    match ending {
+        Ending::AtOnce => {}
+        Ending::AfterBarrier => pass(rt, control),
+        Ending::Drained => {
+            control.shut();
+            pass(rt, control);
+        }
     }
-    shut_for(control, ending);
-    open(control).wait(rt, control);
 }
 
 /// What is done while all parts run: the workers begin, control is steered, and once all workers have ended comes what the
@@ -117,6 +123,7 @@ pub(crate) fn run_parts<
     requires others { (rooms.groups.many ≡ vec_len parts.groups) × (rooms.hands.many ≡ vec_len parts.hands) }
     ensures parts { HaveWorked J.key_of J.gives parts result.parts }
     ensures workers { ComeBack workers result.workers result.ends }
+    ensures unbegun { KeepsUnbegun workers result.workers result.ends }
 {
     let AllParts {
         processors,

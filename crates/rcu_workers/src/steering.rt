@@ -1,5 +1,6 @@
 //! What a program hands in for control: a steering, which says step by step what control does.
 
+ghost use Rattle.std.specs.Prelude.{◌≡◌};
 ghost use Rattle.rcu_workers.specs.Steers.{Steers};
 ghost use Rattle.rcu_control.specs.Parts.{SameControl};
 
@@ -61,7 +62,9 @@ pub trait Steering {
 pub struct NoSteering;
 
 impl Steering for NoSteering {
-    fn order(&mut self, _reply: Reply) -> Order {
+    fn order(&mut self, _reply: Reply) -> Order
+        ensures { result ≡ Order.Done }
+    {
         Order::Done
     }
 }

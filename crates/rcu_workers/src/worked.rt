@@ -6,7 +6,7 @@ ghost use Rattle.rcu_runtime.specs.Runtimes.{Continues, IsDrained};
 ghost use Rattle.rcu_runtime.specs.Settled.{HasRunAll};
 ghost use Rattle.rcu_workers.specs.Rooms.{AreHalvesFor, IsRoomFor};
 ghost use Rattle.rcu_workers.specs.Faults.{ComesBack, HaveEnded, IsEarly, IsLate, IsWhy};
-ghost use Rattle.rcu_workers.specs.Runs.{ComeBack};
+ghost use Rattle.rcu_workers.specs.Runs.{ComeBack, KeepsUnbegun};
 
 use crate::fault::WorkersFault;
 use crate::rooms::Rooms;
@@ -86,7 +86,7 @@ fn answer<J: Job, W: Worker<J>>(
     ending: Ending,
 ) -> Result<Worked<J, W>, NotWorked<J, W>>
     ensures continues { MatchResult result (λ w. Continues runtime w.runtime) (λ refused. Continues runtime refused.worked.runtime) }
-    ensures fault { IfErr result (λ refused. IsLate ending refused.fault) }
+    ensures fault { IfErr result (λ refused. IsLate has_begun ending refused.fault) }
     ensures workers { IfOk result (λ w. (w.workers ≡ workers) × (w.ends ≡ ends)) }
     ensures back { IfErr result (λ refused. refused.worked.workers ≡ workers) }
     ensures ends { IfErr result (λ refused. refused.worked.ends ≡ ends) }
@@ -151,6 +151,8 @@ pub fn run_workers<
     ensures number { IfOk result (λ _. vec_len workers ≡ length (processors_in runtime)) }
     ensures why { IfErr result (λ refused. IsWhy (length (processors_in runtime)) (vec_len workers) ending refused.fault) }
     ensures ends { IfErr result (λ refused. HaveEnded refused.fault (vec_len workers) refused.worked.ends.items) }
+    ensures unbegun { IfOk result (λ worked. KeepsUnbegun workers worked.workers worked.ends) }
+    ensures unbegun_back { IfErr result (λ refused. KeepsUnbegun workers refused.worked.workers refused.worked.ends) }
     ensures run { ending ≡ Ending.AfterBarrier → IfOk result (λ worked. HasRunAll worked.runtime) }
     ensures drained { ending ≡ Ending.Drained → IfOk result (λ worked. IsDrained worked.runtime) }
 {

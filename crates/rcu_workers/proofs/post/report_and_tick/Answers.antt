@@ -1,10 +1,28 @@
 use Rattle.rcu_workers.proofs.Steps.{works_twice}
 use Rattle.rcu_workers.proofs.post.report_and_tick.Goals as goal
 
-pub returns-then-counted : goal.returns-then-counted
-returns-then-counted g c = let r = c.quiescent.ensures in let t = c.tick-ticked.ensures in
+pub returns-then-counted-clause-works : goal.returns-then-counted-clause-works
+returns-then-counted-clause-works g c = let r = c.quiescent.ensures in let t = c.tick-ticked.ensures in
     works_twice g.J.Job.key_of g.J.Job.gives c.args.processor.now c.quiescent.new.self c.tick-ticked.new.self r.same r.sound r.keeps.count t.same t.sound t.count
 
-pub returns-else-counted : goal.returns-else-counted
-returns-else-counted g c = let r = c.quiescent.ensures in let t = c.tick-ticked.ensures in
+pub returns-then-counted-clause-turns : goal.returns-then-counted-clause-turns
+returns-then-counted-clause-turns g c = let r = c.quiescent.ensures in let t = c.tick-ticked.ensures in record {
+  between = c.quiescent.new.self;
+  counted = c.quiescent.result;
+  ticked = c.tick-ticked.result;
+  reports = record { reports = r.reports; keeps = r.keeps };
+  ticks = record { ticks = t.ticks; few = t.few; first = t.first; fresh = t.fresh; local = t.local; none = t.none };
+}
+
+pub returns-else-counted-clause-works : goal.returns-else-counted-clause-works
+returns-else-counted-clause-works g c = let r = c.quiescent.ensures in let t = c.tick-ticked.ensures in
     works_twice g.J.Job.key_of g.J.Job.gives c.args.processor.now c.quiescent.new.self c.tick-ticked.new.self r.same r.sound r.keeps.count t.same t.sound t.count
+
+pub returns-else-counted-clause-turns : goal.returns-else-counted-clause-turns
+returns-else-counted-clause-turns g c = let r = c.quiescent.ensures in let t = c.tick-ticked.ensures in record {
+  between = c.quiescent.new.self;
+  counted = c.quiescent.result;
+  ticked = c.tick-ticked.result;
+  reports = record { reports = r.reports; keeps = r.keeps };
+  ticks = record { ticks = t.ticks; few = t.few; first = t.first; fresh = t.fresh; local = t.local; none = t.none };
+}

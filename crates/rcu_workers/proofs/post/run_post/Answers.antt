@@ -5,4 +5,7 @@ pub report_until_over-requires-after_bounds : goal.report_until_over-requires-af
 report_until_over-requires-after_bounds g c κs within = assumption
 
 pub returns : goal.returns
-returns g c = works_again g.J.Job.key_of g.J.Job.gives c.args.post.processor c.work-end.new.processor c.report_until_over.new.processor c.work-end.ensures c.report_until_over.ensures
+returns g c = record {
+  processor = works_again g.J.Job.key_of g.J.Job.gives c.args.post.processor c.work-end.new.processor c.report_until_over.new.processor c.work-end.ensures.works c.report_until_over.ensures;
+  unbegun = λ none. absurd (c.work-end.ensures.begun none);
+}

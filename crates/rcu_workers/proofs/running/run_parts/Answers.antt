@@ -1,18 +1,21 @@
-use Rattle.std.proofs.Common.{◌≡◌, map, subst, sym, vec_len, arith}
+use Rattle.std.proofs.Common.{◌≡◌, ◌∙◌, Some, ap, map, subst, sym, vec_len, arith}
 use mir.Syntax.{of_param}
-use Rattle.std.specs.List.{AllZip}
+use Rattle.std.specs.List.{AllZip, slice_get}
+use Rattle.rcu_runtime.proofs.Changing.{zip_weaker}
 use Rattle.rcu_workers.specs.Crews.{HasBegun, HasEnded}
 use Rattle.rcu_workers.specs.Rooms.{AreHalvesFor}
 use Rattle.rcu_workers.specs.Stays.{GroupStays, HandStays}
 use Rattle.rcu_workers.specs.Steps.{PostWorks, ProcessorWorks}
-use Rattle.rcu_workers.proofs.Crews.{as_many, joined_all, joined_one, zip_length, zip_mapped}
+use Rattle.rcu_workers.proofs.Crews.{as_many, joined_all, joined_one, unbegun_at, zip_length, zip_mapped}
+use Rattle.rcu_workers.specs.declared.worker.End.TheVariants.{NotBegun}
 use Rattle.rcu_workers.proofs.running.run_parts.Goals as goal
 use Rattle.rcu_control.specs.Parts.{SameDriver}
 
 pub returns-clause-parts : goal.returns-clause-parts
 returns-clause-parts g c = let key_of = g.J.Job.key_of in let gives = g.J.Job.gives in let parts = c.args.parts in
     let posts = joined_all (λ t. t.promise.0.value) (PostWorks key_of gives) (λ t q. PostWorks key_of gives t.promise.0.value q) (λ t q k. k) c.pair-posts.result.items c.start_posts-posts.result.started.items c.join_all-posts.result.items c.start_posts-posts.ensures c.join_all-posts.ensures in
-    let works = zip_mapped (λ p. p.processor) (ProcessorWorks key_of gives) c.pair-posts.result.items c.join_all-posts.result.items posts in record {
+    let kept = zip_weaker (PostWorks key_of gives) (λ p q. ProcessorWorks key_of gives p.processor q.processor) (λ p q w. w.processor) c.pair-posts.result.items c.join_all-posts.result.items posts in
+    let works = zip_mapped (λ p. p.processor) (ProcessorWorks key_of gives) c.pair-posts.result.items c.join_all-posts.result.items kept in record {
       control = c.oversee-has_begun.ensures;
       driver = joined_one (λ t. t.promise.0.value) SameDriver (λ t q. SameDriver t.promise.0.value q) (λ t q k. k) parts.driver c.start_driver-driver.result c.join-driver.result c.start_driver-driver.ensures c.join-driver.ensures;
       processors = subst (λ ps. AllZip (ProcessorWorks key_of gives) ps c.part-processors.result.processors.items) c.pair-posts.ensures.processors (subst (AllZip (ProcessorWorks key_of gives) (map (λ p. p.processor) c.pair-posts.result.items)) (sym c.part-processors.ensures.processors) works);
@@ -111,3 +114,10 @@ returns-clause-workers g c =
       workers = omega (arith, many, paired, begun, ended, workers, back);
       ends = omega (arith, many, paired, begun, ended, ends, said);
     }
+
+pub returns-clause-unbegun : goal.returns-clause-unbegun
+returns-clause-unbegun g c = let key_of = g.J.Job.key_of in let gives = g.J.Job.gives in let paired = c.pair-posts.result.items in let joined = c.join_all-posts.result.items in
+    let posts = joined_all (λ t. t.promise.0.value) (PostWorks key_of gives) (λ t q. PostWorks key_of gives t.promise.0.value q) (λ t q k. k) paired c.start_posts-posts.result.started.items joined c.start_posts-posts.ensures c.join_all-posts.ensures in
+    let rests = zip_weaker (PostWorks key_of gives) (λ p q. q.end ≡ NotBegun → q ≡ p) (λ p q w. w.unbegun) paired joined posts in
+    λ k none. ap (λ xs. slice_get xs k) c.part-processors.ensures.workers
+    ∙ (unbegun_at paired joined rests k (subst (λ xs. slice_get xs k ≡ Some NotBegun) c.part-processors.ensures.ends none) ∙ ap (λ xs. slice_get xs k) c.pair-posts.ensures.workers)

@@ -1,5 +1,13 @@
 use Rattle.rcu_control.proofs.Stepping.{same_again}
 use Rattle.rcu_workers.proofs.running.settle.Goals as goal
 
-pub returns : goal.returns
-returns g c = same_again _ _ _ _ _ _ c.shut_for.ensures (same_again _ _ _ _ _ _ c.open.ensures.stays c.wait.ensures.same)
+pub returns-in-Drained-clause-same : goal.returns-in-Drained-clause-same
+returns-in-Drained-clause-same g c = same_again _ _ _ _ _ _ c.shut.ensures.same c.pass-in-Drained.ensures.same
+
+pub returns-in-Drained-clause-drained : goal.returns-in-Drained-clause-drained
+returns-in-Drained-clause-drained g c = λ _. record {
+  counts = c.shut.result;
+  between = c.shut.new.self;
+  shuts = record { many = c.shut.ensures.many; shuts = c.shut.ensures.shuts };
+  passes = c.pass-in-Drained.ensures.passes;
+}

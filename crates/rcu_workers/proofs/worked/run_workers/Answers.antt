@@ -5,7 +5,7 @@ use Rattle.rcu_runtime.proofs.Wholes.{continues_itself}
 use Rattle.rcu_runtime.specs.Runtimes.{Continues}
 use Rattle.rcu_parts.specs.OneOpen.{processors_in}
 use Rattle.rcu_workers.specs.Faults.{ComesBack, HaveEnded, IsLate, IsWhy}
-use Rattle.rcu_workers.proofs.Backs.{all_come_back, as_many_back, continues_either, early_back, early_ends, early_why, if_err, if_err_both, if_ok, late_back, late_ends, late_why}
+use Rattle.rcu_workers.proofs.Backs.{all_come_back, as_many_back, continues_either, early_back, early_ends, early_why, if_err, if_err_both, if_ok, late_back, late_ends, late_why, unbegun_back, unbegun_come}
 use Rattle.rcu_workers.proofs.Runs.{worked_continues, worked_whole}
 use Rattle.rcu_workers.proofs.worked.run_workers.Goals as goal
 
@@ -27,8 +27,8 @@ returns-clause-continues g c = let apart = c.take_apart-parts in let ran = worke
     continues_either (λ w. w.runtime) (λ refused. refused.worked.runtime) c.args.runtime c.put_together-runtime.result on c.answer.result c.answer.ensures.continues
 
 pub returns-clause-back : goal.returns-clause-back
-returns-clause-back g c = if_err (λ refused. IsLate c.args.ending refused.fault) (λ refused. ComesBack refused.fault c.args.runtime refused.worked.runtime c.args.workers.items refused.worked.workers.items)
-    (λ refused late. late_back c.args.ending refused.fault c.args.runtime refused.worked.runtime c.args.workers.items refused.worked.workers.items late) c.answer.result c.answer.ensures.fault
+returns-clause-back g c = if_err (λ refused. IsLate c.run_parts-ran.result.has_begun c.args.ending refused.fault) (λ refused. ComesBack refused.fault c.args.runtime refused.worked.runtime c.args.workers.items refused.worked.workers.items)
+    (λ refused late. late_back c.run_parts-ran.result.has_begun c.args.ending refused.fault c.args.runtime refused.worked.runtime c.args.workers.items refused.worked.workers.items late) c.answer.result c.answer.ensures.fault
 
 pub returns-in-Err-clause-why : goal.returns-in-Err-clause-why
 returns-in-Err-clause-why g c = let same = c.take_apart-parts.result.0.processors.ok.0 ∙ ap (λ parts. length (processors_in parts)) c.take_apart-parts.ensures.parts in
@@ -43,13 +43,13 @@ returns-clause-number g c = if_ok (vec_len c.args.workers ≡ length (processors
 
 pub returns-clause-why : goal.returns-clause-why
 returns-clause-why g c = let same = sym c.len.ensures ∙ (c.in-Ok.ensures.many ∙ (c.take_apart-parts.result.0.processors.ok.0 ∙ ap (λ parts. length (processors_in parts)) c.take_apart-parts.ensures.parts)) in
-    if_err (λ refused. IsLate c.args.ending refused.fault) (λ refused. IsWhy (length (processors_in c.args.runtime)) (vec_len c.args.workers) c.args.ending refused.fault)
-    (λ refused late. late_why (length (processors_in c.args.runtime)) (vec_len c.args.workers) c.args.ending refused.fault same late) c.answer.result c.answer.ensures.fault
+    if_err (λ refused. IsLate c.run_parts-ran.result.has_begun c.args.ending refused.fault) (λ refused. IsWhy (length (processors_in c.args.runtime)) (vec_len c.args.workers) c.args.ending refused.fault)
+    (λ refused late. late_why (length (processors_in c.args.runtime)) (vec_len c.args.workers) c.run_parts-ran.result.has_begun c.args.ending refused.fault same late) c.answer.result c.answer.ensures.fault
 
 pub returns-clause-ends : goal.returns-clause-ends
 returns-clause-ends g c = let ran = c.run_parts-ran in
-    if_err_both (λ refused. IsLate c.args.ending refused.fault) (λ refused. refused.worked.ends ≡ ran.result.ends) (λ refused. HaveEnded refused.fault (vec_len c.args.workers) refused.worked.ends.items)
-    (λ refused late same. late_ends (vec_len c.args.workers) c.args.ending refused.fault refused.worked.ends late (ap (λ v. vec_len v) same ∙ ran.ensures.workers.ends)) c.answer.result c.answer.ensures.fault c.answer.ensures.ends
+    if_err_both (λ refused. IsLate c.run_parts-ran.result.has_begun c.args.ending refused.fault) (λ refused. refused.worked.ends ≡ ran.result.ends) (λ refused. HaveEnded refused.fault (vec_len c.args.workers) refused.worked.ends.items)
+    (λ refused late same. late_ends (vec_len c.args.workers) c.run_parts-ran.result.has_begun c.args.ending refused.fault refused.worked.ends late (ap (λ v. vec_len v) same ∙ ran.ensures.workers.ends)) c.answer.result c.answer.ensures.fault c.answer.ensures.ends
 
 pub returns-clause-workers : goal.returns-clause-workers
 returns-clause-workers g c = let ran = c.run_parts-ran in all_come_back c.args.workers ran.result.workers ran.result.ends ran.ensures.workers (λ w. w.workers) (λ w. w.ends) c.answer.result c.answer.ensures.workers
@@ -123,3 +123,13 @@ answer-requires-send-J-Receipt g c κs within = record { owned = c.type_bounds.s
 
 pub answer-requires-after_bounds : goal.answer-requires-after_bounds
 answer-requires-after_bounds g c κs within = assumption
+
+pub returns-in-Err-clause-unbegun_back : goal.returns-in-Err-clause-unbegun_back
+returns-in-Err-clause-unbegun_back g c = λ k none. refl
+
+pub returns-clause-unbegun : goal.returns-clause-unbegun
+returns-clause-unbegun g c = let ran = c.run_parts-ran in unbegun_come c.args.workers ran.result.workers ran.result.ends ran.ensures.unbegun (λ w. w.workers) (λ w. w.ends) c.answer.result c.answer.ensures.workers
+
+pub returns-clause-unbegun_back : goal.returns-clause-unbegun_back
+returns-clause-unbegun_back g c = let ran = c.run_parts-ran in
+    unbegun_back c.args.workers ran.result.workers ran.result.ends ran.ensures.unbegun (λ refused. refused.worked.workers) (λ refused. refused.worked.ends) c.answer.result c.answer.ensures.back c.answer.ensures.ends
