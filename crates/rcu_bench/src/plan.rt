@@ -85,11 +85,14 @@ impl Plan {
     /// The shape of a runtime with this plan's processors. None outside the limits of a shape.
     pub fn shape(&self) -> Option<Shape>
         ensures some { IsWithin 1 MOST_PROCESSORS self.now.threads
-            → IsWithin 1 MOST_CALLBACKS self.now.blimit → IsWithin 1 MOST_CALLBACKS self.now.qhimark → IsSome result }
+            → IsWithin 1 MOST_CALLBACKS self.now.blimit → IsWithin 1 MOST_CALLBACKS self.now.qhimark
+            → IsSome result }
         ensures threads { IfSome result (λ s. s.processors ≡ self.now.threads) }
-        ensures limits { IfSome result (λ s. (s.blimit ≡ self.now.blimit) × (s.qhimark ≡ self.now.qhimark)) }
+        ensures limits { IfSome result (λ s.
+            (s.blimit ≡ self.now.blimit) × (s.qhimark ≡ self.now.qhimark)) }
         ensures local { self.now.offloaded ≡ false → IfSome result (λ s. s.offloadable ≡ 0) }
-        ensures offloaded { self.now.offloaded ≡ true → IfSome result (λ s. s.offloadable ≡ all_of self.now.threads) }
+        ensures offloaded { self.now.offloaded ≡ true
+            → IfSome result (λ s. s.offloadable ≡ all_of self.now.threads) }
     {
         if self.threads == 0 || self.threads > MOST_PROCESSORS {
             return None;

@@ -29,7 +29,10 @@ pub struct Seats {
 
 /// The words of a new board: all are 0, but those of the offloadable processors that say what is asked of them.
 fn make_board(alloc: Global, shape: &Shape) -> Result<(Board, Maker), AllocError>
-    ensures { IfOk result (λ t. (t.0.processors ≡ shape.now.processors) × (t.0.offloadable ≡ shape.now.offloadable) × MakerAt t.0 t.1 × (maker_view t.1 ≡ opening_view shape.now.processors shape.now.offloadable all_seats)) }
+    ensures { IfOk result (λ t.
+        (t.0.processors ≡ shape.now.processors) × (t.0.offloadable ≡ shape.now.offloadable)
+        × MakerAt t.0 t.1
+        × (maker_view t.1 ≡ opening_view shape.now.processors shape.now.offloadable all_seats)) }
 {
     let n = shape.processors;
     let offloadable = shape.offloadable;
@@ -58,7 +61,8 @@ fn own_seat(board: &Board, maker: &mut Maker, p: u64) -> Seat
     requires own { (maker_view maker.old).own ≡ new_owns_between p board.now.processors }
     ensures board { MakerAt board.now maker.new × AtBoard board.now result }
     ensures maker { maker_view maker.new ≡ given_own (maker_view maker.old) }
-    ensures seat { (result.role ≡ Role.Processor p) × (view result ≡ with_own (maker_view maker.old)) }
+    ensures seat { (result.role ≡ Role.Processor p)
+        × (view result ≡ with_own (maker_view maker.old)) }
 {
     let seat = board.words.split_seat::<WithOwn>(&mut maker.seat);
     Seat {
@@ -87,7 +91,8 @@ fn control_seat(board: &Board, maker: &mut Maker) -> Seat
     requires controls { (maker_view maker.old).controls ≡ true }
     ensures board { MakerAt board.now maker.new × AtBoard board.now result }
     ensures maker { maker_view maker.new ≡ given_control (maker_view maker.old) }
-    ensures seat { (result.role ≡ Role.Control) × (view result ≡ with_control (maker_view maker.old)) }
+    ensures seat { (result.role ≡ Role.Control)
+        × (view result ≡ with_control (maker_view maker.old)) }
 {
     let seat = board.words.split_seat::<WithControl>(&mut maker.seat);
     Seat {
@@ -111,9 +116,13 @@ fn driver_seat(maker: Maker) -> Seat
 /// The seats of all processors.
 fn own_seats(alloc: Global, board: &Board, maker: &mut Maker) -> Result<Vec<Seat>, AllocError>
     requires board { MakerAt board.now maker.old }
-    requires maker { maker_view maker.old ≡ opening_view board.now.processors board.now.offloadable all_seats }
+    requires maker { maker_view maker.old
+        ≡ opening_view board.now.processors board.now.offloadable all_seats }
     ensures board { MakerAt board.now maker.new }
-    ensures maker { IfOk result (λ v. maker_view maker.new ≡ new_view board.now.processors board.now.offloadable (all_seats - board.now.processors) true true []) }
+    ensures maker { IfOk result (λ v.
+        maker_view maker.new
+        ≡ new_view board.now.processors board.now.offloadable (all_seats - board.now.processors)
+        true true []) }
     ensures seats { IfOk result (λ v. InOrder (IsNewProcessor board.now) 0 v.items) }
     ensures many { IfOk result (λ v. length v.items ≡ board.now.processors) }
 {
@@ -127,11 +136,18 @@ fn own_seats(alloc: Global, board: &Board, maker: &mut Maker) -> Result<Vec<Seat
 /// The seats of the hands of all offloadable processors.
 fn hand_seats(alloc: Global, board: &Board, maker: &mut Maker) -> Result<Vec<Seat>, AllocError>
     requires board { MakerAt board.now maker.old }
-    requires maker { maker_view maker.old ≡ new_view board.now.processors board.now.offloadable (maker_view maker.old).weight true true [] }
+    requires maker { maker_view maker.old
+        ≡ new_view board.now.processors board.now.offloadable (maker_view maker.old).weight true
+        true [] }
     requires weight { MOST_PROCESSORS < (maker_view maker.old).weight }
     ensures board { MakerAt board.now maker.new }
-    ensures maker { IfOk result (λ v. maker_view maker.new ≡ new_view board.now.processors board.now.offloadable ((maker_view maker.old).weight - length v.items) true true []) }
-    ensures seats { IfOk result (λ v. SeatForEach (IsNewHand board.now) (numbers_where (is_offloadable board.now.offloadable) 0 board.now.processors) v.items) }
+    ensures maker { IfOk result (λ v.
+        maker_view maker.new
+        ≡ new_view board.now.processors board.now.offloadable
+        ((maker_view maker.old).weight - length v.items) true true []) }
+    ensures seats { IfOk result (λ v.
+        SeatForEach (IsNewHand board.now)
+        (numbers_where (is_offloadable board.now.offloadable) 0 board.now.processors) v.items) }
     ensures many { IfOk result (λ v. length v.items ≤ board.now.processors) }
 {
     let mut seats = Vec::with_capacity(alloc, board.processors as usize)?;
@@ -152,12 +168,20 @@ fn group_seats(
     stride: u64,
 ) -> Result<Vec<Seat>, AllocError>
     requires board { MakerAt board.now maker.old }
-    requires maker { maker_view maker.old ≡ new_view board.now.processors board.now.offloadable (maker_view maker.old).weight true true [] }
+    requires maker { maker_view maker.old
+        ≡ new_view board.now.processors board.now.offloadable (maker_view maker.old).weight true
+        true [] }
     requires weight { MOST_PROCESSORS < (maker_view maker.old).weight }
     requires stride { 0 < stride }
     ensures board { MakerAt board.now maker.new }
-    ensures maker { IfOk result (λ v. maker_view maker.new ≡ new_view board.now.processors board.now.offloadable ((maker_view maker.old).weight - length v.items) true true []) }
-    ensures seats { IfOk result (λ v. SeatForEach (IsNewGroup board.now) (numbers_where (has_offloadable board.now.offloadable stride board.now.processors) 0 board.now.processors) v.items) }
+    ensures maker { IfOk result (λ v.
+        maker_view maker.new
+        ≡ new_view board.now.processors board.now.offloadable
+        ((maker_view maker.old).weight - length v.items) true true []) }
+    ensures seats { IfOk result (λ v.
+        SeatForEach (IsNewGroup board.now)
+        (numbers_where (has_offloadable board.now.offloadable stride board.now.processors) 0
+        board.now.processors) v.items) }
     ensures many { IfOk result (λ v. length v.items ≤ board.now.processors) }
 {
     let mut seats = Vec::with_capacity(alloc, board.processors as usize)?;
@@ -198,7 +222,8 @@ fn is_offloaded_member(mask: u32, stride: u64, p: u64, g: u64) -> bool
 ///
 /// Want of memory; then nothing was made.
 pub fn open_board(alloc: Global, shape: Shape) -> Result<(Board, Seats), AllocError>
-    ensures shape { IfOk result (λ t. (t.0.processors ≡ shape.processors) × (t.0.offloadable ≡ shape.offloadable)) }
+    ensures shape { IfOk result (λ t.
+        (t.0.processors ≡ shape.processors) × (t.0.offloadable ≡ shape.offloadable)) }
     ensures seats { IfOk result (λ t. AreNew shape t.0 t.1) }
 {
     let (board, mut maker) = make_board(alloc, &shape)?;

@@ -70,8 +70,10 @@ impl Words {
 
     /// A load.
     pub(crate) fn load<M: Play<u64, View>>(&self, seat: &mut Seat<u64, View>, word: usize) -> u64
-        requires { MayStep self.now seat.old word (λ n. n) (M.then (on self.now word 0 0) seat.old.me) }
-        ensures { Told seat.old seat.new (M.then (on self.now word 0 0) seat.old.me result seat.new.me) }
+        requires { MayStep self.now seat.old word (λ n. n)
+            (M.then (on self.now word 0 0) seat.old.me) }
+        ensures { Told seat.old seat.new
+            (M.then (on self.now word 0 0) seat.old.me result seat.new.me) }
     {
         self.table.shared.load::<Padded<M>>(seat, LINE_WORDS * word)
     }
@@ -83,8 +85,10 @@ impl Words {
         word: usize,
         new: u64,
     )
-        requires { MayStep self.now seat.old word (λ _. new) (λ _. M.then (on self.now word new 0) seat.old.me new) }
-        ensures { Told seat.old seat.new (M.then (on self.now word new 0) seat.old.me new seat.new.me) }
+        requires { MayStep self.now seat.old word (λ _. new) (λ _.
+            M.then (on self.now word new 0) seat.old.me new) }
+        ensures { Told seat.old seat.new
+            (M.then (on self.now word new 0) seat.old.me new seat.new.me) }
     {
         self.table
             .shared
@@ -98,8 +102,10 @@ impl Words {
         word: usize,
         k: u64,
     ) -> u64
-        requires { MayStep self.now seat.old word (λ n. (n + k) % 2 ^ 64) (M.then (on self.now word k 0) seat.old.me) }
-        ensures { Told seat.old seat.new (M.then (on self.now word k 0) seat.old.me result seat.new.me) }
+        requires { MayStep self.now seat.old word (λ n. (n + k) % 2 ^ 64)
+            (M.then (on self.now word k 0) seat.old.me) }
+        ensures { Told seat.old seat.new
+            (M.then (on self.now word k 0) seat.old.me result seat.new.me) }
     {
         self.table
             .shared
@@ -113,8 +119,10 @@ impl Words {
         word: usize,
         k: u64,
     ) -> u64
-        requires { MayStep self.now seat.old word (λ n. bit_and n k) (M.then (on self.now word k 0) seat.old.me) }
-        ensures { Told seat.old seat.new (M.then (on self.now word k 0) seat.old.me result seat.new.me) }
+        requires { MayStep self.now seat.old word (λ n. bit_and n k)
+            (M.then (on self.now word k 0) seat.old.me) }
+        ensures { Told seat.old seat.new
+            (M.then (on self.now word k 0) seat.old.me result seat.new.me) }
     {
         self.table
             .shared
@@ -128,8 +136,10 @@ impl Words {
         word: usize,
         k: u64,
     ) -> u64
-        requires { MayStep self.now seat.old word (λ n. bit_or n k) (M.then (on self.now word k 0) seat.old.me) }
-        ensures { Told seat.old seat.new (M.then (on self.now word k 0) seat.old.me result seat.new.me) }
+        requires { MayStep self.now seat.old word (λ n. bit_or n k)
+            (M.then (on self.now word k 0) seat.old.me) }
+        ensures { Told seat.old seat.new
+            (M.then (on self.now word k 0) seat.old.me result seat.new.me) }
     {
         self.table
             .shared
@@ -143,8 +153,10 @@ impl Words {
         word: usize,
         k: u64,
     ) -> u64
-        requires { MayStep self.now seat.old word (λ n. max n k) (M.then (on self.now word k 0) seat.old.me) }
-        ensures { Told seat.old seat.new (M.then (on self.now word k 0) seat.old.me result seat.new.me) }
+        requires { MayStep self.now seat.old word (λ n. max n k)
+            (M.then (on self.now word k 0) seat.old.me) }
+        ensures { Told seat.old seat.new
+            (M.then (on self.now word k 0) seat.old.me result seat.new.me) }
     {
         self.table
             .shared
@@ -159,8 +171,10 @@ impl Words {
         old: u64,
         new: u64,
     ) -> u64
-        requires { MayStep self.now seat.old word (λ n. either (n == old) new n) (M.then (on self.now word old new) seat.old.me) }
-        ensures { Told seat.old seat.new (M.then (on self.now word old new) seat.old.me result seat.new.me) }
+        requires { MayStep self.now seat.old word (λ n. either (n == old) new n)
+            (M.then (on self.now word old new) seat.old.me) }
+        ensures { Told seat.old seat.new
+            (M.then (on self.now word old new) seat.old.me result seat.new.me) }
     {
         self.table
             .shared
@@ -176,8 +190,10 @@ impl Words {
         new: u64,
         said: &u64,
     ) -> u64
-        requires { MayStep self.now seat.old word (λ n. either (n == old) new n) (M.then (telling said.now (on self.now word old new)) seat.old.me) }
-        ensures { Told seat.old seat.new (M.then (telling said.now (on self.now word old new)) seat.old.me result seat.new.me) }
+        requires { MayStep self.now seat.old word (λ n. either (n == old) new n)
+            (M.then (telling said.now (on self.now word old new)) seat.old.me) }
+        ensures { Told seat.old seat.new
+            (M.then (telling said.now (on self.now word old new)) seat.old.me result seat.new.me) }
     {
         self.table
             .shared

@@ -65,7 +65,8 @@ pub fn report(board: &Board, seat: &mut Seat) -> BoardWord
     ensures view { view seat.new ≡ reported (bits_of result) (view seat.old) }
     ensures word { IsBoard (bits_of result) }
     ensures within { result.mask ≤ all_of board.now.processors }
-    ensures counted { Owes result (cpu_of_role seat.old.role) → result.seq ≡ 4 * reports_of (view seat.old) + 1 }
+    ensures counted { Owes result (cpu_of_role seat.old.role)
+        → result.seq ≡ 4 * reports_of (view seat.old) + 1 }
 {
     let Role::Processor(p) = seat.role else {
         unreachable!()
@@ -84,7 +85,8 @@ pub fn start(board: &Board, seat: &mut Seat, seq: u64)
     requires idle { IsIdle seq }
     requires left { seq < GREATEST_NUMBER }
     ensures same { SameSeat seat.old seat.new }
-    ensures view { view seat.new ≡ touched 0 (packed (seq + 1) (all_of board.now.processors)) (view seat.old) }
+    ensures view { view seat.new
+        ≡ touched 0 (packed (seq + 1) (all_of board.now.processors)) (view seat.old) }
     ensures sight { sight (view seat.new) ≡ seq + 1 }
 {
     let idle = BoardWord::pack(seq, 0).bits();
@@ -107,7 +109,8 @@ pub fn end(board: &Board, seat: &mut Seat, seq: u64) -> Result<(), BoardWord>
     ensures same { SameSeat seat.old seat.new }
     ensures ended { OnOk result (view seat.new ≡ touched 0 (packed (seq + 3) 0) (view seat.old)) }
     ensures next { OnOk result (sight (view seat.new) ≡ seq + 3) }
-    ensures waits { IfErr result (λ word. view seat.new ≡ touched 0 (bits_of word) (view seat.old)) }
+    ensures waits { IfErr result (λ word.
+        view seat.new ≡ touched 0 (bits_of word) (view seat.old)) }
     ensures number { IfErr result (λ word. word.seq ≡ seq) }
     ensures owed { IfErr result (λ word. word.mask ≢ 0) }
     ensures within { IfErr result (λ word. word.mask ≤ all_of board.now.processors) }
@@ -157,8 +160,12 @@ pub fn accept(board: &Board, seat: &mut Seat, count: u64, key: u64) -> Option<u6
     requires small { count < MOST_CALLBACKS }
     ensures same { SameSeat seat.old seat.new }
     ensures number { IfSome result (λ number. number ≡ count) }
-    ensures won { IfSome result (λ number. view seat.new ≡ accepted (accepts_word (cpu_of_role seat.old.role)) (2 * count + 2) key (view seat.old)) }
-    ensures shut { IfNone result (view seat.new ≡ touched (accepts_word (cpu_of_role seat.old.role)) (2 * count + 1) (view seat.old)) }
+    ensures won { IfSome result (λ number.
+        view seat.new
+        ≡ accepted (accepts_word (cpu_of_role seat.old.role)) (2 * count + 2) key (view seat.old)) }
+    ensures shut { IfNone result
+        (view seat.new
+        ≡ touched (accepts_word (cpu_of_role seat.old.role)) (2 * count + 1) (view seat.old)) }
     ensures closed { SawShut (cpu_of_role seat.old.role) (view seat.old) → IsNone result }
 {
     let Role::Processor(p) = seat.role else {
@@ -225,8 +232,11 @@ pub fn claim(board: &Board, seat: &mut Seat, number: u64) -> Claimed
     requires rests { (view seat.old).running ≡ [] }
     requires small { number < MOST_CALLBACKS }
     ensures same { SameSeat seat.old seat.new }
-    ensures won { let p = cpu_of_role seat.old.role in IfWon result (view seat.new ≡ claiming (turns_word p) (2 * number + 1) p number (view seat.old)) }
-    ensures lost { IfNot result (λ word. view seat.new ≡ touched (turns_word (cpu_of_role seat.old.role)) word (view seat.old)) }
+    ensures won { let p = cpu_of_role seat.old.role in
+        IfWon result
+        (view seat.new ≡ claiming (turns_word p) (2 * number + 1) p number (view seat.old)) }
+    ensures lost { IfNot result (λ word.
+        view seat.new ≡ touched (turns_word (cpu_of_role seat.old.role)) word (view seat.old)) }
     ensures other { IfNot result (λ word. word ≢ 2 * number) }
 {
     let p = cpu(&seat.role);
@@ -249,7 +259,9 @@ pub fn finish(board: &Board, seat: &mut Seat)
     requires who { MayClaim seat.old.role }
     requires runs { IsRunning (cpu_of_role seat.old.role) (view seat.old) }
     ensures same { SameSeat seat.old seat.new }
-    ensures view { view seat.new ≡ finished (turns_word (cpu_of_role seat.old.role)) (2 * running_number (view seat.old) + 2) (view seat.old) }
+    ensures view { view seat.new
+        ≡ finished (turns_word (cpu_of_role seat.old.role)) (2 * running_number (view seat.old) + 2)
+        (view seat.old) }
 {
     let p = cpu(&seat.role);
     board
@@ -303,7 +315,8 @@ pub fn asked(board: &Board, seat: &mut Seat) -> bool
     requires board { AtBoard board.now seat.old }
     requires who { IsProcessor seat.old.role }
     ensures same { SameSeat seat.old seat.new }
-    ensures view { view seat.new ≡ touched (asks_word (cpu_of_role seat.old.role)) (from_bool result) (view seat.old) }
+    ensures view { view seat.new
+        ≡ touched (asks_word (cpu_of_role seat.old.role)) (from_bool result) (view seat.old) }
 {
     let Role::Processor(p) = seat.role else {
         unreachable!()
@@ -339,7 +352,9 @@ pub fn urge(board: &Board, seat: &mut Seat)
     requires board { AtBoard board.now seat.old }
     requires who { MayCount seat.old.role }
     ensures same { SameSeat seat.old seat.new }
-    ensures view { let i = urge_word board.now.processors in let found = seen_at (view seat.new) i in view seat.new ≡ urged i found (bit_or found (all_of board.now.processors)) (view seat.old) }
+    ensures view { let i = urge_word board.now.processors in
+        let found = seen_at (view seat.new) i in
+        view seat.new ≡ urged i found (bit_or found (all_of board.now.processors)) (view seat.old) }
 {
     let every = u64::from(all_processors(board.processors));
     let urge_word = FIRST_ACCEPTS + WORDS_EACH * board.processors as usize;
@@ -353,8 +368,13 @@ pub fn heard(board: &Board, seat: &mut Seat) -> bool
     requires board { AtBoard board.now seat.old }
     requires who { MayHear board.now seat.old.role }
     ensures same { SameSeat seat.old seat.new }
-    ensures view { let i = urge_word board.now.processors in let found = seen_at (view seat.new) i in view seat.new ≡ urged i found (bit_and found (all_but_of (cpu_of_role seat.old.role))) (view seat.old) }
-    ensures heard { IsTrue result ↔ (owes_of (seen_at (view seat.new) (urge_word board.now.processors)) (cpu_of_role seat.old.role) ≡ 1) }
+    ensures view { let i = urge_word board.now.processors in
+        let found = seen_at (view seat.new) i in
+        view seat.new
+        ≡ urged i found (bit_and found (all_but_of (cpu_of_role seat.old.role))) (view seat.old) }
+    ensures heard { IsTrue result
+        ↔ (owes_of (seen_at (view seat.new) (urge_word board.now.processors))
+        (cpu_of_role seat.old.role) ≡ 1) }
 {
     let Role::Processor(p) = seat.role else {
         unreachable!()

@@ -78,7 +78,8 @@ fn repeat_beside<K: Kind, O: Kind, R: Threads + Wait + Sync>(
     let (all, ()) = thread::join(
         rt,
         move || -> bool
-            requires { AtBoard board.now seat × (0 < board.now.processors) × K.ready board.now seat rounds.0 × (rounds.0 ≤ rounds.1) }
+            requires { AtBoard board.now seat × (0 < board.now.processors)
+                × K.ready board.now seat rounds.0 × (rounds.0 ≤ rounds.1) }
         {
             let mut seat = seat;
             let all = repeat::<K>(board, &mut seat, rounds.0, rounds.1);
@@ -86,7 +87,8 @@ fn repeat_beside<K: Kind, O: Kind, R: Threads + Wait + Sync>(
             all
         },
         move || -> ()
-            requires { IsSync R.row × AtBoard board.now other × (0 < board.now.processors) × O.ready board.now other 0 }
+            requires { IsSync R.row × AtBoard board.now other × (0 < board.now.processors)
+                × O.ready board.now other 0 }
         { repeat_until::<O, R>(rt, board, other, stopped) },
     );
     all
@@ -178,7 +180,8 @@ fn grace_periods_beside<R: Threads + Wait + Sync>(
     hand: Seat,
     rounds: u64,
 ) -> bool
-    requires board { AtBoard board.now driver × AtBoard board.now processor × AtBoard board.now hand }
+    requires board { AtBoard board.now driver × AtBoard board.now processor
+        × AtBoard board.now hand }
     requires some { 0 < board.now.processors }
     requires who { (driver.role ≡ Role.Driver) × (processor.role ≡ Role.Processor 0) }
 {
@@ -187,7 +190,8 @@ fn grace_periods_beside<R: Threads + Wait + Sync>(
     let (all, ()) = thread::join(
         rt,
         move || -> bool
-            requires { AtBoard board.now driver × AtBoard board.now processor × (driver.role ≡ Role.Driver) × (processor.role ≡ Role.Processor 0) }
+            requires { AtBoard board.now driver × AtBoard board.now processor
+                × (driver.role ≡ Role.Driver) × (processor.role ≡ Role.Processor 0) }
         {
             let (mut driver, mut processor) = (driver, processor);
             let all = repeat_grace_periods(board, &mut driver, &mut processor, rounds);
@@ -210,7 +214,8 @@ pub(crate) fn measure_grace_periods<R: Threads + Wait + Sync + Clock + Print>(
     hand: Seat,
     plan: Plan,
 ) -> io::Result<u64>
-    requires board { AtBoard board.now driver × AtBoard board.now processor × AtBoard board.now hand }
+    requires board { AtBoard board.now driver × AtBoard board.now processor
+        × AtBoard board.now hand }
     requires some { 0 < board.now.processors }
     requires who { (driver.role ≡ Role.Driver) × (processor.role ≡ Role.Processor 0) }
 {

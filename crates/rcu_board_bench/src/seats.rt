@@ -33,9 +33,12 @@ fn only(mut seats: Vec<Seat>) -> Option<Seat>
 fn take_apart(shape: Shape, board: &Board, seats: Seats) -> Option<OneOfEach>
     requires { AreNew shape board.now seats }
     ensures processor { IfSome result (λ each. IsNewProcessor board.now 0 each.processor) }
-    ensures hand { IfSome result (λ each. AtBoard board.now each.hand × MayClaim each.hand.role × ((view each.hand).running ≡ [])) }
-    ensures driver { IfSome result (λ each. AtBoard board.now each.driver × (each.driver.role ≡ Role.Driver)) }
-    ensures control { IfSome result (λ each. AtBoard board.now each.control × (each.control.role ≡ Role.Control)) }
+    ensures hand { IfSome result (λ each.
+        AtBoard board.now each.hand × MayClaim each.hand.role × ((view each.hand).running ≡ [])) }
+    ensures driver { IfSome result (λ each.
+        AtBoard board.now each.driver × (each.driver.role ≡ Role.Driver)) }
+    ensures control { IfSome result (λ each.
+        AtBoard board.now each.control × (each.control.role ≡ Role.Control)) }
 {
     let Seats {
         processors,
@@ -54,11 +57,17 @@ fn take_apart(shape: Shape, board: &Board, seats: Seats) -> Option<OneOfEach>
 
 /// Opens a board, and takes its seats apart; None where it is not as its shape asks.
 pub(crate) fn open_one(alloc: Global) -> Result<Option<(Board, OneOfEach)>, AllocError>
-    ensures board { IfOk result (λ found. IfSome found (λ t. (0 < t.0.processors) × (owes_of t.0.offloadable 0 ≡ 1))) }
-    ensures processor { IfOk result (λ found. IfSome found (λ t. IsNewProcessor t.0 0 t.1.processor)) }
-    ensures hand { IfOk result (λ found. IfSome found (λ t. AtBoard t.0 t.1.hand × MayClaim t.1.hand.role × ((view t.1.hand).running ≡ []))) }
-    ensures driver { IfOk result (λ found. IfSome found (λ t. AtBoard t.0 t.1.driver × (t.1.driver.role ≡ Role.Driver))) }
-    ensures control { IfOk result (λ found. IfSome found (λ t. AtBoard t.0 t.1.control × (t.1.control.role ≡ Role.Control))) }
+    ensures board { IfOk result (λ found.
+        IfSome found (λ t. (0 < t.0.processors) × (owes_of t.0.offloadable 0 ≡ 1))) }
+    ensures processor { IfOk result (λ found.
+        IfSome found (λ t. IsNewProcessor t.0 0 t.1.processor)) }
+    ensures hand { IfOk result (λ found.
+        IfSome found (λ t.
+        AtBoard t.0 t.1.hand × MayClaim t.1.hand.role × ((view t.1.hand).running ≡ []))) }
+    ensures driver { IfOk result (λ found.
+        IfSome found (λ t. AtBoard t.0 t.1.driver × (t.1.driver.role ≡ Role.Driver))) }
+    ensures control { IfOk result (λ found.
+        IfSome found (λ t. AtBoard t.0 t.1.control × (t.1.control.role ≡ Role.Control))) }
 {
     let Some(shape) = Shape::new(1, 1, 1, 10, 16, 1000) else {
         return Ok(None);

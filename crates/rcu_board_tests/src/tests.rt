@@ -1,3 +1,5 @@
+//! The steps on a board, by the seats that may make them, in one thread and in several.
+
 ghost use Rattle.std.specs.Prelude.{◌≡◌, ◌+◌, ◌<◌, ◌≤◌, None, [], ◌∷◌, length, IfSome, IsTrue, true, false};
 ghost use Rattle.std.specs.Thread.{IsSync};
 ghost use Rattle.rcu_numbers.specs.Words.{owes_of};
@@ -48,7 +50,8 @@ pub(crate) fn run_one(board: &Board, seat: &mut Seat, number: u64) -> u64
     requires small { number < 1000000 }
     ensures same { StaysSeat seat.old seat.new }
     ensures rests { (view seat.new).running ≡ [] }
-    ensures accepted { (accepted_of (view seat.new) ≡ accepted_of (view seat.old)) × (fresh_of (view seat.new) ≡ fresh_of (view seat.old)) }
+    ensures accepted { (accepted_of (view seat.new) ≡ accepted_of (view seat.old))
+        × (fresh_of (view seat.new) ≡ fresh_of (view seat.old)) }
     ensures few { result ≤ 1 }
 {
     let Claimed::Won = claim(board, seat, number) else {
@@ -84,7 +87,8 @@ fn report_one(board: &Board, seat: &mut Seat) -> u64
     requires who { seat.old.role ≡ Role.Processor 0 }
     ensures same { StaysSeat seat.old seat.new }
     ensures rests { (view seat.new).running ≡ (view seat.old).running }
-    ensures accepted { (length (accepted_of (view seat.new)) ≡ length (accepted_of (view seat.old))) × (fresh_of (view seat.new) ≡ fresh_of (view seat.old)) }
+    ensures accepted { (length (accepted_of (view seat.new)) ≡ length (accepted_of (view seat.old)))
+        × (fresh_of (view seat.new) ≡ fresh_of (view seat.old)) }
     ensures few { result ≤ 1 }
 {
     u64::from(report(board, seat).owes(0))
@@ -102,7 +106,8 @@ struct Done {
 fn be_processor(board: &Board, mut seat: Seat) -> Done
     requires board { AtBoard board.now seat }
     requires who { seat.role ≡ Role.Processor 0 }
-    requires new { (accepted_of (view seat) ≡ []) × (fresh_of (view seat) ≡ None) × ((view seat).running ≡ []) }
+    requires new { (accepted_of (view seat) ≡ []) × (fresh_of (view seat) ≡ None)
+        × ((view seat).running ≡ []) }
     ensures same { StaysSeat seat result.seat }
     ensures rests { (view result.seat).running ≡ [] }
     ensures few { (result.reports ≤ CALLS) × (result.won ≤ CALLS) }
@@ -232,12 +237,16 @@ fn run_both<R: Threads + Sync>(
     thread::join(
         rt,
         move || -> Done
-            requires { AtBoard board.now processor × (processor.role ≡ Role.Processor 0) × (accepted_of (view processor) ≡ []) × (fresh_of (view processor) ≡ None) × ((view processor).running ≡ []) }
-            ensures { StaysSeat processor result.seat × ((view result.seat).running ≡ []) × (result.reports ≤ CALLS) × (result.won ≤ CALLS) }
+            requires { AtBoard board.now processor × (processor.role ≡ Role.Processor 0)
+                × (accepted_of (view processor) ≡ []) × (fresh_of (view processor) ≡ None)
+                × ((view processor).running ≡ []) }
+            ensures { StaysSeat processor result.seat × ((view result.seat).running ≡ [])
+                × (result.reports ≤ CALLS) × (result.won ≤ CALLS) }
         { be_processor(board, processor) },
         move || -> (Seat, u64)
             requires { AtBoard board.now hand × MayClaim hand.role × ((view hand).running ≡ []) }
-            ensures { StaysSeat hand result.0 × ((view result.0).running ≡ []) × (result.1 ≤ CALLS) }
+            ensures { StaysSeat hand result.0 × ((view result.0).running ≡ [])
+                × (result.1 ≤ CALLS) }
         { run_all(board, hand, CALLS) },
     )
 }
@@ -259,11 +268,13 @@ fn run_rest<R: Threads + Sync>(
     thread::join(
         rt,
         move || -> Seat
-            requires { AtBoard board.now driver × (driver.role ≡ Role.Driver) × ((view driver).running ≡ []) }
+            requires { AtBoard board.now driver × (driver.role ≡ Role.Driver)
+                × ((view driver).running ≡ []) }
             ensures { StaysSeat driver result × ((view result).running ≡ []) }
         { be_driver(board, driver) },
         move || -> (Seat, u64)
-            requires { AtBoard board.now control × (control.role ≡ Role.Control) × (0 < board.now.processors) × ((view control).running ≡ []) }
+            requires { AtBoard board.now control × (control.role ≡ Role.Control)
+                × (0 < board.now.processors) × ((view control).running ≡ []) }
             ensures { StaysSeat control result.0 × ((view result.0).running ≡ []) }
         { be_control(board, control) },
     )
@@ -278,9 +289,13 @@ fn settle(
     hand: Seat,
     processor: Seat,
 ) -> (u64, u64, BoardWord)
-    requires board { AtBoard board.now control × AtBoard board.now driver × AtBoard board.now group × AtBoard board.now hand × AtBoard board.now processor }
-    requires rests { ((view control).running ≡ []) × ((view driver).running ≡ []) × ((view group).running ≡ []) × ((view hand).running ≡ []) × ((view processor).running ≡ []) }
-    requires whole { (view control).weight + (view driver).weight + (view group).weight + (view hand).weight + (view processor).weight ≡ all_seats }
+    requires board { AtBoard board.now control × AtBoard board.now driver × AtBoard board.now group
+        × AtBoard board.now hand × AtBoard board.now processor }
+    requires rests { ((view control).running ≡ []) × ((view driver).running ≡ [])
+        × ((view group).running ≡ []) × ((view hand).running ≡ [])
+        × ((view processor).running ≡ []) }
+    requires whole { (view control).weight + (view driver).weight + (view group).weight
+        + (view hand).weight + (view processor).weight ≡ all_seats }
     requires some { 0 < board.now.processors }
 {
     let mut all = Gathered::new(control);
@@ -306,10 +321,16 @@ pub(crate) struct OneOfEach {
 pub(crate) fn take_apart(shape: Shape, board: &Board, seats: Seats) -> Option<OneOfEach>
     requires { AreNew shape board.now seats }
     ensures processor { IfSome result (λ parts. IsNewProcessor board.now 0 parts.processor) }
-    ensures hand { IfSome result (λ parts. AtBoard board.now parts.hand × MayClaim parts.hand.role × ((view parts.hand).running ≡ []) × ((view parts.hand).weight ≡ 1)) }
-    ensures group { IfSome result (λ parts. AtBoard board.now parts.group × ((view parts.group).running ≡ []) × ((view parts.group).weight ≡ 1)) }
-    ensures driver { IfSome result (λ parts. IsNew board.now Role.Driver 124 true false [] parts.driver) }
-    ensures control { IfSome result (λ parts. IsNew board.now Role.Control 1 false true [] parts.control) }
+    ensures hand { IfSome result (λ parts.
+        AtBoard board.now parts.hand × MayClaim parts.hand.role × ((view parts.hand).running ≡ [])
+        × ((view parts.hand).weight ≡ 1)) }
+    ensures group { IfSome result (λ parts.
+        AtBoard board.now parts.group × ((view parts.group).running ≡ [])
+        × ((view parts.group).weight ≡ 1)) }
+    ensures driver { IfSome result (λ parts.
+        IsNew board.now Role.Driver 124 true false [] parts.driver) }
+    ensures control { IfSome result (λ parts.
+        IsNew board.now Role.Control 1 false true [] parts.control) }
 {
     let Seats {
         processors,
@@ -354,10 +375,16 @@ pub(crate) fn take_two_apart(shape: Shape, board: &Board, seats: Seats) -> Optio
     requires { AreNew shape board.now seats }
     ensures first { IfSome result (λ two. IsNewProcessor board.now 0 two.first) }
     ensures second { IfSome result (λ two. IsNewProcessor board.now 1 two.second) }
-    ensures first_hand { IfSome result (λ two. AtBoard board.now two.first_hand × MayClaim two.first_hand.role × ((view two.first_hand).running ≡ [])) }
-    ensures second_hand { IfSome result (λ two. AtBoard board.now two.second_hand × MayClaim two.second_hand.role × ((view two.second_hand).running ≡ [])) }
-    ensures driver { IfSome result (λ two. AtBoard board.now two.driver × (two.driver.role ≡ Role.Driver)) }
-    ensures control { IfSome result (λ two. AtBoard board.now two.control × (two.control.role ≡ Role.Control)) }
+    ensures first_hand { IfSome result (λ two.
+        AtBoard board.now two.first_hand × MayClaim two.first_hand.role
+        × ((view two.first_hand).running ≡ [])) }
+    ensures second_hand { IfSome result (λ two.
+        AtBoard board.now two.second_hand × MayClaim two.second_hand.role
+        × ((view two.second_hand).running ≡ [])) }
+    ensures driver { IfSome result (λ two.
+        AtBoard board.now two.driver × (two.driver.role ≡ Role.Driver)) }
+    ensures control { IfSome result (λ two.
+        AtBoard board.now two.control × (two.control.role ≡ Role.Control)) }
 {
     let Seats {
         processors,
@@ -382,8 +409,10 @@ pub(crate) fn take_two_apart(shape: Shape, board: &Board, seats: Seats) -> Optio
 fn run_parts<R: Threads + Sync>(rt: &R, board: &Board, parts: OneOfEach) -> Outcome
     requires some { 0 < board.now.processors }
     requires processor { IsNewProcessor board.now 0 parts.processor }
-    requires hand { AtBoard board.now parts.hand × MayClaim parts.hand.role × ((view parts.hand).running ≡ []) × ((view parts.hand).weight ≡ 1) }
-    requires group { AtBoard board.now parts.group × ((view parts.group).running ≡ []) × ((view parts.group).weight ≡ 1) }
+    requires hand { AtBoard board.now parts.hand × MayClaim parts.hand.role
+        × ((view parts.hand).running ≡ []) × ((view parts.hand).weight ≡ 1) }
+    requires group { AtBoard board.now parts.group × ((view parts.group).running ≡ [])
+        × ((view parts.group).weight ≡ 1) }
     requires driver { IsNew board.now Role.Driver 124 true false [] parts.driver }
     requires control { IsNew board.now Role.Control 1 false true [] parts.control }
 {
@@ -397,12 +426,21 @@ fn run_parts<R: Threads + Sync>(rt: &R, board: &Board, parts: OneOfEach) -> Outc
     let (first, second) = thread::join(
         rt,
         move || -> (Done, (Seat, u64))
-            requires { IsSync R.row × AtBoard board.now processor × AtBoard board.now hand × (processor.role ≡ Role.Processor 0) × MayClaim hand.role × (accepted_of (view processor) ≡ []) × (fresh_of (view processor) ≡ None) × ((view processor).running ≡ []) × ((view hand).running ≡ []) }
-            ensures { StaysSeat processor result.0.seat × StaysSeat hand result.1.0 × ((view result.0.seat).running ≡ []) × ((view result.1.0).running ≡ []) × (result.0.reports ≤ CALLS) × (result.0.won ≤ CALLS) × (result.1.1 ≤ CALLS) }
+            requires { IsSync R.row × AtBoard board.now processor × AtBoard board.now hand
+                × (processor.role ≡ Role.Processor 0) × MayClaim hand.role
+                × (accepted_of (view processor) ≡ []) × (fresh_of (view processor) ≡ None)
+                × ((view processor).running ≡ []) × ((view hand).running ≡ []) }
+            ensures { StaysSeat processor result.0.seat × StaysSeat hand result.1.0
+                × ((view result.0.seat).running ≡ []) × ((view result.1.0).running ≡ [])
+                × (result.0.reports ≤ CALLS) × (result.0.won ≤ CALLS) × (result.1.1 ≤ CALLS) }
         { run_both(rt, board, processor, hand) },
         move || -> (Seat, (Seat, u64))
-            requires { IsSync R.row × AtBoard board.now driver × AtBoard board.now control × (driver.role ≡ Role.Driver) × (control.role ≡ Role.Control) × (0 < board.now.processors) × ((view driver).running ≡ []) × ((view control).running ≡ []) }
-            ensures { StaysSeat driver result.0 × StaysSeat control result.1.0 × ((view result.0).running ≡ []) × ((view result.1.0).running ≡ []) }
+            requires { IsSync R.row × AtBoard board.now driver × AtBoard board.now control
+                × (driver.role ≡ Role.Driver) × (control.role ≡ Role.Control)
+                × (0 < board.now.processors) × ((view driver).running ≡ [])
+                × ((view control).running ≡ []) }
+            ensures { StaysSeat driver result.0 × StaysSeat control result.1.0
+                × ((view result.0).running ≡ []) × ((view result.1.0).running ≡ []) }
         { run_rest(rt, board, driver, control) },
     );
     let (done, (hand, hand_won)) = first;
@@ -460,7 +498,8 @@ struct Answers {
 /// Makes each step on the words of switches, urging and needs once, with the steps that read it before and after.
 fn make_each_step(board: &Board, parts: OneOfEach) -> Answers
     requires some { 0 < board.now.processors }
-    requires processor { AtBoard board.now parts.processor × (parts.processor.role ≡ Role.Processor 0) }
+    requires processor { AtBoard board.now parts.processor
+        × (parts.processor.role ≡ Role.Processor 0) }
     requires driver { AtBoard board.now parts.driver × (parts.driver.role ≡ Role.Driver) }
     requires control { AtBoard board.now parts.control × (parts.control.role ≡ Role.Control) }
     requires hears { owes_of board.now.offloadable 0 ≡ 1 }

@@ -69,7 +69,8 @@ fn three_seats(rt: HostRuntime) -> Result<(), Fail> {
 /// The turn word as it was found after each step of a processor and its hand, from turn 5 on; None where a claim was won
 /// out of its turn, or lost in it.
 fn turns_of_two(board: &Board, processor: Seat, mut hand: Seat) -> Option<(u64, u64, u64, u64, u64)>
-    requires processor { AtBoard board.now processor × (processor.role ≡ Role.Processor 0) × ((view processor).running ≡ []) }
+    requires processor { AtBoard board.now processor × (processor.role ≡ Role.Processor 0)
+        × ((view processor).running ≡ []) }
     requires hand { AtBoard board.now hand × MayClaim hand.role × ((view hand).running ≡ []) }
     requires some { 0 < board.now.processors }
 {

@@ -22,7 +22,8 @@ use std::thread::Threads;
 fn accept_all(board: &Board, mut seat: Seat, p: u64, count: u64) -> u64
     requires board { AtBoard board.now seat }
     requires who { seat.role ≡ Role.Processor p }
-    requires new { (accepted_of (view seat) ≡ []) × (fresh_of (view seat) ≡ None) × ((view seat).running ≡ []) }
+    requires new { (accepted_of (view seat) ≡ []) × (fresh_of (view seat) ≡ None)
+        × ((view seat).running ≡ []) }
     requires small { count ≤ 1000000 }
 {
     for number in 0..count {
@@ -97,16 +98,19 @@ fn win_turns<R: Wait>(rt: &R, board: &Board, mut seat: Seat) -> Won
 /// Runs a processor and its hand, each in a thread of its own, until the turns of the processor are over. Answers what they
 /// won together.
 fn share_turns<R: Threads + Wait + Sync>(rt: &R, board: &Board, processor: Seat, hand: Seat) -> Won
-    requires processor { AtBoard board.now processor × MayClaim processor.role × ((view processor).running ≡ []) }
+    requires processor { AtBoard board.now processor × MayClaim processor.role
+        × ((view processor).running ≡ []) }
     requires hand { AtBoard board.now hand × MayClaim hand.role × ((view hand).running ≡ []) }
 {
     let (first, second) = thread::join(
         rt,
         move || -> Won
-            requires { IsSync R.row × AtBoard board.now processor × MayClaim processor.role × ((view processor).running ≡ []) }
+            requires { IsSync R.row × AtBoard board.now processor × MayClaim processor.role
+                × ((view processor).running ≡ []) }
         { win_turns(rt, board, processor) },
         move || -> Won
-            requires { IsSync R.row × AtBoard board.now hand × MayClaim hand.role × ((view hand).running ≡ []) }
+            requires { IsSync R.row × AtBoard board.now hand × MayClaim hand.role
+                × ((view hand).running ≡ []) }
         { win_turns(rt, board, hand) },
     );
     Won {
@@ -117,10 +121,14 @@ fn share_turns<R: Threads + Wait + Sync>(rt: &R, board: &Board, processor: Seat,
 
 /// Runs two processors and their hands, each in a thread of its own.
 fn share_both<R: Threads + Wait + Sync>(rt: &R, board: &Board, two: TwoOfEach) -> (Won, Won, Seat)
-    requires first { AtBoard board.now two.first × MayClaim two.first.role × ((view two.first).running ≡ []) }
-    requires first_hand { AtBoard board.now two.first_hand × MayClaim two.first_hand.role × ((view two.first_hand).running ≡ []) }
-    requires second { AtBoard board.now two.second × MayClaim two.second.role × ((view two.second).running ≡ []) }
-    requires second_hand { AtBoard board.now two.second_hand × MayClaim two.second_hand.role × ((view two.second_hand).running ≡ []) }
+    requires first { AtBoard board.now two.first × MayClaim two.first.role
+        × ((view two.first).running ≡ []) }
+    requires first_hand { AtBoard board.now two.first_hand × MayClaim two.first_hand.role
+        × ((view two.first_hand).running ≡ []) }
+    requires second { AtBoard board.now two.second × MayClaim two.second.role
+        × ((view two.second).running ≡ []) }
+    requires second_hand { AtBoard board.now two.second_hand × MayClaim two.second_hand.role
+        × ((view two.second_hand).running ≡ []) }
     ensures { result.2 ≡ two.control }
 {
     let TwoOfEach {
@@ -134,10 +142,14 @@ fn share_both<R: Threads + Wait + Sync>(rt: &R, board: &Board, two: TwoOfEach) -
     let (first_won, second_won) = thread::join(
         rt,
         move || -> Won
-            requires { IsSync R.row × AtBoard board.now first × MayClaim first.role × ((view first).running ≡ []) × AtBoard board.now first_hand × MayClaim first_hand.role × ((view first_hand).running ≡ []) }
+            requires { IsSync R.row × AtBoard board.now first × MayClaim first.role
+                × ((view first).running ≡ []) × AtBoard board.now first_hand
+                × MayClaim first_hand.role × ((view first_hand).running ≡ []) }
         { share_turns(rt, board, first, first_hand) },
         move || -> Won
-            requires { IsSync R.row × AtBoard board.now second × MayClaim second.role × ((view second).running ≡ []) × AtBoard board.now second_hand × MayClaim second_hand.role × ((view second_hand).running ≡ []) }
+            requires { IsSync R.row × AtBoard board.now second × MayClaim second.role
+                × ((view second).running ≡ []) × AtBoard board.now second_hand
+                × MayClaim second_hand.role × ((view second_hand).running ≡ []) }
         { share_turns(rt, board, second, second_hand) },
     );
     (first_won, second_won, control)
@@ -184,7 +196,8 @@ fn urge_across<R: Threads + Wait + Sync>(rt: &R, board: &Board, first: Seat, con
     let (first, ()) = thread::join(
         rt,
         move || -> Seat
-            requires { IsSync R.row × AtBoard board.now first × (first.role ≡ Role.Processor 0) × (owes_of board.now.offloadable 0 ≡ 1) }
+            requires { IsSync R.row × AtBoard board.now first × (first.role ≡ Role.Processor 0)
+                × (owes_of board.now.offloadable 0 ≡ 1) }
             ensures { StaysSeat first result }
         { wait_for_urge(rt, board, first) },
         move || -> ()

@@ -32,7 +32,9 @@ pub extern "C" fn rcuo_slot_call(
     job: &ForeignJob,
     ticket: &mut TicketWords,
 ) -> u32
-    ensures tells { Tells (CallsBy (kind_of_call lazy) moment job.now) (λ t. (ticket.new.processor ≡ t.cpu) × (ticket.new.number ≡ t.number)) result slot.old slot.new }
+    ensures tells { Tells (CallsBy (kind_of_call lazy) moment job.now)
+        (λ t. (ticket.new.processor ≡ t.cpu) × (ticket.new.number ≡ t.number)) result slot.old
+        slot.new }
     ensures stays { result ≢ 0 → ticket.new ≡ ticket.old }
 {
     match slot.call(alloc, kind_of_call(lazy), moment, *job) {
@@ -50,7 +52,8 @@ pub extern "C" fn rcuo_slot_call(
 /// `rcuo_quiescent`: reports a quiescent state, unless a read section is open.
 #[unsafe(no_mangle)]
 pub extern "C" fn rcuo_slot_quiescent(alloc: Global, slot: &mut Slot, counted: &mut u64) -> u32
-    ensures tells { slot.old.reading ≡ 0 → Tells ReportsBy (λ n. counted.new ≡ unwrap_or n 0) result slot.old slot.new }
+    ensures tells { slot.old.reading ≡ 0
+        → Tells ReportsBy (λ n. counted.new ≡ unwrap_or n 0) result slot.old slot.new }
     ensures reading { slot.old.reading ≢ 0 → Refuses Reading result slot.old slot.new }
     ensures stays { result ≢ 0 → counted.new ≡ counted.old }
 {

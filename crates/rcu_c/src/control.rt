@@ -15,7 +15,8 @@ use std::alloc::Global;
 /// `rcuo_offload` and `rcuo_deoffload`: asks that a processor be offloaded (`on`) or local.
 #[unsafe(no_mangle)]
 pub extern "C" fn rcuo_slot_switch(alloc: Global, slot: &mut Slot, processor: u64, on: bool) -> u32
-    ensures { Tells (SwitchesPart processor (from_bool on)) (λ _. Unit {0}) result slot.old slot.new }
+    ensures { Tells (SwitchesPart processor (from_bool on)) (λ _. Unit {0}) result slot.old
+        slot.new }
 {
     match slot.switch(alloc, processor, on) {
         Ok(()) => 0,
@@ -26,7 +27,9 @@ pub extern "C" fn rcuo_slot_switch(alloc: Global, slot: &mut Slot, processor: u6
 /// `rcuo_barrier`: opens a barrier.
 #[unsafe(no_mangle)]
 pub extern "C" fn rcuo_slot_barrier(alloc: Global, slot: &mut Slot, barrier: &mut CountWords) -> u32
-    ensures tells { Tells OpensPart (λ b. (barrier.new.processors ≡ b.counts.n) × (barrier.new.counts ≡ b.counts.counts)) result slot.old slot.new }
+    ensures tells { Tells OpensPart
+        (λ b. (barrier.new.processors ≡ b.counts.n) × (barrier.new.counts ≡ b.counts.counts)) result
+        slot.old slot.new }
     ensures stays { result ≢ 0 → barrier.new ≡ barrier.old }
 {
     match slot.barrier(alloc) {
@@ -48,7 +51,8 @@ pub extern "C" fn rcuo_slot_poll(
 ) -> u32
     ensures tells { barrier.now.processors ≤ MOST_PROCESSORS
         → TellsPoll barrier.now passed.new result slot.old slot.new }
-    ensures foreign { MOST_PROCESSORS < barrier.now.processors → Refuses Foreign result slot.old slot.new }
+    ensures foreign { MOST_PROCESSORS < barrier.now.processors
+        → Refuses Foreign result slot.old slot.new }
     ensures stays { result ≢ 0 → passed.new ≡ passed.old }
 {
     let Some(counts) = counts_of_words(barrier) else {
@@ -66,7 +70,9 @@ pub extern "C" fn rcuo_slot_poll(
 /// `rcuo_shut`: shuts every processor.
 #[unsafe(no_mangle)]
 pub extern "C" fn rcuo_slot_shut(alloc: Global, slot: &mut Slot, counts: &mut CountWords) -> u32
-    ensures tells { Tells ShutsBy (λ given. (counts.new.processors ≡ given.n) × (counts.new.counts ≡ given.counts)) result slot.old slot.new }
+    ensures tells { Tells ShutsBy
+        (λ given. (counts.new.processors ≡ given.n) × (counts.new.counts ≡ given.counts)) result
+        slot.old slot.new }
     ensures stays { result ≢ 0 → counts.new ≡ counts.old }
 {
     match slot.shut(alloc) {

@@ -20,7 +20,8 @@ pub extern "C" fn rcuo_slot_record(
     at: u64,
     kept: &mut RecordWords,
 ) -> u32
-    ensures tells { TellsShown (ShowsRan processor at) (AreRecordWords kept.new) result slot.old slot.new }
+    ensures tells { TellsShown (ShowsRan processor at) (AreRecordWords kept.new) result slot.old
+        slot.new }
     ensures stays { result ≢ 0 → kept.new ≡ kept.old }
 {
     match slot.ran_at(alloc, processor, at) {
@@ -54,7 +55,8 @@ pub extern "C" fn rcuo_slot_back(
     at: u64,
     job: &mut ForeignJob,
 ) -> u32
-    ensures tells { TellsShown (ShowsBack processor at) (λ back. job.new ≡ back) result slot.old slot.new }
+    ensures tells { TellsShown (ShowsBack processor at) (λ back. job.new ≡ back) result slot.old
+        slot.new }
     ensures stays { result ≢ 0 → job.new ≡ job.old }
 {
     match slot.back_at(alloc, processor, at) {
@@ -74,7 +76,8 @@ pub extern "C" fn rcuo_slot_reports(
     processor: u64,
     reports: &mut u64,
 ) -> u32
-    ensures tells { TellsShown (ShowsReports processor) (λ many. reports.new ≡ many) result slot.old slot.new }
+    ensures tells { TellsShown (ShowsReports processor) (λ many. reports.new ≡ many) result slot.old
+        slot.new }
     ensures stays { result ≢ 0 → reports.new ≡ reports.old }
 {
     match slot.reports_of(alloc, processor) {

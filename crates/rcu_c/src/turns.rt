@@ -47,7 +47,10 @@ pub extern "C" fn rcuo_slot_halted(alloc: Global, slot: &mut Slot, halted: &mut 
 /// `rcuo_group_turn`: a turn of a group.
 #[unsafe(no_mangle)]
 pub extern "C" fn rcuo_slot_group_turn(alloc: Global, slot: &mut Slot, turn: &mut GroupWords) -> u32
-    ensures tells { Tells GroupTurnsBy (λ done. (turn.new.took ≡ done.took) × (turn.new.gave ≡ done.gave) × (turn.new.held ≡ done.held)) result slot.old slot.new }
+    ensures tells { Tells GroupTurnsBy
+        (λ done.
+        (turn.new.took ≡ done.took) × (turn.new.gave ≡ done.gave) × (turn.new.held ≡ done.held))
+        result slot.old slot.new }
     ensures stays { result ≢ 0 → turn.new ≡ turn.old }
 {
     match slot.turn_group(alloc) {

@@ -47,8 +47,10 @@ impl Driver {
     /// needed, and starts one if that is above the number. Else it ends the one that is, if no processor owes a report.
     pub fn turn(&mut self) -> DriverTurn
         ensures same { SameDriver self.old self.new }
-        ensures turn { DrivesBy (driver_board self.old).processors result (driver_view self.old) (driver_view self.new) }
-        ensures fresh { tally (driver_view self.old) board_word < tally (driver_view self.new) board_word }
+        ensures turn { DrivesBy (driver_board self.old).processors result (driver_view self.old)
+            (driver_view self.new) }
+        ensures fresh { tally (driver_view self.old) board_word
+            < tally (driver_view self.new) board_word }
     {
         let word = look(&self.board, &mut self.seat);
         if word.seq() % 4 == 0 {
@@ -64,7 +66,8 @@ impl Driver {
         requires idle { IsIdle seq }
         requires small { seq ≤ GREATEST_NUMBER }
         ensures same { SameDriver self.old self.new }
-        ensures begins { BeginsBy (driver_board self.old).processors result (driver_view self.old) (driver_view self.new) }
+        ensures begins { BeginsBy (driver_board self.old).processors result (driver_view self.old)
+            (driver_view self.new) }
     {
         let asked = needed(&self.board, &mut self.seat);
         if asked <= seq {
@@ -94,7 +97,8 @@ impl Driver {
     /// Whether the runtime was halted.
     pub fn is_halted(&mut self) -> bool
         ensures same { SameDriver self.old self.new }
-        ensures view { driver_view self.new ≡ touched halt_word (from_bool result) (driver_view self.old) }
+        ensures view { driver_view self.new
+            ≡ touched halt_word (from_bool result) (driver_view self.old) }
     {
         halted(&self.board, &mut self.seat)
     }

@@ -1,3 +1,5 @@
+//! The driver, control and barriers over a board of their own.
+
 ghost use Rattle.std.specs.Prelude.{◌≡◌, IfOk};
 ghost use Rattle.rcu_control.specs.Parts.{driver_board, control_board};
 

@@ -20,7 +20,8 @@ use std::io::Write;
 pub fn call<J: Job>(world: &mut World<J>, verb: Verb, cpu: u64, moment: u64, job: J) -> Line
     requires world { IsWorld J.key_of J.gives world.old.core }
     requires rest { IsAtRest (state J.key_of world.old.core) }
-    ensures line { IsCall (state J.key_of world.old.core) verb cpu moment (J.key_of job) result (state J.key_of world.new.core) }
+    ensures line { IsCall (state J.key_of world.old.core) verb cpu moment (J.key_of job) result
+        (state J.key_of world.new.core) }
     ensures kept { IsWorld J.key_of J.gives world.new.core }
     ensures rest { IsAtRest (state J.key_of world.new.core) }
 {
@@ -50,7 +51,8 @@ pub fn call<J: Job>(world: &mut World<J>, verb: Verb, cpu: u64, moment: u64, job
 pub fn quiet<J: Job>(world: &mut World<J>, cpu: u64) -> Result<Line, Fault>
     requires world { IsWorld J.key_of J.gives world.old.core }
     requires rest { IsAtRest (state J.key_of world.old.core) }
-    ensures line { IfOk result (λ line. IsQuiet (state J.key_of world.old.core) cpu line (state J.key_of world.new.core)) }
+    ensures line { IfOk result (λ line.
+        IsQuiet (state J.key_of world.old.core) cpu line (state J.key_of world.new.core)) }
     ensures why { IfErr result IsWantOfMemory }
     ensures kept { IsWorld J.key_of J.gives world.new.core }
     ensures rest { IsAtRest (state J.key_of world.new.core) }
@@ -68,7 +70,8 @@ pub fn quiet<J: Job>(world: &mut World<J>, cpu: u64) -> Result<Line, Fault>
 pub fn tick<J: Job>(world: &mut World<J>, cpu: u64, moment: u64) -> Result<Line, Fault>
     requires world { IsWorld J.key_of J.gives world.old.core }
     requires rest { IsAtRest (state J.key_of world.old.core) }
-    ensures line { IfOk result (λ line. IsTick (state J.key_of world.old.core) cpu moment line (state J.key_of world.new.core)) }
+    ensures line { IfOk result (λ line.
+        IsTick (state J.key_of world.old.core) cpu moment line (state J.key_of world.new.core)) }
     ensures why { IfErr result IsWantOfMemory }
     ensures kept { IsWorld J.key_of J.gives world.new.core }
     ensures rest { IsAtRest (state J.key_of world.new.core) }
@@ -88,7 +91,8 @@ pub fn tick<J: Job>(world: &mut World<J>, cpu: u64, moment: u64) -> Result<Line,
 pub fn driver<J: Job>(world: &mut World<J>) -> Result<Line, Fault>
     requires world { IsWorld J.key_of J.gives world.old.core }
     requires rest { IsAtRest (state J.key_of world.old.core) }
-    ensures line { IfOk result (λ line. IsDriver (state J.key_of world.old.core) line (state J.key_of world.new.core)) }
+    ensures line { IfOk result (λ line.
+        IsDriver (state J.key_of world.old.core) line (state J.key_of world.new.core)) }
     ensures why { IfErr result IsWantOfMemory }
     ensures kept { IsWorld J.key_of J.gives world.new.core }
     ensures rest { IsAtRest (state J.key_of world.new.core) }
@@ -100,7 +104,8 @@ pub fn driver<J: Job>(world: &mut World<J>) -> Result<Line, Fault>
 pub fn group<J: Job>(world: &mut World<J>, group: u64) -> Result<Line, Fault>
     requires world { IsWorld J.key_of J.gives world.old.core }
     requires rest { IsAtRest (state J.key_of world.old.core) }
-    ensures line { IfOk result (λ line. IsGroup (state J.key_of world.old.core) group line (state J.key_of world.new.core)) }
+    ensures line { IfOk result (λ line.
+        IsGroup (state J.key_of world.old.core) group line (state J.key_of world.new.core)) }
     ensures why { IfErr result IsWantOfMemory }
     ensures kept { IsWorld J.key_of J.gives world.new.core }
     ensures rest { IsAtRest (state J.key_of world.new.core) }
@@ -121,7 +126,8 @@ pub fn group<J: Job>(world: &mut World<J>, group: u64) -> Result<Line, Fault>
 pub fn hand<J: Job>(world: &mut World<J>, cpu: u64) -> Result<Line, Fault>
     requires world { IsWorld J.key_of J.gives world.old.core }
     requires rest { IsAtRest (state J.key_of world.old.core) }
-    ensures line { IfOk result (λ line. IsHand (state J.key_of world.old.core) cpu line (state J.key_of world.new.core)) }
+    ensures line { IfOk result (λ line.
+        IsHand (state J.key_of world.old.core) cpu line (state J.key_of world.new.core)) }
     ensures why { IfErr result IsWantOfMemory }
     ensures kept { IsWorld J.key_of J.gives world.new.core }
     ensures rest { IsAtRest (state J.key_of world.new.core) }
@@ -144,7 +150,8 @@ pub fn hand<J: Job>(world: &mut World<J>, cpu: u64) -> Result<Line, Fault>
 pub fn switch<J: Job>(world: &mut World<J>, verb: Verb, cpu: u64) -> Line
     requires world { IsWorld J.key_of J.gives world.old.core }
     requires rest { IsAtRest (state J.key_of world.old.core) }
-    ensures line { IsSwitch (state J.key_of world.old.core) verb cpu result (state J.key_of world.new.core) }
+    ensures line { IsSwitch (state J.key_of world.old.core) verb cpu result
+        (state J.key_of world.new.core) }
     ensures kept { IsWorld J.key_of J.gives world.new.core }
     ensures rest { IsAtRest (state J.key_of world.new.core) }
 {
@@ -167,7 +174,8 @@ pub fn switch<J: Job>(world: &mut World<J>, verb: Verb, cpu: u64) -> Line
 pub fn barrier<J: Job>(world: &mut World<J>, opened: &mut Option<u64>) -> Result<Line, Fault>
     requires world { IsWorld J.key_of J.gives world.old.core }
     requires rest { IsAtRest (state J.key_of world.old.core) }
-    ensures line { IfOk result (λ line. IsBarrier (state J.key_of world.old.core) line (state J.key_of world.new.core) opened.new) }
+    ensures line { IfOk result (λ line.
+        IsBarrier (state J.key_of world.old.core) line (state J.key_of world.new.core) opened.new) }
     ensures why { IfErr result IsWantOfMemory }
     ensures kept { IsWorld J.key_of J.gives world.new.core }
     ensures rest { IsAtRest (state J.key_of world.new.core) }
@@ -184,7 +192,9 @@ pub fn barrier<J: Job>(world: &mut World<J>, opened: &mut Option<u64>) -> Result
 pub fn poll<J: Job>(world: &mut World<J>, opened: &mut Option<u64>) -> Result<Line, Fault>
     requires world { IsWorld J.key_of J.gives world.old.core }
     requires rest { IsAtRest (state J.key_of world.old.core) }
-    ensures line { IfOk result (λ line. IsPoll (state J.key_of world.old.core) opened.old line (state J.key_of world.new.core) opened.new) }
+    ensures line { IfOk result (λ line.
+        IsPoll (state J.key_of world.old.core) opened.old line (state J.key_of world.new.core)
+        opened.new) }
     ensures why { IfErr result IsWantOfMemory }
     ensures kept { IsWorld J.key_of J.gives world.new.core }
     ensures rest { IsAtRest (state J.key_of world.new.core) }
@@ -203,7 +213,8 @@ pub fn poll<J: Job>(world: &mut World<J>, opened: &mut Option<u64>) -> Result<Li
 pub fn shut<J: Job>(alloc: Global, world: &mut World<J>) -> Result<Line, Fault>
     requires world { IsWorld J.key_of J.gives world.old.core }
     requires rest { IsAtRest (state J.key_of world.old.core) }
-    ensures line { IfOk result (λ line. IsShut (state J.key_of world.old.core) line (state J.key_of world.new.core)) }
+    ensures line { IfOk result (λ line.
+        IsShut (state J.key_of world.old.core) line (state J.key_of world.new.core)) }
     ensures why { IfErr result IsWantOfMemory }
     ensures kept { IsWorld J.key_of J.gives world.new.core }
     ensures rest { IsAtRest (state J.key_of world.new.core) }

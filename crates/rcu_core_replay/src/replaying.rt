@@ -57,9 +57,10 @@ fn perform_all<J: Job<Receipt = u64>, W: Write>(
     requires world { IsWorld J.key_of J.gives world.old.core }
     requires rest { IsAtRest (state J.key_of world.old.core) }
     requires jobs { vec_len jobs ≡ count_by is_call setup.now.script.items }
-    ensures prints { OnOk result (Writes (W.contents writer.old) (W.contents writer.new)
-        (PrintsScript (Prints J.key_of) (state J.key_of world.old.core) (state J.key_of world.new.core)
-        setup.now.script.items jobs.items)) }
+    ensures prints { OnOk result
+        (Writes (W.contents writer.old) (W.contents writer.new)
+        (PrintsScript (Prints J.key_of) (state J.key_of world.old.core)
+        (state J.key_of world.new.core) setup.now.script.items jobs.items)) }
     ensures why { IfErr result IsFaultOfOutput }
     ensures kept { IsWorld J.key_of J.gives world.new.core }
 {
@@ -89,7 +90,9 @@ pub fn answer<J: Job<Receipt = u64>>(
     requires rest { IsAtRest (state J.key_of world.old.core) }
     requires job { is_some job ≡ is_call command.now }
     requires line { is_show command.now ≡ false }
-    ensures line { IfOk result (λ line. IsAnswer J.key_of (state J.key_of world.old.core) opened.old command.now job line (state J.key_of world.new.core) opened.new) }
+    ensures line { IfOk result (λ line.
+        IsAnswer J.key_of (state J.key_of world.old.core) opened.old command.now job line
+        (state J.key_of world.new.core) opened.new) }
     ensures why { IfErr result IsWantOfMemory }
     ensures barrier { is_barrier command.now ≡ false → opened.new ≡ opened.old }
     ensures kept { IsWorld J.key_of J.gives world.new.core }
@@ -128,8 +131,10 @@ fn perform<J: Job<Receipt = u64>, W: Write>(
     requires world { IsWorld J.key_of J.gives world.old.core }
     requires rest { IsAtRest (state J.key_of world.old.core) }
     requires job { is_some job ≡ is_call command.now }
-    ensures prints { OnOk result (Writes (W.contents writer.old) (W.contents writer.new) (λ text.
-        Prints J.key_of (state J.key_of world.old.core) opened.old command.now job text (state J.key_of world.new.core) opened.new)) }
+    ensures prints { OnOk result
+        (Writes (W.contents writer.old) (W.contents writer.new) (λ text.
+        Prints J.key_of (state J.key_of world.old.core) opened.old command.now job text
+        (state J.key_of world.new.core) opened.new)) }
     ensures why { IfErr result IsFaultOfOutput }
     ensures kept { IsWorld J.key_of J.gives world.new.core }
     ensures rest { IsAtRest (state J.key_of world.new.core) }

@@ -38,7 +38,8 @@ fn call_one<J: Job<Receipt = u64>>(processor: &mut Processor<J>, moment: u64, jo
 
 /// Calls with each job in turn, at the moments 0, 1, ..
 fn call_all<J: Job<Receipt = u64>>(caller: Caller<Processor<J>, J>) -> Called<Processor<J>, J>
-    ensures { HasAnswered J.key_of J.gives caller.jobs.items result.answers.items caller.processor result.processor }
+    ensures { HasAnswered J.key_of J.gives caller.jobs.items result.answers.items caller.processor
+        result.processor }
 {
     let Caller {
         mut processor,
@@ -63,7 +64,8 @@ fn start_caller<J: Job<Receipt = u64> + 'static, R: Threads + Wait + Clock + Cop
 {
     let calls = Calls(Snapshot::of(&caller));
     let call = move || -> Called<Processor<J>, J>
-        ensures { HasAnswered J.key_of J.gives caller.jobs.items result.answers.items caller.processor result.processor }
+        ensures { HasAnswered J.key_of J.gives caller.jobs.items result.answers.items
+            caller.processor result.processor }
     { call_all(caller) };
     let Ok(thread) = thread::spawn_with(rt, calls, call) else {
         return None;
@@ -76,7 +78,9 @@ pub(crate) fn start_callers<
     J: Job<Receipt = u64> + 'static,
     R: Threads + Wait + Clock + Copy + Send + 'static,
 >(rt: &R, alloc: Global, callers: Vec<Caller<Processor<J>, J>>) -> Crew<Calling<J>>
-    ensures { result.fault ≡ None → AllZip (λ caller thread. thread.promise.0.value ≡ caller) callers.items result.threads.items }
+    ensures { result.fault ≡ None
+        → AllZip (λ caller thread. thread.promise.0.value ≡ caller) callers.items
+        result.threads.items }
 {
     let Ok(mut threads) = Vec::with_capacity(alloc, callers.len()) else {
         return Crew::none(alloc);
@@ -97,7 +101,8 @@ fn keep<P: Drop, J: Drop>(
     tickets: &mut Vec<Ticket>,
 ) -> Result<(), AllocError>
     ensures called { OnOk result (called.new.items ≡ called.old.items ++ one ∷ []) }
-    ensures tickets { OnOk result (tickets.new.items ≡ tickets.old.items ++ tickets_in one.answers.items) }
+    ensures tickets { OnOk result
+        (tickets.new.items ≡ tickets.old.items ++ tickets_in one.answers.items) }
 {
     for answer in &one.answers {
         if let Ok(ticket) = answer {
@@ -127,8 +132,16 @@ pub(crate) fn join_callers<J: Job<Receipt = u64>, R: Threads>(
     mut tickets: Vec<Ticket>,
 ) -> Result<AllCalled<Processor<J>, J>, ThreadsFault>
     ensures whole { IfOk result (λ _. crew.fault ≡ None) }
-    ensures called { IfOk result (λ all. AllZip (λ thread c. HasCalled J.key_of J.gives all.tickets.items thread.promise.0.value.processor c.processor) crew.threads.items all.called.items) }
-    ensures answered { IfOk result (λ all. AllZip (λ thread c. HasAnswered J.key_of J.gives thread.promise.0.value.jobs.items c.answers.items thread.promise.0.value.processor c.processor) crew.threads.items all.called.items) }
+    ensures called { IfOk result (λ all.
+        AllZip
+        (λ thread c.
+        HasCalled J.key_of J.gives all.tickets.items thread.promise.0.value.processor c.processor)
+        crew.threads.items all.called.items) }
+    ensures answered { IfOk result (λ all.
+        AllZip
+        (λ thread c.
+        HasAnswered J.key_of J.gives thread.promise.0.value.jobs.items c.answers.items
+        thread.promise.0.value.processor c.processor) crew.threads.items all.called.items) }
 {
     let Crew { threads, mut fault } = crew;
     let mut called = Vec::new(alloc);
@@ -156,8 +169,10 @@ pub(crate) fn split<P: Drop, J: Drop>(
     alloc: Global,
     called: Vec<Called<P, J>>,
 ) -> Result<Answered<P, J>, AllocError>
-    ensures processors { IfOk result (λ all. all.processors.items ≡ map (λ c. c.processor) called.items) }
-    ensures answers { IfOk result (λ all. map (λ own. own.items) all.answers.items ≡ map (λ c. c.answers.items) called.items) }
+    ensures processors { IfOk result (λ all.
+        all.processors.items ≡ map (λ c. c.processor) called.items) }
+    ensures answers { IfOk result (λ all.
+        map (λ own. own.items) all.answers.items ≡ map (λ c. c.answers.items) called.items) }
 {
     let mut processors = Vec::new(alloc);
     let mut answers = Vec::new(alloc);

@@ -65,8 +65,10 @@ pub fn join_all<T: Send + Drop, P: Promise<T>, R: Threads>(
     crew: Crew<PromisedHandle<T, P>>,
 ) -> Result<Vec<T>, ThreadsFault>
     ensures whole { IfOk result (λ _. crew.fault ≡ None) }
-    ensures kept { IfOk result (λ parts. AllZip (λ h part. P.kept_by h.promise part) crew.threads.items parts.items) }
-    ensures why { IfErr result (λ fault. (crew.fault ≡ Some fault) ⊎ (fault ≡ ThreadsFault.Memory)) }
+    ensures kept { IfOk result (λ parts.
+        AllZip (λ h part. P.kept_by h.promise part) crew.threads.items parts.items) }
+    ensures why { IfErr result (λ fault.
+        (crew.fault ≡ Some fault) ⊎ (fault ≡ ThreadsFault.Memory)) }
 {
     let Crew { threads, fault } = crew;
     match thread::join_promised(rt, threads) {

@@ -51,8 +51,10 @@ fn callers_of<P: Drop, J: Drop>(
     alloc: Global,
     processors: Vec<P>,
 ) -> Result<Vec<Caller<P, J>>, AllocError>
-    ensures processors { IfOk result (λ callers. map (λ caller. caller.processor) callers.items ≡ processors.items) }
-    ensures dealt { IfOk result (λ callers. AreDealt [] (map (λ caller. caller.jobs.items) callers.items)) }
+    ensures processors { IfOk result (λ callers.
+        map (λ caller. caller.processor) callers.items ≡ processors.items) }
+    ensures dealt { IfOk result (λ callers.
+        AreDealt [] (map (λ caller. caller.jobs.items) callers.items)) }
 {
     let mut callers = Vec::new(alloc);
     for processor in processors {
@@ -68,8 +70,10 @@ pub fn deal<P: Drop, J: Drop>(
     jobs: Vec<J>,
 ) -> Result<Vec<Caller<P, J>>, AllocError>
     requires { 0 < vec_len processors }
-    ensures processors { IfOk result (λ callers. map (λ caller. caller.processor) callers.items ≡ processors.items) }
-    ensures dealt { IfOk result (λ callers. AreDealt jobs.items (map (λ caller. caller.jobs.items) callers.items)) }
+    ensures processors { IfOk result (λ callers.
+        map (λ caller. caller.processor) callers.items ≡ processors.items) }
+    ensures dealt { IfOk result (λ callers.
+        AreDealt jobs.items (map (λ caller. caller.jobs.items) callers.items)) }
 {
     let many = processors.len();
     let mut callers = callers_of(alloc, processors)?;

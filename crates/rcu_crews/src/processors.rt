@@ -62,8 +62,13 @@ pub fn run_processors<
     room: Vec<Ticket>,
 ) -> Result<Answered<Processor<J>, J>, ThreadsFault>
     ensures same { SameControl control.old control.new }
-    ensures ran { IfOk result (λ ended. AllZip (HasRun J.key_of J.gives (control_view control.new)) (map (λ c. c.processor) callers.items) ended.processors.items) }
-    ensures answered { All (λ c. c.processor.state.accepted ≡ 0) callers.items → IfOk result (λ ended. HaveAnswered J.key_of (map (λ c. c.jobs.items) callers.items) (map (λ own. own.items) ended.answers.items) ended.processors.items) }
+    ensures ran { IfOk result (λ ended.
+        AllZip (HasRun J.key_of J.gives (control_view control.new))
+        (map (λ c. c.processor) callers.items) ended.processors.items) }
+    ensures answered { All (λ c. c.processor.state.accepted ≡ 0) callers.items
+        → IfOk result (λ ended.
+        HaveAnswered J.key_of (map (λ c. c.jobs.items) callers.items)
+        (map (λ own. own.items) ended.answers.items) ended.processors.items) }
 {
     if !are_running {
         return Err(ThreadsFault::CannotRun);

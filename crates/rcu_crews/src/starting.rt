@@ -132,7 +132,9 @@ pub fn start_groups<
     J: Job<Receipt = u64> + 'static,
     R: Threads + Wait + Clock + Copy + Send + 'static,
 >(rt: &R, alloc: Global, groups: Vec<Group<J>>) -> Crew<RunningGroup<J>>
-    ensures { result.fault ≡ None → AllZip (λ group thread. thread.promise.0.value ≡ group) groups.items result.threads.items }
+    ensures { result.fault ≡ None
+        → AllZip (λ group thread. thread.promise.0.value ≡ group) groups.items
+        result.threads.items }
 {
     let Ok(mut threads) = Vec::with_capacity(alloc, groups.len()) else {
         return Crew::none(alloc);
@@ -151,7 +153,8 @@ pub fn start_hands<
     J: Job<Receipt = u64> + 'static,
     R: Threads + Wait + Clock + Copy + Send + 'static,
 >(rt: &R, alloc: Global, hands: Vec<Hand<J>>) -> Crew<RunningHand<J>>
-    ensures { result.fault ≡ None → AllZip (λ hand thread. thread.promise.0.value ≡ hand) hands.items result.threads.items }
+    ensures { result.fault ≡ None
+        → AllZip (λ hand thread. thread.promise.0.value ≡ hand) hands.items result.threads.items }
 {
     let Ok(mut threads) = Vec::with_capacity(alloc, hands.len()) else {
         return Crew::none(alloc);
@@ -170,7 +173,9 @@ pub(crate) fn start_processors<
     J: Job<Receipt = u64> + 'static,
     R: Threads + Wait + Clock + Copy + Send + 'static,
 >(rt: &R, alloc: Global, processors: Vec<Processor<J>>) -> Crew<RunningProcessor<J>>
-    ensures { result.fault ≡ None → AllZip (λ processor thread. thread.promise.0.value ≡ processor) processors.items result.threads.items }
+    ensures { result.fault ≡ None
+        → AllZip (λ processor thread. thread.promise.0.value ≡ processor) processors.items
+        result.threads.items }
 {
     let Ok(mut threads) = Vec::with_capacity(alloc, processors.len()) else {
         return Crew::none(alloc);

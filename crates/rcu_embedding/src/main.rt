@@ -43,7 +43,8 @@ impl Version {
 
     /// The hop of the newest row for a destination.
     fn hop_to(&self, destination: u32) -> Option<u32>
-        ensures { let newest = find (λ row. row.destination == destination) (reverse self.now.rows.items) in
+        ensures { let newest = find (λ row. row.destination == destination)
+            (reverse self.now.rows.items) in
             result ≡ option_map (λ row. row.hop) newest }
     {
         let mut newest_first = self.rows.iter().rev();
@@ -137,11 +138,14 @@ impl Table {
     ///
     /// Want of memory, or a refusal. Then the table is as before.
     fn update(&mut self, p: u64, moment: u64, row: Row) -> Result<Ticket, AnyFault>
-        ensures updated { OnOk result ((arc_value self.new.current).rows.items ≡ (arc_value self.old.current).rows.items ++ (row ∷ [])) }
+        ensures updated { OnOk result
+            ((arc_value self.new.current).rows.items
+            ≡ (arc_value self.old.current).rows.items ++ (row ∷ [])) }
         ensures refused { OnErr result (self.new.current ≡ self.old.current) }
         ensures retires { let key = (arc_value self.old.current).generation in
             let job : TheRetired = record { 0 = self.old.current } in
-            IfOk result (λ t. OnProcessor p (AcceptsPlain moment key job t) self.old.runtime self.new.runtime) }
+            IfOk result (λ t.
+            OnProcessor p (AcceptsPlain moment key job t) self.old.runtime self.new.runtime) }
     {
         let next = Arc::new(self.alloc, self.current.with(row)?)?;
         let old = mem::replace(&mut self.current, next);
@@ -178,7 +182,8 @@ fn look(rt: &impl Print, table: &Table, p: u64) -> Result<(), AnyFault> {
 /// Versions of a table are retired, and its runtime is closed. Each version but the last is either let go or handed back, and
 /// each receipt is of the version that its record names.
 fn run_once(rt: &impl Print, alloc: Global) -> Result<(Arc<Version>, Closed<Retired>), AnyFault>
-    ensures none_lost { IfOk result (λ ended. ran_in ended.1 + back_in ended.1 ≡ (arc_value ended.0).generation) }
+    ensures none_lost { IfOk result (λ ended.
+        ran_in ended.1 + back_in ended.1 ≡ (arc_value ended.0).generation) }
     ensures receipts { IfOk result (λ ended. HaveReceipts ⟦<Retired as Job>⟧.gives ended.1) }
 {
     let mut table = Table::new(alloc)?;

@@ -30,12 +30,16 @@ pub fn end_offloadable<J: Job>(
 ) -> Ended<J, J::Receipt>
     requires lane { SameLane (front_of member) (rear_of processor_lists) }
     requires done_lane { SameLane (hands_front held) (done_rear member) }
-    requires room { (jobs : ℕ) × HasRoom (length own.items + length hands.items) jobs room × (length (put_by (holding processor_lists)) + length (held_in (holding processor_lists)) ≤ length (taken_by held) + jobs) }
-    ensures passed { put_by (holding processor_lists) ≡ taken_by held ++ drop (length (taken_by held)) (put_by (holding processor_lists)) }
+    requires room { (jobs : ℕ) × HasRoom (length own.items + length hands.items) jobs room
+        × (length (put_by (holding processor_lists)) + length (held_in (holding processor_lists))
+        ≤ length (taken_by held) + jobs) }
+    ensures passed { put_by (holding processor_lists)
+        ≡ taken_by held ++ drop (length (taken_by held)) (put_by (holding processor_lists)) }
     ensures back { result.back.items ≡ jobs_of (left_of (holding processor_lists) (taken_by held)) }
 
     // The records are the first numbers, and the jobs those of the others.
-    ensures ends { EndsWith J.key_of J.gives own.items hands.items (holding processor_lists) (taken_by held) (drawn_by held) result.ran.items result.back.items }
+    ensures ends { EndsWith J.key_of J.gives own.items hands.items (holding processor_lists)
+        (taken_by held) (drawn_by held) result.ran.items result.back.items }
 {
     let (done_front, mut batch) = held.into_parts();
     let (rear, own_list, mut bypass) = processor_lists.into_parts();
@@ -62,7 +66,8 @@ pub fn end_local<J: Job>(
     requires room { length (held_in (holding processor_lists)) ≤ vec_capacity back }
     ensures ran { result.ran ≡ own }
     ensures back { result.back.items ≡ jobs_of (held_in (holding processor_lists)) }
-    ensures ends { EndsWith J.key_of J.gives own.items [] (holding processor_lists) [] [] result.ran.items result.back.items }
+    ensures ends { EndsWith J.key_of J.gives own.items [] (holding processor_lists) [] []
+        result.ran.items result.back.items }
 {
     let (_, own_list, mut bypass) = processor_lists.into_parts();
     take_lists(&mut bypass, own_list, &mut back);

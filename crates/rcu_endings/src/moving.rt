@@ -42,7 +42,8 @@ fn take_lane<J: Drop>(
     jobs: &mut Vec<J>,
 )
     requires none { batch_items batch.old ≡ [] }
-    requires room { vec_len jobs.old + length (flat_map parcel_items (items_left lane)) ≤ vec_capacity jobs.old }
+    requires room { vec_len jobs.old + length (flat_map parcel_items (items_left lane))
+        ≤ vec_capacity jobs.old }
     ensures { Takes (flat_map parcel_items (items_left lane)) jobs.old jobs.new }
 {
     while let Some(parcel) = lane.take() {
@@ -59,8 +60,15 @@ pub(crate) fn take_drawn<J: Drop>(
     list: VecDeque<Callback<J>>,
     jobs: &mut Vec<J>,
 )
-    requires { vec_len jobs.old + length (batch_items held.old ++ (flat_map parcel_items (items_left done_lane) ++ (batch_items out.old ++ list.items))) ≤ vec_capacity jobs.old }
-    ensures { Takes (batch_items held.old ++ (flat_map parcel_items (items_left done_lane) ++ (batch_items out.old ++ list.items))) jobs.old jobs.new }
+    requires { vec_len jobs.old
+        + length
+        (batch_items held.old
+        ++ (flat_map parcel_items (items_left done_lane) ++ (batch_items out.old ++ list.items)))
+        ≤ vec_capacity jobs.old }
+    ensures { Takes
+        (batch_items held.old
+        ++ (flat_map parcel_items (items_left done_lane) ++ (batch_items out.old ++ list.items)))
+        jobs.old jobs.new }
 {
     take_batch(held, jobs);
     take_lane(done_lane, held, jobs);
@@ -74,8 +82,11 @@ pub(crate) fn take_undrawn<J: Drop>(
     lane: Rest<Parcel<J>, LaneLimits>,
     jobs: &mut Vec<J>,
 )
-    requires { vec_len jobs.old + length (batch_items drawn.old ++ flat_map parcel_items (items_left lane)) ≤ vec_capacity jobs.old }
-    ensures { Takes (batch_items drawn.old ++ flat_map parcel_items (items_left lane)) jobs.old jobs.new }
+    requires { vec_len jobs.old
+        + length (batch_items drawn.old ++ flat_map parcel_items (items_left lane))
+        ≤ vec_capacity jobs.old }
+    ensures { Takes (batch_items drawn.old ++ flat_map parcel_items (items_left lane)) jobs.old
+        jobs.new }
 {
     take_batch(drawn, jobs);
     take_lane(lane, drawn, jobs);
@@ -87,7 +98,8 @@ pub(crate) fn take_lists<J: Drop>(
     own: VecDeque<Callback<J>>,
     jobs: &mut Vec<J>,
 )
-    requires { vec_len jobs.old + length (batch_items bypass.old ++ own.items) ≤ vec_capacity jobs.old }
+    requires { vec_len jobs.old + length (batch_items bypass.old ++ own.items)
+        ≤ vec_capacity jobs.old }
     ensures { Takes (batch_items bypass.old ++ own.items) jobs.old jobs.new }
 {
     take_batch(bypass, jobs);

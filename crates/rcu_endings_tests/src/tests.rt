@@ -1,3 +1,5 @@
+//! The end of one processor: its records in order, and the jobs that come back.
+
 ghost use Rattle.std.specs.Prelude.{◌≡◌, ◌+◌, ◌<◌, false, length, OnOk};
 ghost use Rattle.rcu_holdings.specs.ProcessorLists.{holding, passed_on, put_by, rear_of};
 ghost use Rattle.rcu_jobs.specs.Modes.{is_offloaded};
@@ -38,8 +40,12 @@ fn call(
     requires small { number < MOST_CALLBACKS }
     requires few { length (passed_on (holding processor_lists.old)) < MOST_CALLBACKS }
     ensures lane { SameRear (rear_of processor_lists.old) (rear_of processor_lists.new) }
-    ensures passed { OnOk result (length (passed_on (holding processor_lists.new)) ≡ length (passed_on (holding processor_lists.old)) + 1) }
-    ensures local { is_offloaded (holding processor_lists.old).mode ≡ false → (is_offloaded (holding processor_lists.new).mode ≡ false) × (put_by (holding processor_lists.new) ≡ put_by (holding processor_lists.old)) }
+    ensures passed { OnOk result
+        (length (passed_on (holding processor_lists.new))
+        ≡ length (passed_on (holding processor_lists.old)) + 1) }
+    ensures local { is_offloaded (holding processor_lists.old).mode ≡ false
+        → (is_offloaded (holding processor_lists.new).mode ≡ false)
+        × (put_by (holding processor_lists.new) ≡ put_by (holding processor_lists.old)) }
 {
     processor_lists.reserve()?;
     let callback = Callback {

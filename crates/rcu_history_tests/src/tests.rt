@@ -1,3 +1,5 @@
+//! Histories that are lawful or closed, and some that aren't, by the checker.
+
 use rcu_history::{is_closed, is_lawful};
 use rcu_law::marks::Mark::{Accepted, Back, Opened, Passed, Ran, Reported, Shut};
 use std::test::Fail;

@@ -1,4 +1,5 @@
-// How a processor takes a new callback on: docs/specification/rules.md, "The calls, step by step", call_rcu.
+//! How a processor takes a new callback on: docs/specification/rules.md, "The calls, step by step", call_rcu.
+
 ghost use Rattle.std.specs.Prelude.{◌≡◌, ◌<◌, true, [], ◌∷◌, ◌++◌, length, IsOk, OnOk};
 ghost use Rattle.rcu_lanes.specs.Ends.{SameRear};
 ghost use Rattle.rcu_holdings.specs.ProcessorLists.{holding, rear_of, passed_on, IsReady, Takes};
@@ -25,7 +26,8 @@ impl<J: Drop> ProcessorLists<J> {
         ensures had { IsReady self.old → IsOk result }
 
         // An empty bypass list has room.
-        ensures none { is_offloaded (holding self.old).mode ≡ true → (holding self.old).outgoing.bypass ≡ [] → IsOk result }
+        ensures none { is_offloaded (holding self.old).mode ≡ true
+            → (holding self.old).outgoing.bypass ≡ [] → IsOk result }
     {
         if self.mode.is_offloaded() {
             self.bypass.reserve()
@@ -45,7 +47,8 @@ impl<J: Drop> ProcessorLists<J> {
         ensures takes { Takes moment kind callback (holding self.old) (holding self.new) }
 
         // It is behind all that went before.
-        ensures places { passed_on (holding self.new) ≡ passed_on (holding self.old) ++ callback ∷ [] }
+        ensures places { passed_on (holding self.new)
+            ≡ passed_on (holding self.old) ++ callback ∷ [] }
     {
         if self.mode.is_offloaded() {
             hold_or_send(&mut self.outlet, &mut self.bypass, moment, kind, callback);

@@ -1,4 +1,5 @@
-// What may be put on the lanes between the running parts.
+//! What may be put on the lanes between the running parts.
+
 ghost use Rattle.rcu_holdings.specs.Limits.{IsAllowed};
 
 use rcu_lanes::Rule;

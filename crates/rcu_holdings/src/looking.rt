@@ -1,4 +1,5 @@
-// What a processor does with its own list: docs/specification/rules.md, "The calls, step by step", tick.
+//! What a processor does with its own list: docs/specification/rules.md, "The calls, step by step", tick.
+
 ghost use Rattle.std.specs.Prelude.{◌≡◌, ℕ, ◌≤◌, [], ◌∷◌, ◌++◌, List, IfSome, MatchOption};
 ghost use Rattle.rcu_jobs.specs.declared.callback.Callback.{Callback};
 ghost use Rattle.rcu_numbers.specs.Numbers.{snap_of};
@@ -24,16 +25,17 @@ impl<J: Drop> ProcessorLists<J> {
         ensures places { held_in (holding self.new) ≡ held_in (holding self.old) }
 
         // Each number that is waited for then is the one answered, or was waited for before.
-        ensures needed { (s : ℕ) → AreUpTo s (holding self.old).own → IfSome result (λ n. n ≤ s) → AreUpTo s (holding self.new).own }
+        ensures needed { (s : ℕ) → AreUpTo s (holding self.old).own → IfSome result (λ n. n ≤ s)
+            → AreUpTo s (holding self.new).own }
     {
         look_at(&mut self.own, seen)
     }
 
     /// The first callback, if it is done. Where the processor is Offloaded there is none.
     pub fn first(&self) -> Option<&Callback<J>>
-        ensures first { MatchOption result
-            (count is_done (holding self.now).own ≡ 0)
-            (λ c. (rest : List (Labelled J)) × ((holding self.now).own ≡ marked Done (c.now ∷ []) ++ rest)) }
+        ensures first { MatchOption result (count is_done (holding self.now).own ≡ 0) (λ c.
+            (rest : List (Labelled J))
+            × ((holding self.now).own ≡ marked Done (c.now ∷ []) ++ rest)) }
         ensures safe { IfSome result (λ c. IsSafe c.now) }
     {
         self.own.first_done()
@@ -46,7 +48,8 @@ impl<J: Drop> ProcessorLists<J> {
             ((count is_done (holding self.old).own ≡ 0) × (holding self.new ≡ holding self.old))
             (λ c. ((holding self.old).own ≡ marked Done (c ∷ []) ++ (holding self.new).own)
             × (holding self.new ≡ record (holding self.old) { own = (holding self.new).own })) }
-        ensures places { IfSome result (λ c. held_in (holding self.old) ≡ c ∷ held_in (holding self.new)) }
+        ensures places { IfSome result (λ c.
+            held_in (holding self.old) ≡ c ∷ held_in (holding self.new)) }
         ensures graced { IfSome result (λ c. snap_of c.stamp ≤ (holding self.old).advanced) }
         ensures safe { IfSome result IsSafe }
     {

@@ -33,7 +33,9 @@ pub struct MemberLists<J> {
     pub(crate) drawn: Batch<J>,
     // The batch that waits for room on the done lane.
     pub(crate) out: Batch<J>,
-    ghost order: { drawn_calls inlet.front ≡ put_calls outlet.rear ++ (batch_items out ++ (callbacks_of (labelled list) ++ batch_items drawn)) },
+    ghost order: { drawn_calls inlet.front
+        ≡ put_calls outlet.rear
+        ++ (batch_items out ++ (callbacks_of (labelled list) ++ batch_items drawn)) },
     ghost drawn_safe: { AreSafe (batch_items drawn) },
     ghost list_safe: { AreSafe (callbacks_of (labelled list)) },
     ghost out_safe: { AreSafe (batch_items out) },
@@ -73,12 +75,14 @@ impl<J: Drop> MemberLists<J> {
     pub fn look(&mut self, seen: u64) -> Option<u64>
         requires later { (relay self.old).advanced ≤ seen }
         requires small { seen ≤ GREATEST_NUMBER }
-        ensures ends { (front_of self.new ≡ front_of self.old) × (rear_of self.new ≡ rear_of self.old) }
+        ensures ends { (front_of self.new ≡ front_of self.old)
+            × (rear_of self.new ≡ rear_of self.old) }
         ensures list { relay self.new ≡ after_look seen (relay self.old) }
         ensures wanted { result ≡ wanted seen (relay self.old).list }
 
         // Each number that is waited for then is the one answered, or was waited for before.
-        ensures needed { (s : ℕ) → AreUpTo s (relay self.old).list → IfSome result (λ n. n ≤ s) → AreUpTo s (relay self.new).list }
+        ensures needed { (s : ℕ) → AreUpTo s (relay self.old).list → IfSome result (λ n. n ≤ s)
+            → AreUpTo s (relay self.new).list }
     {
         look_at(&mut self.list, seen)
     }
@@ -116,8 +120,11 @@ impl<J: Drop> MemberLists<J> {
         ensures out { batch_items result.4 ≡ (relay self).out }
 
         // What was drawn is what was put and what comes back, in order.
-        ensures order { (relay self).received ≡ (relay self).put ++ (batch_items result.4 ++ (result.2.items ++ batch_items result.3)) }
-        ensures safe { AreSafe result.2.items × AreSafe (batch_items result.3) × AreSafe (batch_items result.4) }
+        ensures order { (relay self).received
+            ≡ (relay self).put
+            ++ (batch_items result.4 ++ (result.2.items ++ batch_items result.3)) }
+        ensures safe { AreSafe result.2.items × AreSafe (batch_items result.3)
+            × AreSafe (batch_items result.4) }
     {
         let MemberLists {
             inlet,

@@ -1,4 +1,5 @@
-// What a list of segments becomes when a part looks at the number: docs/specification/rules.md, "The calls, step by step".
+//! What a list of segments becomes when a part looks at the number: docs/specification/rules.md, "The calls, step by step".
+
 ghost use Rattle.std.specs.Prelude.{◌≡◌, ℕ, ◌≤◌, IfSome};
 ghost use Rattle.rcu_lists.specs.Labels.{callbacks_of};
 ghost use Rattle.rcu_lists.specs.Segments.{labelled, advanced_by, SegmentsRoom};
@@ -20,7 +21,8 @@ pub(crate) fn look_at<J: Drop>(list: &mut Segments<J>, seen: u64) -> Option<u64>
     ensures advanced { advanced_by list.new ≡ seen }
     ensures callbacks { callbacks_of (labelled list.new) ≡ callbacks_of (labelled list.old) }
     ensures aimed { AreAimed (advanced_by list.new) (labelled list.new) }
-    ensures needed { (s : ℕ) → AreUpTo s (labelled list.old) → IfSome result (λ n. n ≤ s) → AreUpTo s (labelled list.new) }
+    ensures needed { (s : ℕ) → AreUpTo s (labelled list.old) → IfSome result (λ n. n ≤ s)
+        → AreUpTo s (labelled list.new) }
     ensures room { (k : ℕ) → SegmentsRoom list.old k → SegmentsRoom list.new k }
 {
     list.advance(seen);

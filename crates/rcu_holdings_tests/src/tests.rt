@@ -1,3 +1,5 @@
+//! What parts hold, with the lanes between them.
+
 ghost use Rattle.std.specs.Prelude.{◌≡◌, ◌≤◌, length};
 ghost use Rattle.rcu_holdings.specs.ProcessorLists.{holding, passed_on};
 ghost use Rattle.rcu_holdings.specs.Limits.{AreBelow};

@@ -1,3 +1,5 @@
+//! Jobs that run, and the records that they leave.
+
 ghost use Rattle.std.specs.Prelude.{◌≡◌, ℕ, ◌+◌, ◌*◌, ◌<◌, ◌%◌, vec_len};
 
 use super::*;

@@ -1,4 +1,5 @@
-// The two ends of a lane, and what is left of it.
+//! The two ends of a lane, and what is left of it.
+
 ghost use Rattle.std.specs.Prelude.{◌≡◌, ◌<◌, ◌≤◌, true, false, [], ◌∷◌, ◌++◌, length, IsOk, MatchOption, MatchResult};
 ghost use Rattle.crossbeam_deque.specs.Handles.{view, IsPassOf, stealer_deque, worker_capacity, worker_flavor, worker_index, worker_view};
 ghost use Rattle.rcu_lanes.specs.Lane.{log, rest_of};
@@ -35,8 +36,10 @@ pub struct Front<T, L: Rule<T> = Anything> {
 pub struct Rest<T, L: Rule<T> = Anything> {
     pub(crate) owner: Owner<T, L>,
     ghost fifo: { worker_flavor owner ≡ 0 },
-    ghost whole: { worker_view owner ≡ log true true (worker_view owner).put (worker_view owner).drawn },
-    ghost order: { (worker_view owner).put ≡ (worker_view owner).drawn ++ rest_of (worker_view owner) },
+    ghost whole: { worker_view owner
+        ≡ log true true (worker_view owner).put (worker_view owner).drawn },
+    ghost order: { (worker_view owner).put
+        ≡ (worker_view owner).drawn ++ rest_of (worker_view owner) },
 }
 
 /// The answer to a draw.

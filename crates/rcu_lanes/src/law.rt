@@ -1,6 +1,7 @@
-// The lane law as the rule that the deque keeps between any two steps of any threads: docs/specification/definitions.md,
-// "The running parts: laws" (lane law). The steps are those of docs/specification/tables.md, "Kinds of atomic step": put,
-// draw, split, join and take. Nothing here has a value that runs.
+//! The lane law as the rule that the deque keeps between any two steps of any threads: docs/specification/definitions.md,
+//! "The running parts: laws" (lane law). The steps are those of docs/specification/tables.md, "Kinds of atomic step": put,
+//! draw, split, join and take. Nothing here has a value that runs.
+
 ghost use Rattle.std.specs.Prelude.{◌≡◌, true, false, [], ◌++◌};
 ghost use Rattle.rcu_lanes.specs.Lane.{log, AllowedAfter, KeepsLaneLaw, rest_of};
 

@@ -1,4 +1,5 @@
-// What may be put on a lane.
+//! What may be put on a lane.
+
 ghost use Rattle.std.specs.Prelude.{List, ⊤};
 
 /// A rule on the items of a lane. The end that puts owes it for each item, and the end that draws learns it.

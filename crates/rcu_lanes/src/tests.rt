@@ -1,3 +1,5 @@
+//! Lanes, in one thread and between two.
+
 ghost use Rattle.std.specs.Prelude.{◌≡◌, ◌<◌, ◌≤◌, All, IfSome};
 ghost use Rattle.rcu_lanes.specs.Ends.{SameRear, SameFront, items_put, items_drawn};
 

@@ -1,4 +1,5 @@
-// A lane before its ends part, and once they have come together.
+//! A lane before its ends part, and once they have come together.
+
 ghost use Rattle.std.specs.Prelude.{◌≡◌, ◌++◌, IfOk};
 ghost use Rattle.rcu_lanes.specs.Ends.{SameLane, IsNewLane, items_put, items_drawn, items_left};
 

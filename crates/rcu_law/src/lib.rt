@@ -25,30 +25,40 @@ ghost use Rattle.rcu_law.specs.Closing.{closing};
 /// records of each processor are those of its `Ran` marks, each made at a sight of `snap(stamp)` or more
 /// (`docs/specification/definitions.md`, "The law").
 pub fn every_schedule()
-    ensures lawful { (n : ℕ) (shape : Shape) (events : List CoreEvent) → IsLawful n (run events (opening n shape)).history }
-    ensures closed { (n : ℕ) (shape : Shape) (events : List CoreEvent) → IsClosed n (closing (run events (opening n shape))) }
-    ensures recorded { (n : ℕ) (shape : Shape) (events : List CoreEvent) → (p : ℕ) → p < n → AreRecords (run events (opening n shape)).history p (cpu_at (run events (opening n shape)) p).runs }
+    ensures lawful { (n : ℕ) (shape : Shape) (events : List CoreEvent)
+        → IsLawful n (run events (opening n shape)).history }
+    ensures closed { (n : ℕ) (shape : Shape) (events : List CoreEvent)
+        → IsClosed n (closing (run events (opening n shape))) }
+    ensures recorded { (n : ℕ) (shape : Shape) (events : List CoreEvent) → (p : ℕ) → p < n
+        → AreRecords (run events (opening n shape)).history p
+        (cpu_at (run events (opening n shape)) p).runs }
 {}
 
 /// While a processor is Offloaded, it has nothing to claim itself: only its hand runs its callbacks
 /// (`docs/specification/promises.md`, "Headline on the core").
 pub fn offloaded_runs_nothing()
-    ensures { (n : ℕ) (shape : Shape) (events : List CoreEvent) → (p : ℕ) → is_offloaded (cpu_at (run events (opening n shape)) p).mode ≡ true → is_enabled (run events (opening n shape)) (Claim p sides.Local) ≡ false }
+    ensures { (n : ℕ) (shape : Shape) (events : List CoreEvent) → (p : ℕ)
+        → is_offloaded (cpu_at (run events (opening n shape)) p).mode ≡ true
+        → is_enabled (run events (opening n shape)) (Claim p sides.Local) ≡ false }
 {}
 
 /// A Local processor has no callback left with its group or its hand: it became Local only once the turn had reached all
 /// that were offloaded (`docs/specification/rules.md`, "Modes").
 pub fn local_has_nothing_offloaded()
-    ensures { (n : ℕ) (shape : Shape) (events : List CoreEvent) → (p : ℕ) → p < n → (cpu_at (run events (opening n shape)) p).mode ≡ Local → offloaded_callbacks (cpu_at (run events (opening n shape)) p) ≡ [] }
+    ensures { (n : ℕ) (shape : Shape) (events : List CoreEvent) → (p : ℕ) → p < n
+        → (cpu_at (run events (opening n shape)) p).mode ≡ Local
+        → offloaded_callbacks (cpu_at (run events (opening n shape)) p) ≡ [] }
 {}
 
 /// Under every event, the own list of each processor and its list in the group are labelled lists, and a look finds the
 /// condition of `accelerate` (`docs/specification/definitions.md`, "Lists"; `docs/specification/rules.md`, "Callback lists").
 pub fn lists_stay_labelled()
-    ensures { (n : ℕ) (shape : Shape) (events : List CoreEvent) → (p : ℕ) → p < n → HasLabelledLists (run events (opening n shape)) p }
+    ensures { (n : ℕ) (shape : Shape) (events : List CoreEvent) → (p : ℕ) → p < n
+        → HasLabelledLists (run events (opening n shape)) p }
 {}
 
 /// A law over the definitions alone: a closed history has no `Accepted(p)` after the first `Back` of `p`.
 pub fn nothing_accepted_after_back()
-    ensures { (n : ℕ) (history : List Mark) → IsClosed n history → HasNothingAcceptedAfterBack history }
+    ensures { (n : ℕ) (history : List Mark) → IsClosed n history
+        → HasNothingAcceptedAfterBack history }
 {}

@@ -47,7 +47,8 @@ pub(crate) fn check_one(
     ensures kind { IfOk result (λ _. IfSome slot.old.held.value (λ l. kind_of l.part ≡ kind)) }
     ensures place { IfOk result (λ _. IsInPlace opening at slot.old.held.value) }
     ensures reading { slot.new.reading ≡ slot.old.reading }
-    ensures err { IfErr result (λ _. slot.old.reading ≡ 0 → IfSome slot.old.held.value (BelongsAt opening at kind) → ⊥) }
+    ensures err { IfErr result (λ _.
+        slot.old.reading ≡ 0 → IfSome slot.old.held.value (BelongsAt opening at kind) → ⊥) }
 {
     if slot.reading != 0 {
         return Err(Fault::Reading);
@@ -77,7 +78,8 @@ pub(crate) fn check_each(
 ) -> Result<(), Fault>
     ensures stay { held_in slots.new ≡ held_in slots.old }
     ensures checked { IfOk result (λ _. AreChecked opening kind many (held_in slots.old)) }
-    ensures err { IfErr result (λ _. AreUnread slots.old → AreChecked opening kind many (held_in slots.old) → ⊥) }
+    ensures err { IfErr result (λ _.
+        AreUnread slots.old → AreChecked opening kind many (held_in slots.old) → ⊥) }
 {
     let mut found: u64 = 0;
     for place in 0..slots.len() {

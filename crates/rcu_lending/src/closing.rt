@@ -26,7 +26,8 @@ struct Room {
 
 /// Finds room for all parts of an open.
 fn find_room(alloc: Global, opening: Opening) -> Result<Room, AllocError>
-    ensures none { IfOk result (λ r. (r.processors.items ≡ []) × (r.groups.items ≡ []) × (r.hands.items ≡ [])) }
+    ensures none { IfOk result (λ r.
+        (r.processors.items ≡ []) × (r.groups.items ≡ []) × (r.hands.items ≡ [])) }
     ensures processors { IfOk result (λ r. vec_capacity r.processors ≡ opening.processors) }
     ensures groups { IfOk result (λ r. vec_capacity r.groups ≡ opening.groups) }
     ensures hands { IfOk result (λ r. vec_capacity r.hands ≡ opening.hands) }
@@ -54,7 +55,8 @@ fn check_there(
 ) -> Result<(), Fault>
     ensures stays { slot.new.held.value ≡ slot.old.held.value }
     ensures there { IfOk result (λ _. IsThere opening kind slot.old.held.value) }
-    ensures err { IfErr result (λ _. slot.old.reading ≡ 0 → IsThere opening kind slot.old.held.value → ⊥) }
+    ensures err { IfErr result (λ _.
+        slot.old.reading ≡ 0 → IsThere opening kind slot.old.held.value → ⊥) }
 {
     match check_one(alloc, slot, opening, 0, kind) {
         Ok(true) => Ok(()),
@@ -122,7 +124,8 @@ fn take_control(alloc: Global, slot: &mut Slot) -> Control
 /// Takes all parts out of their slots. The box of control's part stays.
 fn take_all(alloc: Global, slots: &mut PartSlots, opening: Opening, room: Room) -> Parts<ForeignJob>
     requires ready { AreReady opening slots.old }
-    requires none { (room.processors.items ≡ []) × (room.groups.items ≡ []) × (room.hands.items ≡ []) }
+    requires none { (room.processors.items ≡ []) × (room.groups.items ≡ [])
+        × (room.hands.items ≡ []) }
     requires processors { vec_capacity room.processors ≡ opening.processors }
     requires groups { vec_capacity room.groups ≡ opening.groups }
     requires hands { vec_capacity room.hands ≡ opening.hands }
@@ -221,7 +224,9 @@ fn close_kept(alloc: Global, slot: &mut Slot) -> Result<(), Fault>
 /// memory: then no slot has changed, or control's slot has all parts, and the others are empty; a further close tries again.
 pub fn close_from(alloc: Global, slots: &mut PartSlots) -> Result<(), Fault>
     requires owed { AreOfTheOpen slots.old }
-    ensures closes { Closes result slots.old slots.new ⊎ ClosesAgain result slots.old.control slots.new.control ⊎ RefusesClose result slots.old slots.new }
+    ensures closes { Closes result slots.old slots.new
+        ⊎ ClosesAgain result slots.old.control slots.new.control
+        ⊎ RefusesClose result slots.old slots.new }
     ensures memory { CanTryClose slots.old → IfErr result (λ fault. fault ≡ Memory) }
 {
     let Some((opening, kind)) = slots.control.peek(alloc) else {

@@ -8,5 +8,6 @@ ghost use Rattle.rcu_numbers.specs.declared.shape.Shape.{Shape};
 
 /// What close asks is true of the slots that [`crate::open_into`] filled.
 pub fn opened_slots()
-    ensures { (shape : Shape) (number : ℕ) (slots : Slots) → OpensInto shape number slots → AreOfTheOpen slots }
+    ensures { (shape : Shape) (number : ℕ) (slots : Slots) → OpensInto shape number slots
+        → AreOfTheOpen slots }
 {}

@@ -89,7 +89,8 @@ impl<J: Drop> Batch<J> {
 
     /// The first callback.
     pub fn first(&self) -> Option<&Callback<J>>
-        ensures { MatchOption result (batch_items self.now ≡ []) (λ c. (rest : List (Callback J)) × (batch_items self.now ≡ c.now ∷ rest)) }
+        ensures { MatchOption result (batch_items self.now ≡ []) (λ c.
+            (rest : List (Callback J)) × (batch_items self.now ≡ c.now ∷ rest)) }
     {
         let Some(slot) = self.slots.get(self.next) else {
             return None;

@@ -83,9 +83,12 @@ impl<J: Drop> Bypass<J> {
     /// and the kept moment are those of the list with this callback in it, until a `flush`.
     pub fn hold(&mut self, moment: u64, kind: Kind, callback: Callback<J>) -> bool
         requires { BypassRoom self.old 1 }
-        ensures due { result ≡ is_due moment kind (bypass_pace self.old) (length (bypass_items self.old) + 1) (bypass_qhimark self.old) }
+        ensures due { result
+            ≡ is_due moment kind (bypass_pace self.old) (length (bypass_items self.old) + 1)
+            (bypass_qhimark self.old) }
         ensures items { bypass_items self.new ≡ bypass_items self.old ++ callback ∷ [] }
-        ensures pace { bypass_pace self.new ≡ held moment kind (bypass_pace self.old) (length (bypass_items self.old) + 1) }
+        ensures pace { bypass_pace self.new
+            ≡ held moment kind (bypass_pace self.old) (length (bypass_items self.old) + 1) }
         ensures qhimark { bypass_qhimark self.new ≡ bypass_qhimark self.old }
         ensures room { (k : ℕ) → BypassRoom self.old (k + 1) → BypassRoom self.new k }
     {
@@ -98,14 +101,17 @@ impl<J: Drop> Bypass<J> {
     /// Adds a callback at the end, and releases the list where that is due.
     pub fn place(&mut self, moment: u64, kind: Kind, callback: Callback<J>) -> Placed<J>
         requires { BypassRoom self.old 1 }
-        ensures items { out_items result ++ bypass_items self.new ≡ bypass_items self.old ++ callback ∷ [] }
+        ensures items { out_items result ++ bypass_items self.new
+            ≡ bypass_items self.old ++ callback ∷ [] }
         ensures all { is_out result ≡ true → bypass_items self.new ≡ [] }
         ensures pace { (is_out result, bypass_pace self.new)
-            ≡ placed moment kind (bypass_pace self.old) (length (bypass_items self.old) + 1) (bypass_qhimark self.old) }
+            ≡ placed moment kind (bypass_pace self.old) (length (bypass_items self.old) + 1)
+            (bypass_qhimark self.old) }
         ensures qhimark { bypass_qhimark self.new ≡ bypass_qhimark self.old }
 
         // How much room there is then.
-        ensures kept_room { is_out result ≡ false → (k : ℕ) → BypassRoom self.old (k + 1) → BypassRoom self.new k }
+        ensures kept_room { is_out result ≡ false → (k : ℕ) → BypassRoom self.old (k + 1)
+            → BypassRoom self.new k }
         ensures out_room { is_out result ≡ true → BypassRoom self.new INLINE_PLACES }
     {
         if self.hold(moment, kind, callback) {
@@ -166,8 +172,9 @@ impl<J: Drop> Bypass<J> {
     /// last moment and the count stay.
     pub fn flush_single(&mut self) -> Option<Callback<J>>
         ensures single { MatchOption result
-            ((length (bypass_items self.old) ≢ 1) × BypassUnchanged self.old self.new)
-            (λ c. (bypass_items self.old ≡ c ∷ []) × (bypass_items self.new ≡ []) × (bypass_pace self.new ≡ emptied (bypass_pace self.old))) }
+            ((length (bypass_items self.old) ≢ 1) × BypassUnchanged self.old self.new) (λ c.
+            (bypass_items self.old ≡ c ∷ []) × (bypass_items self.new ≡ [])
+            × (bypass_pace self.new ≡ emptied (bypass_pace self.old))) }
         ensures qhimark { bypass_qhimark self.new ≡ bypass_qhimark self.old }
         ensures room { IsSome result → BypassRoom self.new INLINE_PLACES }
     {

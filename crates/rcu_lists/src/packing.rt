@@ -17,7 +17,8 @@ impl<J: Drop> Batch<J> {
     ///
     /// The batch, where memory is wanted and there is none.
     pub fn pack(self) -> Result<Parcel<J>, Batch<J>>
-        ensures packed { MatchResult result (λ parcel. parcel_items parcel ≡ batch_items self) (λ back. back ≡ self) }
+        ensures packed { MatchResult result (λ parcel. parcel_items parcel ≡ batch_items self)
+            (λ back. back ≡ self) }
         ensures heap { IsOnHeap self → IsOk result }
     {
         let Batch { slots, next } = self;

@@ -84,7 +84,8 @@ impl<J: Drop> Segments<J> {
     /// Adds a callback at the end of next, in the room that there is.
     pub fn enqueue(&mut self, callback: Callback<J>)
         requires { SegmentsRoom self.old 1 }
-        ensures list { labelled self.new ≡ labelled self.old ++ record { label = Bare; callback = callback } ∷ [] }
+        ensures list { labelled self.new
+            ≡ labelled self.old ++ record { label = Bare; callback = callback } ∷ [] }
         ensures advanced { advanced_by self.new ≡ advanced_by self.old }
         ensures room { (k : ℕ) → SegmentsRoom self.old (k + 1) → SegmentsRoom self.new k }
     {
@@ -158,9 +159,8 @@ impl<J: Drop> Segments<J> {
 
     /// The first callback, if it is done.
     pub fn first_done(&self) -> Option<&Callback<J>>
-        ensures { MatchOption result
-            (count is_done (labelled self.now) ≡ 0)
-            (λ c. (rest : List (Labelled J)) × (labelled self.now ≡ marked Done (c.now ∷ []) ++ rest)) }
+        ensures { MatchOption result (count is_done (labelled self.now) ≡ 0) (λ c.
+            (rest : List (Labelled J)) × (labelled self.now ≡ marked Done (c.now ∷ []) ++ rest)) }
     {
         if self.done == 0 {
             return None;
@@ -187,7 +187,8 @@ impl<J: Drop> Segments<J> {
             (λ c. labelled self.old ≡ marked Done (c ∷ []) ++ labelled self.new) }
         ensures graced { IfSome result (λ c. snap_of c.stamp ≤ advanced_by self.old) }
         ensures advanced { advanced_by self.new ≡ advanced_by self.old }
-        ensures room { (k : ℕ) → SegmentsRoom self.old k → SegmentsRoom self.new (k + length (option_to_list result)) }
+        ensures room { (k : ℕ) → SegmentsRoom self.old k
+            → SegmentsRoom self.new (k + length (option_to_list result)) }
     {
         if self.done == 0 {
             return None;
@@ -202,11 +203,16 @@ impl<J: Drop> Segments<J> {
     ///
     /// Refusal 2, want of memory: everything is as it was.
     pub fn take_batch(&mut self, max: usize) -> Result<Batch<J>, AllocError>
-        ensures taken { IfOk result (λ b. labelled self.old ≡ marked Done (batch_items b) ++ labelled self.new) }
-        ensures number { IfOk result (λ b. length (batch_items b) ≡ min max (count is_done (labelled self.old))) }
-        ensures graced { IfOk result (λ b. All (λ c. snap_of c.stamp ≤ advanced_by self.old) (batch_items b)) }
+        ensures taken { IfOk result (λ b.
+            labelled self.old ≡ marked Done (batch_items b) ++ labelled self.new) }
+        ensures number { IfOk result (λ b.
+            length (batch_items b) ≡ min max (count is_done (labelled self.old))) }
+        ensures graced { IfOk result (λ b.
+            All (λ c. snap_of c.stamp ≤ advanced_by self.old) (batch_items b)) }
         ensures advanced { advanced_by self.new ≡ advanced_by self.old }
-        ensures room { IfOk result (λ b. (k : ℕ) → SegmentsRoom self.old k → SegmentsRoom self.new (k + length (batch_items b))) }
+        ensures room { IfOk result (λ b.
+            (k : ℕ) → SegmentsRoom self.old k
+            → SegmentsRoom self.new (k + length (batch_items b))) }
 
         // Sixteen places stand in the batch itself.
         ensures inline { min max (count is_done (labelled self.old)) ≤ INLINE_PLACES → IsOk result }
@@ -225,15 +231,21 @@ impl<J: Drop> Segments<J> {
     /// Refusal 2, want of memory: everything is as it was.
     pub fn fill_batch(&mut self, max: usize, batch: &mut Batch<J>) -> Result<(), AllocError>
         requires none { batch_items batch.old ≡ [] }
-        ensures taken { OnOk result (labelled self.old ≡ marked Done (batch_items batch.new) ++ labelled self.new) }
-        ensures number { OnOk result (length (batch_items batch.new) ≡ min max (count is_done (labelled self.old))) }
-        ensures graced { OnOk result (All (λ c. snap_of c.stamp ≤ advanced_by self.old) (batch_items batch.new)) }
+        ensures taken { OnOk result
+            (labelled self.old ≡ marked Done (batch_items batch.new) ++ labelled self.new) }
+        ensures number { OnOk result
+            (length (batch_items batch.new) ≡ min max (count is_done (labelled self.old))) }
+        ensures graced { OnOk result
+            (All (λ c. snap_of c.stamp ≤ advanced_by self.old) (batch_items batch.new)) }
         ensures advanced { advanced_by self.new ≡ advanced_by self.old }
-        ensures room { OnOk result ((k : ℕ) → SegmentsRoom self.old k → SegmentsRoom self.new (k + length (batch_items batch.new))) }
+        ensures room { OnOk result
+            ((k : ℕ) → SegmentsRoom self.old k
+            → SegmentsRoom self.new (k + length (batch_items batch.new))) }
 
         // Sixteen places stand in the batch itself.
         ensures inline { min max (count is_done (labelled self.old)) ≤ INLINE_PLACES → IsOk result }
-        ensures refused { OnErr result (SegmentsUnchanged self.old self.new × (batch_items batch.new ≡ [])) }
+        ensures refused { OnErr result
+            (SegmentsUnchanged self.old self.new × (batch_items batch.new ≡ [])) }
     {
         let number = max.min(self.done);
         batch.free_places();
@@ -250,15 +262,20 @@ impl<J: Drop> Segments<J> {
     /// Refusal 2, want of memory: everything is as it was.
     pub fn pour(&mut self, bypass: &mut Bypass<J>) -> Result<(), AllocError>
         ensures left { OnOk result (labelled self.new ≡ []) }
-        ensures moved { OnOk result (bypass_items bypass.new ≡ bypass_items bypass.old ++ callbacks_of (labelled self.old)) }
-        ensures pace { OnOk result (bypass_pace bypass.new ≡ joined_plain (callbacks_of (labelled self.old)) (bypass_pace bypass.old)) }
+        ensures moved { OnOk result
+            (bypass_items bypass.new
+            ≡ bypass_items bypass.old ++ callbacks_of (labelled self.old)) }
+        ensures pace { OnOk result
+            (bypass_pace bypass.new
+            ≡ joined_plain (callbacks_of (labelled self.old)) (bypass_pace bypass.old)) }
         ensures advanced { advanced_by self.new ≡ advanced_by self.old }
         ensures qhimark { bypass_qhimark bypass.new ≡ bypass_qhimark bypass.old }
 
         // Room that is there is used, and an empty list wants none.
         ensures had { BypassRoom bypass.old (length (labelled self.old)) → IsOk result }
         ensures none { labelled self.old ≡ [] → IsOk result }
-        ensures refused { OnErr result (SegmentsUnchanged self.old self.new × BypassUnchanged bypass.old bypass.new) }
+        ensures refused { OnErr result
+            (SegmentsUnchanged self.old self.new × BypassUnchanged bypass.old bypass.new) }
     {
         bypass.make_room(self.list.len())?;
         bypass.take_list(&mut self.list);

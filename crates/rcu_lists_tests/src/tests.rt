@@ -1,3 +1,5 @@
+//! Segments, batches and bypass lists.
+
 use rcu_jobs::{BoxedJob, Callback, run_callback};
 use rcu_lists::{Bypass, Kind, Placed, Segments};
 use std::test::Fail;

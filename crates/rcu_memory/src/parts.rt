@@ -31,7 +31,8 @@ pub fn called(answer: Result<Ticket, Refused<Work>>) -> Answer {
 /// A call of a processor.
 fn make_one(processor: &mut Processor<Work>, action: Action, moment: u64, key: u64) -> Answer
     ensures same { SameProcessor processor.old.state processor.new.state }
-    ensures sound { IsSound key_of_work IsOwnKey processor.old.state → IsSound key_of_work IsOwnKey processor.new.state }
+    ensures sound { IsSound key_of_work IsOwnKey processor.old.state
+        → IsSound key_of_work IsOwnKey processor.new.state }
 {
     match action {
         Action::Call(_) => called(processor.call_rcu(moment, Work { key })),
@@ -56,8 +57,10 @@ fn make_at(
     moment: u64,
     key: u64,
 ) -> Answer
-    ensures same { AllZip (λ p q. SameProcessor p.state q.state) processors.old.items processors.new.items }
-    ensures sound { All (λ p. IsSound key_of_work IsOwnKey p.state) processors.old.items → All (λ p. IsSound key_of_work IsOwnKey p.state) processors.new.items }
+    ensures same { AllZip (λ p q. SameProcessor p.state q.state) processors.old.items
+        processors.new.items }
+    ensures sound { All (λ p. IsSound key_of_work IsOwnKey p.state) processors.old.items
+        → All (λ p. IsSound key_of_work IsOwnKey p.state) processors.new.items }
 {
     if place >= processors.len() {
         return Answer::Other;
@@ -78,7 +81,8 @@ fn turn_group(groups: &mut Vec<Group<Work>>) -> Answer
 /// A turn of the only hand.
 fn turn_hand(hands: &mut Vec<Hand<Work>>) -> Answer
     ensures same { AllZip (λ h i. SameHand h.state i.state) hands.old.items hands.new.items }
-    ensures sound { All (λ h. IsSoundHand key_of_work IsOwnKey h.state) hands.old.items → All (λ h. IsSoundHand key_of_work IsOwnKey h.state) hands.new.items }
+    ensures sound { All (λ h. IsSoundHand key_of_work IsOwnKey h.state) hands.old.items
+        → All (λ h. IsSoundHand key_of_work IsOwnKey h.state) hands.new.items }
 {
     if hands.is_empty() {
         return Answer::Other;

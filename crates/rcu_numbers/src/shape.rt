@@ -46,9 +46,12 @@ impl Shape {
         qhimark: u64,
         limit: u64,
     ) -> Option<Shape>
-        ensures within { IsSome result ↔ IsWithinLimits processors offloadable stride blimit qhimark limit }
-        ensures placed { IfSome result (λ s. (s.processors ≡ processors) × (s.offloadable ≡ offloadable) × (s.stride ≡ stride)) }
-        ensures limits { IfSome result (λ s. (s.blimit ≡ blimit) × (s.qhimark ≡ qhimark) × (s.limit ≡ limit)) }
+        ensures within { IsSome result
+            ↔ IsWithinLimits processors offloadable stride blimit qhimark limit }
+        ensures placed { IfSome result (λ s.
+            (s.processors ≡ processors) × (s.offloadable ≡ offloadable) × (s.stride ≡ stride)) }
+        ensures limits { IfSome result (λ s.
+            (s.blimit ≡ blimit) × (s.qhimark ≡ qhimark) × (s.limit ≡ limit)) }
     {
         if !is_within(1, MOST_PROCESSORS, processors) || !is_within(1, MOST_PROCESSORS, stride) {
             return None;

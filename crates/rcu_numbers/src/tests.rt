@@ -1,3 +1,5 @@
+//! Numbers and shapes at their limits.
+
 use super::*;
 use std::test::Fail;
 

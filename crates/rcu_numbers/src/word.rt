@@ -108,9 +108,13 @@ pub fn all_but(p: u64) -> u64
 pub fn word_laws()
     ensures number { (s m : ℕ) → m < 4294967296 → number_of (packed s m) ≡ s }
     ensures mask { (s m : ℕ) → m < 4294967296 → mask_of (packed s m) ≡ m }
-    ensures cleared { (word p : ℕ) → p < MOST_PROCESSORS → owes_of (bit_and word (all_but_of p)) p ≡ 0 }
-    ensures others { (word p q : ℕ) → p < MOST_PROCESSORS → q < MOST_PROCESSORS → q ≢ p → owes_of (bit_and word (all_but_of p)) q ≡ owes_of word q }
-    ensures kept { (word p : ℕ) → p < MOST_PROCESSORS → word < 18446744073709551616 → number_of (bit_and word (all_but_of p)) ≡ number_of word }
-    ensures begun { (s n p : ℕ) → p < n → n ≤ MOST_PROCESSORS → owes_of (packed s (all_of n)) p ≡ 1 }
+    ensures cleared { (word p : ℕ) → p < MOST_PROCESSORS
+        → owes_of (bit_and word (all_but_of p)) p ≡ 0 }
+    ensures others { (word p q : ℕ) → p < MOST_PROCESSORS → q < MOST_PROCESSORS → q ≢ p
+        → owes_of (bit_and word (all_but_of p)) q ≡ owes_of word q }
+    ensures kept { (word p : ℕ) → p < MOST_PROCESSORS → word < 18446744073709551616
+        → number_of (bit_and word (all_but_of p)) ≡ number_of word }
+    ensures begun { (s n p : ℕ) → p < n → n ≤ MOST_PROCESSORS
+        → owes_of (packed s (all_of n)) p ≡ 1 }
     ensures over { (s p : ℕ) → p < MOST_PROCESSORS → owes_of (packed s 0) p ≡ 0 }
 {}

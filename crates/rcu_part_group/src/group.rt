@@ -51,7 +51,8 @@ impl<J: Job> Group<J> {
         requires seat { IsNewGroup (arc_value board) group seat }
         requires members { AreMembers (group_members_in members) }
         requires empty { All IsEmptyGroupMember (group_members_in members) }
-        ensures { IsNewGroupOf shape.now (arc_value board) group seat (group_members_in members) result.state }
+        ensures { IsNewGroupOf shape.now (arc_value board) group seat (group_members_in members)
+            result.state }
     {
         Group {
             state: GroupState {

@@ -99,7 +99,8 @@ impl<J: Drop> GroupMembers<J> {
     fn give(&mut self, blimit: u64) -> u64
         requires many { length (group_members_in self.old) ≤ MOST_PROCESSORS }
         requires loaded { AreLoadedUpTo blimit (group_members_in self.old) }
-        ensures { Sums (GivesTo blimit) result (group_members_in self.old) (group_members_in self.new) }
+        ensures { Sums (GivesTo blimit) result (group_members_in self.old)
+            (group_members_in self.new) }
     {
         let first = self.first.give(blimit);
         let mut gave = 0;
@@ -167,7 +168,8 @@ impl<J: Job> Group<J> {
     fn look(&mut self)
         ensures same { SameGroup self.old.state self.new.state }
         ensures looks { LooksOnce self.old.state self.new.state }
-        ensures fresh { tally (group_view self.new.state) board_word ≡ tally (group_view self.old.state) board_word + 1 }
+        ensures fresh { tally (group_view self.new.state) board_word
+            ≡ tally (group_view self.old.state) board_word + 1 }
     {
         let state = &mut self.state;
         let seen = look_at_number(&state.board, &mut state.seat).seq();
@@ -199,8 +201,10 @@ impl<J: Job> Group<J> {
         ensures places { AllZip PassesOn (members_of self.old.state) (members_of self.new.state) }
 
         // Each number that is waited for was asked for.
-        ensures needed { AreWaitingTo (seen_at (group_view self.new.state) needed_word) (members_of self.new.state) }
-        ensures fresh { tally (group_view self.new.state) board_word ≡ tally (group_view self.old.state) board_word + 1 }
+        ensures needed { AreWaitingTo (seen_at (group_view self.new.state) needed_word)
+            (members_of self.new.state) }
+        ensures fresh { tally (group_view self.new.state) board_word
+            ≡ tally (group_view self.old.state) board_word + 1 }
     {
         let took = self.take_in();
         self.look();

@@ -56,7 +56,8 @@ impl<J: Drop> GroupMembers<J> {
     ///
     /// Refusal 2, want of memory. The members are as before.
     pub fn push(&mut self, group_member: GroupMember<J>) -> Result<(), AllocError>
-        ensures pushed { OnOk result (group_members_in self.new ≡ group_members_in self.old ++ group_member ∷ []) }
+        ensures pushed { OnOk result
+            (group_members_in self.new ≡ group_members_in self.old ++ group_member ∷ []) }
         ensures same { OnErr result (group_members_in self.new ≡ group_members_in self.old) }
     {
         self.others.push(group_member)?;

@@ -20,7 +20,8 @@ impl<J: Job> Group<J> {
     pub fn is_halted(&mut self) -> bool
         ensures same { SameGroup self.old.state self.new.state }
         ensures members { members_of self.new.state ≡ members_of self.old.state }
-        ensures view { group_view self.new.state ≡ touched halt_word (from_bool result) (group_view self.old.state) }
+        ensures view { group_view self.new.state
+            ≡ touched halt_word (from_bool result) (group_view self.old.state) }
     {
         let state = &mut self.state;
         halted(&state.board, &mut state.seat)

@@ -24,7 +24,8 @@ impl<J: Job> Hand<J> {
         ensures keeps { KeepsHand self.old.state self.new.state }
         ensures next { IfOk result (λ c. IsNext seen c self.new.state) }
         ensures small { IfOk result (λ c. c.number < MOST_CALLBACKS) }
-        ensures room { IfOk result (λ _. vec_len self.new.state.ran < vec_capacity self.new.state.ran) }
+        ensures room { IfOk result (λ _.
+            vec_len self.new.state.ran < vec_capacity self.new.state.ran) }
         ensures stops { IfErr result (λ stop. StopsAt stop 0 0 seen self.new.state) }
         ensures counts { IfErr result (λ stop. stop ≢ Limit) }
         ensures sound { KeepsSoundHand J.key_of J.gives self.old.state self.new.state }
@@ -79,7 +80,8 @@ impl<J: Job> RunningHand<J> {
     pub fn finish(self, receipt: J::Receipt) -> Hand<J>
         ensures same { SameFinished self.state result.state }
         ensures finishes { FinishesHand receipt self.state result.state }
-        ensures sound { IsSoundRunning J.key_of J.gives self.state → IsGivenFor J.key_of J.gives self.state receipt
+        ensures sound { IsSoundRunning J.key_of J.gives self.state
+            → IsGivenFor J.key_of J.gives self.state receipt
             → IsSoundHand J.key_of J.gives result.state }
     {
         let RunningHandState {

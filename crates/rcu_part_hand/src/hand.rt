@@ -108,7 +108,8 @@ impl<J: Job> Hand<J> {
         requires room { vec_len self.state.ran < vec_capacity self.state.ran }
         ensures same { IfRuns result (λ running _. SameBegun self.state running.state) }
         ensures stays { IfStops result (λ hand _. SameHand self.state hand.state) }
-        ensures runs { IfRuns result (λ running job. ClaimsFirst claimed.ready self.state running.state job) }
+        ensures runs { IfRuns result (λ running job.
+            ClaimsFirst claimed.ready self.state running.state job) }
         ensures lost { IfStops result (λ hand _. Ran 0 1 claimed.ready self.state hand.state) }
         ensures stops { IfStops result (λ hand stop. StopsAt stop 0 1 claimed.ready hand.state) }
         ensures counts { IfStops result (λ _ stop. stop ≢ Limit) }

@@ -22,7 +22,9 @@ impl<J: Job> Hand<J> {
         ensures same { SameHand self.old.state self.new.state }
         ensures ran { IfNone result (Ran 1 1 seen self.old.state self.new.state) }
         ensures counts { IfSome result (λ stop. (stop ≢ Limit) × (stop ≢ Again)) }
-        ensures not { IfSome result (λ stop. (tried : ℕ) × Ran 0 tried seen self.old.state self.new.state × ((n : ℕ) → StopsAt stop n (n + tried) seen self.new.state)) }
+        ensures not { IfSome result (λ stop.
+            (tried : ℕ) × Ran 0 tried seen self.old.state self.new.state
+            × ((n : ℕ) → StopsAt stop n (n + tried) seen self.new.state)) }
         ensures sound { KeepsSoundHand J.key_of J.gives self.old.state self.new.state }
     {
         let state = &mut self.state;
@@ -52,7 +54,8 @@ impl<J: Job> Hand<J> {
         requires seen { sight (hand_view self.old.state) ≡ seen }
         requires small { seen ≤ GREATEST_NUMBER }
         ensures same { SameHand self.old.state self.new.state }
-        ensures ran { (tried : ℕ) × Ran result.ran tried seen self.old.state self.new.state × StopsAt result.stop result.ran tried seen self.new.state }
+        ensures ran { (tried : ℕ) × Ran result.ran tried seen self.old.state self.new.state
+            × StopsAt result.stop result.ran tried seen self.new.state }
         ensures first { StopsInTime result.stop result.ran self.old.state.blimit }
         ensures goes_on { result.stop ≢ Again }
         ensures few { result.ran ≤ self.old.state.blimit }
@@ -104,7 +107,8 @@ impl<J: Job> Hand<J> {
         ensures few { result.ran ≤ self.old.state.blimit }
         ensures first { StopsInTime result.stop result.ran self.old.state.blimit }
         ensures again { result.stop ≡ Again → (hand_held self.old.state ≡ []) × (result.ran ≡ 0) }
-        ensures fresh { tally (hand_view self.new.state) board_word ≡ tally (hand_view self.old.state) board_word + 1 }
+        ensures fresh { tally (hand_view self.new.state) board_word
+            ≡ tally (hand_view self.old.state) board_word + 1 }
         ensures sound { KeepsSoundHand J.key_of J.gives self.old.state self.new.state }
     {
         let seen = self.look();

@@ -11,7 +11,8 @@ use rcu_jobs::Job;
 /// A turn means begins and finishes in a loop with one look: the claim by which a begin hands a job out, and its finish,
 /// are one run of a turn's list of runs, and follow what a turn ran already at the same look.
 pub fn turns_in_two_steps<J: Job>()
-    ensures one { (seen : ℕ) (p q : HandState J J.Receipt) → sight (hand_view p) ≡ seen → RunsInTwoSteps seen p q → Ran 1 1 seen p q }
-    ensures more { (ran tried seen : ℕ) (o p q : HandState J J.Receipt) → p.cpu ≡ o.cpu → Ran ran tried seen o p
-        → RunsInTwoSteps seen p q → Ran (ran + 1) (tried + 1) seen o q }
+    ensures one { (seen : ℕ) (p q : HandState J J.Receipt) → sight (hand_view p) ≡ seen
+        → RunsInTwoSteps seen p q → Ran 1 1 seen p q }
+    ensures more { (ran tried seen : ℕ) (o p q : HandState J J.Receipt) → p.cpu ≡ o.cpu
+        → Ran ran tried seen o p → RunsInTwoSteps seen p q → Ran (ran + 1) (tried + 1) seen o q }
 {}

@@ -18,8 +18,11 @@ impl<J: Job> Hand<J> {
     /// Whether the runtime was halted.
     pub fn is_halted(&mut self) -> bool
         ensures same { SameHand self.old.state self.new.state }
-        ensures lists { (hand_held self.new.state ≡ hand_held self.old.state) × (hand_drawn self.new.state ≡ hand_drawn self.old.state) × (hand_records self.new.state ≡ hand_records self.old.state) }
-        ensures view { hand_view self.new.state ≡ touched halt_word (from_bool result) (hand_view self.old.state) }
+        ensures lists { (hand_held self.new.state ≡ hand_held self.old.state)
+            × (hand_drawn self.new.state ≡ hand_drawn self.old.state)
+            × (hand_records self.new.state ≡ hand_records self.old.state) }
+        ensures view { hand_view self.new.state
+            ≡ touched halt_word (from_bool result) (hand_view self.old.state) }
         ensures sound { KeepsSoundHand J.key_of J.gives self.old.state self.new.state }
     {
         let state = &mut self.state;
@@ -44,7 +47,8 @@ impl<J: Job> Hand<J> {
         ensures same { SameHand self.state result.state }
         ensures halted { SawHalt (hand_view result.state) }
         ensures records { AddsRecords self.state result.state }
-        ensures sound { IsSoundHand J.key_of J.gives self.state → IsSoundHand J.key_of J.gives result.state }
+        ensures sound { IsSoundHand J.key_of J.gives self.state
+            → IsSoundHand J.key_of J.gives result.state }
     {
         let mut hand = self;
         let mut pauses = Pauses::new();

@@ -43,20 +43,28 @@ pub(crate) fn accept_job<J: Job>(
     requires few { length (passed_on (holding lists.old)) ≤ accepted.old }
     ensures same { SameSeat seat.old seat.new }
     ensures lane { SameRear (rear_of lists.old) (rear_of lists.new) }
-    ensures ok { IfOk result (λ t. Accepts request.moment request.kind (J.key_of request.job) request.job t
-        (pieces request.cpu request.limit accepted.old seat.old lists.old) (pieces request.cpu request.limit accepted.new seat.new lists.new)) }
-    ensures err { IfErr result (λ _. AcceptsNone
-        (pieces request.cpu request.limit accepted.old seat.old lists.old) (pieces request.cpu request.limit accepted.new seat.new lists.new)) }
-    ensures refused { IfErr result (λ r. Refuses request.job r
-        (pieces request.cpu request.limit accepted.old seat.old lists.old) (pieces request.cpu request.limit accepted.new seat.new lists.new)) }
+    ensures ok { IfOk result (λ t.
+        Accepts request.moment request.kind (J.key_of request.job) request.job t
+        (pieces request.cpu request.limit accepted.old seat.old lists.old)
+        (pieces request.cpu request.limit accepted.new seat.new lists.new)) }
+    ensures err { IfErr result (λ _.
+        AcceptsNone (pieces request.cpu request.limit accepted.old seat.old lists.old)
+        (pieces request.cpu request.limit accepted.new seat.new lists.new)) }
+    ensures refused { IfErr result (λ r.
+        Refuses request.job r (pieces request.cpu request.limit accepted.old seat.old lists.old)
+        (pieces request.cpu request.limit accepted.new seat.new lists.new)) }
     ensures closed { SawShut request.cpu (view seat.old) → IsErr result }
     ensures full { accepted.old ≡ request.limit → IsRefusedByLimit result }
     ensures small { accepted.new ≤ request.limit }
-    ensures claims { ((view seat.new).claims ≡ (view seat.old).claims) × ((view seat.new).running ≡ (view seat.old).running) }
-    ensures places { (claimed : List Numbered) → HasPlaces accepted.old (view seat.old) claimed (holding lists.old)
+    ensures claims { ((view seat.new).claims ≡ (view seat.old).claims)
+        × ((view seat.new).running ≡ (view seat.old).running) }
+    ensures places { (claimed : List Numbered)
+        → HasPlaces accepted.old (view seat.old) claimed (holding lists.old)
         → HasPlaces accepted.new (view seat.new) claimed (holding lists.new) }
-    ensures local { (offloadable : Bool) → StaysLocal offloadable (holding lists.old) → StaysLocal offloadable (holding lists.new) }
-    ensures keyed { AreKeyed J.key_of (passed_on (holding lists.old)) → AreKeyed J.key_of (passed_on (holding lists.new)) }
+    ensures local { (offloadable : Bool) → StaysLocal offloadable (holding lists.old)
+        → StaysLocal offloadable (holding lists.new) }
+    ensures keyed { AreKeyed J.key_of (passed_on (holding lists.old))
+        → AreKeyed J.key_of (passed_on (holding lists.new)) }
 {
     let Request {
         cpu,

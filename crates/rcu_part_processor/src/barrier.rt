@@ -16,7 +16,8 @@ impl<J: Job> Processor<J> {
     pub fn barrier(&mut self) -> Barrier
         ensures same { SameProcessor self.old.state self.new.state }
         ensures keeps { KeepsAll self.old.state self.new.state }
-        ensures opens { Opens (board_of self.old.state).processors result (view_of self.old.state) (view_of self.new.state) }
+        ensures opens { Opens (board_of self.old.state).processors result (view_of self.old.state)
+            (view_of self.new.state) }
         ensures own { count_at result.counts self.new.state.cpu ≡ self.new.state.accepted }
         ensures sound { KeepsSound J.key_of J.gives self.old.state self.new.state }
     {

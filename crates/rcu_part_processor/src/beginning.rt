@@ -19,12 +19,14 @@ use rcu_part_steps::{Begins, ClaimedCallback, end_claim};
 impl<J: Job> Processor<J> {
     // The first callback of done, where there is room for its record.
     fn next(&mut self, seen: u64) -> Result<ClaimedCallback, Stop>
-        requires seen { (sight (view_of self.old.state) ≡ seen) × ((lists_of self.old.state).advanced ≡ seen) }
+        requires seen { (sight (view_of self.old.state) ≡ seen)
+            × ((lists_of self.old.state).advanced ≡ seen) }
         ensures same { SameProcessor self.old.state self.new.state }
         ensures keeps { KeepsProcessor self.old.state self.new.state }
         ensures next { IfOk result (λ c. IsNext seen c self.new.state) }
         ensures small { IfOk result (λ c. c.number < MOST_CALLBACKS) }
-        ensures room { IfOk result (λ _. vec_len self.new.state.ran < vec_capacity self.new.state.ran) }
+        ensures room { IfOk result (λ _.
+            vec_len self.new.state.ran < vec_capacity self.new.state.ran) }
         ensures stops { IfErr result (λ stop. StopsTick stop 0 0 self.new.state) }
         ensures counts { IfErr result (λ stop. stop ≢ Limit) }
         ensures sound { KeepsSound J.key_of J.gives self.old.state self.new.state }
@@ -47,14 +49,19 @@ impl<J: Job> Processor<J> {
 
     // Claims the first callback of done, or says why not. The number `seen` is that of the begin's look.
     fn claim_done(self, seen: u64) -> Begins<RunningProcessor<J>, J, Processor<J>>
-        requires seen { (sight (view_of self.state) ≡ seen) × ((lists_of self.state).advanced ≡ seen) }
+        requires seen { (sight (view_of self.state) ≡ seen)
+            × ((lists_of self.state).advanced ≡ seen) }
         ensures same { IfRuns result (λ running _. SameBegun self.state running.state) }
         ensures stays { IfStops result (λ processor _. SameProcessor self.state processor.state) }
-        ensures runs { IfRuns result (λ running job. ClaimsFirst seen self.state running.state job) }
-        ensures stops { IfStops result (λ processor stop. ClaimsNone seen stop self.state processor.state) }
+        ensures runs { IfRuns result (λ running job.
+            ClaimsFirst seen self.state running.state job) }
+        ensures stops { IfStops result (λ processor stop.
+            ClaimsNone seen stop self.state processor.state) }
         ensures counts { IfStops result (λ _ stop. stop ≢ Limit) }
-        ensures count { IfStops result (λ processor _. processor.state.accepted ≡ self.state.accepted) }
-        ensures keyed { IsSound J.key_of J.gives self.state → IfRuns result (λ running job. J.key_of job ≡ running.state.claimed.key) }
+        ensures count { IfStops result (λ processor _.
+            processor.state.accepted ≡ self.state.accepted) }
+        ensures keyed { IsSound J.key_of J.gives self.state
+            → IfRuns result (λ running job. J.key_of job ≡ running.state.claimed.key) }
         ensures sound { IsSound J.key_of J.gives self.state
             → IfRuns result (λ running _. IsSoundRunning J.key_of J.gives running.state)
             × IfStops result (λ processor _. IsSound J.key_of J.gives processor.state) }
@@ -74,12 +81,15 @@ impl<J: Job> Processor<J> {
     pub fn begin(self, moment: u64) -> Begins<RunningProcessor<J>, J, Processor<J>>
         ensures same { IfRuns result (λ running _. SameBegun self.state running.state) }
         ensures stays { IfStops result (λ processor _. SameProcessor self.state processor.state) }
-        ensures runs { IfRuns result (λ running job. BeginsTick moment self.state running.state job) }
-        ensures stops { IfStops result (λ processor stop. StopsBegin moment stop self.state processor.state) }
+        ensures runs { IfRuns result (λ running job.
+            BeginsTick moment self.state running.state job) }
+        ensures stops { IfStops result (λ processor stop.
+            StopsBegin moment stop self.state processor.state) }
         ensures counts { IfStops result (λ _ stop. stop ≢ Limit) }
         ensures count { IfRuns result (λ running _. running.state.accepted ≡ self.state.accepted)
             × IfStops result (λ processor _. processor.state.accepted ≡ self.state.accepted) }
-        ensures keyed { IsSound J.key_of J.gives self.state → IfRuns result (λ running job. J.key_of job ≡ running.state.claimed.key) }
+        ensures keyed { IsSound J.key_of J.gives self.state
+            → IfRuns result (λ running job. J.key_of job ≡ running.state.claimed.key) }
         ensures sound { IsSound J.key_of J.gives self.state
             → IfRuns result (λ running _. IsSoundRunning J.key_of J.gives running.state)
             × IfStops result (λ processor _. IsSound J.key_of J.gives processor.state) }
@@ -100,8 +110,8 @@ impl<J: Job> RunningProcessor<J> {
     pub fn finish(self, receipt: J::Receipt) -> Processor<J>
         ensures same { SameFinished self.state result.state }
         ensures finishes { FinishesProcessor receipt self.state result.state }
-        ensures sound { IsSoundRunning J.key_of J.gives self.state → J.gives self.state.claimed.key receipt
-            → IsSound J.key_of J.gives result.state }
+        ensures sound { IsSoundRunning J.key_of J.gives self.state
+            → J.gives self.state.claimed.key receipt → IsSound J.key_of J.gives result.state }
     {
         let RunningProcessorState {
             board,

@@ -23,7 +23,8 @@ impl<J: Job> Processor<J> {
     /// the processor was shut.
     pub fn call_rcu(&mut self, moment: u64, job: J) -> Result<Ticket, Refused<J>>
         ensures same { SameProcessor self.old.state self.new.state }
-        ensures ok { IfOk result (λ t. IsAccepted moment Plain (J.key_of job) job t self.old.state self.new.state) }
+        ensures ok { IfOk result (λ t.
+            IsAccepted moment Plain (J.key_of job) job t self.old.state self.new.state) }
         ensures err { IfErr result (λ _. KeepsAll self.old.state self.new.state) }
         ensures refused { IfErr result (λ r. IsRefusedAs job r self.old.state self.new.state) }
         ensures closed { SawShut self.old.state.cpu (view_of self.old.state) → IsErr result }
@@ -40,7 +41,8 @@ impl<J: Job> Processor<J> {
     /// As `call_rcu`.
     pub fn call_rcu_lazy(&mut self, moment: u64, job: J) -> Result<Ticket, Refused<J>>
         ensures same { SameProcessor self.old.state self.new.state }
-        ensures ok { IfOk result (λ t. IsAccepted moment Lazy (J.key_of job) job t self.old.state self.new.state) }
+        ensures ok { IfOk result (λ t.
+            IsAccepted moment Lazy (J.key_of job) job t self.old.state self.new.state) }
         ensures err { IfErr result (λ _. KeepsAll self.old.state self.new.state) }
         ensures refused { IfErr result (λ r. IsRefusedAs job r self.old.state self.new.state) }
         ensures closed { SawShut self.old.state.cpu (view_of self.old.state) → IsErr result }
@@ -53,7 +55,8 @@ impl<J: Job> Processor<J> {
     // Accepts a job of either kind.
     fn call(&mut self, moment: u64, kind: Kind, job: J) -> Result<Ticket, Refused<J>>
         ensures same { SameProcessor self.old.state self.new.state }
-        ensures ok { IfOk result (λ t. IsAccepted moment kind (J.key_of job) job t self.old.state self.new.state) }
+        ensures ok { IfOk result (λ t.
+            IsAccepted moment kind (J.key_of job) job t self.old.state self.new.state) }
         ensures err { IfErr result (λ _. KeepsAll self.old.state self.new.state) }
         ensures refused { IfErr result (λ r. IsRefusedAs job r self.old.state self.new.state) }
         ensures closed { SawShut self.old.state.cpu (view_of self.old.state) → IsErr result }

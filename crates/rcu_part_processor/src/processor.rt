@@ -132,22 +132,28 @@ impl<J: Job> Processor<J> {
         self,
         claimed: ClaimedCallback,
     ) -> Begins<RunningProcessor<J>, J, Processor<J>>
-        requires seen { (sight (view_of self.state) ≡ claimed.ready) × ((lists_of self.state).advanced ≡ claimed.ready) }
+        requires seen { (sight (view_of self.state) ≡ claimed.ready)
+            × ((lists_of self.state).advanced ≡ claimed.ready) }
         requires next { IsNext claimed.ready claimed self.state }
         requires small { claimed.number < MOST_CALLBACKS }
         requires room { vec_len self.state.ran < vec_capacity self.state.ran }
         ensures same { IfRuns result (λ running _. SameBegun self.state running.state) }
         ensures stays { IfStops result (λ processor _. SameProcessor self.state processor.state) }
-        ensures runs { IfRuns result (λ running job. ClaimsFirst claimed.ready self.state running.state job) }
-        ensures lost { IfStops result (λ processor _. RanDone 0 1 claimed.ready self.state processor.state) }
+        ensures runs { IfRuns result (λ running job.
+            ClaimsFirst claimed.ready self.state running.state job) }
+        ensures lost { IfStops result (λ processor _.
+            RanDone 0 1 claimed.ready self.state processor.state) }
         ensures stops { IfStops result (λ processor stop. StopsTick stop 0 1 processor.state) }
         ensures counts { IfStops result (λ _ stop. stop ≢ Limit) }
-        ensures count { IfStops result (λ processor _. processor.state.accepted ≡ self.state.accepted) }
-        ensures keyed { IsSound J.key_of J.gives self.state → IfRuns result (λ running job. J.key_of job ≡ running.state.claimed.key) }
+        ensures count { IfStops result (λ processor _.
+            processor.state.accepted ≡ self.state.accepted) }
+        ensures keyed { IsSound J.key_of J.gives self.state
+            → IfRuns result (λ running job. J.key_of job ≡ running.state.claimed.key) }
         ensures sound { IsSound J.key_of J.gives self.state
             → IfRuns result (λ running _. IsSoundRunning J.key_of J.gives running.state)
             × IfStops result (λ processor _. IsSound J.key_of J.gives processor.state) }
     {
+        // (field by field: what is lent of a state has to keep the state's law when the loan ends, and that law has no claim)
         let Processor {
             state: ProcessorState {
                 board,

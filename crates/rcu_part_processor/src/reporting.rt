@@ -27,7 +27,8 @@ impl<J: Job> Processor<J> {
     pub fn quiescent(&mut self) -> Option<u64>
         ensures same { SameProcessor self.old.state self.new.state }
         ensures keeps { KeepsAll self.old.state self.new.state }
-        ensures reports { Reports self.old.state.cpu result (view_of self.old.state) (view_of self.new.state) }
+        ensures reports { Reports self.old.state.cpu result (view_of self.old.state)
+            (view_of self.new.state) }
         ensures sound { KeepsSound J.key_of J.gives self.old.state self.new.state }
     {
         let state = &mut self.state;

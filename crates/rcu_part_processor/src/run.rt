@@ -20,7 +20,8 @@ impl<J: Job> Processor<J> {
     pub fn is_halted(&mut self) -> bool
         ensures same { SameProcessor self.old.state self.new.state }
         ensures keeps { KeepsAll self.old.state self.new.state }
-        ensures view { view_of self.new.state ≡ touched halt_word (from_bool result) (view_of self.old.state) }
+        ensures view { view_of self.new.state
+            ≡ touched halt_word (from_bool result) (view_of self.old.state) }
         ensures sound { KeepsSound J.key_of J.gives self.old.state self.new.state }
     {
         let state = &mut self.state;
@@ -52,7 +53,8 @@ impl<J: Job> Processor<J> {
         ensures count { result.state.accepted ≡ self.state.accepted }
         ensures accepted { AcceptedStays self.state result.state }
         ensures records { AddsRecords self.state result.state }
-        ensures sound { IsSound J.key_of J.gives self.state → IsSound J.key_of J.gives result.state }
+        ensures sound { IsSound J.key_of J.gives self.state
+            → IsSound J.key_of J.gives result.state }
     {
         let mut processor = self;
         let mut pauses = Pauses::new();

@@ -106,7 +106,8 @@ impl<J: Job> RunningProcessor<J> {
         ensures same { SameRunning self.old.state self.new.state }
         ensures keeps { KeepsAll self.old.state self.new.state }
         ensures claimed { self.new.state.claimed ≡ self.old.state.claimed }
-        ensures reports { Reports self.old.state.cpu result (running_view self.old.state) (running_view self.new.state) }
+        ensures reports { Reports self.old.state.cpu result (running_view self.old.state)
+            (running_view self.new.state) }
         ensures sound { KeepsSoundRunning J.key_of J.gives self.old.state self.new.state }
     {
         let state = &mut self.state;
@@ -121,7 +122,8 @@ impl<J: Job> RunningProcessor<J> {
     /// the processor was shut.
     pub fn call_rcu(&mut self, moment: u64, job: J) -> Result<Ticket, Refused<J>>
         ensures same { SameRunning self.old.state self.new.state }
-        ensures ok { IfOk result (λ t. IsAccepted moment Plain (J.key_of job) job t self.old.state self.new.state) }
+        ensures ok { IfOk result (λ t.
+            IsAccepted moment Plain (J.key_of job) job t self.old.state self.new.state) }
         ensures err { IfErr result (λ _. KeepsAll self.old.state self.new.state) }
         ensures refused { IfErr result (λ r. IsRefusedAs job r self.old.state self.new.state) }
         ensures closed { SawShut self.old.state.cpu (running_view self.old.state) → IsErr result }
@@ -139,7 +141,8 @@ impl<J: Job> RunningProcessor<J> {
     /// As `call_rcu`.
     pub fn call_rcu_lazy(&mut self, moment: u64, job: J) -> Result<Ticket, Refused<J>>
         ensures same { SameRunning self.old.state self.new.state }
-        ensures ok { IfOk result (λ t. IsAccepted moment Lazy (J.key_of job) job t self.old.state self.new.state) }
+        ensures ok { IfOk result (λ t.
+            IsAccepted moment Lazy (J.key_of job) job t self.old.state self.new.state) }
         ensures err { IfErr result (λ _. KeepsAll self.old.state self.new.state) }
         ensures refused { IfErr result (λ r. IsRefusedAs job r self.old.state self.new.state) }
         ensures closed { SawShut self.old.state.cpu (running_view self.old.state) → IsErr result }
@@ -153,7 +156,8 @@ impl<J: Job> RunningProcessor<J> {
     // Accepts a job of either kind.
     fn call(&mut self, moment: u64, kind: Kind, job: J) -> Result<Ticket, Refused<J>>
         ensures same { SameRunning self.old.state self.new.state }
-        ensures ok { IfOk result (λ t. IsAccepted moment kind (J.key_of job) job t self.old.state self.new.state) }
+        ensures ok { IfOk result (λ t.
+            IsAccepted moment kind (J.key_of job) job t self.old.state self.new.state) }
         ensures err { IfErr result (λ _. KeepsAll self.old.state self.new.state) }
         ensures refused { IfErr result (λ r. IsRefusedAs job r self.old.state self.new.state) }
         ensures closed { SawShut self.old.state.cpu (running_view self.old.state) → IsErr result }

@@ -18,7 +18,8 @@ impl<J: Job> Processor<J> {
     pub(crate) fn catch_up(&mut self) -> u64
         ensures same { SameProcessor self.old.state self.new.state }
         ensures catches_up { CatchesUp result self.old.state self.new.state }
-        ensures sight { (sight (view_of self.new.state) ≡ result) × ((lists_of self.new.state).advanced ≡ result) }
+        ensures sight { (sight (view_of self.new.state) ≡ result)
+            × ((lists_of self.new.state).advanced ≡ result) }
         ensures count { self.new.state.accepted ≡ self.old.state.accepted }
         ensures sound { KeepsSound J.key_of J.gives self.old.state self.new.state }
     {
@@ -36,7 +37,8 @@ impl<J: Job> Processor<J> {
         requires offloadable { self.old.state.offloadable ≡ true }
         ensures same { SameProcessor self.old.state self.new.state }
         ensures heeds { Heeds moment self.old.state self.new.state }
-        ensures sight { (sight (view_of self.new.state) ≡ sight (view_of self.old.state)) × ((lists_of self.new.state).advanced ≡ (lists_of self.old.state).advanced) }
+        ensures sight { (sight (view_of self.new.state) ≡ sight (view_of self.old.state))
+            × ((lists_of self.new.state).advanced ≡ (lists_of self.old.state).advanced) }
         ensures count { self.new.state.accepted ≡ self.old.state.accepted }
         ensures sound { KeepsSound J.key_of J.gives self.old.state self.new.state }
     {
@@ -52,7 +54,8 @@ impl<J: Job> Processor<J> {
         requires offloadable { self.old.state.offloadable ≡ true }
         ensures same { SameProcessor self.old.state self.new.state }
         ensures settles { Settles self.old.state self.new.state }
-        ensures sight { (sight (view_of self.new.state) ≡ sight (view_of self.old.state)) × ((lists_of self.new.state).advanced ≡ (lists_of self.old.state).advanced) }
+        ensures sight { (sight (view_of self.new.state) ≡ sight (view_of self.old.state))
+            × ((lists_of self.new.state).advanced ≡ (lists_of self.old.state).advanced) }
         ensures count { self.new.state.accepted ≡ self.old.state.accepted }
         ensures sound { KeepsSound J.key_of J.gives self.old.state self.new.state }
     {
@@ -65,12 +68,16 @@ impl<J: Job> Processor<J> {
 
     // Runs the first callback of done, or says why not. The number `seen` is that of the tick's look.
     fn run_one(&mut self, seen: u64) -> Option<Stop>
-        requires seen { (sight (view_of self.old.state) ≡ seen) × ((lists_of self.old.state).advanced ≡ seen) }
+        requires seen { (sight (view_of self.old.state) ≡ seen)
+            × ((lists_of self.old.state).advanced ≡ seen) }
         ensures same { SameProcessor self.old.state self.new.state }
         ensures ran { IfNone result (RanDone 1 1 seen self.old.state self.new.state) }
         ensures counts { IfSome result (λ stop. stop ≢ Limit) }
-        ensures not { IfSome result (λ stop. (tried : ℕ) × RanDone 0 tried seen self.old.state self.new.state × ((n : ℕ) → StopsTick stop n (n + tried) self.new.state)) }
-        ensures sight { (sight (view_of self.new.state) ≡ seen) × ((lists_of self.new.state).advanced ≡ seen) }
+        ensures not { IfSome result (λ stop.
+            (tried : ℕ) × RanDone 0 tried seen self.old.state self.new.state
+            × ((n : ℕ) → StopsTick stop n (n + tried) self.new.state)) }
+        ensures sight { (sight (view_of self.new.state) ≡ seen)
+            × ((lists_of self.new.state).advanced ≡ seen) }
         ensures count { self.new.state.accepted ≡ self.old.state.accepted }
         ensures sound { KeepsSound J.key_of J.gives self.old.state self.new.state }
     {
@@ -95,9 +102,11 @@ impl<J: Job> Processor<J> {
 
     // Runs the first callbacks of done, at most `blimit`.
     fn run_done(&mut self, seen: u64) -> Ticked
-        requires seen { (sight (view_of self.old.state) ≡ seen) × ((lists_of self.old.state).advanced ≡ seen) }
+        requires seen { (sight (view_of self.old.state) ≡ seen)
+            × ((lists_of self.old.state).advanced ≡ seen) }
         ensures same { SameProcessor self.old.state self.new.state }
-        ensures ran { (tried : ℕ) × RanDone result.ran tried seen self.old.state self.new.state × StopsTick result.stop result.ran tried self.new.state }
+        ensures ran { (tried : ℕ) × RanDone result.ran tried seen self.old.state self.new.state
+            × StopsTick result.stop result.ran tried self.new.state }
         ensures few { result.ran ≤ self.old.state.blimit }
         ensures first { StopsInTime result.stop result.ran self.old.state.blimit }
         ensures count { self.new.state.accepted ≡ self.old.state.accepted }

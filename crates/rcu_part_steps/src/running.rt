@@ -1,4 +1,4 @@
-// How a claimed callback is run.
+//! How a claimed callback is run.
 
 ghost use Rattle.std.specs.Prelude.{◌≡◌, ◌<◌, [], ◌∷◌};
 ghost use Rattle.rcu_numbers.specs.declared.shape.TheConstants.{MOST_CALLBACKS};
@@ -23,11 +23,13 @@ pub fn run_claimed<J: Job>(
 ) -> Record<J::Receipt>
     requires board { AtBoard board.now seat.old }
     requires who { MayClaim seat.old.role }
-    requires runs { (view seat.old).running ≡ claim_at (cpu_of_role seat.old.role) callback.number (view seat.old) ∷ [] }
+    requires runs { (view seat.old).running
+        ≡ claim_at (cpu_of_role seat.old.role) callback.number (view seat.old) ∷ [] }
     requires small { callback.number < MOST_CALLBACKS }
     ensures same { SameSeat seat.old seat.new }
     ensures ends { Finishes (view seat.old) (view seat.new) }
-    ensures only { StepsOnly (turns_word (cpu_of_role seat.old.role)) 1 (view seat.old) (view seat.new) }
+    ensures only { StepsOnly (turns_word (cpu_of_role seat.old.role)) 1 (view seat.old)
+        (view seat.new) }
     ensures record { numbered_record result ≡ numbered_callback callback }
     ensures ready { result.ready ≡ ready }
     ensures given { J.key_of callback.job ≡ callback.key → J.gives result.key result.receipt }

@@ -1,4 +1,4 @@
-// Steps of a processor's or a hand's seat that belong together.
+//! Steps of a processor's or a hand's seat that belong together.
 
 ghost use Rattle.std.specs.Prelude.{◌≡◌, ◌≢◌, ℕ, ◌+◌, ◌*◌, ◌<◌, ◌≤◌, [], None, IfSome, IfNone, IsNone, length, true, false};
 ghost use Rattle.rcu_numbers.specs.declared.shape.TheConstants.{MOST_CALLBACKS, MOST_PROCESSORS};
@@ -30,10 +30,14 @@ pub fn accept_and_stamp(
     requires small { count < MOST_CALLBACKS }
     ensures same { SameSeat seat.old seat.new }
     ensures enters { IfSome result (λ word. Enters key word.seq (view seat.old) (view seat.new)) }
-    ensures view { IfSome result (λ word. view seat.new ≡ looked (bits_of word) (accepted (accepts_word cpu) (2 * count + 2) key (view seat.old))) }
-    ensures stamp { IfSome result (λ word. (word.seq ≡ sight (view seat.new)) × (word.seq ≤ GREATEST_NUMBER)) }
+    ensures view { IfSome result (λ word.
+        view seat.new
+        ≡ looked (bits_of word) (accepted (accepts_word cpu) (2 * count + 2) key (view seat.old))) }
+    ensures stamp { IfSome result (λ word.
+        (word.seq ≡ sight (view seat.new)) × (word.seq ≤ GREATEST_NUMBER)) }
     ensures keeps { IfNone result (Keeps (view seat.old) (view seat.new)) }
-    ensures shut { IfNone result (view seat.new ≡ touched (accepts_word cpu) (2 * count + 1) (view seat.old)) }
+    ensures shut { IfNone result
+        (view seat.new ≡ touched (accepts_word cpu) (2 * count + 1) (view seat.old)) }
     ensures closed { SawShut cpu (view seat.old) → IsNone result }
 {
     accept(board, seat, count, key)?;
@@ -57,12 +61,13 @@ pub fn report_quiescent_state(board: &Board, seat: &mut Seat, cpu: u64) -> Optio
     }
 }
 
-/// Looks at the number, by a seat that has no processor's lists.
+/// Looks at the number, by the seat of any part.
 pub fn look_at_number(board: &Board, seat: &mut Seat) -> BoardWord
     requires board { AtBoard board.now seat.old }
     ensures same { SameSeat seat.old seat.new }
     ensures view { view seat.new ≡ looked (bits_of result) (view seat.old) }
-    ensures claims { ((view seat.new).claims ≡ (view seat.old).claims) × ((view seat.new).running ≡ (view seat.old).running) }
+    ensures claims { ((view seat.new).claims ≡ (view seat.old).claims)
+        × ((view seat.new).running ≡ (view seat.old).running) }
     ensures sight { (result.seq ≡ sight (view seat.new)) × (result.seq ≤ GREATEST_NUMBER) }
 {
     look(board, seat)
@@ -77,7 +82,9 @@ pub fn take(board: &Board, seat: &mut Seat, cpu: u64, number: u64) -> bool
     requires small { number < MOST_CALLBACKS }
     ensures same { SameSeat seat.old seat.new }
     ensures won { result ≡ true → Claims cpu number (view seat.old) (view seat.new) }
-    ensures lost { result ≡ false → Keeps (view seat.old) (view seat.new) × (sight (view seat.new) ≡ sight (view seat.old)) × (seen_at (view seat.new) (turns_word cpu) ≢ 2 * number) }
+    ensures lost { result ≡ false
+        → Keeps (view seat.old) (view seat.new) × (sight (view seat.new) ≡ sight (view seat.old))
+        × (seen_at (view seat.new) (turns_word cpu) ≢ 2 * number) }
     ensures only { StepsOnly (turns_word cpu) 1 (view seat.old) (view seat.new) }
 {
     match claim(board, seat, number) {
@@ -93,7 +100,8 @@ pub fn end_claim(board: &Board, seat: &mut Seat)
     requires runs { IsRunning (cpu_of_role seat.old.role) (view seat.old) }
     ensures same { SameSeat seat.old seat.new }
     ensures ends { Finishes (view seat.old) (view seat.new) }
-    ensures only { StepsOnly (turns_word (cpu_of_role seat.old.role)) 1 (view seat.old) (view seat.new) }
+    ensures only { StepsOnly (turns_word (cpu_of_role seat.old.role)) 1 (view seat.old)
+        (view seat.new) }
 {
     finish(board, seat)
 }

@@ -32,7 +32,8 @@ pub struct AllClosing<P, G, H> {
 pub fn close<J: Job>(alloc: Global, parts: Parts<J>) -> Result<Closed<J>, Closing<J>>
     requires parts { AreOfOneOpen parts }
     ensures accounts { IfOk result (λ closed. AccountsFor parts closed) }
-    ensures closes { IfOk result (λ closed. AreSoundParts J.key_of J.gives parts → ClosesWith J.key_of J.gives parts closed) }
+    ensures closes { IfOk result (λ closed.
+        AreSoundParts J.key_of J.gives parts → ClosesWith J.key_of J.gives parts closed) }
     ensures left { IfErr result (λ closing. closing.parts ≡ parts) }
 {
     let Ok(room) = Room::find(alloc, &parts.processors, &parts.hands) else {
@@ -50,7 +51,9 @@ impl<J: Job> AllClosing<Processor<J>, Group<J>, Hand<J>> {
     pub fn again(self, alloc: Global) -> Result<Closed<J>, Closing<J>>
         requires parts { AreOfOneOpen self.parts }
         ensures accounts { IfOk result (λ closed. AccountsFor self.parts closed) }
-        ensures closes { IfOk result (λ closed. AreSoundParts J.key_of J.gives self.parts → ClosesWith J.key_of J.gives self.parts closed) }
+        ensures closes { IfOk result (λ closed.
+            AreSoundParts J.key_of J.gives self.parts
+            → ClosesWith J.key_of J.gives self.parts closed) }
         ensures left { IfErr result (λ closing. closing.parts ≡ self.parts) }
     {
         close(alloc, self.parts)

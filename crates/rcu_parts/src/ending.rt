@@ -79,11 +79,17 @@ impl<J: Job> Ending<J> {
         hands: &mut VecDeque<Hand<J>>,
         rooms: &mut VecDeque<Ended<J, J::Receipt>>,
     )
-        requires ready { (k : ℕ) × (rest : List (One J J.Receipt)) × IsReady k (processor ∷ rest) members.old.items hands.old.items rooms.old.items self.old }
-        ensures ready { (k : ℕ) (rest : List (One J J.Receipt)) → IsReady k (processor ∷ rest) members.old.items hands.old.items rooms.old.items self.old → IsReady (suc k) rest members.new.items hands.new.items rooms.new.items self.new }
+        requires ready { (k : ℕ) × (rest : List (One J J.Receipt))
+            × IsReady k (processor ∷ rest) members.old.items hands.old.items rooms.old.items
+            self.old }
+        ensures ready { (k : ℕ) (rest : List (One J J.Receipt))
+            → IsReady k (processor ∷ rest) members.old.items hands.old.items rooms.old.items
+            self.old
+            → IsReady (suc k) rest members.new.items hands.new.items rooms.new.items self.new }
         ensures board { board_at self.new ≡ board_at self.old }
         ensures hands { hands.new.items ≡ hands_after processor hands.old.items }
-        ensures ends { EndsOne J.key_of J.gives (cpu_part processor (hand_for processor hands.old.items)) self.old self.new }
+        ensures ends { EndsOne J.key_of J.gives
+            (cpu_part processor (hand_for processor hands.old.items)) self.old self.new }
     {
         let room = take_first(rooms);
         if !processor.is_offloadable() {
@@ -130,7 +136,8 @@ impl<J: Job> Ending<J> {
         requires hand { HasHand group_member hand }
         requires room { FitsCpu (cpu_part processor (Some (hand_part hand))) room }
         ensures goes_on { GoesOn self.old self.new }
-        ensures ends { EndsOne J.key_of J.gives (cpu_part processor (Some (hand_part hand))) self.old self.new }
+        ensures ends { EndsOne J.key_of J.gives (cpu_part processor (Some (hand_part hand)))
+            self.old self.new }
     {
         let ProcessorState {
             seat,
@@ -168,8 +175,10 @@ impl<J: Job> Ending<J> {
         requires back { vec_len self.old.back < vec_capacity self.old.back }
         ensures ran { self.new.ran.items ≡ self.old.ran.items ++ ended.ran ∷ [] }
         ensures back { self.new.back.items ≡ self.old.back.items ++ ended.back ∷ [] }
-        ensures for_ran { (vec_len self.new.ran ≡ vec_len self.old.ran + 1) × (vec_capacity self.new.ran ≡ vec_capacity self.old.ran) }
-        ensures for_back { (vec_len self.new.back ≡ vec_len self.old.back + 1) × (vec_capacity self.new.back ≡ vec_capacity self.old.back) }
+        ensures for_ran { (vec_len self.new.ran ≡ vec_len self.old.ran + 1)
+            × (vec_capacity self.new.ran ≡ vec_capacity self.old.ran) }
+        ensures for_back { (vec_len self.new.back ≡ vec_len self.old.back + 1)
+            × (vec_capacity self.new.back ≡ vec_capacity self.old.back) }
         ensures others { self.new ≡ record self.old { ran = self.new.ran; back = self.new.back } }
     {
         self.ran.push_reserved(ended.ran);
@@ -182,7 +191,8 @@ pub(crate) fn close_in<J: Job>(parts: Parts<J>, room: Room<J>) -> Closed<J>
     requires parts { AreOfOneOpen parts }
     requires room { FitsAll parts.processors.items parts.hands.items room }
     ensures accounts { AccountsFor parts result }
-    ensures closes { AreSoundParts J.key_of J.gives parts → ClosesWith J.key_of J.gives parts result }
+    ensures closes { AreSoundParts J.key_of J.gives parts
+        → ClosesWith J.key_of J.gives parts result }
 {
     let AllParts {
         processors,

@@ -27,9 +27,11 @@ fn gather_group<J: Job>(
     requires all { GatheredAt board.now all.old }
     requires rests { (gathered_view all.old).running ≡ [] }
     requires board { group_board group.state ≡ board.now }
-    requires room { vec_len members.old + length (members_of group.state) ≤ vec_capacity members.old }
+    requires room { vec_len members.old + length (members_of group.state)
+        ≤ vec_capacity members.old }
     ensures same { SameGathered all.old all.new }
-    ensures view { gathered_view all.new ≡ gather (gathered_view all.old) (group_view group.state ∷ []) }
+    ensures view { gathered_view all.new
+        ≡ gather (gathered_view all.old) (group_view group.state ∷ []) }
     ensures rests { (gathered_view all.new).running ≡ [] }
     ensures members { members.new.items ≡ members.old.items ++ members_of group.state }
     ensures len { vec_len members.new ≡ vec_len members.old + length (members_of group.state) }
@@ -57,7 +59,8 @@ pub(crate) fn gather_groups<J: Job>(
     requires none { members.items ≡ [] }
     requires room { length (members_in groups.items) ≤ vec_capacity members }
     ensures same { SameGathered all.old all.new }
-    ensures view { gathered_view all.new ≡ gather (gathered_view all.old) (map (λ g. group_view g.state) groups.items) }
+    ensures view { gathered_view all.new
+        ≡ gather (gathered_view all.old) (map (λ g. group_view g.state) groups.items) }
     ensures rests { (gathered_view all.new).running ≡ [] }
     ensures members { result.items ≡ members_in groups.items }
 {
@@ -73,7 +76,8 @@ fn count_reports(word: BoardWord, n: u64, mut reports: Vec<u64>) -> Vec<u64>
     requires few { n ≤ MOST_PROCESSORS }
     requires none { reports.items ≡ [] }
     requires room { n ≤ vec_capacity reports }
-    ensures { (counts : List ℕ) → length counts ≡ n → AreReportedFrom (bits_of word) 0 counts → result.items ≡ counts }
+    ensures { (counts : List ℕ) → length counts ≡ n → AreReportedFrom (bits_of word) 0 counts
+        → result.items ≡ counts }
 {
     for p in 0..n {
         reports.push_reserved(reports_by(word, p));

@@ -38,7 +38,8 @@ fn open_processor<J: Job>(
 ) -> Result<(Processor<J>, Front<Parcel<J>, LaneLimits>), AllocError>
     requires seat { IsNewProcessor (arc_value board.now) cpu seat }
     requires there { cpu < (arc_value board.now).processors }
-    ensures processor { IfOk result (λ t. IsFirstProcessor shape.now (arc_value board.now) cpu t.0) }
+    ensures processor { IfOk result (λ t.
+        IsFirstProcessor shape.now (arc_value board.now) cpu t.0) }
     ensures lane { IfOk result (λ t. IsNewLane t.1 (rear_of t.0.state.lists)) }
 {
     let (front, rear) = ruled_lane::<Parcel<J>, LaneLimits>(alloc)?;
@@ -58,7 +59,8 @@ fn open_processors<J: Job>(
 ) -> Result<(Vec<Processor<J>>, VecDeque<Front<Parcel<J>, LaneLimits>>), AllocError>
     requires seats { InOrder (IsNewProcessor (arc_value board.now)) 0 seats.items }
     requires many { length seats.items ≡ (arc_value board.now).processors }
-    ensures processors { IfOk result (λ t. AreFirstProcessors shape.now (arc_value board.now) t.0.items) }
+    ensures processors { IfOk result (λ t.
+        AreFirstProcessors shape.now (arc_value board.now) t.0.items) }
     ensures fronts { IfOk result (λ t. AreFronts t.0.items t.1.items) }
 {
     let mut processors = Vec::new(alloc);
@@ -86,7 +88,8 @@ fn open_hand<J: Job>(
 ) -> Result<(GroupMember<J>, Hand<J>), AllocError>
     requires seat { IsNewHand (arc_value board.now) cpu seat }
     requires front { items_drawn front ≡ [] }
-    ensures group_member { IfOk result (λ t. (t.0.cpu ≡ cpu) × (front_of t.0.member ≡ front) × IsEmptyGroupMember t.0) }
+    ensures group_member { IfOk result (λ t.
+        (t.0.cpu ≡ cpu) × (front_of t.0.member ≡ front) × IsEmptyGroupMember t.0) }
     ensures hand { IfOk result (λ t. IsFirstHand shape.now (arc_value board.now) cpu t.1) }
     ensures lane { IfOk result (λ t. HasHand t.0 t.1) }
 {
@@ -106,10 +109,15 @@ fn open_hands<J: Job>(
     seats: Vec<Seat>,
     mut fronts: VecDeque<Front<Parcel<J>, LaneLimits>>,
 ) -> Result<(VecDeque<GroupMember<J>>, Vec<Hand<J>>), AllocError>
-    requires seats { SeatForEach (IsNewHand (arc_value board.now)) (numbers_where (is_offloadable (arc_value board.now).offloadable) 0 (arc_value board.now).processors) seats.items }
+    requires seats { SeatForEach (IsNewHand (arc_value board.now))
+        (numbers_where (is_offloadable (arc_value board.now).offloadable) 0
+        (arc_value board.now).processors) seats.items }
     requires many { length fronts.items ≡ length seats.items }
     requires fronts { All (λ front. items_drawn front ≡ []) fronts.items }
-    ensures cpus { IfOk result (λ t. cpus_of t.0.items ≡ numbers_where (is_offloadable (arc_value board.now).offloadable) 0 (arc_value board.now).processors) }
+    ensures cpus { IfOk result (λ t.
+        cpus_of t.0.items
+        ≡ numbers_where (is_offloadable (arc_value board.now).offloadable) 0
+        (arc_value board.now).processors) }
     ensures fronts { IfOk result (λ t. fronts_of t.0.items ≡ fronts.items) }
     ensures empty { IfOk result (λ t. All IsEmptyGroupMember t.0.items) }
     ensures hands { IfOk result (λ t. AreFirstHands shape.now (arc_value board.now) t.1.items) }
@@ -154,8 +162,11 @@ fn take_members<J: Drop>(
     group: u64,
 ) -> Result<GroupMembers<J>, AllocError>
     requires stride { 0 < stride }
-    requires first { (m : GroupMember J) × (ms : List (GroupMember J)) × (group_members.old.items ≡ m ∷ ms) × (m.cpu / stride ≡ group) }
-    ensures { IfOk result (λ members. TakesMembers stride group (group_members_in members) group_members.old.items group_members.new.items) }
+    requires first { (m : GroupMember J) × (ms : List (GroupMember J))
+        × (group_members.old.items ≡ m ∷ ms) × (m.cpu / stride ≡ group) }
+    ensures { IfOk result (λ members.
+        TakesMembers stride group (group_members_in members) group_members.old.items
+        group_members.new.items) }
 {
     let Some(first) = group_members.pop_front() else {
         unreachable!()
@@ -175,10 +186,16 @@ fn open_groups<J: Job>(
     seats: Vec<Seat>,
     mut group_members: VecDeque<GroupMember<J>>,
 ) -> Result<Vec<Group<J>>, AllocError>
-    requires seats { SeatForEach (IsNewGroup (arc_value board.now)) (numbers_where (has_offloadable (arc_value board.now).offloadable shape.now.stride (arc_value board.now).processors) 0 (arc_value board.now).processors) seats.items }
-    requires cpus { cpus_of group_members.items ≡ numbers_where (is_offloadable (arc_value board.now).offloadable) 0 (arc_value board.now).processors }
+    requires seats { SeatForEach (IsNewGroup (arc_value board.now))
+        (numbers_where
+        (has_offloadable (arc_value board.now).offloadable shape.now.stride
+        (arc_value board.now).processors) 0 (arc_value board.now).processors) seats.items }
+    requires cpus { cpus_of group_members.items
+        ≡ numbers_where (is_offloadable (arc_value board.now).offloadable) 0
+        (arc_value board.now).processors }
     requires empty { All IsEmptyGroupMember group_members.items }
-    ensures groups { IfOk result (λ groups. AreFirstGroups shape.now (arc_value board.now) groups.items) }
+    ensures groups { IfOk result (λ groups.
+        AreFirstGroups shape.now (arc_value board.now) groups.items) }
     ensures members { IfOk result (λ groups. members_in groups.items ≡ group_members.items) }
 {
     let mut groups = Vec::new(alloc);

@@ -50,7 +50,8 @@ fn find_ends<J: Job>(
     processors: &Vec<Processor<J>>,
     hands: &Vec<Hand<J>>,
 ) -> Result<Vec<Ended<J, J::Receipt>>, AllocError>
-    ensures { IfOk result (λ ends. AllZip FitsCpu (cpu_parts processors.now.items hands.now.items) ends.items) }
+    ensures { IfOk result (λ ends.
+        AllZip FitsCpu (cpu_parts processors.now.items hands.now.items) ends.items) }
 {
     let mut ends = Vec::new(alloc);
     let mut next = 0;
@@ -69,8 +70,10 @@ fn ran_by_hand<J: Job>(
     hands: &Vec<Hand<J>>,
     before: usize,
 ) -> (usize, usize)
-    ensures ran { result.0 ≡ length (hand_ran (hand_for processor.now (drop before hands.now.items))) }
-    ensures left { drop result.1 hands.now.items ≡ hands_after processor.now (drop before hands.now.items) }
+    ensures ran { result.0
+        ≡ length (hand_ran (hand_for processor.now (drop before hands.now.items))) }
+    ensures left { drop result.1 hands.now.items
+        ≡ hands_after processor.now (drop before hands.now.items) }
 {
     if !processor.is_offloadable() {
         return (0, before);
@@ -87,7 +90,9 @@ fn find_end<J: Job>(
     processor: &Processor<J>,
     hands: usize,
 ) -> Result<Ended<J, J::Receipt>, AllocError>
-    ensures { IfOk result (λ room. (hand : Option (HandPart J J.Receipt)) → length (hand_ran hand) ≡ hands → length (hand_taken hand) ≡ hands → FitsCpu (cpu_part processor.now hand) room) }
+    ensures { IfOk result (λ room.
+        (hand : Option (HandPart J J.Receipt)) → length (hand_ran hand) ≡ hands
+        → length (hand_taken hand) ≡ hands → FitsCpu (cpu_part processor.now hand) room) }
 {
     let Some(records) = processor.ran().checked_add(hands) else {
         return Err(AllocError);

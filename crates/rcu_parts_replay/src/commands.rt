@@ -40,7 +40,8 @@ pub fn call<J: Job>(
     moment: u64,
     job: J,
 ) -> Line
-    ensures line { IsCall J.key_of verb cpu moment job result processors.old.items processors.new.items }
+    ensures line { IsCall J.key_of verb cpu moment job result processors.old.items
+        processors.new.items }
     ensures same { SameProcessors processors.old.items processors.new.items }
     ensures sound { KeepSound J.key_of J.gives processors.old.items processors.new.items }
 {

@@ -58,7 +58,8 @@ fn perform_all<J: Job<Receipt = u64>, W: Write>(
         (PrintsScript (Prints J.key_of) parts.old parts.new setup.now.script.items jobs.items)) }
     ensures why { IfErr result IsFaultOfOutput }
     ensures one { AreOfOneOpen parts.old → AreOfOneOpen parts.new }
-    ensures sound { AreSoundParts J.key_of J.gives parts.old → AreSoundParts J.key_of J.gives parts.new }
+    ensures sound { AreSoundParts J.key_of J.gives parts.old
+        → AreSoundParts J.key_of J.gives parts.new }
 {
     let mut opened = None;
     let mut left = VecDeque::from_vec(jobs);

@@ -1,3 +1,5 @@
+//! A writer that fails, at each of its calls.
+
 use rcu_jobs::BoxedJob;
 use rcu_numbers::Shape;
 use rcu_parts_replay::replay;

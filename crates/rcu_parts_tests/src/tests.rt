@@ -1,3 +1,5 @@
+//! The parts of a runtime, turn by turn.
+
 ghost use Rattle.std.specs.Prelude.{◌≡◌, [], ◌∷◌, IfOk, IfSome};
 ghost use Rattle.rcu_board.specs.Opened.{AreNew, IsNewHand, IsNewProcessor, is_offloadable};
 ghost use Rattle.rcu_board.specs.Roles.{MayNeed, cpu_of_role};
@@ -42,9 +44,13 @@ struct OneOfEach {
 fn take_apart(shape: Shape, board: &Board, seats: Seats) -> Option<OneOfEach>
     requires { AreNew shape board.now seats }
     ensures processor { IfSome result (λ parts. IsNewProcessor board.now 0 parts.processor) }
-    ensures hand { IfSome result (λ parts. IsNewHand board.now (cpu_of_role parts.hand.role) parts.hand) }
-    ensures group { IfSome result (λ parts. AtBoard board.now parts.group × MayNeed parts.group.role) }
-    ensures driver { IfSome result (λ parts. AtBoard board.now parts.driver × (parts.driver.role ≡ Role.Driver) × IsBare (view parts.driver)) }
+    ensures hand { IfSome result (λ parts.
+        IsNewHand board.now (cpu_of_role parts.hand.role) parts.hand) }
+    ensures group { IfSome result (λ parts.
+        AtBoard board.now parts.group × MayNeed parts.group.role) }
+    ensures driver { IfSome result (λ parts.
+        AtBoard board.now parts.driver × (parts.driver.role ≡ Role.Driver)
+        × IsBare (view parts.driver)) }
 {
     let Seats {
         processors,

@@ -1,3 +1,5 @@
+//! What `close` and `again` answer.
+
 use rcu_jobs::BoxedJob;
 use rcu_numbers::Shape;
 use rcu_parts::{close, open};

@@ -1,3 +1,5 @@
+//! A group's turn, member by member.
+
 use crate::opening::{AllOfOne, open_one};
 use crate::tests::job;
 use rcu_control::Driver;

@@ -1,3 +1,5 @@
+//! Which parts `open` makes.
+
 use rcu_jobs::{BoxedJob, Lists, Mode};
 use rcu_numbers::Shape;
 use rcu_parts::{Parts, open};

@@ -33,7 +33,8 @@ fn accepted<J: Drop>(called: Result<Ticket, Refused<J>>) -> Answer
 /// One call of a processor.
 fn act_one<J: Job<Receipt = u64>>(processor: &mut Processor<J>, act: Act<J>) -> Answer
     ensures same { SameProcessor processor.old.state processor.new.state }
-    ensures sound { IsSound J.key_of J.gives processor.old.state → IsSound J.key_of J.gives processor.new.state }
+    ensures sound { IsSound J.key_of J.gives processor.old.state
+        → IsSound J.key_of J.gives processor.new.state }
 {
     match act {
         Act::Call { moment, job } => accepted(processor.call_rcu(moment, job)),
@@ -49,8 +50,10 @@ fn act_at<J: Job<Receipt = u64>>(
     cpu: usize,
     act: Act<J>,
 ) -> Answer
-    ensures same { AllZip (λ p q. SameProcessor p.state q.state) processors.old.items processors.new.items }
-    ensures sound { All (λ p. IsSound J.key_of J.gives p.state) processors.old.items → All (λ p. IsSound J.key_of J.gives p.state) processors.new.items }
+    ensures same { AllZip (λ p q. SameProcessor p.state q.state) processors.old.items
+        processors.new.items }
+    ensures sound { All (λ p. IsSound J.key_of J.gives p.state) processors.old.items
+        → All (λ p. IsSound J.key_of J.gives p.state) processors.new.items }
     ensures none { length processors.old.items ≤ cpu → result ≡ NoProcessor }
 {
     if cpu >= processors.len() {
@@ -68,7 +71,8 @@ pub(crate) fn act_all<J: Job<Receipt = u64>>(
     callers: Callers<Processor<J>>,
     steps: Vec<Step<J>>,
 ) -> Result<Callers<Processor<J>>, AllocError>
-    ensures { IfOk result (λ new. ProcessorsKeep J.key_of J.gives callers.processors.items new.processors.items) }
+    ensures { IfOk result (λ new.
+        ProcessorsKeep J.key_of J.gives callers.processors.items new.processors.items) }
 {
     let Callers {
         mut processors,

@@ -35,7 +35,8 @@ fn run_callers<J: Job<Receipt = u64>, R: Threads + Sync>(
     center: Center,
     moves: Vec<Move>,
 ) -> Result<(Callers<Processor<J>>, Center), AllocError>
-    ensures processors { IfOk result (λ t. ProcessorsKeep J.key_of J.gives callers.processors.items t.0.processors.items) }
+    ensures processors { IfOk result (λ t.
+        ProcessorsKeep J.key_of J.gives callers.processors.items t.0.processors.items) }
     ensures driver { IfOk result (λ t. SameDriver center.driver t.1.driver) }
     ensures control { IfOk result (λ t. SameControl center.control t.1.control) }
 {
@@ -43,10 +44,12 @@ fn run_callers<J: Job<Receipt = u64>, R: Threads + Sync>(
         rt,
         move || -> Result<Callers<Processor<J>>, AllocError>
             requires { IsSend J.row }
-            ensures { IfOk result (λ new. ProcessorsKeep J.key_of J.gives callers.processors.items new.processors.items) }
+            ensures { IfOk result (λ new.
+                ProcessorsKeep J.key_of J.gives callers.processors.items new.processors.items) }
         { act_all(callers, steps) },
         move || -> Result<Center, AllocError>
-            ensures { IfOk result (λ new. SameDriver center.driver new.driver × SameControl center.control new.control) }
+            ensures { IfOk result (λ new.
+                SameDriver center.driver new.driver × SameControl center.control new.control) }
         { move_all(center, moves) },
     );
     Ok((callers?, center?))
@@ -99,11 +102,14 @@ fn run_phase<J: Job<Receipt = u64>, R: Threads + Sync>(
         rt,
         move || -> Result<(Callers<Processor<J>>, Center), AllocError>
             requires { IsSend J.row × IsSync R.row }
-            ensures { IfOk result (λ t. ProcessorsKeep J.key_of J.gives callers.processors.items t.0.processors.items × SameDriver center.driver t.1.driver × SameControl center.control t.1.control) }
+            ensures { IfOk result (λ t.
+                ProcessorsKeep J.key_of J.gives callers.processors.items t.0.processors.items
+                × SameDriver center.driver t.1.driver × SameControl center.control t.1.control) }
         { run_callers(rt, callers, steps, center, moves) },
         move || -> (Vec<Group<J>>, Vec<Hand<J>>)
             requires { IsSend J.row × IsSync R.row }
-            ensures { GroupsKeep groups.items result.0.items × HandsKeep J.key_of J.gives hands.items result.1.items }
+            ensures { GroupsKeep groups.items result.0.items
+                × HandsKeep J.key_of J.gives hands.items result.1.items }
         { run_takers(rt, groups, group_turns, hands, hand_turns) },
     );
     let (callers, center) = near?;

@@ -39,8 +39,10 @@ pub fn place_of(number: u64, shown: &Shown) -> Option<Place>
     ensures own { shown.now.ran ≤ number → number < shown.now.accepted
         → shown.now.accepted ≤ number + shown.now.own → result ≡ Some places.Own }
     ensures bypass { shown.now.ran ≤ number → number + shown.now.own < shown.now.accepted
-        → shown.now.accepted ≤ number + shown.now.own + shown.now.bypass → result ≡ Some places.Bypass }
-    ensures group { shown.now.ran ≤ number → number + shown.now.own + shown.now.bypass < shown.now.accepted
+        → shown.now.accepted ≤ number + shown.now.own + shown.now.bypass
+        → result ≡ Some places.Bypass }
+    ensures group { shown.now.ran ≤ number
+        → number + shown.now.own + shown.now.bypass < shown.now.accepted
         → result ≡ Some places.Group }
 {
     if number < shown.ran || shown.accepted <= number {

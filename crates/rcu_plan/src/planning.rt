@@ -144,8 +144,10 @@ fn command<'a>(alloc: Global) -> Result<clap::Command<'a>, AllocError>
 
 fn subcommand_of(alloc: Global, words: &[String]) -> Result<Subcommand, clap::Error>
     // One word that names a subcommand is not refused but for want of memory.
-    ensures err { (s : Subcommand) → Names (map string_bytes words.now) s → IfErr result (λ e. kind_of e ≡ ErrorKind.OutOfMemory) }
-    ensures ok { (s : Subcommand) → Names (map string_bytes words.now) s → IfOk result (λ found. found ≡ s) }
+    ensures err { (s : Subcommand) → Names (map string_bytes words.now) s
+        → IfErr result (λ e. kind_of e ≡ ErrorKind.OutOfMemory) }
+    ensures ok { (s : Subcommand) → Names (map string_bytes words.now) s
+        → IfOk result (λ found. found ≡ s) }
 {
     let matches = command(alloc)?.try_get_matches_from(words)?;
     match matches.subcommand_matches("threads") {
@@ -162,13 +164,18 @@ fn subcommand_of(alloc: Global, words: &[String]) -> Result<Subcommand, clap::Er
 /// `Words` where clap refuses the words, help included; else the setup's fault, the fault of a failed read, or want of
 /// memory.
 pub fn read_plan<R: Read>(alloc: Global, words: &[String], reader: &mut R) -> Result<Plan, Refusal>
-    ensures taken { (s : Subcommand) → Names (map string_bytes words.now) s → IfErr result (λ e. ¬ RefusesWords e) }
-    ensures named { (s : Subcommand) → Names (map string_bytes words.now) s → IfOk result (λ plan. plan.subcommand ≡ s) }
+    ensures taken { (s : Subcommand) → Names (map string_bytes words.now) s
+        → IfErr result (λ e. ¬ RefusesWords e) }
+    ensures named { (s : Subcommand) → Names (map string_bytes words.now) s
+        → IfOk result (λ plan. plan.subcommand ≡ s) }
     ensures most { TakesAtMost MOST_READ (R.remaining reader.old) (R.remaining reader.new) }
-    ensures untouched { IfErr result (λ e. RefusesWords e → R.remaining reader.new ≡ R.remaining reader.old) }
+    ensures untouched { IfErr result (λ e.
+        RefusesWords e → R.remaining reader.new ≡ R.remaining reader.old) }
     // The setup is the one of the bytes read, and so is a fault that is named.
-    ensures exact { IfSome (R.remaining reader.old) (λ bytes. IfOk result (λ plan. setup_of bytes ≡ Ok (setup_view plan.setup))) }
-    ensures fault { IfSome (R.remaining reader.old) (λ bytes. IfErr result (λ e. NamesFaultOf bytes e)) }
+    ensures exact { IfSome (R.remaining reader.old) (λ bytes.
+        IfOk result (λ plan. setup_of bytes ≡ Ok (setup_view plan.setup))) }
+    ensures fault { IfSome (R.remaining reader.old) (λ bytes.
+        IfErr result (λ e. NamesFaultOf bytes e)) }
 {
     let subcommand = match subcommand_of(alloc, words) {
         Ok(subcommand) => subcommand,

@@ -18,8 +18,11 @@ use std::alloc::Global;
 ///
 /// Want of memory, also where all versions would take more than a budget of 1 GiB.
 pub fn versions(alloc: Global, plan: &Plan) -> Result<Vec<Retired>, Fault>
-    ensures many { IfOk result (λ retired. vec_len retired ≡ jobs_for plan.now.subcommand plan.now.setup) }
-    ensures versions { IfOk result (AreVersions (routes_view plan.now.setup.routes) (calls_for plan.now.subcommand plan.now.setup)) }
+    ensures many { IfOk result (λ retired.
+        vec_len retired ≡ jobs_for plan.now.subcommand plan.now.setup) }
+    ensures versions { IfOk result
+        (AreVersions (routes_view plan.now.setup.routes)
+        (calls_for plan.now.subcommand plan.now.setup)) }
     ensures memory { IfErr result IsWantOfMemory }
 {
     match plan.subcommand {

@@ -61,7 +61,8 @@ pub(crate) fn take_batch<J: Job>(lane: &mut VecDeque<Batch<J>>) -> Batch<J>
 /// Adds a batch at the end of a lane, in the room that there is.
 pub(crate) fn put_batch<J: Job>(lane: &mut VecDeque<Batch<J>>, last: Batch<J>)
     requires { deque_len lane.old < deque_capacity lane.old }
-    ensures { batches J.key_of lane.new.items ≡ batches J.key_of lane.old.items ++ batch J.key_of last ∷ [] }
+    ensures { batches J.key_of lane.new.items
+        ≡ batches J.key_of lane.old.items ++ batch J.key_of last ∷ [] }
 {
     lane.push_back_reserved(last);
 }

@@ -31,9 +31,14 @@ pub(crate) fn hold<J: Job>(
     callback: Callback<J>,
 ) -> bool
     requires { BypassRoom bypass.old 1 }
-    ensures items { bypassed J.key_of bypass.new ≡ bypassed J.key_of bypass.old ++ call J.key_of callback ∷ [] }
-    ensures pace { (c : Cpu) → pace bypass.new ≡ pace_after_stamp lazy moment (with_bypass J.key_of bypass.old c) }
-    ensures due { result ≡ call_releases lazy moment (pace bypass.old).moment (pace bypass.old).direct (length (bypassed J.key_of bypass.old) + 1) (not (is_none (pace bypass.old).kept_moment)) (bypass_qhimark bypass.old) }
+    ensures items { bypassed J.key_of bypass.new
+        ≡ bypassed J.key_of bypass.old ++ call J.key_of callback ∷ [] }
+    ensures pace { (c : Cpu)
+        → pace bypass.new ≡ pace_after_stamp lazy moment (with_bypass J.key_of bypass.old c) }
+    ensures due { result
+        ≡ call_releases lazy moment (pace bypass.old).moment (pace bypass.old).direct
+        (length (bypassed J.key_of bypass.old) + 1) (not (is_none (pace bypass.old).kept_moment))
+        (bypass_qhimark bypass.old) }
     ensures qhimark { bypass_qhimark bypass.new ≡ bypass_qhimark bypass.old }
 {
     if lazy {
@@ -46,7 +51,8 @@ pub(crate) fn hold<J: Job>(
 pub(crate) fn flush<J: Job>(bypass: &mut Bypass<J>) -> Batch<J>
     ensures all { batch J.key_of result ≡ bypassed J.key_of bypass.old }
     ensures none { bypassed J.key_of bypass.new ≡ [] }
-    ensures pace { (c : Cpu) → pace bypass.new ≡ pace_after_put None (with_bypass J.key_of bypass.old c) }
+    ensures pace { (c : Cpu)
+        → pace bypass.new ≡ pace_after_put None (with_bypass J.key_of bypass.old c) }
     ensures qhimark { bypass_qhimark bypass.new ≡ bypass_qhimark bypass.old }
 {
     bypass.flush()
@@ -59,9 +65,11 @@ pub(crate) fn release<J: Job>(
     moment: Option<u64>,
 )
     requires { deque_len lane.old + 1 ≤ deque_capacity lane.old }
-    ensures lane { batches J.key_of lane.new.items ≡ batches J.key_of lane.old.items ++ bypassed J.key_of bypass.old ∷ [] }
+    ensures lane { batches J.key_of lane.new.items
+        ≡ batches J.key_of lane.old.items ++ bypassed J.key_of bypass.old ∷ [] }
     ensures none { bypassed J.key_of bypass.new ≡ [] }
-    ensures pace { (c : Cpu) → pace bypass.new ≡ pace_after_put moment (with_bypass J.key_of bypass.old c) }
+    ensures pace { (c : Cpu)
+        → pace bypass.new ≡ pace_after_put moment (with_bypass J.key_of bypass.old c) }
     ensures qhimark { bypass_qhimark bypass.new ≡ bypass_qhimark bypass.old }
 {
     put_batch(lane, flush(bypass));
@@ -77,11 +85,19 @@ pub(crate) fn pour_all<J: Job>(
     bypass: &mut Bypass<J>,
 ) -> Result<(), AllocError>
     ensures left { OnOk result (waiting J.key_of list.new ≡ []) }
-    ensures moved { OnOk result (bypassed J.key_of bypass.new ≡ bypassed J.key_of bypass.old ++ map call_of (waiting J.key_of list.old)) }
-    ensures pace { OnOk result (pace bypass.new ≡ record (pace bypass.old) { plain = not (is_nil (waiting J.key_of list.old)) || (pace bypass.old).plain }) }
+    ensures moved { OnOk result
+        (bypassed J.key_of bypass.new
+        ≡ bypassed J.key_of bypass.old ++ map call_of (waiting J.key_of list.old)) }
+    ensures pace { OnOk result
+        (pace bypass.new
+        ≡ record (pace bypass.old)
+        { plain = not (is_nil (waiting J.key_of list.old)) || (pace bypass.old).plain }) }
     ensures qhimark { bypass_qhimark bypass.new ≡ bypass_qhimark bypass.old }
     ensures none { waiting J.key_of list.old ≡ [] → IsOk result }
-    ensures err { OnErr result ((waiting J.key_of list.new ≡ waiting J.key_of list.old) × (bypassed J.key_of bypass.new ≡ bypassed J.key_of bypass.old) × (pace bypass.new ≡ pace bypass.old)) }
+    ensures err { OnErr result
+        ((waiting J.key_of list.new ≡ waiting J.key_of list.old)
+        × (bypassed J.key_of bypass.new ≡ bypassed J.key_of bypass.old)
+        × (pace bypass.new ≡ pace bypass.old)) }
 {
     list.pour(bypass)?;
     Ok(())
@@ -89,7 +105,9 @@ pub(crate) fn pour_all<J: Job>(
 
 /// Whether a tick releases the list because of its moment.
 pub(crate) fn is_late<J: Job>(bypass: &Bypass<J>, moment: u64) -> bool
-    ensures { result ≡ is_late moment (pace bypass.now).moment (is_nil (bypassed J.key_of bypass.now)) (pace bypass.now).plain (pace bypass.now).kept_moment }
+    ensures { result
+        ≡ is_late moment (pace bypass.now).moment (is_nil (bypassed J.key_of bypass.now))
+        (pace bypass.now).plain (pace bypass.now).kept_moment }
 {
     bypass.is_late(moment)
 }

@@ -96,7 +96,8 @@ impl<J: Job> Processor<J, J::Receipt> {
     fn take_fresh(&mut self, number: u64) -> Callback<J>
         requires { not (is_none (seen J.key_of self.old).fresh) ≡ true }
         ensures taken { seen J.key_of self.new ≡ record (seen J.key_of self.old) { fresh = None } }
-        ensures callback { fresh_calls number (seen J.key_of self.old).fresh ≡ call J.key_of result ∷ [] }
+        ensures callback { fresh_calls number (seen J.key_of self.old).fresh
+            ≡ call J.key_of result ∷ [] }
         ensures own { self.new.own ≡ self.old.own }
         ensures bypass { self.new.bypass ≡ self.old.bypass }
         ensures given { KeepsGiven J.gives self.old self.new }
@@ -111,7 +112,8 @@ impl<J: Job> Processor<J, J::Receipt> {
     /// The fresh callback goes to the own list.
     fn stamp_own(&mut self, number: u64) -> Result<bool, AllocError>
         requires { not (is_none (seen J.key_of self.old).fresh) ≡ true }
-        ensures ok { OnOk result (seen J.key_of self.new ≡ stamps_into false number (seen J.key_of self.old)) }
+        ensures ok { OnOk result
+            (seen J.key_of self.new ≡ stamps_into false number (seen J.key_of self.old)) }
         ensures due { IfOk result (λ due. due ≡ false) }
         ensures succeeds { SegmentsRoom self.old.own 1 → IsOk result }
         ensures err { OnErr result (seen J.key_of self.new ≡ seen J.key_of self.old) }
@@ -126,8 +128,12 @@ impl<J: Job> Processor<J, J::Receipt> {
     /// The fresh callback goes to the bypass list. Answers whether that is due to be released.
     fn stamp_offloaded(&mut self, number: u64, moment: u64, lazy: bool) -> Result<bool, AllocError>
         requires { not (is_none (seen J.key_of self.old).fresh) ≡ true }
-        ensures ok { OnOk result (seen J.key_of self.new ≡ with_pace (pace_after_stamp lazy moment (seen J.key_of self.old)) (stamps_into true number (seen J.key_of self.old))) }
-        ensures due { IfOk result (λ due. due ≡ releases (mark_of self.old) lazy moment (seen J.key_of self.old)) }
+        ensures ok { OnOk result
+            (seen J.key_of self.new
+            ≡ with_pace (pace_after_stamp lazy moment (seen J.key_of self.old))
+            (stamps_into true number (seen J.key_of self.old))) }
+        ensures due { IfOk result (λ due.
+            due ≡ releases (mark_of self.old) lazy moment (seen J.key_of self.old)) }
         ensures succeeds { BypassRoom self.old.bypass 1 → IsOk result }
         ensures err { OnErr result (seen J.key_of self.new ≡ seen J.key_of self.old) }
         ensures given { KeepsGiven J.gives self.old self.new }
@@ -146,8 +152,12 @@ impl<J: Job> Processor<J, J::Receipt> {
     /// Refusal 2, want of memory: nothing changed.
     pub fn stamp(&mut self, number: u64, moment: u64, lazy: bool) -> Result<bool, AllocError>
         requires { not (is_none (seen J.key_of self.old).fresh) ≡ true }
-        ensures ok { OnOk result (seen J.key_of self.new ≡ stamps number moment lazy (seen J.key_of self.old)) }
-        ensures due { IfOk result (λ due. due ≡ (is_offloaded (seen J.key_of self.old).mode && releases (mark_of self.old) lazy moment (seen J.key_of self.old))) }
+        ensures ok { OnOk result
+            (seen J.key_of self.new ≡ stamps number moment lazy (seen J.key_of self.old)) }
+        ensures due { IfOk result (λ due.
+            due
+            ≡ (is_offloaded (seen J.key_of self.old).mode && releases (mark_of self.old) lazy moment
+            (seen J.key_of self.old))) }
         ensures succeeds { IsReady self.old → IsOk result }
         ensures err { OnErr result (seen J.key_of self.new ≡ seen J.key_of self.old) }
         ensures given { KeepsGiven J.gives self.old self.new }

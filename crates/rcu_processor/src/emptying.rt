@@ -22,7 +22,8 @@ use std::mem;
 /// Takes the jobs out of a batch, behind the others. There is room.
 fn take_jobs<J: Job>(left: &mut Batch<J>, jobs: &mut Vec<J>)
     requires { vec_len jobs.old + length (batch J.key_of left.old) ≤ vec_capacity jobs.old }
-    ensures keys { map J.key_of jobs.new.items ≡ map J.key_of jobs.old.items ++ map key_of (batch J.key_of left.old) }
+    ensures keys { map J.key_of jobs.new.items
+        ≡ map J.key_of jobs.old.items ++ map key_of (batch J.key_of left.old) }
     ensures len { vec_len jobs.new ≡ vec_len jobs.old + length (batch J.key_of left.old) }
     ensures capacity { vec_capacity jobs.old ≤ vec_capacity jobs.new }
 {
@@ -33,9 +34,12 @@ fn take_jobs<J: Job>(left: &mut Batch<J>, jobs: &mut Vec<J>)
 
 /// Takes the jobs out of all the batches of a lane, in order, behind the others. There is room.
 fn take_lane<J: Job>(lane: &mut VecDeque<Batch<J>>, jobs: &mut Vec<J>)
-    requires { vec_len jobs.old + length (flattened (batches J.key_of lane.old.items)) ≤ vec_capacity jobs.old }
-    ensures keys { map J.key_of jobs.new.items ≡ map J.key_of jobs.old.items ++ map key_of (flattened (batches J.key_of lane.old.items)) }
-    ensures len { vec_len jobs.new ≡ vec_len jobs.old + length (flattened (batches J.key_of lane.old.items)) }
+    requires { vec_len jobs.old + length (flattened (batches J.key_of lane.old.items))
+        ≤ vec_capacity jobs.old }
+    ensures keys { map J.key_of jobs.new.items
+        ≡ map J.key_of jobs.old.items ++ map key_of (flattened (batches J.key_of lane.old.items)) }
+    ensures len { vec_len jobs.new
+        ≡ vec_len jobs.old + length (flattened (batches J.key_of lane.old.items)) }
     ensures capacity { vec_capacity jobs.old ≤ vec_capacity jobs.new }
 {
     while !is_bare(lane) {
@@ -66,7 +70,8 @@ fn is_empty<J: Job>(left: &VecDeque<Callback<J>>) -> bool
 /// Takes the jobs out of some callbacks, behind the others. There is room.
 fn take_calls<J: Job>(mut left: VecDeque<Callback<J>>, jobs: &mut Vec<J>)
     requires { vec_len jobs.old + length (calls J.key_of left.items) ≤ vec_capacity jobs.old }
-    ensures keys { map J.key_of jobs.new.items ≡ map J.key_of jobs.old.items ++ map key_of (calls J.key_of left.items) }
+    ensures keys { map J.key_of jobs.new.items
+        ≡ map J.key_of jobs.old.items ++ map key_of (calls J.key_of left.items) }
     ensures len { vec_len jobs.new ≡ vec_len jobs.old + length (calls J.key_of left.items) }
     ensures capacity { vec_capacity jobs.old ≤ vec_capacity jobs.new }
 {
@@ -77,9 +82,12 @@ fn take_calls<J: Job>(mut left: VecDeque<Callback<J>>, jobs: &mut Vec<J>)
 
 /// Takes the jobs out of a list of segments, behind the others. There is room.
 fn take_waiting<J: Job>(list: &mut Segments<J>, alloc: Global, jobs: &mut Vec<J>)
-    requires { vec_len jobs.old + length (map call_of (waiting J.key_of list.old)) ≤ vec_capacity jobs.old }
-    ensures keys { map J.key_of jobs.new.items ≡ map J.key_of jobs.old.items ++ map key_of (map call_of (waiting J.key_of list.old)) }
-    ensures len { vec_len jobs.new ≡ vec_len jobs.old + length (map call_of (waiting J.key_of list.old)) }
+    requires { vec_len jobs.old + length (map call_of (waiting J.key_of list.old))
+        ≤ vec_capacity jobs.old }
+    ensures keys { map J.key_of jobs.new.items
+        ≡ map J.key_of jobs.old.items ++ map key_of (map call_of (waiting J.key_of list.old)) }
+    ensures len { vec_len jobs.new
+        ≡ vec_len jobs.old + length (map call_of (waiting J.key_of list.old)) }
     ensures capacity { vec_capacity jobs.old ≤ vec_capacity jobs.new }
 {
     let all = mem::replace(list, Segments::new(alloc));
@@ -89,7 +97,8 @@ fn take_waiting<J: Job>(list: &mut Segments<J>, alloc: Global, jobs: &mut Vec<J>
 /// Takes the jobs out of a bypass list, behind the others. There is room.
 fn take_bypass<J: Job>(bypass: &mut Bypass<J>, jobs: &mut Vec<J>)
     requires { vec_len jobs.old + length (bypassed J.key_of bypass.old) ≤ vec_capacity jobs.old }
-    ensures keys { map J.key_of jobs.new.items ≡ map J.key_of jobs.old.items ++ map key_of (bypassed J.key_of bypass.old) }
+    ensures keys { map J.key_of jobs.new.items
+        ≡ map J.key_of jobs.old.items ++ map key_of (bypassed J.key_of bypass.old) }
     ensures len { vec_len jobs.new ≡ vec_len jobs.old + length (bypassed J.key_of bypass.old) }
     ensures capacity { vec_capacity jobs.old ≤ vec_capacity jobs.new }
 {
@@ -99,8 +108,11 @@ fn take_bypass<J: Job>(bypass: &mut Bypass<J>, jobs: &mut Vec<J>)
 
 /// Takes the job of the fresh callback, if there is one, behind the others. There is room.
 fn take_last<J: Job>(fresh: &mut Option<Callback<J>>, jobs: &mut Vec<J>)
-    requires { vec_len jobs.old + length (option_to_list (fresh_call J.key_of fresh.old)) ≤ vec_capacity jobs.old }
-    ensures keys { map J.key_of jobs.new.items ≡ map J.key_of jobs.old.items ++ map key_of (option_to_list (fresh_call J.key_of fresh.old)) }
+    requires { vec_len jobs.old + length (option_to_list (fresh_call J.key_of fresh.old))
+        ≤ vec_capacity jobs.old }
+    ensures keys { map J.key_of jobs.new.items
+        ≡ map J.key_of jobs.old.items
+        ++ map key_of (option_to_list (fresh_call J.key_of fresh.old)) }
 {
     match fresh.take() {
         Some(callback) => jobs.push_reserved(callback.job),
@@ -117,9 +129,24 @@ fn take_joined<J: Job>(
     alloc: Global,
     jobs: &mut Vec<J>,
 )
-    requires { vec_len jobs.old + length (batch J.key_of held.old ++ (flattened (batches J.key_of done_lane.old.items) ++ (batch J.key_of out.old ++ map call_of (waiting J.key_of joined.old)))) ≤ vec_capacity jobs.old }
-    ensures keys { map J.key_of jobs.new.items ≡ map J.key_of jobs.old.items ++ map key_of (batch J.key_of held.old ++ (flattened (batches J.key_of done_lane.old.items) ++ (batch J.key_of out.old ++ map call_of (waiting J.key_of joined.old)))) }
-    ensures len { vec_len jobs.new ≡ vec_len jobs.old + length (batch J.key_of held.old ++ (flattened (batches J.key_of done_lane.old.items) ++ (batch J.key_of out.old ++ map call_of (waiting J.key_of joined.old)))) }
+    requires { vec_len jobs.old
+        + length
+        (batch J.key_of held.old
+        ++ (flattened (batches J.key_of done_lane.old.items)
+        ++ (batch J.key_of out.old ++ map call_of (waiting J.key_of joined.old))))
+        ≤ vec_capacity jobs.old }
+    ensures keys { map J.key_of jobs.new.items
+        ≡ map J.key_of jobs.old.items
+        ++ map key_of
+        (batch J.key_of held.old
+        ++ (flattened (batches J.key_of done_lane.old.items)
+        ++ (batch J.key_of out.old ++ map call_of (waiting J.key_of joined.old)))) }
+    ensures len { vec_len jobs.new
+        ≡ vec_len jobs.old
+        + length
+        (batch J.key_of held.old
+        ++ (flattened (batches J.key_of done_lane.old.items)
+        ++ (batch J.key_of out.old ++ map call_of (waiting J.key_of joined.old)))) }
     ensures capacity { vec_capacity jobs.old ≤ vec_capacity jobs.new }
 {
     take_jobs(held, jobs);
@@ -135,9 +162,21 @@ fn take_bypassed<J: Job>(
     bypass: &mut Bypass<J>,
     jobs: &mut Vec<J>,
 )
-    requires { vec_len jobs.old + length (batch J.key_of drawn.old ++ (flattened (batches J.key_of lane.old.items) ++ bypassed J.key_of bypass.old)) ≤ vec_capacity jobs.old }
-    ensures keys { map J.key_of jobs.new.items ≡ map J.key_of jobs.old.items ++ map key_of (batch J.key_of drawn.old ++ (flattened (batches J.key_of lane.old.items) ++ bypassed J.key_of bypass.old)) }
-    ensures len { vec_len jobs.new ≡ vec_len jobs.old + length (batch J.key_of drawn.old ++ (flattened (batches J.key_of lane.old.items) ++ bypassed J.key_of bypass.old)) }
+    requires { vec_len jobs.old
+        + length
+        (batch J.key_of drawn.old
+        ++ (flattened (batches J.key_of lane.old.items) ++ bypassed J.key_of bypass.old))
+        ≤ vec_capacity jobs.old }
+    ensures keys { map J.key_of jobs.new.items
+        ≡ map J.key_of jobs.old.items
+        ++ map key_of
+        (batch J.key_of drawn.old
+        ++ (flattened (batches J.key_of lane.old.items) ++ bypassed J.key_of bypass.old)) }
+    ensures len { vec_len jobs.new
+        ≡ vec_len jobs.old
+        + length
+        (batch J.key_of drawn.old
+        ++ (flattened (batches J.key_of lane.old.items) ++ bypassed J.key_of bypass.old)) }
     ensures capacity { vec_capacity jobs.old ≤ vec_capacity jobs.new }
 {
     take_jobs(drawn, jobs);
@@ -148,8 +187,11 @@ fn take_bypassed<J: Job>(
 impl<J: Job> Processor<J, J::Receipt> {
     /// Takes the jobs that are left, place after place, behind those of a list. There is room for them.
     pub fn drain(&mut self, jobs: &mut Vec<J>)
-        requires { vec_len jobs.old + length (remaining_callbacks (seen J.key_of self.old)) ≤ vec_capacity jobs.old }
-        ensures keys { map J.key_of jobs.new.items ≡ map J.key_of jobs.old.items ++ map key_of (remaining_callbacks (seen J.key_of self.old)) }
+        requires { vec_len jobs.old + length (remaining_callbacks (seen J.key_of self.old))
+            ≤ vec_capacity jobs.old }
+        ensures keys { map J.key_of jobs.new.items
+            ≡ map J.key_of jobs.old.items
+            ++ map key_of (remaining_callbacks (seen J.key_of self.old)) }
         ensures records { records_of self.new ≡ records_of self.old }
     {
         let alloc = *self.records.allocator();

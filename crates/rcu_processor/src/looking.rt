@@ -23,8 +23,11 @@ fn wants(member: bool, wanted: Option<u64>) -> bool
 impl<J: Job> Processor<J, J::Receipt> {
     /// The processor's look at the number: its own list is advanced and accelerated.
     pub fn look(&mut self, number: u64)
-        requires small { newest number (advance number (seen J.key_of self.old).own) ≤ GREATEST_NUMBER }
-        requires may { MayAccelerate (snap_of (newest number (advance number (seen J.key_of self.old).own))) (advance number (seen J.key_of self.old).own) }
+        requires small { newest number (advance number (seen J.key_of self.old).own)
+            ≤ GREATEST_NUMBER }
+        requires may { MayAccelerate
+            (snap_of (newest number (advance number (seen J.key_of self.old).own)))
+            (advance number (seen J.key_of self.old).own) }
         ensures looks { seen J.key_of self.new ≡ looks number (seen J.key_of self.old) }
         ensures given { KeepsGiven J.gives self.old self.new }
     {
@@ -42,9 +45,14 @@ impl<J: Job> Processor<J, J::Receipt> {
 
     /// The part of a group's look at this processor, where it is a member.
     pub fn look_as(&mut self, member: bool, number: u64)
-        requires small { newest number (advance number (seen J.key_of self.old).joined) ≤ GREATEST_NUMBER }
-        requires may { MayAccelerate (snap_of (newest number (advance number (seen J.key_of self.old).joined))) (advance number (seen J.key_of self.old).joined) }
-        ensures looks { seen J.key_of self.new ≡ (if member then group_looks number (seen J.key_of self.old) else seen J.key_of self.old) }
+        requires small { newest number (advance number (seen J.key_of self.old).joined)
+            ≤ GREATEST_NUMBER }
+        requires may { MayAccelerate
+            (snap_of (newest number (advance number (seen J.key_of self.old).joined)))
+            (advance number (seen J.key_of self.old).joined) }
+        ensures looks { seen J.key_of self.new
+            ≡ (if member then group_looks number (seen J.key_of self.old) else seen J.key_of
+            self.old) }
         ensures given { KeepsGiven J.gives self.old self.new }
     {
         if member {
@@ -61,7 +69,8 @@ impl<J: Job> Processor<J, J::Receipt> {
 
     /// What its own list wants is asked for.
     pub fn forget(&mut self)
-        ensures forgets { seen J.key_of self.new ≡ record (seen J.key_of self.old) { wanted = None } }
+        ensures forgets { seen J.key_of self.new
+            ≡ record (seen J.key_of self.old) { wanted = None } }
         ensures given { KeepsGiven J.gives self.old self.new }
     {
         self.wanted = None;
@@ -76,7 +85,8 @@ impl<J: Job> Processor<J, J::Receipt> {
 
     /// The greater of `most` and what is wanted for this processor, where it is a member.
     pub fn most_as(&self, member: bool, most: u64) -> u64
-        ensures { result ≡ (if member then needed_with most (seen J.key_of self.now).group_wanted else most) }
+        ensures { result
+            ≡ (if member then needed_with most (seen J.key_of self.now).group_wanted else most) }
     {
         if !member {
             return most;
@@ -89,7 +99,8 @@ impl<J: Job> Processor<J, J::Receipt> {
 
     /// What is wanted for this processor is asked for, where it is a member.
     pub fn forget_as(&mut self, member: bool)
-        ensures forgets { seen J.key_of self.new ≡ (if member then forgets (seen J.key_of self.old) else seen J.key_of self.old) }
+        ensures forgets { seen J.key_of self.new
+            ≡ (if member then forgets (seen J.key_of self.old) else seen J.key_of self.old) }
         ensures given { KeepsGiven J.gives self.old self.new }
     {
         if member {

@@ -28,7 +28,10 @@ impl<J: Job> Processor<J, J::Receipt> {
     ///
     /// Refusal 2, want of memory: nothing changed, the kinds and the kept moment neither.
     pub fn put(&mut self, moment: Option<u64>) -> Result<(), AllocError>
-        ensures ok { OnOk result (seen J.key_of self.new ≡ with_pace (pace_after_put moment (seen J.key_of self.old)) (puts (seen J.key_of self.old))) }
+        ensures ok { OnOk result
+            (seen J.key_of self.new
+            ≡ with_pace (pace_after_put moment (seen J.key_of self.old))
+            (puts (seen J.key_of self.old))) }
         ensures err { OnErr result (seen J.key_of self.new ≡ seen J.key_of self.old) }
         ensures given { KeepsGiven J.gives self.old self.new }
     {
@@ -39,7 +42,9 @@ impl<J: Job> Processor<J, J::Receipt> {
 
     /// Whether a batch stands on the lane, and none waits that was drawn.
     pub fn can_draw(&self) -> bool
-        ensures { result ≡ (not (is_nil (seen J.key_of self.now).lane) && is_nil (seen J.key_of self.now).drawn) }
+        ensures { result
+            ≡ (not (is_nil (seen J.key_of self.now).lane) && is_nil
+            (seen J.key_of self.now).drawn) }
     {
         !is_bare(&self.lane) && is_spent(&self.drawn)
     }
@@ -87,7 +92,8 @@ impl<J: Job> Processor<J, J::Receipt> {
 
     /// The done ones at the front of the group's list go to the done lane.
     fn give_done(&mut self, blimit: u64) -> Result<(), AllocError>
-        ensures ok { OnOk result (seen J.key_of self.new ≡ gives_done blimit (seen J.key_of self.old)) }
+        ensures ok { OnOk result
+            (seen J.key_of self.new ≡ gives_done blimit (seen J.key_of self.old)) }
         ensures err { OnErr result (seen J.key_of self.new ≡ seen J.key_of self.old) }
         ensures given { KeepsGiven J.gives self.old self.new }
     {
@@ -114,7 +120,8 @@ impl<J: Job> Processor<J, J::Receipt> {
     ///
     /// Refusal 2, want of memory: nothing changed.
     pub fn give(&mut self, blimit: u64) -> Result<(), AllocError>
-        ensures ok { OnOk result (seen J.key_of self.new ≡ gives_by_case blimit (seen J.key_of self.old)) }
+        ensures ok { OnOk result
+            (seen J.key_of self.new ≡ gives_by_case blimit (seen J.key_of self.old)) }
         ensures err { OnErr result (seen J.key_of self.new ≡ seen J.key_of self.old) }
         ensures given { KeepsGiven J.gives self.old self.new }
     {
@@ -127,7 +134,9 @@ impl<J: Job> Processor<J, J::Receipt> {
 
     /// Whether a batch stands on the done lane, and the hand holds none.
     pub fn can_fetch(&self) -> bool
-        ensures { result ≡ (is_nil (seen J.key_of self.now).held && not (is_nil (seen J.key_of self.now).done_lane)) }
+        ensures { result
+            ≡ (is_nil (seen J.key_of self.now).held && not
+            (is_nil (seen J.key_of self.now).done_lane)) }
     {
         is_spent(&self.held) && !is_bare(&self.done_lane)
     }

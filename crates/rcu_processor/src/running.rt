@@ -44,7 +44,9 @@ fn can_claim_first_held<J: Job>(held: &Batch<J>, sight: u64, turn: u64) -> bool
 fn run_next<J: Job>(callback: Callback<J>, sight: u64, records: &mut Vec<Record<J::Receipt>>) -> u64
     requires { vec_len records.old + 1 ≤ vec_capacity records.old }
     ensures key { result ≡ (call J.key_of callback).key }
-    ensures runs { map run records.new.items ≡ map run records.old.items ++ record { call = call J.key_of callback; ready = sight } ∷ [] }
+    ensures runs { map run records.new.items
+        ≡ map run records.old.items
+        ++ record { call = call J.key_of callback; ready = sight } ∷ [] }
     ensures given { Given J.gives records.old.items → Given J.gives records.new.items }
 {
     let record = run_callback(callback, sight);
@@ -124,8 +126,10 @@ impl<J: Job> Processor<J, J::Receipt> {
     fn claim_own(&mut self) -> Result<u64, AllocError>
         requires ready { can_claim sides.Local (seen J.key_of self.old) ≡ true }
         requires fits { (seen J.key_of self.old).turn < 2 ^ 63 }
-        ensures key { IfOk result (λ key. key ≡ (claimed sides.Local (seen J.key_of self.old)).key) }
-        ensures ok { OnOk result (seen J.key_of self.new ≡ claims sides.Local (seen J.key_of self.old)) }
+        ensures key { IfOk result (λ key.
+            key ≡ (claimed sides.Local (seen J.key_of self.old)).key) }
+        ensures ok { OnOk result
+            (seen J.key_of self.new ≡ claims sides.Local (seen J.key_of self.old)) }
         ensures err { OnErr result (seen J.key_of self.new ≡ seen J.key_of self.old) }
         ensures given { KeepsGiven J.gives self.old self.new }
     {
@@ -141,7 +145,8 @@ impl<J: Job> Processor<J, J::Receipt> {
         requires ready { can_claim sides.Hand (seen J.key_of self.old) ≡ true }
         requires fits { (seen J.key_of self.old).turn < 2 ^ 63 }
         ensures key { IfOk result (λ key. key ≡ (claimed sides.Hand (seen J.key_of self.old)).key) }
-        ensures ok { OnOk result (seen J.key_of self.new ≡ claims sides.Hand (seen J.key_of self.old)) }
+        ensures ok { OnOk result
+            (seen J.key_of self.new ≡ claims sides.Hand (seen J.key_of self.old)) }
         ensures err { OnErr result (seen J.key_of self.new ≡ seen J.key_of self.old) }
         ensures given { KeepsGiven J.gives self.old self.new }
     {
@@ -172,7 +177,8 @@ impl<J: Job> Processor<J, J::Receipt> {
 
     /// Why a claim isn't enabled.
     pub fn why_no_claim(&self, by: Side) -> Stop
-        ensures { result ≡ (if has_none by (seen J.key_of self.now) then stops.Empty else stops.Turn) }
+        ensures { result
+            ≡ (if has_none by (seen J.key_of self.now) then stops.Empty else stops.Turn) }
     {
         match by {
             Side::Local => stop_of(count_done(&self.own) == 0),

@@ -14,7 +14,9 @@ use std::alloc::AllocError;
 
 /// Whether a switch is asked for that can be made; `clear` says whether the bypass list is empty.
 fn can_switch(mode: Mode, asked: bool, clear: bool) -> bool
-    ensures { result ≡ (if asked then not (is_offloaded mode) else (is_offloading mode || (is_offloaded mode && clear))) }
+    ensures { result
+        ≡ (if asked then not (is_offloaded mode) else
+        (is_offloading mode || (is_offloaded mode && clear))) }
 {
     match mode {
         Mode::Offloaded => !asked && clear,

@@ -19,7 +19,9 @@ use std::alloc::AllocError;
 /// Looks at one list: what it asks for, if anything.
 pub(crate) fn look_at<J: Job>(list: &mut Segments<J>, number: u64) -> Option<u64>
     requires small { newest number (advance number (waiting J.key_of list.old)) ≤ GREATEST_NUMBER }
-    requires may { MayAccelerate (snap_of (newest number (advance number (waiting J.key_of list.old)))) (advance number (waiting J.key_of list.old)) }
+    requires may { MayAccelerate
+        (snap_of (newest number (advance number (waiting J.key_of list.old))))
+        (advance number (waiting J.key_of list.old)) }
     ensures list { waiting J.key_of list.new ≡ looked number (waiting J.key_of list.old) }
     ensures asks { result ≡ wanted_by_look number (waiting J.key_of list.old) }
 {
@@ -67,7 +69,8 @@ pub(crate) fn take_front<J: Job>(list: &mut Segments<J>) -> Callback<J>
 /// Adds a callback with no label, in the room that there is.
 pub(crate) fn enqueue<J: Job>(list: &mut Segments<J>, callback: Callback<J>)
     requires { SegmentsRoom list.old 1 }
-    ensures items { waiting J.key_of list.new ≡ waiting J.key_of list.old ++ bare (call J.key_of callback) ∷ [] }
+    ensures items { waiting J.key_of list.new
+        ≡ waiting J.key_of list.old ++ bare (call J.key_of callback) ∷ [] }
     ensures room { (k : ℕ) → SegmentsRoom list.old (k + 1) → SegmentsRoom list.new k }
 {
     list.enqueue(callback);
@@ -82,8 +85,13 @@ pub(crate) fn count_done<J: Job>(list: &Segments<J>) -> u64
 
 /// Takes the first done ones of a list, at most so many. On an error nothing has moved.
 pub(crate) fn take_given<J: Job>(list: &mut Segments<J>, most: u64) -> Result<Batch<J>, AllocError>
-    ensures given { IfOk result (λ b. batch J.key_of b ≡ map call_of (take (min most (done_count (waiting J.key_of list.old))) (waiting J.key_of list.old))) }
-    ensures list { OnOk result (waiting J.key_of list.new ≡ drop (min most (done_count (waiting J.key_of list.old))) (waiting J.key_of list.old)) }
+    ensures given { IfOk result (λ b.
+        batch J.key_of b
+        ≡ map call_of
+        (take (min most (done_count (waiting J.key_of list.old))) (waiting J.key_of list.old))) }
+    ensures list { OnOk result
+        (waiting J.key_of list.new
+        ≡ drop (min most (done_count (waiting J.key_of list.old))) (waiting J.key_of list.old)) }
     ensures err { OnErr result (waiting J.key_of list.new ≡ waiting J.key_of list.old) }
 {
     let count = most.min(list.done_len());
@@ -96,9 +104,13 @@ pub(crate) fn join_bare<J: Job>(
     list: &mut Segments<J>,
     joined: &mut Batch<J>,
 ) -> Result<(), AllocError>
-    ensures list { OnOk result (waiting J.key_of list.new ≡ waiting J.key_of list.old ++ map bare (batch J.key_of joined.old)) }
+    ensures list { OnOk result
+        (waiting J.key_of list.new
+        ≡ waiting J.key_of list.old ++ map bare (batch J.key_of joined.old)) }
     ensures joined { OnOk result (batch J.key_of joined.new ≡ []) }
-    ensures err { OnErr result ((waiting J.key_of list.new ≡ waiting J.key_of list.old) × (batch J.key_of joined.new ≡ batch J.key_of joined.old)) }
+    ensures err { OnErr result
+        ((waiting J.key_of list.new ≡ waiting J.key_of list.old)
+        × (batch J.key_of joined.new ≡ batch J.key_of joined.old)) }
 {
     list.reserve(joined.len() as usize)?;
     while !is_spent(joined) {

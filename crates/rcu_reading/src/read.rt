@@ -23,7 +23,8 @@ pub fn read_text<R: Read>(
 ) -> Result<Vec<u8>, Fault>
     requires { 0 < piece }
     ensures short { IfOk result (λ v. vec_len v ≤ most) }
-    ensures whole { IfOk result (λ v. IfSome (R.remaining reader.old) (λ bytes. v.items ≡ take most bytes)) }
+    ensures whole { IfOk result (λ v.
+        IfSome (R.remaining reader.old) (λ bytes. v.items ≡ take most bytes)) }
     ensures most { TakesAtMost most (R.remaining reader.old) (R.remaining reader.new) }
     ensures err { IfErr result IsFailedRead }
 {
@@ -41,7 +42,8 @@ pub fn read_text<R: Read>(
 /// One read, whose bytes are added to the text. It answers whether any came.
 fn read_piece<R: Read>(reader: &mut R, text: &mut Vec<u8>, buffer: &mut [u8]) -> Result<bool, Fault>
     requires { 0 < length buffer.old }
-    ensures piece { TakesPiece (R.remaining reader.old) (R.remaining reader.new) text.old.items text.new.items (length buffer.old) result }
+    ensures piece { TakesPiece (R.remaining reader.old) (R.remaining reader.new) text.old.items
+        text.new.items (length buffer.old) result }
     ensures err { IfErr result IsFailedRead }
 {
     match reader.read(buffer) {

@@ -23,8 +23,10 @@ const PIECE: usize = 4096;
 /// The setup's fault; the fault of a failed read; want of memory.
 pub fn setup_of<R: Read>(alloc: Global, reader: &mut R) -> Result<Setup, Fault>
     ensures most { TakesAtMost MOST_READ (R.remaining reader.old) (R.remaining reader.new) }
-    ensures exact { IfSome (R.remaining reader.old) (λ bytes. IfOk result (λ setup. setup_of bytes ≡ Ok (setup_view setup))) }
-    ensures fault { IfSome (R.remaining reader.old) (λ bytes. IfErr result (λ fault. IsFaultOf bytes fault)) }
+    ensures exact { IfSome (R.remaining reader.old) (λ bytes.
+        IfOk result (λ setup. setup_of bytes ≡ Ok (setup_view setup))) }
+    ensures fault { IfSome (R.remaining reader.old) (λ bytes.
+        IfErr result (λ fault. IsFaultOf bytes fault)) }
 {
     let bytes = read_text(alloc, reader, MOST_READ, PIECE)?;
     let Ok(text) = std::str::from_utf8(bytes.as_slice()) else {

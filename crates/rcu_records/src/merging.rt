@@ -16,8 +16,12 @@ fn take_next<R>(
     hands: &mut VecDeque<Record<R>>,
     number: u64,
 ) -> Option<Record<R>>
-    ensures own { is_next number own.old.items ≡ true → (own.old.items ≡ option_to_list result ++ own.new.items) × (own.new.items ≡ drop 1 own.old.items) × (hands.new.items ≡ hands.old.items) }
-    ensures hands { is_next number own.old.items ≡ false → (hands.old.items ≡ option_to_list result ++ hands.new.items) × (hands.new.items ≡ drop 1 hands.old.items) × (own.new.items ≡ own.old.items) }
+    ensures own { is_next number own.old.items ≡ true
+        → (own.old.items ≡ option_to_list result ++ own.new.items)
+        × (own.new.items ≡ drop 1 own.old.items) × (hands.new.items ≡ hands.old.items) }
+    ensures hands { is_next number own.old.items ≡ false
+        → (hands.old.items ≡ option_to_list result ++ hands.new.items)
+        × (hands.new.items ≡ drop 1 hands.old.items) × (own.new.items ≡ own.old.items) }
 {
     if let Some(record) = own.front()
         && record.number == number
@@ -54,11 +58,15 @@ pub fn merge_records<J: Job>(
 ) -> Vec<Record<J::Receipt>>
     requires none { all.items ≡ [] }
     requires room { length own.items + length hands.items ≤ vec_capacity all }
-    ensures order { (accepted : List Accepted) (back held : List Numbered) → Remaining m 0 accepted (numbered_records own.items) (numbered_records hands.items) back held → numbered 0 accepted ≡ numbered_records result.items ++ (back ++ held) }
+    ensures order { (accepted : List Accepted) (back held : List Numbered)
+        → Remaining m 0 accepted (numbered_records own.items) (numbered_records hands.items) back
+        held → numbered 0 accepted ≡ numbered_records result.items ++ (back ++ held) }
     ensures records { AreOfBoth own.items hands.items result.items }
-    ensures given { Given J.gives own.items → Given J.gives hands.items → Given J.gives result.items }
+    ensures given { Given J.gives own.items → Given J.gives hands.items
+        → Given J.gives result.items }
     ensures ripe { AreRipe own.items → AreRipe hands.items → AreRipe result.items }
-    ensures seen { (x : ℕ) → AreSeenBy x own.items → AreSeenBy x hands.items → AreSeenBy x result.items }
+    ensures seen { (x : ℕ) → AreSeenBy x own.items → AreSeenBy x hands.items
+        → AreSeenBy x result.items }
 {
     for number in 0..m {
         let record = take_next(&mut own, &mut hands, number);

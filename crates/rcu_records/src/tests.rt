@@ -1,3 +1,5 @@
+//! Two lists of records merged by their numbers.
+
 use super::*;
 use rcu_jobs::{BoxedJob, Record};
 use std::collections::VecDeque;

@@ -20,7 +20,8 @@ impl<J: Job> Whole<AllParts<Processor<J>, Group<J>, Hand<J>>> {
     /// memory, 3 where the runtime was shut.
     pub fn call_rcu(&mut self, p: u64, moment: u64, job: J) -> Result<Ticket, NotCalled<J>>
         ensures continues { Continues self.old self.new }
-        ensures ok { IfOk result (λ t. OnProcessor p (AcceptsPlain moment (J.key_of job) job t) self.old self.new) }
+        ensures ok { IfOk result (λ t.
+            OnProcessor p (AcceptsPlain moment (J.key_of job) job t) self.old self.new) }
         ensures err { IfErr result (λ fault. GivesBack p job fault self.old self.new) }
         ensures one { IfOk result (λ _. accepted_in self.new ≡ accepted_in self.old + 1) }
         ensures none { IfErr result (λ _. accepted_in self.new ≡ accepted_in self.old) }
@@ -38,7 +39,8 @@ impl<J: Job> Whole<AllParts<Processor<J>, Group<J>, Hand<J>>> {
     /// As `call_rcu`.
     pub fn call_rcu_lazy(&mut self, p: u64, moment: u64, job: J) -> Result<Ticket, NotCalled<J>>
         ensures continues { Continues self.old self.new }
-        ensures ok { IfOk result (λ t. OnProcessor p (AcceptsLazy moment (J.key_of job) job t) self.old self.new) }
+        ensures ok { IfOk result (λ t.
+            OnProcessor p (AcceptsLazy moment (J.key_of job) job t) self.old self.new) }
         ensures err { IfErr result (λ fault. GivesBack p job fault self.old self.new) }
         ensures one { IfOk result (λ _. accepted_in self.new ≡ accepted_in self.old + 1) }
         ensures none { IfErr result (λ _. accepted_in self.new ≡ accepted_in self.old) }

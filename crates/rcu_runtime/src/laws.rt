@@ -12,5 +12,6 @@ pub fn continues_itself<J: Job>()
 
 /// What continues a runtime that continues an earlier one continues the earlier one.
 pub fn continues_again<J: Job>()
-    ensures again { (old between new : Parts J J.Receipt) → Continues old between → Continues between new → Continues old new }
+    ensures again { (old between new : Parts J J.Receipt) → Continues old between
+        → Continues between new → Continues old new }
 {}

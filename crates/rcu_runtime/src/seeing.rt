@@ -50,7 +50,8 @@ impl<J: Job> Whole<AllParts<Processor<J>, Group<J>, Hand<J>>> {
     ///
     /// There is no such processor.
     pub fn lists(&self, p: u64) -> Result<Lists, NoProcessor>
-        ensures ok { IfOk result (λ lists. OfProcessor p (λ q. lists ≡ cpu_lists q.state.accepted (lists_of q.state)) self.now) }
+        ensures ok { IfOk result (λ lists.
+            OfProcessor p (λ q. lists ≡ cpu_lists q.state.accepted (lists_of q.state)) self.now) }
         ensures err { IfErr result (λ fault. IsNone p fault self.now) }
     {
         Ok(self.processor(p)?.lists())
@@ -74,7 +75,8 @@ impl<J: Job> Whole<AllParts<Processor<J>, Group<J>, Hand<J>>> {
     ///
     /// There is no such processor.
     pub fn left(&self, p: u64) -> Result<u64, NoProcessor>
-        ensures ok { IfOk result (λ left. OfProcessor p (λ q. left + q.state.accepted ≡ q.state.limit) self.now) }
+        ensures ok { IfOk result (λ left.
+            OfProcessor p (λ q. left + q.state.accepted ≡ q.state.limit) self.now) }
         ensures err { IfErr result (λ fault. IsNone p fault self.now) }
     {
         Ok(self.limit - self.processor(p)?.accepted())

@@ -51,7 +51,8 @@ impl<J: Job> Whole<AllParts<Processor<J>, Group<J>, Hand<J>>> {
     ) -> Result<Passed, AnyFault>
         ensures continues { Continues self.old self.new }
         ensures passed { IfOk result (λ passed. HasPassed barrier.now.counts passed self.new) }
-        ensures why { IfErr result (IsWhyNotPassed barrier.now.counts.n (parts_board self.old).processors) }
+        ensures why { IfErr result
+            (IsWhyNotPassed barrier.now.counts.n (parts_board self.old).processors) }
         ensures none { accepted_in self.new ≡ accepted_in self.old }
     {
         for _ in 0..turns {

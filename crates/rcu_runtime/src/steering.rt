@@ -60,8 +60,10 @@ impl<J: Job> Whole<AllParts<Processor<J>, Group<J>, Hand<J>>> {
     /// The barrier counts another number of processors than this runtime has.
     pub fn poll(&mut self, barrier: &Barrier) -> Result<Option<Passed>, OtherBarrier>
         ensures continues { Continues self.old self.new }
-        ensures ok { IfOk result (λ passed. OnControl (Polls barrier.now.counts passed) self.old self.new) }
-        ensures number { IfOk result (λ _. barrier.now.counts.n ≡ (parts_board self.old).processors) }
+        ensures ok { IfOk result (λ passed.
+            OnControl (Polls barrier.now.counts passed) self.old self.new) }
+        ensures number { IfOk result (λ _.
+            barrier.now.counts.n ≡ (parts_board self.old).processors) }
         ensures err { IfErr result (λ _. barrier.now.counts.n ≢ (parts_board self.old).processors) }
         ensures stays { IfErr result (λ _. self.new ≡ self.old) }
         ensures none { accepted_in self.new ≡ accepted_in self.old }

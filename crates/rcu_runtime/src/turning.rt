@@ -11,7 +11,8 @@ use rcu_parts::{AllParts, Group, Hand, Processor};
 
 /// A report and a tick of each processor.
 fn turn_each_processor<J: Job>(processors: &mut Vec<Processor<J>>, moment: u64)
-    ensures { AllZip (PassesTick J.key_of J.gives moment) processors.old.items processors.new.items }
+    ensures { AllZip (PassesTick J.key_of J.gives moment) processors.old.items
+        processors.new.items }
 {
     for processor in processors.iter_mut() {
         processor.quiescent();
@@ -49,7 +50,8 @@ impl<J: Job> Whole<AllParts<Processor<J>, Group<J>, Hand<J>>> {
     /// There is no such processor.
     pub fn quiescent(&mut self, p: u64) -> Result<Option<u64>, NoProcessor>
         ensures continues { Continues self.old self.new }
-        ensures ok { IfOk result (λ counted. OnProcessor p (ReportsOnce counted) self.old self.new) }
+        ensures ok { IfOk result (λ counted.
+            OnProcessor p (ReportsOnce counted) self.old self.new) }
         ensures err { IfErr result (λ fault. FindsNone p fault self.old self.new) }
         ensures none { accepted_in self.new ≡ accepted_in self.old }
     {

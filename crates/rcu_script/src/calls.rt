@@ -25,7 +25,8 @@ pub fn job_for<J>(command: &Command, jobs: &mut VecDeque<J>) -> Option<J>
     requires { is_call command.now ≡ true → 0 < deque_len jobs.old }
     ensures job { is_some result ≡ is_call command.now }
     ensures first { jobs.old.items ≡ option_to_list result ++ jobs.new.items }
-    ensures left { deque_len jobs.new + (if is_call command.now then 1 else 0) ≡ deque_len jobs.old }
+    ensures left { deque_len jobs.new + (if is_call command.now then 1 else 0)
+        ≡ deque_len jobs.old }
 {
     match route_of(command) {
         Some(_) => jobs.pop_front(),

@@ -59,7 +59,8 @@ impl<T: Drop> From<AllocFailed<T>> for Fault {
 
 /// Writes the line of a fault. It takes no memory, so that the want of it can be told too.
 pub fn write_fault<W: Write>(fault: &Fault, writer: &mut W) -> io::Result<()>
-    ensures { OnOk result (Appends (W.contents writer.old) (W.contents writer.new) (fault_line fault.now)) }
+    ensures { OnOk result
+        (Appends (W.contents writer.old) (W.contents writer.new) (fault_line fault.now)) }
 {
     match fault {
         Fault::Setup(fault) => writeln!(writer, "{fault}"),

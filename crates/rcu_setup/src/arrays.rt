@@ -38,7 +38,8 @@ pub(crate) fn texts_or_none(
     key: Key,
     most: usize,
 ) -> Result<Vec<&str>, SetupFault>
-    ensures answer { Gives texts_view result (texts_or_none key most (get_member (key_name key) (table_view table.now))) }
+    ensures answer { Gives texts_view result
+        (texts_or_none key most (get_member (key_name key) (table_view table.now))) }
     ensures few { IfOk result (λ found. vec_len found ≤ most) }
 {
     let Some(value) = at(table, key) else {

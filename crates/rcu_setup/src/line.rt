@@ -153,7 +153,8 @@ fn or_bad_line(found: Option<Command>) -> Result<Command, SetupFault>
 
 /// The command of a call, which is lazy or not.
 fn call_line(alloc: Global, lazy: bool, words: Option<CallWords<'_>>) -> Result<Command, SetupFault>
-    ensures { Gives line_of result (or_bad_line (option_map (call_line lazy) (option_map call_view words.entry))) }
+    ensures { Gives line_of result
+        (or_bad_line (option_map (call_line lazy) (option_map call_view words.entry))) }
 {
     let Some(
         CallWords {

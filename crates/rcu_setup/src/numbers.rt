@@ -40,7 +40,8 @@ pub(crate) fn whole_or(
     other: u64,
 ) -> Result<u64, SetupFault>
     requires { (least ≤ other) × (other ≤ most) }
-    ensures answer { Gives (λ n. n) result (whole_or key least most (Ok other) (get_member (key_name key) (table_view table.now))) }
+    ensures answer { Gives (λ n. n) result
+        (whole_or key least most (Ok other) (get_member (key_name key) (table_view table.now))) }
     ensures within { IfOk result (λ n. (least ≤ n) × (n ≤ most)) }
 {
     match at(table, key) {
@@ -51,7 +52,9 @@ pub(crate) fn whole_or(
 
 #[tactic(auto, unfolding(crate::specs::Numbers::whole_or))]
 fn processors(table: &Table) -> Result<u64, SetupFault>
-    ensures answer { Gives (λ n. n) result (whole_or Key.Processors 1 MOST_PROCESSORS (Err missing_processors) (get_member (codes "processors") (table_view table.now))) }
+    ensures answer { Gives (λ n. n) result
+        (whole_or Key.Processors 1 MOST_PROCESSORS (Err missing_processors)
+        (get_member (codes "processors") (table_view table.now))) }
     ensures within { IfOk result (λ n. (1 ≤ n) × (n ≤ MOST_PROCESSORS)) }
 {
     match at(table, Key::Processors) {
@@ -64,7 +67,8 @@ fn processors(table: &Table) -> Result<u64, SetupFault>
 #[tactic(auto, unfolding(crate::specs::Numbers::nocbs_of))]
 fn nocbs(table: &Table, n: u64) -> Result<u32, SetupFault>
     requires { n ≤ MOST_PROCESSORS }
-    ensures answer { Gives (λ m. m) result (nocbs_of n (get_member (codes "nocbs") (table_view table.now))) }
+    ensures answer { Gives (λ m. m) result
+        (nocbs_of n (get_member (codes "nocbs") (table_view table.now))) }
     ensures within { IfOk result (λ m. m < 2 ^ n) }
 {
     let Some(value) = at(table, Key::Nocbs) else {

@@ -1,3 +1,5 @@
+//! Setups, script lines and CPU lists, with their faults.
+
 use rcu_setup::{Command, SetupFault, cpu_list, read_setup, script_line};
 use std::alloc::Global;
 use std::test::Fail;

@@ -37,7 +37,8 @@ fn processors<J: Job<Receipt = u64>>(
     alloc: Global,
     closed: &Closed<J>,
 ) -> Result<String, AllocError>
-    ensures { IfOk result (λ s. string_bytes s ≡ totals_text 0 closed.now.ran.items closed.now.back.items) }
+    ensures { IfOk result (λ s.
+        string_bytes s ≡ totals_text 0 closed.now.ran.items closed.now.back.items) }
 {
     let mut text = String::new(alloc);
     for (p, (ran, back)) in closed.ran.iter().zip(closed.back.iter()).enumerate() {
@@ -57,7 +58,10 @@ pub fn totals<J: Job<Receipt = u64>>(
     closed: &Closed<J>,
     reports: bool,
 ) -> Result<String, AllocError>
-    ensures { IfOk result (λ s. string_bytes s ≡ totals_text 0 closed.now.ran.items closed.now.back.items ++ reports_text reports closed.now.reports.items) }
+    ensures { IfOk result (λ s.
+        string_bytes s
+        ≡ totals_text 0 closed.now.ran.items closed.now.back.items
+        ++ reports_text reports closed.now.reports.items) }
 {
     let mut text = processors(alloc, closed)?;
     if reports {

@@ -8,7 +8,9 @@ use std::alloc::{AllocError, Global};
 
 /// Puts a text that was made behind another.
 pub(crate) fn append(text: &mut String, made: Result<String, AllocError>) -> Result<(), AllocError>
-    ensures { OnOk result (IsOkAnd made (λ more. string_bytes text.new ≡ string_bytes text.old ++ string_bytes more)) }
+    ensures { OnOk result
+        (IsOkAnd made (λ more.
+        string_bytes text.new ≡ string_bytes text.old ++ string_bytes more)) }
 {
     text.push_str(made?.as_str())
 }
@@ -29,7 +31,8 @@ pub(crate) fn commas(alloc: Global, numbers: &[u64]) -> Result<String, AllocErro
 
 /// The counts of the processors that there are, `C0,C1,..`, as the command `shut` prints them.
 pub fn counts(alloc: Global, counts: &Counts) -> Result<String, AllocError>
-    ensures { IfOk result (λ s. string_bytes s ≡ with_commas (take counts.now.n counts.now.counts)) }
+    ensures { IfOk result (λ s.
+        string_bytes s ≡ with_commas (take counts.now.n counts.now.counts)) }
 {
     commas(alloc, counts.of_processors())
 }

@@ -1,3 +1,5 @@
+//! The lines of lists and totals.
+
 use crate::{counts, line, totals};
 use rcu_jobs::{BoxedJob, Closed, Counts, Lists, Mode, Record};
 use std::test::Fail;

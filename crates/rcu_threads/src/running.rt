@@ -33,8 +33,10 @@ fn ready<P: Drop, J: Drop>(
 ) -> Result<(Vec<Caller<P, J>>, Vec<Ticket>), ThreadsFault>
     ensures some { IfOk result (λ _. 0 < vec_len processors) }
     ensures none { IfErr result (λ fault. fault ≡ ThreadsFault.CannotRun → vec_len processors ≡ 0) }
-    ensures processors { IfOk result (λ ready. map (λ c. c.processor) ready.0.items ≡ processors.items) }
-    ensures dealt { IfOk result (λ ready. AreDealt jobs.items (map (λ c. c.jobs.items) ready.0.items)) }
+    ensures processors { IfOk result (λ ready.
+        map (λ c. c.processor) ready.0.items ≡ processors.items) }
+    ensures dealt { IfOk result (λ ready.
+        AreDealt jobs.items (map (λ c. c.jobs.items) ready.0.items)) }
 {
     if processors.is_empty() {
         return Err(ThreadsFault::CannotRun);
@@ -82,7 +84,10 @@ fn run_parts<J: Job<Receipt = u64> + 'static, R: Threads + Wait + Clock + Copy +
     jobs: Vec<J>,
 ) -> Result<(Parts<J>, Vec<Vec<Answer<J>>>), ThreadsFault>
     ensures ran { IfOk result (λ ended. HaveRun J.key_of J.gives parts ended.0) }
-    ensures answered { AreUnused parts → IfOk result (λ ended. HaveAllRun J.key_of jobs.items (map (λ own. own.items) ended.1.items) (map (λ p. keys_in p) ended.0.processors.items)) }
+    ensures answered { AreUnused parts
+        → IfOk result (λ ended.
+        HaveAllRun J.key_of jobs.items (map (λ own. own.items) ended.1.items)
+        (map (λ p. keys_in p) ended.0.processors.items)) }
 {
     let AllParts {
         processors,
@@ -134,7 +139,10 @@ pub fn run_in_threads<
     requires sound { AreSoundParts J.key_of J.gives parts }
     ensures closes { IfOk result (λ ended. ClosesSame J.key_of J.gives parts ended.closed) }
     ensures ran { AreUnused parts → IfOk result (λ ended. HasNoneBack ended.closed) }
-    ensures all { AreUnused parts → IfOk result (λ ended. HaveAllRun J.key_of jobs.items (map (λ own. own.items) ended.answers.items) (keys_ran ended.closed)) }
+    ensures all { AreUnused parts
+        → IfOk result (λ ended.
+        HaveAllRun J.key_of jobs.items (map (λ own. own.items) ended.answers.items)
+        (keys_ran ended.closed)) }
 {
     let (ended, answers) = run_parts(rt, alloc, parts, jobs)?;
     same_parts::<J>();

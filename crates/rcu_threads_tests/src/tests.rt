@@ -1,3 +1,5 @@
+//! All parts in threads.
+
 use rcu_jobs::{BoxedJob, Closed, Job, Refused};
 use rcu_numbers::Shape;
 use rcu_parts::open;

@@ -147,7 +147,8 @@ impl Actor {
 
 /// Goes on as it is ordered, and then has the processor report and tick until the runtime is halted.
 fn go_on<R: Wait + Clock>(actor: Actor, orders: Orders, rt: &R) -> Driven
-    ensures { Keeps (length actor.keys.items) (length result.log.keys.items) actor.processor result.processor }
+    ensures { Keeps (length actor.keys.items) (length result.log.keys.items) actor.processor
+        result.processor }
 {
     let mut actor = actor;
     actor.take_share(orders.share);
@@ -215,7 +216,9 @@ pub(crate) fn start_actors<R: Threads + Wait + Clock + Copy + Send + 'static>(
     plan: &Plan,
     run: u64,
 ) -> Crew<Driving>
-    ensures { result.fault ≡ None → AllZip (λ processor thread. thread.promise.0.value ≡ processor) processors.items result.threads.items }
+    ensures { result.fault ≡ None
+        → AllZip (λ processor thread. thread.promise.0.value ≡ processor) processors.items
+        result.threads.items }
 {
     let Ok(mut threads) = Vec::with_capacity(alloc, processors.len()) else {
         return Crew::none(alloc);
@@ -248,7 +251,8 @@ pub(crate) struct Parted {
 ///
 /// Want of memory.
 pub(crate) fn part(alloc: Global, all: Vec<Driven>) -> Result<Parted, AllocError>
-    ensures { IfOk result (λ parted. AllZip (λ d p. d.processor ≡ p) all.items parted.processors.items) }
+    ensures { IfOk result (λ parted.
+        AllZip (λ d p. d.processor ≡ p) all.items parted.processors.items) }
 {
     let mut processors = Vec::with_capacity(alloc, all.len())?;
     let mut logs = Vec::with_capacity(alloc, all.len())?;

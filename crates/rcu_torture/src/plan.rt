@@ -90,8 +90,11 @@ impl Plan {
     /// A plan of these numbers. None exactly where there is no processor, or more than a runtime has, or more callbacks than
     /// they accept.
     pub fn new(callbacks: u64, processors: u64, runs: u64, seed: u64) -> Option<Plan>
-        ensures within { IsSome result ↔ (0 < processors × processors ≤ MOST_PROCESSORS × callbacks ≤ processors * MOST_CALLBACKS) }
-        ensures plan { IfSome result (λ p. (p.callbacks ≡ callbacks) × (p.processors ≡ processors)) }
+        ensures within { IsSome result
+            ↔ (0 < processors × processors ≤ MOST_PROCESSORS
+            × callbacks ≤ processors * MOST_CALLBACKS) }
+        ensures plan { IfSome result (λ p.
+            (p.callbacks ≡ callbacks) × (p.processors ≡ processors)) }
         ensures runs { IfSome result (λ p. (p.runs ≡ runs) × (p.seed ≡ seed)) }
         ensures sound { IfSome result (λ p. p.flawed ≡ false) }
     {

@@ -87,7 +87,8 @@ impl Steerer {
     /// flaw.
     fn open_barrier(&mut self, alloc: Global) -> Option<Barrier>
         ensures steers { Steers self.old self.new }
-        ensures open { IfSome result (λ b. (control_board self.new.control).processors ≡ b.counts.n) }
+        ensures open { IfSome result (λ b.
+            (control_board self.new.control).processors ≡ b.counts.n) }
     {
         let tickets = self.shared.tickets(alloc).ok()?;
         let Ok(barrier) = self.control.barrier(tickets.as_slice()) else {

@@ -79,10 +79,12 @@ impl Caller {
 
     /// The next call, of a job that came back before a new one.
     fn call(&mut self) -> Step<Number>
-        ensures calls { next_job self.old < CALLS → result ≡ Step.Call 0 (record { 0 = next_job self.old }) }
+        ensures calls { next_job self.old < CALLS
+            → result ≡ Step.Call 0 (record { 0 = next_job self.old }) }
         ensures done { CALLS ≤ next_job self.old → result ≡ Step.Done }
         ensures back { self.new.back.items ≡ drop 1 self.old.back.items }
-        ensures next { next_job self.old < CALLS → self.new.next ≡ max self.old.next (next_job self.old + 1) }
+        ensures next { next_job self.old < CALLS
+            → self.new.next ≡ max self.old.next (next_job self.old + 1) }
         ensures refused { self.new.refused ≡ self.old.refused }
     {
         let job = self.back.pop_front().unwrap_or(Number(self.next));

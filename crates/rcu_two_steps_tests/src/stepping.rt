@@ -17,7 +17,8 @@ use std::alloc::Global;
 /// Begins a processor's first callback, runs its job, and finishes.
 pub fn step(processor: Processor<Echo>, moment: u64) -> Processor<Echo>
     ensures same { SameProcessor processor.state result.state }
-    ensures sound { IsSound key_of_echo IsOwnKey processor.state → IsSound key_of_echo IsOwnKey result.state }
+    ensures sound { IsSound key_of_echo IsOwnKey processor.state
+        → IsSound key_of_echo IsOwnKey result.state }
 {
     match processor.begin(moment) {
         Begins::Stops(processor, _) => processor,
@@ -31,7 +32,8 @@ pub fn step(processor: Processor<Echo>, moment: u64) -> Processor<Echo>
 /// Begins a hand's first callback, runs its job, and finishes.
 pub fn step_hand(hand: Hand<Echo>) -> Hand<Echo>
     ensures same { SameHand hand.state result.state }
-    ensures sound { IsSoundHand key_of_echo IsOwnKey hand.state → IsSoundHand key_of_echo IsOwnKey result.state }
+    ensures sound { IsSoundHand key_of_echo IsOwnKey hand.state
+        → IsSoundHand key_of_echo IsOwnKey result.state }
 {
     match hand.begin() {
         Begins::Stops(hand, _) => hand,
@@ -46,7 +48,8 @@ pub fn step_hand(hand: Hand<Echo>) -> Hand<Echo>
 fn work(processor: Processor<Echo>, driver: &mut Driver, job: Echo) -> Processor<Echo>
     ensures same { SameProcessor processor.state result.state }
     ensures driver { SameDriver driver.old driver.new }
-    ensures sound { IsSound key_of_echo IsOwnKey processor.state → IsSound key_of_echo IsOwnKey result.state }
+    ensures sound { IsSound key_of_echo IsOwnKey processor.state
+        → IsSound key_of_echo IsOwnKey result.state }
 {
     let mut processor = processor;
     let _accepted = processor.call_rcu(1, job);
@@ -59,9 +62,11 @@ fn work(processor: Processor<Echo>, driver: &mut Driver, job: Echo) -> Processor
 
 /// The same for the last processor of several.
 fn work_last(processors: &mut Vec<Processor<Echo>>, driver: &mut Driver, job: Echo)
-    ensures same { AllZip (λ p q. SameProcessor p.state q.state) processors.old.items processors.new.items }
+    ensures same { AllZip (λ p q. SameProcessor p.state q.state) processors.old.items
+        processors.new.items }
     ensures driver { SameDriver driver.old driver.new }
-    ensures sound { All (λ p. IsSound key_of_echo IsOwnKey p.state) processors.old.items → All (λ p. IsSound key_of_echo IsOwnKey p.state) processors.new.items }
+    ensures sound { All (λ p. IsSound key_of_echo IsOwnKey p.state) processors.old.items
+        → All (λ p. IsSound key_of_echo IsOwnKey p.state) processors.new.items }
 {
     let Some(processor) = processors.pop() else {
         return;

@@ -35,7 +35,8 @@ impl Retiring {
     /// Version 0, which the setup's routes make. None is retired yet.
     fn of_routes(alloc: Global, setup: &Setup) -> Result<Retiring, Fault>
         ensures none { IfOk result (λ retiring. vec_len retiring.retired ≡ 0) }
-        ensures first { IfOk result (HasRetired (with_routes [] (routes_view setup.now.routes)) []) }
+        ensures first { IfOk result
+            (HasRetired (with_routes [] (routes_view setup.now.routes)) []) }
         ensures small { IfOk result (λ retiring. index_map_len retiring.current ≤ 64) }
         ensures memory { IfErr result IsWantOfMemory }
     {
@@ -54,7 +55,8 @@ impl Retiring {
         requires small { index_map_len self.old.current < 65536 }
         requires few { vec_len self.old.retired < 65536 }
         ensures more { OnOk result (vec_len self.new.retired ≡ vec_len self.old.retired + 1) }
-        ensures small { OnOk result (index_map_len self.new.current ≤ index_map_len self.old.current + 1) }
+        ensures small { OnOk result
+            (index_map_len self.new.current ≤ index_map_len self.old.current + 1) }
         ensures spent { OnOk result (self.new.left + self.new.bytes ≡ self.old.left) }
         ensures version { (first calls : List Route) → HasRetired first calls self.old
             → OnOk result (HasRetired first (calls ++ (name.now, hop) ∷ []) self.new) }
@@ -78,10 +80,14 @@ impl Retiring {
 fn retire_for(alloc: Global, retiring: &mut Retiring, command: &Command) -> Result<(), Fault>
     requires small { index_map_len retiring.old.current < 65536 }
     requires few { vec_len retiring.old.retired < 65536 }
-    ensures many { OnOk result (vec_len retiring.new.retired ≡ vec_len retiring.old.retired + option_len (route_in command.now)) }
-    ensures small { OnOk result (index_map_len retiring.new.current ≤ index_map_len retiring.old.current + 1) }
+    ensures many { OnOk result
+        (vec_len retiring.new.retired
+        ≡ vec_len retiring.old.retired + option_len (route_in command.now)) }
+    ensures small { OnOk result
+        (index_map_len retiring.new.current ≤ index_map_len retiring.old.current + 1) }
     ensures versions { (first calls : List Route) → HasRetired first calls retiring.old
-        → OnOk result (HasRetired first (calls ++ option_to_list (route_in command.now)) retiring.new) }
+        → OnOk result
+        (HasRetired first (calls ++ option_to_list (route_in command.now)) retiring.new) }
     ensures memory { IfErr result IsWantOfMemory }
 {
     match route_of(command) {
@@ -118,8 +124,10 @@ fn retire_round(
     requires round { round < 1000 }
     requires few { vec_len retiring.old.retired ≤ 32 * round }
     requires small { index_map_len retiring.old.current ≤ 64 + vec_len retiring.old.retired }
-    ensures more { OnOk result (vec_len retiring.new.retired ≡ vec_len retiring.old.retired + processors) }
-    ensures small { OnOk result (index_map_len retiring.new.current ≤ 64 + vec_len retiring.new.retired) }
+    ensures more { OnOk result
+        (vec_len retiring.new.retired ≡ vec_len retiring.old.retired + processors) }
+    ensures small { OnOk result
+        (index_map_len retiring.new.current ≤ 64 + vec_len retiring.new.retired) }
     ensures versions { (first calls : List Route) → HasRetired first calls retiring.old
         → OnOk result (HasRetired first (calls ++ routes_of_round round processors) retiring.new) }
     ensures memory { IfErr result IsWantOfMemory }
@@ -159,8 +167,10 @@ fn retire_by_rounds(
 ///
 /// Want of memory, also where all versions would take more than a budget of 1 GiB.
 pub fn versions_by_script(alloc: Global, setup: &Setup) -> Result<Vec<Retired>, Fault>
-    ensures many { IfOk result (λ retired. vec_len retired ≡ count_by is_call setup.now.script.items) }
-    ensures versions { IfOk result (AreVersions (routes_view setup.now.routes) (routes_of_calls setup.now.script.items)) }
+    ensures many { IfOk result (λ retired.
+        vec_len retired ≡ count_by is_call setup.now.script.items) }
+    ensures versions { IfOk result
+        (AreVersions (routes_view setup.now.routes) (routes_of_calls setup.now.script.items)) }
     ensures memory { IfErr result IsWantOfMemory }
 {
     let mut retiring = Retiring::of_routes(alloc, setup)?;
@@ -175,7 +185,8 @@ pub fn versions_by_script(alloc: Global, setup: &Setup) -> Result<Vec<Retired>, 
 ///
 /// Want of memory, also where all versions would take more than a budget of 1 GiB.
 pub fn versions_by_rounds(alloc: Global, setup: &Setup) -> Result<Vec<Retired>, Fault>
-    ensures many { IfOk result (λ retired. vec_len retired ≡ setup.now.calls * setup.now.shape.processors) }
+    ensures many { IfOk result (λ retired.
+        vec_len retired ≡ setup.now.calls * setup.now.shape.processors) }
     ensures versions { IfOk result (AreVersions (routes_view setup.now.routes)
         (routes_of_rounds setup.now.shape.processors setup.now.calls)) }
     ensures memory { IfErr result IsWantOfMemory }

@@ -44,7 +44,8 @@ pub fn added_bytes(version: &Version, name: &str) -> u64 {
 /// Sets a route. A name that is there keeps its place.
 fn set_route(alloc: Global, version: &mut Version, name: &str, hop: u32) -> Result<(), Fault>
     ensures small { OnOk result (index_map_len version.new ≤ index_map_len version.old + 1) }
-    ensures routes { OnOk result (routes_in version.new ≡ with_route (routes_in version.old) (name.now, hop)) }
+    ensures routes { OnOk result
+        (routes_in version.new ≡ with_route (routes_in version.old) (name.now, hop)) }
     ensures memory { IfErr result IsWantOfMemory }
 {
     let name = String::from_str(alloc, name)?;
@@ -60,7 +61,8 @@ pub fn next_version(
     hop: u32,
 ) -> Result<Version, Fault>
     ensures small { IfOk result (λ v. index_map_len v ≤ index_map_len version.now + 1) }
-    ensures routes { IfOk result (λ v. routes_in v ≡ with_route (routes_in version.now) (name.now, hop)) }
+    ensures routes { IfOk result (λ v.
+        routes_in v ≡ with_route (routes_in version.now) (name.now, hop)) }
     ensures memory { IfErr result IsWantOfMemory }
 {
     let mut copy = version.clone()?;

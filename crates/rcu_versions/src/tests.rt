@@ -1,3 +1,5 @@
+//! Whole versions of a route table.
+
 use crate::{Retired, versions_by_rounds, versions_by_script};
 use rcu_setup::read_setup;
 use std::alloc::Global;

@@ -18,7 +18,8 @@ pub(crate) enum Acted<J> {
 
 /// What a call answered.
 fn told<J>(called: Result<Ticket, Refused<J>>) -> Acted<J>
-    ensures { MatchResult called (λ t. result ≡ Acted.Answers (Answer.Called t)) (λ refused. result ≡ Acted.Answers (Answer.Refused refused)) }
+    ensures { MatchResult called (λ t. result ≡ Acted.Answers (Answer.Called t)) (λ refused.
+        result ≡ Acted.Answers (Answer.Refused refused)) }
 {
     match called {
         Ok(ticket) => Acted::Answers(Answer::Called(ticket)),

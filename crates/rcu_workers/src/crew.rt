@@ -70,7 +70,8 @@ pub fn join_all<T: Send + Drop, P: Promise<T>, R: Threads>(
     rt: &R,
     crew: Crew<PromisedHandle<T, P>, T>,
 ) -> Vec<T>
-    ensures { AllZip (HasEnded (λ thread part. P.kept_by thread.promise part)) crew.started.items result.items }
+    ensures { AllZip (HasEnded (λ thread part. P.kept_by thread.promise part)) crew.started.items
+        result.items }
 {
     let Crew {
         started: all,

@@ -38,7 +38,8 @@ pub fn run_or_drop<
     steering: &mut G,
     ending: Ending,
 ) -> Result<Worked<J, W>, AnyFault>
-    ensures fault { IfErr result (IsOfRun (length (processors_in runtime)) (vec_len workers) ending) }
+    ensures fault { IfErr result
+        (IsOfRun (length (processors_in runtime)) (vec_len workers) ending) }
     ensures number { IfOk result (λ _. vec_len workers ≡ length (processors_in runtime)) }
     ensures continues { IfOk result (λ worked. Continues runtime worked.runtime) }
     ensures workers { IfOk result (λ worked. ComeBack workers worked.workers worked.ends) }

@@ -31,10 +31,15 @@ impl<J: Job, W: Worker<J>> Rooms<J, W> {
     ///
     /// Want of memory.
     pub(crate) fn new(alloc: Global, parts: &Parts<J>) -> Result<Rooms<J, W>, AllocError>
-        ensures posts { IfOk result (λ rooms. IsRoomFor (vec_len parts.now.processors) rooms.posts) }
-        ensures at_posts { IfOk result (λ rooms. rooms.at_posts.many ≡ vec_len parts.now.processors) }
-        ensures halves { IfOk result (λ rooms. AreHalvesFor (vec_len parts.now.processors) rooms.halves) }
-        ensures others { IfOk result (λ rooms. (rooms.groups.many ≡ vec_len parts.now.groups) × (rooms.hands.many ≡ vec_len parts.now.hands)) }
+        ensures posts { IfOk result (λ rooms.
+            IsRoomFor (vec_len parts.now.processors) rooms.posts) }
+        ensures at_posts { IfOk result (λ rooms.
+            rooms.at_posts.many ≡ vec_len parts.now.processors) }
+        ensures halves { IfOk result (λ rooms.
+            AreHalvesFor (vec_len parts.now.processors) rooms.halves) }
+        ensures others { IfOk result (λ rooms.
+            (rooms.groups.many ≡ vec_len parts.now.groups)
+            × (rooms.hands.many ≡ vec_len parts.now.hands)) }
     {
         let many = parts.processors.len();
         let posts = Vec::with_capacity(alloc, many)?;

@@ -120,7 +120,8 @@ pub(crate) fn run_parts<
     requires posts { IsRoomFor (vec_len parts.processors) rooms.posts }
     requires at_posts { rooms.at_posts.many ≡ vec_len parts.processors }
     requires halves { AreHalvesFor (vec_len parts.processors) rooms.halves }
-    requires others { (rooms.groups.many ≡ vec_len parts.groups) × (rooms.hands.many ≡ vec_len parts.hands) }
+    requires others { (rooms.groups.many ≡ vec_len parts.groups)
+        × (rooms.hands.many ≡ vec_len parts.hands) }
     ensures parts { HaveWorked J.key_of J.gives parts result.parts }
     ensures workers { ComeBack workers result.workers result.ends }
     ensures unbegun { KeepsUnbegun workers result.workers result.ends }

@@ -89,7 +89,8 @@ pub(crate) fn start_groups<
     room: Room<Running<Group<J>>, Group<J>>,
 ) -> Crew<Running<Group<J>>, Group<J>>
     requires { vec_len groups ≤ room.many }
-    ensures { AllZip (HasBegun (λ thread. thread.promise.0.value) GroupStays) groups.items result.started.items }
+    ensures { AllZip (HasBegun (λ thread. thread.promise.0.value) GroupStays) groups.items
+        result.started.items }
 {
     let Room {
         mut started,
@@ -141,7 +142,8 @@ pub(crate) fn start_hands<
     room: Room<Running<Hand<J>>, Hand<J>>,
 ) -> Crew<Running<Hand<J>>, Hand<J>>
     requires { vec_len hands ≤ room.many }
-    ensures { AllZip (HasBegun (λ thread. thread.promise.0.value) (HandStays J.key_of J.gives)) hands.items result.started.items }
+    ensures { AllZip (HasBegun (λ thread. thread.promise.0.value) (HandStays J.key_of J.gives))
+        hands.items result.started.items }
 {
     let Room {
         mut started,
@@ -199,7 +201,8 @@ pub(crate) fn start_posts<
     room: Room<Working<J, W>, Station<J, W>>,
 ) -> Crew<Working<J, W>, Station<J, W>>
     requires { vec_len posts ≤ room.many }
-    ensures { AllZip (HasBegun (λ thread. thread.promise.0.value) (PostWorks J.key_of J.gives)) posts.items result.started.items }
+    ensures { AllZip (HasBegun (λ thread. thread.promise.0.value) (PostWorks J.key_of J.gives))
+        posts.items result.started.items }
 {
     let Room {
         mut started,

@@ -46,8 +46,11 @@ fn find_room<J: Job, W: Worker<J>>(
     ensures many { IfOk result (λ _. workers ≡ vec_len parts.now.processors) }
     ensures posts { IfOk result (λ rooms. IsRoomFor (vec_len parts.now.processors) rooms.posts) }
     ensures at_posts { IfOk result (λ rooms. rooms.at_posts.many ≡ vec_len parts.now.processors) }
-    ensures halves { IfOk result (λ rooms. AreHalvesFor (vec_len parts.now.processors) rooms.halves) }
-    ensures others { IfOk result (λ rooms. (rooms.groups.many ≡ vec_len parts.now.groups) × (rooms.hands.many ≡ vec_len parts.now.hands)) }
+    ensures halves { IfOk result (λ rooms.
+        AreHalvesFor (vec_len parts.now.processors) rooms.halves) }
+    ensures others { IfOk result (λ rooms.
+        (rooms.groups.many ≡ vec_len parts.now.groups)
+        × (rooms.hands.many ≡ vec_len parts.now.hands)) }
     ensures fault { IfErr result (λ fault. IsEarly (vec_len parts.now.processors) workers fault) }
 {
     let processors = parts.processors.len();
@@ -85,7 +88,8 @@ fn answer<J: Job, W: Worker<J>>(
     has_begun: bool,
     ending: Ending,
 ) -> Result<Worked<J, W>, NotWorked<J, W>>
-    ensures continues { MatchResult result (λ w. Continues runtime w.runtime) (λ refused. Continues runtime refused.worked.runtime) }
+    ensures continues { MatchResult result (λ w. Continues runtime w.runtime) (λ refused.
+        Continues runtime refused.worked.runtime) }
     ensures fault { IfErr result (λ refused. IsLate has_begun ending refused.fault) }
     ensures workers { IfOk result (λ w. (w.workers ≡ workers) × (w.ends ≡ ends)) }
     ensures back { IfErr result (λ refused. refused.worked.workers ≡ workers) }
@@ -144,15 +148,21 @@ pub fn run_workers<
     steering: &mut G,
     ending: Ending,
 ) -> Result<Worked<J, W>, NotWorked<J, W>>
-    ensures continues { MatchResult result (λ worked. Continues runtime worked.runtime) (λ refused. Continues runtime refused.worked.runtime) }
-    ensures back { IfErr result (λ refused. ComesBack refused.fault runtime refused.worked.runtime workers.items refused.worked.workers.items) }
+    ensures continues { MatchResult result (λ worked. Continues runtime worked.runtime) (λ refused.
+        Continues runtime refused.worked.runtime) }
+    ensures back { IfErr result (λ refused.
+        ComesBack refused.fault runtime refused.worked.runtime workers.items
+        refused.worked.workers.items) }
     ensures workers { IfOk result (λ worked. ComeBack workers worked.workers worked.ends) }
     ensures as_many { IfErr result (λ refused. vec_len refused.worked.workers ≡ vec_len workers) }
     ensures number { IfOk result (λ _. vec_len workers ≡ length (processors_in runtime)) }
-    ensures why { IfErr result (λ refused. IsWhy (length (processors_in runtime)) (vec_len workers) ending refused.fault) }
-    ensures ends { IfErr result (λ refused. HaveEnded refused.fault (vec_len workers) refused.worked.ends.items) }
+    ensures why { IfErr result (λ refused.
+        IsWhy (length (processors_in runtime)) (vec_len workers) ending refused.fault) }
+    ensures ends { IfErr result (λ refused.
+        HaveEnded refused.fault (vec_len workers) refused.worked.ends.items) }
     ensures unbegun { IfOk result (λ worked. KeepsUnbegun workers worked.workers worked.ends) }
-    ensures unbegun_back { IfErr result (λ refused. KeepsUnbegun workers refused.worked.workers refused.worked.ends) }
+    ensures unbegun_back { IfErr result (λ refused.
+        KeepsUnbegun workers refused.worked.workers refused.worked.ends) }
     ensures run { ending ≡ Ending.AfterBarrier → IfOk result (λ worked. HasRunAll worked.runtime) }
     ensures drained { ending ≡ Ending.Drained → IfOk result (λ worked. IsDrained worked.runtime) }
 {

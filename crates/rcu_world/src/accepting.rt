@@ -15,7 +15,8 @@ use rcu_law::marks::Mark;
 impl<J: Job> Core<J, J::Receipt> {
     pub(crate) fn accept(&mut self, cpu: u64, job: J) -> Answer<J>
         requires { IsFit (state J.key_of self.old) }
-        ensures answers { Answers J.key_of (state J.key_of self.old) (events.Accept cpu job) result (state J.key_of self.new) }
+        ensures answers { Answers J.key_of (state J.key_of self.old) (events.Accept cpu job) result
+            (state J.key_of self.new) }
         ensures ready { is_done result ≡ true → IsReadyAt self.new cpu }
         ensures given { AllGiven J.gives self.old → AllGiven J.gives self.new }
     {
@@ -44,7 +45,8 @@ impl<J: Job> Core<J, J::Receipt> {
     pub(crate) fn stamp(&mut self, cpu: u64, moment: u64, lazy: bool) -> Answer<J>
         requires fit { IsFit (state J.key_of self.old) }
         requires given { AllGiven J.gives self.old }
-        ensures answers { Answers J.key_of (state J.key_of self.old) (events.Stamp cpu moment lazy) result (state J.key_of self.new) }
+        ensures answers { Answers J.key_of (state J.key_of self.old) (events.Stamp cpu moment lazy)
+            result (state J.key_of self.new) }
         ensures sure { IsReadyAt self.old cpu → lacks_room result ≡ false }
         ensures given { AllGiven J.gives self.old → AllGiven J.gives self.new }
     {
@@ -66,7 +68,8 @@ impl<J: Job> Core<J, J::Receipt> {
 
     pub(crate) fn put(&mut self, cpu: u64, moment: Option<u64>) -> Answer<J>
         requires { IsFit (state J.key_of self.old) }
-        ensures answers { Answers J.key_of (state J.key_of self.old) (events.Put cpu moment) result (state J.key_of self.new) }
+        ensures answers { Answers J.key_of (state J.key_of self.old) (events.Put cpu moment) result
+            (state J.key_of self.new) }
         ensures given { AllGiven J.gives self.old → AllGiven J.gives self.new }
     {
         let i = cpu as usize;

@@ -39,7 +39,9 @@ fn all_of(seen: &Vec<bool>) -> bool
 impl Barring {
     /// Nothing is counted.
     pub fn new(alloc: Global, n: usize) -> Result<Self, AllocError>
-        ensures { IfOk result (λ b. barrier b ≡ record { passed = false; counts = replicate n None; seen = replicate n false }) }
+        ensures { IfOk result (λ b.
+            barrier b
+            ≡ record { passed = false; counts = replicate n None; seen = replicate n false }) }
     {
         Ok(Barring {
             passed: false,
@@ -57,7 +59,9 @@ impl Barring {
     /// Keeps the count of a processor.
     pub fn count(&mut self, i: usize, count: u64)
         requires { i < length self.old.counts.items }
-        ensures { barrier self.new ≡ record (barrier self.old) { counts = slice_set (barrier self.old).counts i (Some count) } }
+        ensures { barrier self.new
+            ≡ record (barrier self.old)
+            { counts = slice_set (barrier self.old).counts i (Some count) } }
     {
         self.counts[i] = Some(count);
     }
@@ -66,7 +70,12 @@ impl Barring {
     pub fn see(&mut self, i: usize, turn: u64)
         requires counts { i < length self.old.counts.items }
         requires seen { i < length self.old.seen.items }
-        ensures { barrier self.new ≡ record (barrier self.old) { seen = slice_set (barrier self.old).seen i (slice_index_or (barrier self.old).seen i false || nat_le (2 * value_or (count_at (barrier self.old) i)) turn) } }
+        ensures { barrier self.new
+            ≡ record (barrier self.old) {
+              seen = slice_set (barrier self.old).seen i
+                  (slice_index_or (barrier self.old).seen i false || nat_le
+                  (2 * value_or (count_at (barrier self.old) i)) turn);
+            } }
     {
         let count = match self.counts[i] {
             None => 0,

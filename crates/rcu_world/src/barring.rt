@@ -19,8 +19,10 @@ use rcu_processor::Processor;
 
 /// All processors are urged.
 fn urge_all<J: Job>(processors: &mut Vec<Processor<J, J::Receipt>>)
-    ensures urges { all_seen J.key_of processors.new.items ≡ each_cpu urge_step 0 (all_seen J.key_of processors.old.items) }
-    ensures given { (mark : ℕ) → AllByRecursion (AreGiven J.gives mark) processors.old.items → AllByRecursion (AreGiven J.gives mark) processors.new.items }
+    ensures urges { all_seen J.key_of processors.new.items
+        ≡ each_cpu urge_step 0 (all_seen J.key_of processors.old.items) }
+    ensures given { (mark : ℕ) → AllByRecursion (AreGiven J.gives mark) processors.old.items
+        → AllByRecursion (AreGiven J.gives mark) processors.new.items }
 {
     for i in 0..processors.len() {
         let p = &mut processors[i];
@@ -31,7 +33,8 @@ fn urge_all<J: Job>(processors: &mut Vec<Processor<J, J::Receipt>>)
 impl<J: Job> Core<J, J::Receipt> {
     pub(crate) fn open(&mut self, barrier: u64) -> Answer<J>
         requires { IsFit (state J.key_of self.old) }
-        ensures answers { Answers J.key_of (state J.key_of self.old) (events.Open barrier) result (state J.key_of self.new) }
+        ensures answers { Answers J.key_of (state J.key_of self.old) (events.Open barrier) result
+            (state J.key_of self.new) }
         ensures given { AllGiven J.gives self.old → AllGiven J.gives self.new }
     {
         if barrier != self.barriers.len() as u64 {
@@ -57,7 +60,8 @@ impl<J: Job> Core<J, J::Receipt> {
 
     pub(crate) fn count(&mut self, barrier: u64, cpu: u64) -> Answer<J>
         requires { IsFit (state J.key_of self.old) }
-        ensures answers { Answers J.key_of (state J.key_of self.old) (events.Count barrier cpu) result (state J.key_of self.new) }
+        ensures answers { Answers J.key_of (state J.key_of self.old) (events.Count barrier cpu)
+            result (state J.key_of self.new) }
         ensures given { AllGiven J.gives self.old → AllGiven J.gives self.new }
     {
         let j = barrier as usize;
@@ -82,7 +86,8 @@ impl<J: Job> Core<J, J::Receipt> {
 
     pub(crate) fn turn(&mut self, barrier: u64, cpu: u64) -> Answer<J>
         requires { IsFit (state J.key_of self.old) }
-        ensures answers { Answers J.key_of (state J.key_of self.old) (events.Turn barrier cpu) result (state J.key_of self.new) }
+        ensures answers { Answers J.key_of (state J.key_of self.old) (events.Turn barrier cpu)
+            result (state J.key_of self.new) }
         ensures given { AllGiven J.gives self.old → AllGiven J.gives self.new }
     {
         let j = barrier as usize;
@@ -107,7 +112,8 @@ impl<J: Job> Core<J, J::Receipt> {
 
     pub(crate) fn pass(&mut self, barrier: u64) -> Answer<J>
         requires { IsFit (state J.key_of self.old) }
-        ensures answers { Answers J.key_of (state J.key_of self.old) (events.Pass barrier) result (state J.key_of self.new) }
+        ensures answers { Answers J.key_of (state J.key_of self.old) (events.Pass barrier) result
+            (state J.key_of self.new) }
         ensures given { AllGiven J.gives self.old → AllGiven J.gives self.new }
     {
         let j = barrier as usize;
@@ -132,7 +138,8 @@ impl<J: Job> Core<J, J::Receipt> {
 
     pub(crate) fn shut(&mut self, cpu: u64) -> Answer<J>
         requires { IsFit (state J.key_of self.old) }
-        ensures answers { Answers J.key_of (state J.key_of self.old) (events.Shut cpu) result (state J.key_of self.new) }
+        ensures answers { Answers J.key_of (state J.key_of self.old) (events.Shut cpu) result
+            (state J.key_of self.new) }
         ensures given { AllGiven J.gives self.old → AllGiven J.gives self.new }
     {
         let i = cpu as usize;
@@ -154,7 +161,8 @@ impl<J: Job> Core<J, J::Receipt> {
 
     pub(crate) fn urge(&mut self) -> Answer<J>
         requires { IsFit (state J.key_of self.old) }
-        ensures answers { Answers J.key_of (state J.key_of self.old) events.Urge result (state J.key_of self.new) }
+        ensures answers { Answers J.key_of (state J.key_of self.old) events.Urge result
+            (state J.key_of self.new) }
         ensures given { AllGiven J.gives self.old → AllGiven J.gives self.new }
     {
         urge_all(&mut self.processors);

@@ -13,7 +13,8 @@ use rcu_law::marks::Mark;
 use rcu_numbers::GREATEST_NUMBER;
 
 fn may_start(number: u64, needed: u64) -> bool
-    ensures { result ≡ ((number % 4 == 0) && (nat_lt number needed && nat_lt number GREATEST_NUMBER)) }
+    ensures { result
+        ≡ ((number % 4 == 0) && (nat_lt number needed && nat_lt number GREATEST_NUMBER)) }
 {
     number % 4 == 0 && number < needed && number < GREATEST_NUMBER
 }
@@ -21,7 +22,8 @@ fn may_start(number: u64, needed: u64) -> bool
 impl<J: Job> Core<J, J::Receipt> {
     pub(crate) fn report(&mut self, cpu: u64) -> Answer<J>
         requires { IsFit (state J.key_of self.old) }
-        ensures answers { Answers J.key_of (state J.key_of self.old) (events.Report cpu) result (state J.key_of self.new) }
+        ensures answers { Answers J.key_of (state J.key_of self.old) (events.Report cpu) result
+            (state J.key_of self.new) }
         ensures given { AllGiven J.gives self.old → AllGiven J.gives self.new }
     {
         let i = cpu as usize;
@@ -41,7 +43,8 @@ impl<J: Job> Core<J, J::Receipt> {
 
     pub(crate) fn start(&mut self) -> Answer<J>
         requires { IsFit (state J.key_of self.old) }
-        ensures answers { Answers J.key_of (state J.key_of self.old) events.Start result (state J.key_of self.new) }
+        ensures answers { Answers J.key_of (state J.key_of self.old) events.Start result
+            (state J.key_of self.new) }
         ensures given { AllGiven J.gives self.old → AllGiven J.gives self.new }
     {
         if !may_start(self.board.number(), self.needed) {
@@ -53,7 +56,8 @@ impl<J: Job> Core<J, J::Receipt> {
 
     pub(crate) fn end(&mut self) -> Answer<J>
         requires { IsFit (state J.key_of self.old) }
-        ensures answers { Answers J.key_of (state J.key_of self.old) events.End result (state J.key_of self.new) }
+        ensures answers { Answers J.key_of (state J.key_of self.old) events.End result
+            (state J.key_of self.new) }
         ensures given { AllGiven J.gives self.old → AllGiven J.gives self.new }
     {
         if self.board.number() % 4 != 1 {

@@ -78,7 +78,9 @@ impl Board {
     /// A grace period starts: each processor owes a report.
     pub(crate) fn start(&mut self)
         requires { self.old.number < GREATEST_NUMBER }
-        ensures { self.new ≡ record { number = self.old.number + 1; owing = replicate (length self.old.owing) true } }
+        ensures { self.new
+            ≡ record
+            { number = self.old.number + 1; owing = replicate (length self.old.owing) true } }
     {
         self.word = BoardWord::pack(self.word.seq() + 1, all_processors(self.processors));
     }

@@ -19,7 +19,9 @@ impl<J: Job> World<J> {
         requires world { IsWorld J.key_of J.gives self.old.core }
         requires there { cpu < length (state J.key_of self.old.core).cpus }
         requires rest { IsAtRest (state J.key_of self.old.core) }
-        ensures events { OnOk result (Leads (state J.key_of self.old.core) (Accept cpu (J.key_of job) ∷ []) (state J.key_of self.new.core)) }
+        ensures events { OnOk result
+            (Leads (state J.key_of self.old.core) (Accept cpu (J.key_of job) ∷ [])
+            (state J.key_of self.new.core)) }
         ensures ready { OnOk result (IsReadyAt self.new.core cpu) }
         ensures rest { OnOk result (IsAtRestBut cpu (state J.key_of self.new.core)) }
         ensures same { OnErr result (SameState J.key_of self.old.core self.new.core) }
@@ -45,8 +47,12 @@ impl<J: Job> World<J> {
         requires world { IsWorld J.key_of J.gives self.old.core }
         requires ready { IsReadyAt self.old.core cpu }
         requires fresh { is_enabled (state J.key_of self.old.core) (Stamp cpu moment lazy) ≡ true }
-        ensures events { (room : Bool) × Leads (state J.key_of self.old.core) (stamp_events cpu moment lazy room (state J.key_of self.old.core)) (state J.key_of self.new.core) }
-        ensures rest { IsAtRestBut cpu (state J.key_of self.old.core) → IsAtRest (state J.key_of self.new.core) }
+        ensures events { (room : Bool)
+            × Leads (state J.key_of self.old.core)
+            (stamp_events cpu moment lazy room (state J.key_of self.old.core))
+            (state J.key_of self.new.core) }
+        ensures rest { IsAtRestBut cpu (state J.key_of self.old.core)
+            → IsAtRest (state J.key_of self.new.core) }
         ensures len { AsManyProcessors J.key_of self.old.core self.new.core }
         ensures kept { IsWorld J.key_of J.gives self.new.core }
     {
@@ -64,8 +70,14 @@ impl<J: Job> World<J> {
         requires world { IsWorld J.key_of J.gives self.old.core }
         requires there { cpu < length (state J.key_of self.old.core).cpus }
         requires rest { IsAtRest (state J.key_of self.old.core) }
-        ensures events { OnOk result ((room : Bool) × Leads (state J.key_of self.old.core) (call_events cpu moment lazy (J.key_of job) room (state J.key_of self.old.core)) (state J.key_of self.new.core)) }
-        ensures ticket { IfOk result (λ ticket. (ticket.cpu ≡ cpu) × (ticket.number ≡ (cpu_at (state J.key_of self.old.core) cpu).count)) }
+        ensures events { OnOk result
+            ((room : Bool)
+            × Leads (state J.key_of self.old.core)
+            (call_events cpu moment lazy (J.key_of job) room (state J.key_of self.old.core))
+            (state J.key_of self.new.core)) }
+        ensures ticket { IfOk result (λ ticket.
+            (ticket.cpu ≡ cpu)
+            × (ticket.number ≡ (cpu_at (state J.key_of self.old.core) cpu).count)) }
         ensures same { OnErr result (SameState J.key_of self.old.core self.new.core) }
         ensures refused { IfErr result (IsRefusal (state J.key_of self.old.core) cpu job) }
         ensures rest { IsAtRest (state J.key_of self.new.core) }
@@ -84,8 +96,14 @@ impl<J: Job> World<J> {
         requires world { IsWorld J.key_of J.gives self.old.core }
         requires there { cpu < length (state J.key_of self.old.core).cpus }
         requires rest { IsAtRest (state J.key_of self.old.core) }
-        ensures events { OnOk result ((room : Bool) × Leads (state J.key_of self.old.core) (call_events cpu moment false (J.key_of job) room (state J.key_of self.old.core)) (state J.key_of self.new.core)) }
-        ensures ticket { IfOk result (λ ticket. (ticket.cpu ≡ cpu) × (ticket.number ≡ (cpu_at (state J.key_of self.old.core) cpu).count)) }
+        ensures events { OnOk result
+            ((room : Bool)
+            × Leads (state J.key_of self.old.core)
+            (call_events cpu moment false (J.key_of job) room (state J.key_of self.old.core))
+            (state J.key_of self.new.core)) }
+        ensures ticket { IfOk result (λ ticket.
+            (ticket.cpu ≡ cpu)
+            × (ticket.number ≡ (cpu_at (state J.key_of self.old.core) cpu).count)) }
         ensures same { OnErr result (SameState J.key_of self.old.core self.new.core) }
         ensures refused { IfErr result (IsRefusal (state J.key_of self.old.core) cpu job) }
         ensures rest { IsAtRest (state J.key_of self.new.core) }
@@ -100,8 +118,14 @@ impl<J: Job> World<J> {
         requires world { IsWorld J.key_of J.gives self.old.core }
         requires there { cpu < length (state J.key_of self.old.core).cpus }
         requires rest { IsAtRest (state J.key_of self.old.core) }
-        ensures events { OnOk result ((room : Bool) × Leads (state J.key_of self.old.core) (call_events cpu moment true (J.key_of job) room (state J.key_of self.old.core)) (state J.key_of self.new.core)) }
-        ensures ticket { IfOk result (λ ticket. (ticket.cpu ≡ cpu) × (ticket.number ≡ (cpu_at (state J.key_of self.old.core) cpu).count)) }
+        ensures events { OnOk result
+            ((room : Bool)
+            × Leads (state J.key_of self.old.core)
+            (call_events cpu moment true (J.key_of job) room (state J.key_of self.old.core))
+            (state J.key_of self.new.core)) }
+        ensures ticket { IfOk result (λ ticket.
+            (ticket.cpu ≡ cpu)
+            × (ticket.number ≡ (cpu_at (state J.key_of self.old.core) cpu).count)) }
         ensures same { OnErr result (SameState J.key_of self.old.core self.new.core) }
         ensures refused { IfErr result (IsRefusal (state J.key_of self.old.core) cpu job) }
         ensures rest { IsAtRest (state J.key_of self.new.core) }

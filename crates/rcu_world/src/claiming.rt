@@ -15,7 +15,8 @@ use rcu_law::who::Side;
 impl<J: Job> Core<J, J::Receipt> {
     pub(crate) fn claim(&mut self, cpu: u64, by: Side) -> Answer<J>
         requires { IsFit (state J.key_of self.old) }
-        ensures answers { Answers J.key_of (state J.key_of self.old) (events.Claim cpu by) result (state J.key_of self.new) }
+        ensures answers { Answers J.key_of (state J.key_of self.old) (events.Claim cpu by) result
+            (state J.key_of self.new) }
         ensures given { AllGiven J.gives self.old → AllGiven J.gives self.new }
     {
         let i = cpu as usize;
@@ -41,7 +42,8 @@ impl<J: Job> Core<J, J::Receipt> {
 
     pub(crate) fn finish(&mut self, cpu: u64, by: Side) -> Answer<J>
         requires { IsFit (state J.key_of self.old) }
-        ensures answers { Answers J.key_of (state J.key_of self.old) (events.Finish cpu by) result (state J.key_of self.new) }
+        ensures answers { Answers J.key_of (state J.key_of self.old) (events.Finish cpu by) result
+            (state J.key_of self.new) }
         ensures given { AllGiven J.gives self.old → AllGiven J.gives self.new }
     {
         let i = cpu as usize;

@@ -35,10 +35,18 @@ impl<J: Job> World<J> {
     pub fn shut(&mut self) -> Result<Counts, AllocError>
         requires world { IsWorld J.key_of J.gives self.old.core }
         requires rest { IsAtRest (state J.key_of self.old.core) }
-        ensures events { OnOk result (Leads (state J.key_of self.old.core) (upto shuts (length (state J.key_of self.old.core).cpus) (state J.key_of self.old.core)) (state J.key_of self.new.core)) }
-        ensures counts { IfOk result (λ counts. AreCounts (state J.key_of self.new.core) counts.n counts.counts) }
-        ensures err { OnErr result ((n : ℕ) × Leads (state J.key_of self.old.core) (upto shuts n (state J.key_of self.old.core)) (state J.key_of self.new.core)) }
-        ensures err_enabled { OnErr result ((cpu : ℕ) × (is_enabled (state J.key_of self.new.core) (Shut cpu) ≡ true)) }
+        ensures events { OnOk result
+            (Leads (state J.key_of self.old.core)
+            (upto shuts (length (state J.key_of self.old.core).cpus) (state J.key_of self.old.core))
+            (state J.key_of self.new.core)) }
+        ensures counts { IfOk result (λ counts.
+            AreCounts (state J.key_of self.new.core) counts.n counts.counts) }
+        ensures err { OnErr result
+            ((n : ℕ)
+            × Leads (state J.key_of self.old.core) (upto shuts n (state J.key_of self.old.core))
+            (state J.key_of self.new.core)) }
+        ensures err_enabled { OnErr result
+            ((cpu : ℕ) × (is_enabled (state J.key_of self.new.core) (Shut cpu) ≡ true)) }
         ensures rest { IsAtRest (state J.key_of self.new.core) }
         ensures len { AsManyProcessors J.key_of self.old.core self.new.core }
         ensures kept { IsWorld J.key_of J.gives self.new.core }
@@ -82,7 +90,9 @@ impl<J: Job> World<J> {
     /// Takes the counts of all processors for an open barrier.
     fn count_all(&mut self, barrier: u64)
         requires { IsWorld J.key_of J.gives self.old.core }
-        ensures events { Leads (state J.key_of self.old.core) (upto (counts_for barrier) (length (state J.key_of self.old.core).cpus) (state J.key_of self.old.core)) (state J.key_of self.new.core) }
+        ensures events { Leads (state J.key_of self.old.core)
+            (upto (counts_for barrier) (length (state J.key_of self.old.core).cpus)
+            (state J.key_of self.old.core)) (state J.key_of self.new.core) }
         ensures rest { KeepsRest J.key_of self.old.core self.new.core }
         ensures len { AsManyProcessors J.key_of self.old.core self.new.core }
         ensures kept { IsWorld J.key_of J.gives self.new.core }
@@ -101,7 +111,10 @@ impl<J: Job> World<J> {
         requires world { IsWorld J.key_of J.gives self.old.core }
         requires rest { IsAtRest (state J.key_of self.old.core) }
         ensures answer { IsBarrierAnswer (state J.key_of self.old.core) by tickets.now result }
-        ensures events { IfOk result (λ name. Leads (state J.key_of self.old.core) (barrier_events name (length (state J.key_of self.old.core).cpus) (state J.key_of self.old.core)) (state J.key_of self.new.core)) }
+        ensures events { IfOk result (λ name.
+            Leads (state J.key_of self.old.core)
+            (barrier_events name (length (state J.key_of self.old.core).cpus)
+            (state J.key_of self.old.core)) (state J.key_of self.new.core)) }
         ensures same { OnErr result (SameState J.key_of self.old.core self.new.core) }
         ensures rest { IsAtRest (state J.key_of self.new.core) }
         ensures len { AsManyProcessors J.key_of self.old.core self.new.core }

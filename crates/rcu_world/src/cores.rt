@@ -42,7 +42,8 @@ impl<J: Job> Core<J, J::Receipt> {
     pub fn apply(&mut self, event: Event<J>) -> Answer<J>
         requires fit { IsFit (state J.key_of self.old) }
         requires given { AllGiven J.gives self.old }
-        ensures answers { Answers J.key_of (state J.key_of self.old) event result (state J.key_of self.new) }
+        ensures answers { Answers J.key_of (state J.key_of self.old) event result
+            (state J.key_of self.new) }
         ensures ready { LeavesRoom event result self.new }
         ensures sure { UsesRoom self.old event result }
         ensures given { AllGiven J.gives self.old → AllGiven J.gives self.new }
@@ -84,7 +85,8 @@ impl<J: Job> Core<J, J::Receipt> {
 impl<J: Job> Core<J, J::Receipt> {
     /// All processors at rest. The offloadable ones are Offloaded, all others Local.
     pub fn new(alloc: Global, shape: Shape) -> Result<Self, AllocError>
-        ensures opens { IfOk result (λ w. state J.key_of w ≡ opening shape.processors (plan shape)) }
+        ensures opens { IfOk result (λ w.
+            state J.key_of w ≡ opening shape.processors (plan shape)) }
         ensures given { IfOk result (λ w. AllGiven J.gives w) }
     {
         let mut offloadable = Vec::new(alloc);

@@ -60,7 +60,8 @@ fn count_marks<J: Job>(processors: &Vec<Processor<J, J::Receipt>>) -> usize
 /// Adds a `Shut` for each processor that has none. There is room.
 fn add_shuts<J: Job>(processors: &Vec<Processor<J, J::Receipt>>, marks: &mut Vec<Mark>)
     requires room { vec_len marks.old + vec_len processors.now ≤ vec_capacity marks.old }
-    ensures marks { marks.new.items ≡ marks.old.items ++ shut_marks 0 (all_seen J.key_of processors.now.items) }
+    ensures marks { marks.new.items
+        ≡ marks.old.items ++ shut_marks 0 (all_seen J.key_of processors.now.items) }
     ensures len { vec_len marks.new ≤ vec_len marks.old + vec_len processors.now }
     ensures capacity { vec_capacity marks.old ≤ vec_capacity marks.new }
 {
@@ -82,7 +83,9 @@ fn take_apart<J: Job>(
     requires ran_room { vec_len ran.old + vec_len processors ≤ vec_capacity ran.old }
     requires back_room { vec_len back.old + vec_len processors ≤ vec_capacity back.old }
     ensures ran { ran.new.items ≡ ran.old.items ++ map records_of processors.items }
-    ensures back { map (λ v. map J.key_of v.items) back.new.items ≡ map (λ v. map J.key_of v.items) back.old.items ++ map left_keys (all_seen J.key_of processors.items) }
+    ensures back { map (λ v. map J.key_of v.items) back.new.items
+        ≡ map (λ v. map J.key_of v.items) back.old.items
+        ++ map left_keys (all_seen J.key_of processors.items) }
 {
     while !processors.is_empty() {
         let mut processor = processors.remove(0);
@@ -96,7 +99,8 @@ fn take_apart<J: Job>(
 /// Adds a `Back` for each of a processor's jobs. There is room.
 fn add_back<J: Job>(cpu: u64, jobs: &Vec<J>, marks: &mut Vec<Mark>)
     requires room { vec_len marks.old + vec_len jobs.now ≤ vec_capacity marks.old }
-    ensures marks { marks.new.items ≡ marks.old.items ++ map (λ key. Back cpu key) (map J.key_of jobs.now.items) }
+    ensures marks { marks.new.items
+        ≡ marks.old.items ++ map (λ key. Back cpu key) (map J.key_of jobs.now.items) }
     ensures len { vec_len marks.new ≡ vec_len marks.old + vec_len jobs.now }
     ensures capacity { vec_capacity marks.old ≤ vec_capacity marks.new }
 {
@@ -107,8 +111,11 @@ fn add_back<J: Job>(cpu: u64, jobs: &Vec<J>, marks: &mut Vec<Mark>)
 
 /// Adds a `Back` for each job that is handed back, by processor and in order. There is room.
 fn add_backs<J: Job>(back: &Vec<Vec<J>>, marks: &mut Vec<Mark>)
-    requires room { vec_len marks.old + length (backs 0 (map (λ v. map J.key_of v.items) back.now.items)) ≤ vec_capacity marks.old }
-    ensures { marks.new.items ≡ marks.old.items ++ backs 0 (map (λ v. map J.key_of v.items) back.now.items) }
+    requires room { vec_len marks.old
+        + length (backs 0 (map (λ v. map J.key_of v.items) back.now.items))
+        ≤ vec_capacity marks.old }
+    ensures { marks.new.items
+        ≡ marks.old.items ++ backs 0 (map (λ v. map J.key_of v.items) back.now.items) }
 {
     for cpu in 0..back.len() {
         add_back(cpu as u64, &back[cpu], marks);
@@ -162,8 +169,10 @@ impl<J: Job> Core<J, J::Receipt> {
         requires { IsRoomFor J.key_of self room }
         ensures marks { result.0.items ≡ closing (state J.key_of self) }
         ensures ran { result.1.ran.items ≡ map records_of self.processors.items }
-        ensures back { map (λ v. map J.key_of v.items) result.1.back.items ≡ map left_keys (all_seen J.key_of self.processors.items) }
-        ensures reports { AreReported (vec_len self.processors) result.0.items result.1.reports.items }
+        ensures back { map (λ v. map J.key_of v.items) result.1.back.items
+            ≡ map left_keys (all_seen J.key_of self.processors.items) }
+        ensures reports { AreReported (vec_len self.processors) result.0.items
+            result.1.reports.items }
     {
         let Core { processors, .. } = self;
         let Room {

@@ -51,7 +51,9 @@ impl<J: Job> World<J> {
     /// A batch that waits joins the list of its member: whether there was room.
     fn join(&mut self, cpu: u64) -> bool
         requires { IsWorld J.key_of J.gives self.old.core }
-        ensures leads { Leads (state J.key_of self.old.core) (if result then where_enabled (Join cpu) (state J.key_of self.old.core) else []) (state J.key_of self.new.core) }
+        ensures leads { Leads (state J.key_of self.old.core)
+            (if result then where_enabled (Join cpu) (state J.key_of self.old.core) else [])
+            (state J.key_of self.new.core) }
         ensures rest { KeepsRest J.key_of self.old.core self.new.core }
         ensures len { AsManyProcessors J.key_of self.old.core self.new.core }
         ensures shape { SameShape J.key_of self.old.core self.new.core }
@@ -67,7 +69,8 @@ impl<J: Job> World<J> {
     fn draw_some(&mut self, cpu: u64) -> u64
         requires world { IsWorld J.key_of J.gives self.old.core }
         requires there { cpu < length (state J.key_of self.old.core).cpus }
-        ensures events { Made (Draws cpu most_batches) (state J.key_of self.old.core) (state J.key_of self.new.core) result 0 }
+        ensures events { Made (Draws cpu most_batches) (state J.key_of self.old.core)
+            (state J.key_of self.new.core) result 0 }
         ensures most { result ≤ 64000000 }
         ensures rest { KeepsRest J.key_of self.old.core self.new.core }
         ensures len { AsManyProcessors J.key_of self.old.core self.new.core }
@@ -92,7 +95,8 @@ impl<J: Job> World<J> {
     fn take(&mut self, group: u64, cpu: u64) -> u64
         requires world { IsWorld J.key_of J.gives self.old.core }
         requires there { cpu < length (state J.key_of self.old.core).cpus }
-        ensures events { Made (Takes group cpu) (state J.key_of self.old.core) (state J.key_of self.new.core) result 0 }
+        ensures events { Made (Takes group cpu) (state J.key_of self.old.core)
+            (state J.key_of self.new.core) result 0 }
         ensures most { result ≤ 64000000 }
         ensures rest { KeepsRest J.key_of self.old.core self.new.core }
         ensures len { AsManyProcessors J.key_of self.old.core self.new.core }
@@ -108,7 +112,8 @@ impl<J: Job> World<J> {
     /// Takes what waits for the members of the group: how many callbacks it drew.
     fn take_all(&mut self, group: u64) -> u64
         requires { IsWorld J.key_of J.gives self.old.core }
-        ensures events { Made (Upto (Takes group) (length (state J.key_of self.old.core).cpus)) (state J.key_of self.old.core) (state J.key_of self.new.core) result 0 }
+        ensures events { Made (Upto (Takes group) (length (state J.key_of self.old.core).cpus))
+            (state J.key_of self.old.core) (state J.key_of self.new.core) result 0 }
         ensures rest { KeepsRest J.key_of self.old.core self.new.core }
         ensures len { AsManyProcessors J.key_of self.old.core self.new.core }
         ensures kept { IsWorld J.key_of J.gives self.new.core }
@@ -124,7 +129,8 @@ impl<J: Job> World<J> {
     /// The look of a group, and what it asks for.
     fn look_group(&mut self, group: u64)
         requires { IsWorld J.key_of J.gives self.old.core }
-        ensures events { Made (λ w es. es ≡ look_group_events group w) (state J.key_of self.old.core) (state J.key_of self.new.core) 0 0 }
+        ensures events { Made (λ w es. es ≡ look_group_events group w)
+            (state J.key_of self.old.core) (state J.key_of self.new.core) 0 0 }
         ensures rest { KeepsRest J.key_of self.old.core self.new.core }
         ensures len { AsManyProcessors J.key_of self.old.core self.new.core }
         ensures kept { IsWorld J.key_of J.gives self.new.core }
@@ -139,7 +145,8 @@ impl<J: Job> World<J> {
     fn give(&mut self, group: u64, cpu: u64) -> u64
         requires world { IsWorld J.key_of J.gives self.old.core }
         requires there { cpu < length (state J.key_of self.old.core).cpus }
-        ensures events { Made (Gives group cpu) (state J.key_of self.old.core) (state J.key_of self.new.core) 0 result }
+        ensures events { Made (Gives group cpu) (state J.key_of self.old.core)
+            (state J.key_of self.new.core) 0 result }
         ensures most { result ≤ MOST_CALLBACKS }
         ensures rest { KeepsRest J.key_of self.old.core self.new.core }
         ensures len { AsManyProcessors J.key_of self.old.core self.new.core }
@@ -159,7 +166,8 @@ impl<J: Job> World<J> {
     /// Gives what is done to the hands of the members: how many callbacks.
     fn give_all(&mut self, group: u64) -> u64
         requires { IsWorld J.key_of J.gives self.old.core }
-        ensures events { Made (Upto (Gives group) (length (state J.key_of self.old.core).cpus)) (state J.key_of self.old.core) (state J.key_of self.new.core) 0 result }
+        ensures events { Made (Upto (Gives group) (length (state J.key_of self.old.core).cpus))
+            (state J.key_of self.old.core) (state J.key_of self.new.core) 0 result }
         ensures rest { KeepsRest J.key_of self.old.core self.new.core }
         ensures len { AsManyProcessors J.key_of self.old.core self.new.core }
         ensures kept { IsWorld J.key_of J.gives self.new.core }
@@ -175,7 +183,9 @@ impl<J: Job> World<J> {
     /// How many callbacks of the members wait in batches that were drawn but not joined, or taken out but not put.
     fn waiting(&self, group: u64) -> u64
         requires { IsWorld J.key_of J.gives self.now.core }
-        ensures { result ≡ waiting_upto group (length (state J.key_of self.now.core).cpus) (state J.key_of self.now.core) }
+        ensures { result
+            ≡ waiting_upto group (length (state J.key_of self.now.core).cpus)
+            (state J.key_of self.now.core) }
     {
         let mut waiting = 0;
         for cpu in 0..self.core.processors.len() {
@@ -195,8 +205,13 @@ impl<J: Job> World<J> {
         requires world { IsWorld J.key_of J.gives self.old.core }
         requires there { is_enabled (state J.key_of self.old.core) (LookGroup group) ≡ true }
         requires rest { IsAtRest (state J.key_of self.old.core) }
-        ensures events { IfOk result (λ turn. Made (IsGroupTurn group (length (state J.key_of self.old.core).cpus)) (state J.key_of self.old.core) (state J.key_of self.new.core) turn.took turn.gave) }
-        ensures held { IfOk result (λ turn. turn.held ≡ waiting_upto group (length (state J.key_of self.new.core).cpus) (state J.key_of self.new.core)) }
+        ensures events { IfOk result (λ turn.
+            Made (IsGroupTurn group (length (state J.key_of self.old.core).cpus))
+            (state J.key_of self.old.core) (state J.key_of self.new.core) turn.took turn.gave) }
+        ensures held { IfOk result (λ turn.
+            turn.held
+            ≡ waiting_upto group (length (state J.key_of self.new.core).cpus)
+            (state J.key_of self.new.core)) }
         ensures ok { IsOk result }
         ensures rest { IsAtRest (state J.key_of self.new.core) }
         ensures len { AsManyProcessors J.key_of self.old.core self.new.core }

@@ -28,7 +28,9 @@ pub(crate) fn has_member<J: Job>(
     group: u64,
 ) -> bool
     requires { 1 ≤ stride }
-    ensures { result ≡ any_in_group offloadable.now.items stride group is_any 0 (all_seen J.key_of processors.now.items) }
+    ensures { result
+        ≡ any_in_group offloadable.now.items stride group is_any 0
+        (all_seen J.key_of processors.now.items) }
 {
     for i in 0..processors.len() {
         if is_member_of(offloadable, stride, group, i) {
@@ -46,7 +48,9 @@ pub(crate) fn wants_member<J: Job>(
     group: u64,
 ) -> bool
     requires { 1 ≤ stride }
-    ensures { result ≡ any_in_group offloadable.now.items stride group is_wanting 0 (all_seen J.key_of processors.now.items) }
+    ensures { result
+        ≡ any_in_group offloadable.now.items stride group is_wanting 0
+        (all_seen J.key_of processors.now.items) }
 {
     for i in 0..processors.len() {
         let member = is_member_of(offloadable, stride, group, i);
@@ -66,7 +70,9 @@ pub(crate) fn most_wanted<J: Job>(
     needed: u64,
 ) -> u64
     requires { 1 ≤ stride }
-    ensures { result ≡ most_in_group offloadable.now.items stride group needed 0 (all_seen J.key_of processors.now.items) }
+    ensures { result
+        ≡ most_in_group offloadable.now.items stride group needed 0
+        (all_seen J.key_of processors.now.items) }
 {
     let mut most = needed;
     for i in 0..processors.len() {
@@ -84,8 +90,11 @@ pub(crate) fn forget_members<J: Job>(
     group: u64,
 )
     requires { 1 ≤ stride }
-    ensures forgets { all_seen J.key_of processors.new.items ≡ each_cpu (forget_step offloadable.now.items stride group) 0 (all_seen J.key_of processors.old.items) }
-    ensures given { (mark : ℕ) → AllByRecursion (AreGiven J.gives mark) processors.old.items → AllByRecursion (AreGiven J.gives mark) processors.new.items }
+    ensures forgets { all_seen J.key_of processors.new.items
+        ≡ each_cpu (forget_step offloadable.now.items stride group) 0
+        (all_seen J.key_of processors.old.items) }
+    ensures given { (mark : ℕ) → AllByRecursion (AreGiven J.gives mark) processors.old.items
+        → AllByRecursion (AreGiven J.gives mark) processors.new.items }
 {
     for i in 0..processors.len() {
         let member = is_member_of(offloadable, stride, group, i);
@@ -104,8 +113,11 @@ pub(crate) fn look_members<J: Job>(
 )
     requires stride { 1 ≤ stride }
     requires fits { AreLookable number (all_seen J.key_of processors.old.items) }
-    ensures looks { all_seen J.key_of processors.new.items ≡ each_cpu (group_step offloadable.now.items stride group number) 0 (all_seen J.key_of processors.old.items) }
-    ensures given { (mark : ℕ) → AllByRecursion (AreGiven J.gives mark) processors.old.items → AllByRecursion (AreGiven J.gives mark) processors.new.items }
+    ensures looks { all_seen J.key_of processors.new.items
+        ≡ each_cpu (group_step offloadable.now.items stride group number) 0
+        (all_seen J.key_of processors.old.items) }
+    ensures given { (mark : ℕ) → AllByRecursion (AreGiven J.gives mark) processors.old.items
+        → AllByRecursion (AreGiven J.gives mark) processors.new.items }
 {
     for i in 0..processors.len() {
         let member = is_member_of(offloadable, stride, group, i);

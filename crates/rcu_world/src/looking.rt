@@ -16,7 +16,8 @@ use rcu_jobs::Job;
 impl<J: Job> Core<J, J::Receipt> {
     pub(crate) fn look(&mut self, cpu: u64) -> Answer<J>
         requires { IsFit (state J.key_of self.old) }
-        ensures answers { Answers J.key_of (state J.key_of self.old) (events.Look cpu) result (state J.key_of self.new) }
+        ensures answers { Answers J.key_of (state J.key_of self.old) (events.Look cpu) result
+            (state J.key_of self.new) }
         ensures given { AllGiven J.gives self.old → AllGiven J.gives self.new }
     {
         let i = cpu as usize;
@@ -31,7 +32,8 @@ impl<J: Job> Core<J, J::Receipt> {
 
     pub(crate) fn look_hand(&mut self, cpu: u64) -> Answer<J>
         requires { IsFit (state J.key_of self.old) }
-        ensures answers { Answers J.key_of (state J.key_of self.old) (events.LookHand cpu) result (state J.key_of self.new) }
+        ensures answers { Answers J.key_of (state J.key_of self.old) (events.LookHand cpu) result
+            (state J.key_of self.new) }
         ensures given { AllGiven J.gives self.old → AllGiven J.gives self.new }
     {
         let number = self.board.number();
@@ -49,7 +51,8 @@ impl<J: Job> Core<J, J::Receipt> {
 
     pub(crate) fn need_own(&mut self, cpu: u64) -> Answer<J>
         requires { IsFit (state J.key_of self.old) }
-        ensures answers { Answers J.key_of (state J.key_of self.old) (events.Need (who.Cpu cpu)) result (state J.key_of self.new) }
+        ensures answers { Answers J.key_of (state J.key_of self.old) (events.Need (who.Cpu cpu))
+            result (state J.key_of self.new) }
         ensures given { AllGiven J.gives self.old → AllGiven J.gives self.new }
     {
         let i = cpu as usize;
@@ -69,7 +72,8 @@ impl<J: Job> Core<J, J::Receipt> {
 
     pub(crate) fn look_group(&mut self, group: u64) -> Answer<J>
         requires { IsFit (state J.key_of self.old) }
-        ensures answers { Answers J.key_of (state J.key_of self.old) (events.LookGroup group) result (state J.key_of self.new) }
+        ensures answers { Answers J.key_of (state J.key_of self.old) (events.LookGroup group) result
+            (state J.key_of self.new) }
         ensures given { AllGiven J.gives self.old → AllGiven J.gives self.new }
     {
         let number = self.board.number();
@@ -88,7 +92,8 @@ impl<J: Job> Core<J, J::Receipt> {
 
     pub(crate) fn need_group(&mut self, group: u64) -> Answer<J>
         requires { IsFit (state J.key_of self.old) }
-        ensures answers { Answers J.key_of (state J.key_of self.old) (events.Need (who.Group group)) result (state J.key_of self.new) }
+        ensures answers { Answers J.key_of (state J.key_of self.old) (events.Need (who.Group group))
+            result (state J.key_of self.new) }
         ensures given { AllGiven J.gives self.old → AllGiven J.gives self.new }
     {
         if !wants_member(&self.processors, &self.offloadable, self.stride, group) {

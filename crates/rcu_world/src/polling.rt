@@ -31,8 +31,11 @@ impl<J: Job> World<J> {
     /// Reads the turns of the processors that the barrier hasn't seen yet.
     fn see_all(&mut self, barrier: u64)
         requires { IsWorld J.key_of J.gives self.old.core }
-        ensures events { Leads (state J.key_of self.old.core) (upto (turns_for barrier) (length (state J.key_of self.old.core).cpus) (state J.key_of self.old.core)) (state J.key_of self.new.core) }
-        ensures history { (state J.key_of self.new.core).history ≡ (state J.key_of self.old.core).history }
+        ensures events { Leads (state J.key_of self.old.core)
+            (upto (turns_for barrier) (length (state J.key_of self.old.core).cpus)
+            (state J.key_of self.old.core)) (state J.key_of self.new.core) }
+        ensures history { (state J.key_of self.new.core).history
+            ≡ (state J.key_of self.old.core).history }
         ensures rest { KeepsRest J.key_of self.old.core self.new.core }
         ensures len { AsManyProcessors J.key_of self.old.core self.new.core }
         ensures kept { IsWorld J.key_of J.gives self.new.core }
@@ -51,7 +54,8 @@ impl<J: Job> World<J> {
         requires few { length (state J.key_of self.now.core).cpus ≤ MOST_PROCESSORS }
         requires there { barrier < length (state J.key_of self.now.core).barriers }
         ensures all { result.n ≡ length (state J.key_of self.now.core).cpus }
-        ensures each { HasKept (barrier_at (state J.key_of self.now.core) barrier) (length (state J.key_of self.now.core).cpus) result.counts }
+        ensures each { HasKept (barrier_at (state J.key_of self.now.core) barrier)
+            (length (state J.key_of self.now.core).cpus) result.counts }
     {
         let n = self.core.processors.len();
         let kept = &self.core.barriers[barrier as usize];
@@ -71,10 +75,18 @@ impl<J: Job> World<J> {
     pub fn poll(&mut self, barrier: u64) -> Result<Option<Passed>, AllocError>
         requires world { IsWorld J.key_of J.gives self.old.core }
         requires rest { IsAtRest (state J.key_of self.old.core) }
-        ensures events { OnOk result (Leads (state J.key_of self.old.core) (poll_events barrier (length (state J.key_of self.old.core).cpus) (state J.key_of self.old.core)) (state J.key_of self.new.core)) }
-        ensures answer { IfOk result (IsPollAnswer (state J.key_of self.old.core) barrier (state J.key_of self.new.core)) }
-        ensures err { OnErr result (Leads (state J.key_of self.old.core) (upto (turns_for barrier) (length (state J.key_of self.old.core).cpus) (state J.key_of self.old.core)) (state J.key_of self.new.core)) }
-        ensures err_enabled { OnErr result (is_enabled (state J.key_of self.new.core) (Pass barrier) ≡ true) }
+        ensures events { OnOk result
+            (Leads (state J.key_of self.old.core)
+            (poll_events barrier (length (state J.key_of self.old.core).cpus)
+            (state J.key_of self.old.core)) (state J.key_of self.new.core)) }
+        ensures answer { IfOk result
+            (IsPollAnswer (state J.key_of self.old.core) barrier (state J.key_of self.new.core)) }
+        ensures err { OnErr result
+            (Leads (state J.key_of self.old.core)
+            (upto (turns_for barrier) (length (state J.key_of self.old.core).cpus)
+            (state J.key_of self.old.core)) (state J.key_of self.new.core)) }
+        ensures err_enabled { OnErr result
+            (is_enabled (state J.key_of self.new.core) (Pass barrier) ≡ true) }
         ensures rest { IsAtRest (state J.key_of self.new.core) }
         ensures len { AsManyProcessors J.key_of self.old.core self.new.core }
         ensures kept { IsWorld J.key_of J.gives self.new.core }

@@ -27,7 +27,9 @@ impl<J: Job> World<J> {
 
     /// The list that a group keeps for a processor, None where that isn't an offloadable member.
     pub fn group_lists(&self, cpu: u64) -> Option<Lists>
-        ensures { result ≡ (if is_offloadable (state J.key_of self.now.core) cpu then Some (folk_lists (cpu_at (state J.key_of self.now.core) cpu)) else None) }
+        ensures { result
+            ≡ (if is_offloadable (state J.key_of self.now.core) cpu then Some
+            (folk_lists (cpu_at (state J.key_of self.now.core) cpu)) else None) }
     {
         let i = cpu as usize;
         if i >= self.core.processors.len() {

@@ -20,7 +20,8 @@ pub(crate) fn is_set(list: &Vec<bool>, i: usize) -> bool
 impl<J: Job> Core<J, J::Receipt> {
     pub(crate) fn ask(&mut self, cpu: u64, on: bool) -> Answer<J>
         requires { IsFit (state J.key_of self.old) }
-        ensures answers { Answers J.key_of (state J.key_of self.old) (events.Ask cpu on) result (state J.key_of self.new) }
+        ensures answers { Answers J.key_of (state J.key_of self.old) (events.Ask cpu on) result
+            (state J.key_of self.new) }
         ensures given { AllGiven J.gives self.old → AllGiven J.gives self.new }
     {
         let i = cpu as usize;
@@ -37,7 +38,8 @@ impl<J: Job> Core<J, J::Receipt> {
 
     pub(crate) fn hear(&mut self, cpu: u64) -> Answer<J>
         requires { IsFit (state J.key_of self.old) }
-        ensures answers { Answers J.key_of (state J.key_of self.old) (events.Hear cpu) result (state J.key_of self.new) }
+        ensures answers { Answers J.key_of (state J.key_of self.old) (events.Hear cpu) result
+            (state J.key_of self.new) }
         ensures given { AllGiven J.gives self.old → AllGiven J.gives self.new }
     {
         let i = cpu as usize;
@@ -54,7 +56,8 @@ impl<J: Job> Core<J, J::Receipt> {
 
     pub(crate) fn heed(&mut self, cpu: u64) -> Answer<J>
         requires { IsFit (state J.key_of self.old) }
-        ensures answers { Answers J.key_of (state J.key_of self.old) (events.Heed cpu) result (state J.key_of self.new) }
+        ensures answers { Answers J.key_of (state J.key_of self.old) (events.Heed cpu) result
+            (state J.key_of self.new) }
         ensures given { AllGiven J.gives self.old → AllGiven J.gives self.new }
     {
         let i = cpu as usize;
@@ -71,7 +74,8 @@ impl<J: Job> Core<J, J::Receipt> {
 
     pub(crate) fn settle(&mut self, cpu: u64) -> Answer<J>
         requires { IsFit (state J.key_of self.old) }
-        ensures answers { Answers J.key_of (state J.key_of self.old) (events.Settle cpu) result (state J.key_of self.new) }
+        ensures answers { Answers J.key_of (state J.key_of self.old) (events.Settle cpu) result
+            (state J.key_of self.new) }
         ensures given { AllGiven J.gives self.old → AllGiven J.gives self.new }
     {
         let i = cpu as usize;

@@ -21,13 +21,20 @@ impl<J: Job> World<J> {
     /// One event that has no job: whether it was enabled.
     pub(crate) fn attempt(&mut self, event: Event<J>) -> Result<bool, AllocError>
         requires { IsWorld J.key_of J.gives self.old.core }
-        ensures leads { OnOk result ((poured : Bool) × Leads (state J.key_of self.old.core) (where_enabled (core_event J.key_of poured event) (state J.key_of self.old.core)) (state J.key_of self.new.core)) }
-        ensures enabled { IfOk result (λ done. done ≡ is_enabled (state J.key_of self.old.core) (core_event J.key_of true event)) }
+        ensures leads { OnOk result
+            ((poured : Bool)
+            × Leads (state J.key_of self.old.core)
+            (where_enabled (core_event J.key_of poured event) (state J.key_of self.old.core))
+            (state J.key_of self.new.core)) }
+        ensures enabled { IfOk result (λ done.
+            done ≡ is_enabled (state J.key_of self.old.core) (core_event J.key_of true event)) }
         ensures err { OnErr result (SameState J.key_of self.old.core self.new.core) }
-        ensures err_enabled { OnErr result (is_enabled (state J.key_of self.old.core) (core_event J.key_of true event) ≡ true) }
+        ensures err_enabled { OnErr result
+            (is_enabled (state J.key_of self.old.core) (core_event J.key_of true event) ≡ true) }
         ensures err_room { OnErr result (needs_room (state J.key_of self.old.core) event ≡ true) }
         ensures room { needs_room (state J.key_of self.old.core) event ≡ false → IsOk result }
-        ensures rest { keeps_rest (core_event J.key_of true event) ≡ true → KeepsRest J.key_of self.old.core self.new.core }
+        ensures rest { keeps_rest (core_event J.key_of true event) ≡ true
+            → KeepsRest J.key_of self.old.core self.new.core }
         ensures len { AsManyProcessors J.key_of self.old.core self.new.core }
         ensures shape { SameShape J.key_of self.old.core self.new.core }
         ensures kept { IsWorld J.key_of J.gives self.new.core }
@@ -44,9 +51,14 @@ impl<J: Job> World<J> {
     pub(crate) fn perform(&mut self, event: Event<J>) -> bool
         requires world { IsWorld J.key_of J.gives self.old.core }
         requires room { needs_room (state J.key_of self.old.core) event ≡ false }
-        ensures leads { (poured : Bool) × Leads (state J.key_of self.old.core) (where_enabled (core_event J.key_of poured event) (state J.key_of self.old.core)) (state J.key_of self.new.core) }
-        ensures enabled { result ≡ is_enabled (state J.key_of self.old.core) (core_event J.key_of true event) }
-        ensures rest { keeps_rest (core_event J.key_of true event) ≡ true → KeepsRest J.key_of self.old.core self.new.core }
+        ensures leads { (poured : Bool)
+            × Leads (state J.key_of self.old.core)
+            (where_enabled (core_event J.key_of poured event) (state J.key_of self.old.core))
+            (state J.key_of self.new.core) }
+        ensures enabled { result
+            ≡ is_enabled (state J.key_of self.old.core) (core_event J.key_of true event) }
+        ensures rest { keeps_rest (core_event J.key_of true event) ≡ true
+            → KeepsRest J.key_of self.old.core self.new.core }
         ensures len { AsManyProcessors J.key_of self.old.core self.new.core }
         ensures shape { SameShape J.key_of self.old.core self.new.core }
         ensures kept { IsWorld J.key_of J.gives self.new.core }
@@ -66,8 +78,13 @@ impl<J: Job> World<J> {
         requires world { IsWorld J.key_of J.gives self.old.core }
         requires there { cpu < length (state J.key_of self.old.core).cpus }
         requires rest { IsAtRest (state J.key_of self.old.core) }
-        ensures events { OnOk result (Leads (state J.key_of self.old.core) (Report cpu ∷ []) (state J.key_of self.new.core)) }
-        ensures number { IfOk result (λ counted. counted ≡ (if owes (state J.key_of self.old.core) cpu then Some (state J.key_of self.old.core).number else None)) }
+        ensures events { OnOk result
+            (Leads (state J.key_of self.old.core) (Report cpu ∷ [])
+            (state J.key_of self.new.core)) }
+        ensures number { IfOk result (λ counted.
+            counted
+            ≡ (if owes (state J.key_of self.old.core) cpu then Some
+            (state J.key_of self.old.core).number else None)) }
         ensures err { OnErr result (SameState J.key_of self.old.core self.new.core) }
         ensures err_owes { OnErr result (owes (state J.key_of self.old.core) cpu ≡ true) }
         ensures rest { IsAtRest (state J.key_of self.new.core) }
@@ -87,7 +104,8 @@ impl<J: Job> World<J> {
     pub fn driver_turn(&mut self) -> Result<DriverTurn, AllocError>
         requires world { IsWorld J.key_of J.gives self.old.core }
         requires rest { IsAtRest (state J.key_of self.old.core) }
-        ensures events { Leads (state J.key_of self.old.core) (driver_events (state J.key_of self.old.core)) (state J.key_of self.new.core) }
+        ensures events { Leads (state J.key_of self.old.core)
+            (driver_events (state J.key_of self.old.core)) (state J.key_of self.new.core) }
         ensures answer { IfOk result (λ turn. turn ≡ driver_answer (state J.key_of self.old.core)) }
         ensures ok { IsOk result }
         ensures rest { IsAtRest (state J.key_of self.new.core) }
@@ -115,7 +133,9 @@ impl<J: Job> World<J> {
     /// The bypass list is put, where it isn't empty: whether there was room.
     pub(crate) fn put(&mut self, cpu: u64, moment: Option<u64>) -> bool
         requires { IsWorld J.key_of J.gives self.old.core }
-        ensures leads { Leads (state J.key_of self.old.core) (if result then where_enabled (Put cpu moment) (state J.key_of self.old.core) else []) (state J.key_of self.new.core) }
+        ensures leads { Leads (state J.key_of self.old.core)
+            (if result then where_enabled (Put cpu moment) (state J.key_of self.old.core) else [])
+            (state J.key_of self.new.core) }
         ensures rest { KeepsRest J.key_of self.old.core self.new.core }
         ensures len { AsManyProcessors J.key_of self.old.core self.new.core }
         ensures shape { SameShape J.key_of self.old.core self.new.core }
@@ -130,7 +150,8 @@ impl<J: Job> World<J> {
     /// The look of a tick, and what it asks for.
     fn look_own(&mut self, cpu: u64)
         requires { IsWorld J.key_of J.gives self.old.core }
-        ensures leads { Leads (state J.key_of self.old.core) (look_events cpu (state J.key_of self.old.core)) (state J.key_of self.new.core) }
+        ensures leads { Leads (state J.key_of self.old.core)
+            (look_events cpu (state J.key_of self.old.core)) (state J.key_of self.new.core) }
         ensures rest { KeepsRest J.key_of self.old.core self.new.core }
         ensures len { AsManyProcessors J.key_of self.old.core self.new.core }
         ensures shape { SameShape J.key_of self.old.core self.new.core }
@@ -144,7 +165,10 @@ impl<J: Job> World<J> {
     fn release(&mut self, cpu: u64, moment: u64)
         requires world { IsWorld J.key_of J.gives self.old.core }
         requires there { cpu < length (state J.key_of self.old.core).cpus }
-        ensures leads { (room : Bool) × Leads (state J.key_of self.old.core) (release_events cpu moment room (state J.key_of self.old.core)) (state J.key_of self.new.core) }
+        ensures leads { (room : Bool)
+            × Leads (state J.key_of self.old.core)
+            (release_events cpu moment room (state J.key_of self.old.core))
+            (state J.key_of self.new.core) }
         ensures rest { KeepsRest J.key_of self.old.core self.new.core }
         ensures len { AsManyProcessors J.key_of self.old.core self.new.core }
         ensures shape { SameShape J.key_of self.old.core self.new.core }
@@ -164,7 +188,10 @@ impl<J: Job> World<J> {
     fn switch(&mut self, cpu: u64)
         requires world { IsWorld J.key_of J.gives self.old.core }
         requires there { cpu < length (state J.key_of self.old.core).cpus }
-        ensures leads { (pour : Bool) × (room : Bool) × Leads (state J.key_of self.old.core) (switch_events cpu pour room (state J.key_of self.old.core)) (state J.key_of self.new.core) }
+        ensures leads { (pour : Bool) × (room : Bool)
+            × Leads (state J.key_of self.old.core)
+            (switch_events cpu pour room (state J.key_of self.old.core))
+            (state J.key_of self.new.core) }
         ensures rest { KeepsRest J.key_of self.old.core self.new.core }
         ensures len { AsManyProcessors J.key_of self.old.core self.new.core }
         ensures shape { SameShape J.key_of self.old.core self.new.core }
@@ -185,7 +212,10 @@ impl<J: Job> World<J> {
     fn tick_offloadable(&mut self, cpu: u64, moment: u64)
         requires world { IsWorld J.key_of J.gives self.old.core }
         requires there { cpu < length (state J.key_of self.old.core).cpus }
-        ensures leads { (rooms : Rooms) × Leads (state J.key_of self.old.core) (offloadable_events cpu moment rooms (state J.key_of self.old.core)) (state J.key_of self.new.core) }
+        ensures leads { (rooms : Rooms)
+            × Leads (state J.key_of self.old.core)
+            (offloadable_events cpu moment rooms (state J.key_of self.old.core))
+            (state J.key_of self.new.core) }
         ensures rest { KeepsRest J.key_of self.old.core self.new.core }
         ensures len { AsManyProcessors J.key_of self.old.core self.new.core }
         ensures shape { SameShape J.key_of self.old.core self.new.core }
@@ -204,8 +234,11 @@ impl<J: Job> World<J> {
         requires world { IsWorld J.key_of J.gives self.old.core }
         requires there { cpu < length (state J.key_of self.old.core).cpus }
         requires rest { IsAtRest (state J.key_of self.old.core) }
-        ensures leads { Leads (state J.key_of self.old.core) (run_events cpu by result.ran) (state J.key_of self.new.core) }
-        ensures stop { result.stop ≡ stop_of by (state J.key_of self.new.core).shape.blimit result.ran (cpu_at (state J.key_of self.new.core) cpu) }
+        ensures leads { Leads (state J.key_of self.old.core) (run_events cpu by result.ran)
+            (state J.key_of self.new.core) }
+        ensures stop { result.stop
+            ≡ stop_of by (state J.key_of self.new.core).shape.blimit result.ran
+            (cpu_at (state J.key_of self.new.core) cpu) }
         ensures most { result.ran ≤ (state J.key_of self.new.core).shape.blimit }
         ensures rest { IsAtRest (state J.key_of self.new.core) }
         ensures len { AsManyProcessors J.key_of self.old.core self.new.core }
@@ -241,9 +274,17 @@ impl<J: Job> World<J> {
         requires world { IsWorld J.key_of J.gives self.old.core }
         requires there { cpu < length (state J.key_of self.old.core).cpus }
         requires rest { IsAtRest (state J.key_of self.old.core) }
-        ensures events { IfOk result (λ ticked. (rooms : Rooms) × Leads (state J.key_of self.old.core) (tick_events cpu moment rooms ticked.ran (state J.key_of self.old.core)) (state J.key_of self.new.core)) }
-        ensures stop { IfOk result (λ ticked. ticked.stop ≡ stop_of Local (state J.key_of self.new.core).shape.blimit ticked.ran (cpu_at (state J.key_of self.new.core) cpu)) }
-        ensures most { IfOk result (λ ticked. ticked.ran ≤ (state J.key_of self.new.core).shape.blimit) }
+        ensures events { IfOk result (λ ticked.
+            (rooms : Rooms)
+            × Leads (state J.key_of self.old.core)
+            (tick_events cpu moment rooms ticked.ran (state J.key_of self.old.core))
+            (state J.key_of self.new.core)) }
+        ensures stop { IfOk result (λ ticked.
+            ticked.stop
+            ≡ stop_of Local (state J.key_of self.new.core).shape.blimit ticked.ran
+            (cpu_at (state J.key_of self.new.core) cpu)) }
+        ensures most { IfOk result (λ ticked.
+            ticked.ran ≤ (state J.key_of self.new.core).shape.blimit) }
         ensures ok { IsOk result }
         ensures rest { IsAtRest (state J.key_of self.new.core) }
         ensures len { AsManyProcessors J.key_of self.old.core self.new.core }
@@ -259,9 +300,16 @@ impl<J: Job> World<J> {
         requires world { IsWorld J.key_of J.gives self.old.core }
         requires there { is_offloadable (state J.key_of self.old.core) cpu ≡ true }
         requires rest { IsAtRest (state J.key_of self.old.core) }
-        ensures events { IfOk result (λ turn. Leads (state J.key_of self.old.core) (hand_events cpu turn.ran (state J.key_of self.old.core)) (state J.key_of self.new.core)) }
-        ensures stop { IfOk result (λ turn. turn.stop ≡ stop_of Hand (state J.key_of self.new.core).shape.blimit turn.ran (cpu_at (state J.key_of self.new.core) cpu)) }
-        ensures most { IfOk result (λ turn. turn.ran ≤ (state J.key_of self.new.core).shape.blimit) }
+        ensures events { IfOk result (λ turn.
+            Leads (state J.key_of self.old.core)
+            (hand_events cpu turn.ran (state J.key_of self.old.core))
+            (state J.key_of self.new.core)) }
+        ensures stop { IfOk result (λ turn.
+            turn.stop
+            ≡ stop_of Hand (state J.key_of self.new.core).shape.blimit turn.ran
+            (cpu_at (state J.key_of self.new.core) cpu)) }
+        ensures most { IfOk result (λ turn.
+            turn.ran ≤ (state J.key_of self.new.core).shape.blimit) }
         ensures ok { IsOk result }
         ensures rest { IsAtRest (state J.key_of self.new.core) }
         ensures len { AsManyProcessors J.key_of self.old.core self.new.core }
@@ -278,7 +326,9 @@ impl<J: Job> World<J> {
         requires world { IsWorld J.key_of J.gives self.old.core }
         requires rest { IsAtRest (state J.key_of self.old.core) }
         ensures answer { result ≡ switch_answer (state J.key_of self.old.core) cpu }
-        ensures events { Leads (state J.key_of self.old.core) (where_enabled (Ask cpu on) (state J.key_of self.old.core)) (state J.key_of self.new.core) }
+        ensures events { Leads (state J.key_of self.old.core)
+            (where_enabled (Ask cpu on) (state J.key_of self.old.core))
+            (state J.key_of self.new.core) }
         ensures rest { IsAtRest (state J.key_of self.new.core) }
         ensures len { AsManyProcessors J.key_of self.old.core self.new.core }
         ensures kept { IsWorld J.key_of J.gives self.new.core }
@@ -298,7 +348,9 @@ impl<J: Job> World<J> {
         requires world { IsWorld J.key_of J.gives self.old.core }
         requires rest { IsAtRest (state J.key_of self.old.core) }
         ensures answer { result ≡ switch_answer (state J.key_of self.old.core) cpu }
-        ensures events { Leads (state J.key_of self.old.core) (where_enabled (Ask cpu true) (state J.key_of self.old.core)) (state J.key_of self.new.core) }
+        ensures events { Leads (state J.key_of self.old.core)
+            (where_enabled (Ask cpu true) (state J.key_of self.old.core))
+            (state J.key_of self.new.core) }
         ensures rest { IsAtRest (state J.key_of self.new.core) }
         ensures len { AsManyProcessors J.key_of self.old.core self.new.core }
         ensures kept { IsWorld J.key_of J.gives self.new.core }
@@ -311,7 +363,9 @@ impl<J: Job> World<J> {
         requires world { IsWorld J.key_of J.gives self.old.core }
         requires rest { IsAtRest (state J.key_of self.old.core) }
         ensures answer { result ≡ switch_answer (state J.key_of self.old.core) cpu }
-        ensures events { Leads (state J.key_of self.old.core) (where_enabled (Ask cpu false) (state J.key_of self.old.core)) (state J.key_of self.new.core) }
+        ensures events { Leads (state J.key_of self.old.core)
+            (where_enabled (Ask cpu false) (state J.key_of self.old.core))
+            (state J.key_of self.new.core) }
         ensures rest { IsAtRest (state J.key_of self.new.core) }
         ensures len { AsManyProcessors J.key_of self.old.core self.new.core }
         ensures kept { IsWorld J.key_of J.gives self.new.core }

@@ -31,7 +31,8 @@ pub struct World<J: Job> {
 impl<J: Job> World<J> {
     /// All processors at rest.
     pub fn new(alloc: Global, shape: Shape) -> Result<Self, AllocError>
-        ensures opens { IfOk result (λ w. state J.key_of w.core ≡ opening shape.processors (plan shape)) }
+        ensures opens { IfOk result (λ w.
+            state J.key_of w.core ≡ opening shape.processors (plan shape)) }
         ensures rest { IfOk result (λ w. IsAtRest (state J.key_of w.core)) }
         ensures kept { IfOk result (λ w. IsWorld J.key_of J.gives w.core) }
     {
@@ -43,9 +44,12 @@ impl<J: Job> World<J> {
     /// on a done Accept has its room (docs/specification/surface.md, "rcu_world").
     pub fn step(&mut self, event: Event<J>) -> Answer<J>
         requires { IsWorld J.key_of J.gives self.old.core }
-        ensures step { Answers J.key_of (state J.key_of self.old.core) event result (state J.key_of self.new.core) }
+        ensures step { Answers J.key_of (state J.key_of self.old.core) event result
+            (state J.key_of self.new.core) }
         // While a processor is Offloaded it runs nothing itself.
-        ensures offloaded { (cpu : ℕ) → is_offloaded (cpu_at (state J.key_of self.old.core) cpu).mode ≡ true → event ≡ events.Claim cpu Local → result ≡ answers.Skipped None }
+        ensures offloaded { (cpu : ℕ)
+            → is_offloaded (cpu_at (state J.key_of self.old.core) cpu).mode ≡ true
+            → event ≡ events.Claim cpu Local → result ≡ answers.Skipped None }
         ensures ready { LeavesRoom event result self.new.core }
         ensures sure { UsesRoom self.old.core event result }
         ensures kept { IsWorld J.key_of J.gives self.new.core }
@@ -56,7 +60,9 @@ impl<J: Job> World<J> {
     /// All the events, in order. On an error nothing happened, and they come back.
     pub fn run(&mut self, events: Vec<Event<J>>) -> Result<Vec<Answer<J>>, Vec<Event<J>>>
         requires { IsWorld J.key_of J.gives self.old.core }
-        ensures ok { IfOk result (λ answers. Runs J.key_of (state J.key_of self.old.core) events.items answers.items (state J.key_of self.new.core)) }
+        ensures ok { IfOk result (λ answers.
+            Runs J.key_of (state J.key_of self.old.core) events.items answers.items
+            (state J.key_of self.new.core)) }
         ensures err { IfErr result (λ back. (back ≡ events) × (self.new ≡ self.old)) }
         ensures kept { IsWorld J.key_of J.gives self.new.core }
     {
@@ -86,11 +92,16 @@ impl<J: Job> World<J> {
     pub fn close(self) -> Result<(Vec<Mark>, Closed<J>), Self>
         requires { IsWorld J.key_of J.gives self.core }
         ensures marks { IfOk result (λ r. r.0.items ≡ closing (state J.key_of self.core)) }
-        ensures closed { IfOk result (λ r. IsClosed (length (state J.key_of self.core).cpus) r.0.items) }
-        ensures ran { IfOk result (λ r. AreRecorded J.gives (length (state J.key_of self.core).cpus) r.0.items r.1.ran.items) }
+        ensures closed { IfOk result (λ r.
+            IsClosed (length (state J.key_of self.core).cpus) r.0.items) }
+        ensures ran { IfOk result (λ r.
+            AreRecorded J.gives (length (state J.key_of self.core).cpus) r.0.items r.1.ran.items) }
         ensures runs { IfOk result (λ r. AreRunsOf (state J.key_of self.core) r.1.ran.items) }
-        ensures back { IfOk result (λ r. AreHandedBack J.key_of (length (state J.key_of self.core).cpus) r.0.items r.1.back.items) }
-        ensures reports { IfOk result (λ r. AreReported (length (state J.key_of self.core).cpus) r.0.items r.1.reports.items) }
+        ensures back { IfOk result (λ r.
+            AreHandedBack J.key_of (length (state J.key_of self.core).cpus) r.0.items
+            r.1.back.items) }
+        ensures reports { IfOk result (λ r.
+            AreReported (length (state J.key_of self.core).cpus) r.0.items r.1.reports.items) }
         ensures err { IfErr result (λ back. back ≡ self) }
     {
         match self.core.find_room() {

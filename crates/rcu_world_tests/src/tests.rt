@@ -1,3 +1,5 @@
+//! The core, event by event and by its turn calls.
+
 ghost use Rattle.std.specs.Prelude.{◌≡◌, ◌%◌};
 
 use rcu_jobs::{

@@ -1,3 +1,5 @@
+//! `rcuo threads`, with jobs that meet.
+
 ghost use Rattle.std.specs.Prelude.{◌≡◌};
 
 use crate::threading::threads;
