@@ -1,5 +1,7 @@
 //! What stands after a call: docs/specification/surface.md, "After want of memory".
 
+ghost use Rattle.std.specs.Prelude.{◌≡◌, IfOk, Some};
+
 use crate::growth::{Fault, Growth, stands};
 use crate::machine::{Answer, Cpu, Shown, accepted, bypass, done, length, mode};
 use crate::playing::next_key;
@@ -39,7 +41,9 @@ impl Step {
         self.before == self.after
     }
 
-    fn refused_by(self, growth: Growth) -> Step {
+    fn refused_by(self, growth: Growth) -> Step
+        ensures { result ≡ record self { refused = Some growth } }
+    {
         Step {
             refused: Some(growth),
             ..self
@@ -70,13 +74,17 @@ pub fn check(step: Step) -> Result<Step, Fault> {
 }
 
 /// A call that answered want of memory, and hands nothing back.
-fn check_memory(step: Step, growth: Growth) -> Result<Step, Fault> {
+fn check_memory(step: Step, growth: Growth) -> Result<Step, Fault>
+    ensures { IfOk result (λ s. s ≡ record step { refused = Some growth }) }
+{
     stands(step.is_unchanged(), growth, "a refused call changed a list")?;
     Ok(step.refused_by(growth))
 }
 
 /// A call whose job came back.
-fn check_refused(step: Step, growth: Growth, key: u64) -> Result<Step, Fault> {
+fn check_refused(step: Step, growth: Growth, key: u64) -> Result<Step, Fault>
+    ensures { IfOk result (λ s. s ≡ record step { refused = Some growth }) }
+{
     let same_job = key == next_key(step.action, &step.before);
     stands(same_job, growth, "another job came back")?;
     stands(step.is_unchanged(), growth, "a refused call changed a list")?;

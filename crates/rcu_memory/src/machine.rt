@@ -1,5 +1,8 @@
 //! The runtime that a scenario drives: the parts or the core. It has a local processor and an offloadable one.
 
+ghost use Rattle.std.specs.Prelude.{◌≡◌, ◌↔◌, IfOk, IsTrue};
+ghost use Rattle.rcu_memory.specs.Ends.{AreFirst, AreNext, EndsWhole, IsWhole, accepted_in};
+
 use crate::growth::{Fault, Growth, stands};
 use crate::script::Action;
 use crate::work::{Work, key_at};
@@ -53,7 +56,9 @@ impl Shown {
 }
 
 /// How many callbacks a processor accepted.
-pub fn accepted(lists: Lists) -> u64 {
+pub fn accepted(lists: Lists) -> u64
+    ensures { result ≡ accepted_in lists }
+{
     match lists {
         Lists::Cpu { accepted, .. } => accepted,
         Lists::Folk { .. } => 0,
@@ -129,46 +134,54 @@ pub trait Machine {
     fn shown(&self) -> Option<Shown>;
 }
 
-/// The records are those of the first callbacks, in order.
-fn are_first(cpu: u64, ran: &Vec<Record<u64>>) -> bool {
-    for (number, record) in ran.iter().enumerate() {
-        let key = key_at(cpu, number as u64);
-        let found = (record.number, record.key, record.receipt);
-        if found != (number as u64, key, key) {
-            return false;
-        }
-    }
-    true
+/// Whether the records are those of the first callbacks, in order.
+fn are_first(cpu: u64, ran: &[Record<u64>]) -> bool
+    ensures { IsTrue result ↔ AreFirst cpu ran.now }
+{
+    ran.iter().enumerate().all(|(place, record)| {
+        let key = key_at(cpu, place as u64);
+        record.number == place as u64 && record.key == key && record.receipt == key
+    })
 }
 
-/// The jobs are those of the callbacks from `first` on, in order.
-fn are_next(cpu: u64, first: usize, back: &Vec<Work>) -> bool {
-    for (place, job) in back.iter().enumerate() {
-        let number = (first as u64).wrapping_add(place as u64);
-        if job.key != key_at(cpu, number) {
-            return false;
-        }
-    }
-    true
+/// Whether the jobs are those of the callbacks from `first` on, in order.
+fn are_next(cpu: u64, first: u64, back: &[Work]) -> bool
+    ensures { IsTrue result ↔ AreNext cpu first back.now }
+{
+    back.iter().enumerate().all(|(place, job)| job.key
+        == key_at(cpu, first.wrapping_add(place as u64)))
+}
+
+/// Whether so many callbacks of a processor ran or were handed back, once and in their places.
+fn are_whole(cpu: u64, many: u64, ran: &[Record<u64>], back: &[Work]) -> bool
+    ensures { IsTrue result → IsWhole cpu many ran.now back.now }
+{
+    let count = ran.len() as u64;
+    count <= many
+        && many - count == back.len() as u64
+        && are_first(cpu, ran)
+        && are_next(cpu, count, back)
 }
 
 /// Whether each callback that a processor accepted was run or handed back, once and in its place.
-fn is_whole(closed: &Closed<Work>, cpu: Cpu, accepted: u64) -> bool {
-    let number = cpu.number();
-    let place = number as usize;
-    let (Some(ran), Some(back)) = (closed.ran.get(place), closed.back.get(place)) else {
+fn is_whole(closed: &Closed<Work>, cpu: u64, many: u64) -> bool
+    ensures { IsTrue result → EndsWhole cpu many closed.now }
+{
+    let (Some(ran), Some(back)) = (closed.ran.get(cpu as usize), closed.back.get(cpu as usize))
+    else {
         return false;
     };
-    let all = (ran.len() as u64).wrapping_add(back.len() as u64);
-    all == accepted && are_first(number, ran) && are_next(number, ran.len(), back)
+    are_whole(cpu, many, ran.as_slice(), back.as_slice())
 }
 
 /// What a close gives is whole, by what the runtime showed before it.
-pub fn check_closed(growth: Growth, closed: &Closed<Work>, shown: &Shown) -> Result<(), Fault> {
-    for cpu in [Cpu::Local, Cpu::Offloadable] {
-        let whole = is_whole(closed, cpu, accepted(shown.of(cpu)));
-        stands(whole, growth, "a callback is lost, or in a wrong place")?;
-    }
+pub fn check_closed(growth: Growth, closed: &Closed<Work>, shown: &Shown) -> Result<(), Fault>
+    ensures local { IfOk result (λ _. EndsWhole 0 (accepted_in shown.now.local) closed.now) }
+    ensures offloadable { IfOk result (λ _. EndsWhole 1 (accepted_in shown.now.offloadable) closed.now) }
+{
+    let whole = is_whole(closed, 0, accepted(shown.local))
+        && is_whole(closed, 1, accepted(shown.offloadable));
+    stands(whole, growth, "a callback is lost, or in a wrong place")?;
     stands(
         closed.reports.len() == 2,
         growth,

@@ -1,6 +1,7 @@
 //! The job that the scenarios hand in.
 
-ghost use Rattle.rcu_memory.specs.Works.{IsOwnKey, key_of_work};
+ghost use Rattle.std.specs.Prelude.{◌≡◌};
+ghost use Rattle.rcu_memory.specs.Works.{IsOwnKey, callback_key, key_of_work};
 
 use rcu_jobs::Job;
 
@@ -12,7 +13,9 @@ pub struct Work {
 
 impl Work {
     /// The job of the callback that is to be the one of this number on processor `cpu`.
-    pub fn of(cpu: u64, number: u64) -> Work {
+    pub fn of(cpu: u64, number: u64) -> Work
+        ensures { result.key ≡ callback_key cpu number }
+    {
         Work {
             key: key_at(cpu, number),
         }
@@ -20,7 +23,9 @@ impl Work {
 }
 
 /// The key of callback `number` of processor `cpu`: each another, while a processor has fewer than a million.
-pub fn key_at(cpu: u64, number: u64) -> u64 {
+pub fn key_at(cpu: u64, number: u64) -> u64
+    ensures { result ≡ callback_key cpu number }
+{
     cpu.wrapping_mul(1_000_000).wrapping_add(number)
 }
 
