@@ -177,7 +177,8 @@ fn is_whole(closed: &Closed<Work>, cpu: u64, many: u64) -> bool
 /// What a close gives is whole, by what the runtime showed before it.
 pub fn check_closed(growth: Growth, closed: &Closed<Work>, shown: &Shown) -> Result<(), Fault>
     ensures local { IfOk result (λ _. EndsWhole 0 (accepted_in shown.now.local) closed.now) }
-    ensures offloadable { IfOk result (λ _. EndsWhole 1 (accepted_in shown.now.offloadable) closed.now) }
+    ensures offloadable { IfOk result (λ _.
+        EndsWhole 1 (accepted_in shown.now.offloadable) closed.now) }
 {
     let whole = is_whole(closed, 0, accepted(shown.local))
         && is_whole(closed, 1, accepted(shown.offloadable));
