@@ -74,7 +74,8 @@ impl<J: Drop> Segments<J> {
         ensures had { SegmentsRoom self.old more → IsOk result }
     {
         let (len, places) = (self.list.len(), self.list.capacity());
-        // (a full list grows where it stands, and so does one whose callbacks are moved to its start)
+        // (a list that isn't full may begin anywhere in its block, and `reserve` would move it to a new one; `reserve_exact`
+        // moves it to the start of its block, which then grows where it stands)
         if len == places || more <= places - len {
             return self.list.reserve(more);
         }
