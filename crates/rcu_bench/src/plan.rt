@@ -1,7 +1,7 @@
 //! What is to be measured: the words of the command line.
 
-ghost use Rattle.std.specs.Prelude.{◌≡◌, IfSome, IsSome, true, false};
-ghost use Rattle.rcu_numbers.specs.Limits.{IsWithin};
+ghost use Rattle.std.specs.Prelude.{◌≡◌, ◌/◌, ℕ, IfSome, IsSome, None, true, false};
+ghost use Rattle.rcu_numbers.specs.Limits.{IsWithin, IsWholeRoot};
 ghost use Rattle.rcu_numbers.specs.Words.{all_of};
 ghost use Rattle.rcu_numbers.specs.declared.shape.TheConstants.{MOST_CALLBACKS, MOST_PROCESSORS};
 ghost use Rattle.rcu_bench.specs.declared.plan.Refusal.TheVariants.{Memory};
@@ -65,6 +65,8 @@ pub struct Plan {
     pub times: bool,
     /// How many processors there are, each with a thread.
     pub threads: u64,
+    /// How many neighbouring processors make a group. None is the stride of a runtime of so many processors.
+    pub stride: Option<u64>,
     /// How many calls each processor makes.
     pub calls: u64,
     /// How many callbacks of a processor run in a turn.
@@ -85,9 +87,13 @@ impl Plan {
     /// The shape of a runtime with this plan's processors. None outside the limits of a shape.
     pub fn shape(&self) -> Option<Shape>
         ensures some { IsWithin 1 MOST_PROCESSORS self.now.threads
+            → IfSome self.now.stride (IsWithin 1 MOST_PROCESSORS)
             → IsWithin 1 MOST_CALLBACKS self.now.blimit → IsWithin 1 MOST_CALLBACKS self.now.qhimark
             → IsSome result }
         ensures threads { IfSome result (λ s. s.processors ≡ self.now.threads) }
+        ensures stride { IfSome result (λ s. IfSome self.now.stride (λ n. s.stride ≡ n)) }
+        ensures usual { self.now.stride ≡ None → (r : ℕ) → IsWholeRoot self.now.threads r
+            → IfSome result (λ s. s.stride ≡ self.now.threads / r) }
         ensures limits { IfSome result (λ s.
             (s.blimit ≡ self.now.blimit) × (s.qhimark ≡ self.now.qhimark)) }
         ensures local { self.now.offloaded ≡ false → IfSome result (λ s. s.offloadable ≡ 0) }
@@ -102,10 +108,14 @@ impl Plan {
         } else {
             0
         };
+        let stride = match self.stride {
+            Some(stride) => stride,
+            None => default_stride(self.threads),
+        };
         Shape::new(
             self.threads,
             mask,
-            default_stride(self.threads),
+            stride,
             self.blimit,
             self.qhimark,
             MOST_CALLBACKS,
@@ -144,6 +154,7 @@ fn common<'a>(alloc: Global) -> Result<clap::Command<'a>, AllocError> {
 fn command<'a>(alloc: Global) -> Result<clap::Command<'a>, AllocError> {
     common(alloc)?
         .arg(number(alloc, "threads", 1, "the processors, each with a thread"))?
+        .arg(number(alloc, "stride", 1, "the neighbouring processors of a group"))?
         .arg(number(alloc, "blimit", 1, "the callbacks of a turn"))?
         .arg(number(
             alloc,
@@ -170,6 +181,7 @@ pub fn read_plan(alloc: Global, words: &[String]) -> Result<Plan, Refusal> {
         boxed: matches.get_flag("boxed"),
         times: matches.get_flag("times"),
         threads: matches.get_one("threads").unwrap_or(1),
+        stride: matches.get_one("stride"),
         calls: matches.get_one("calls").unwrap_or(1_000),
         blimit: matches.get_one("blimit").unwrap_or(BLIMIT),
         qhimark: matches.get_one("qhimark").unwrap_or(QHIMARK),
