@@ -1,6 +1,6 @@
 -- Where all that was accepted has run, no job comes back.
-use Rattle.std.proofs.Common.{◌≡◌, ℕ, zero, suc, ◌+◌, ◌/◌, ◌<◌, ◌≤◌, ◌∙◌, List, [], ◌∷◌, ◌++◌, Option, Some, Ok, map, drop, length, get_or, slice_index_or, ap, sym, subst, refl, arith}
-use Rattle.std.specs.Prelude.{◌≢◌, All}
+use Rattle.std.proofs.Common.{◌≡◌, ℕ, zero, suc, ◌+◌, ◌/◌, ◌<◌, ◌≤◌, ◌∙◌, List, [], ◌∷◌, ◌++◌, Option, Some, Result, Ok, Err, map, drop, length, get_or, slice_index_or, ap, sym, subst, refl, arith}
+use Rattle.std.specs.Prelude.{◌≢◌, All, IfErr, IfOk}
 use Rattle.std.proofs.lemmas.List.{length-map}
 use Rattle.rcu_board.specs.Seats.{accepted_of}
 use Rattle.rcu_board.specs.Views.{seen_at}
@@ -8,8 +8,9 @@ use Rattle.rcu_board.specs.Words.{turns_word}
 use Rattle.rcu_board.specs.declared.board.Board.{Board}
 use Rattle.rcu_board.specs.declared.view.View.{View}
 use Rattle.rcu_control.specs.Barriers.{IsOver}
-use Rattle.rcu_control.specs.Parts.{control_view}
+use Rattle.rcu_control.specs.Parts.{SameControl, control_view}
 use Rattle.rcu_control.specs.declared.barrier.Barrier.{Barrier}
+use Rattle.rcu_control.specs.declared.control.Control.{Control}
 use Rattle.rcu_gathering.proofs.Closings.{as_many_ended}
 use Rattle.rcu_gathering.proofs.Lists.{all_cons, all_head, all_map, all_mapped, all_none, all_tail}
 use Rattle.rcu_gathering.specs.Closing.{CpuEnd, EndsAs, processors_of, seats_of}
@@ -27,6 +28,7 @@ use Rattle.rcu_parts.specs.SameParts.{AreSameParts}
 use Rattle.rcu_runtime.specs.Calls.{OnControl, Opens, Polls}
 use Rattle.rcu_runtime.specs.Runtimes.{Continues}
 use Rattle.rcu_runtime.specs.Settled.{HasPassed, HasRunAll, IsCounted}
+use Rattle.rcu_runtime.specs.declared.fault.OtherBarrier.{OtherBarrier}
 
 no_longer : {X : Type 0} (l : List X) → length l ≤ 0 → l ≡ []
 no_longer [] short = refl
@@ -36,6 +38,28 @@ module _ {J R : Type 0} where
   -- a barrier that was polled and passed has passed
   pub passed_by : (counts : Counts) (passed : Passed) (old new : Parts J R) → OnControl (Polls counts (Some passed)) old new → HasPassed counts passed new
   passed_by counts passed old new polls = record { counts_are = polls.does.0; over = polls.does.1.over }
+
+  -- What two calls did to control, one after another, left all other parts as they were.
+  pub control_alone : {First Second : Control → Control → Type 0} (old between new : Parts J R) → OnControl First old between → OnControl Second between new → SameControl old.control new.control → OnControl SameControl old new
+  control_alone old between new first second same = record {
+    does = same;
+    processors = second.processors ∙ first.processors;
+    groups = second.groups ∙ first.groups;
+    hands = second.hands ∙ first.hands;
+    driver = second.driver ∙ first.driver;
+  }
+
+  -- So does a poll after that, also where it was refused.
+  pub polled_alone : {First : Control → Control → Type 0} (counts : Counts) (polled : Result (Option Passed) OtherBarrier) (old between new : Parts J R) → OnControl First old between → IfOk polled (λ passed. OnControl (Polls counts passed) between new)
+      → IfErr polled (λ other. new ≡ between) → SameControl old.control new.control → OnControl SameControl old new
+  polled_alone counts (Ok passed) old between new first second stays same = control_alone old between new first second same
+  polled_alone counts (Err other) old between new first second stays same = record {
+    does = same;
+    processors = ap (λ (x : Parts J R). x.processors) stays ∙ first.processors;
+    groups = ap (λ (x : Parts J R). x.groups) stays ∙ first.groups;
+    hands = ap (λ (x : Parts J R). x.hands) stays ∙ first.hands;
+    driver = ap (λ (x : Parts J R). x.driver) stays ∙ first.driver;
+  }
 
   -- a runtime that went on has as many processors
   pub as_many_on : (old new : Parts J R) → Continues old new → (parts_board new).processors ≡ (parts_board old).processors

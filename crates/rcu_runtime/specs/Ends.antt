@@ -2,8 +2,9 @@
 use Rattle.std.specs.Prelude.{◌≡◌, ℕ, ◌+◌, length, sum_by, All}
 use Rattle.rcu_jobs.specs.Records.{Given}
 use Rattle.rcu_jobs.specs.declared.answers.Closed.{Closed}
+use Rattle.rcu_parts.specs.AtClose.{ClosesWith}
 use Rattle.rcu_parts.specs.OneOpen.{Parts}
-use Rattle.rcu_runtime.specs.Runtimes.{accepted_in}
+use Rattle.rcu_runtime.specs.Runtimes.{Continues, accepted_in}
 use Rattle.rcu_runtime.specs.declared.any_fault.AnyFault.{AnyFault}
 use Rattle.rcu_runtime.specs.declared.any_fault.AnyFault.TheVariants.{Memory, NotDrained}
 
@@ -25,6 +26,12 @@ module _ {J R : Type 0} where
   -- as many ran or are handed back as were accepted
   abbrev pub LosesNone : Parts J R → Closed J R → Type 0
   LosesNone parts closed = ran_in closed + back_in closed ≡ accepted_in parts
+
+  -- What was closed is the same runtime, later, and the answer is what `close` promises of it.
+  pub record ClosesLater (key_of : J → ℕ) (gives : ℕ → R → Type 0) (parts : Parts J R) (closed : Closed J R) : Type 0 where
+    pub ended : Parts J R
+    pub continues : Continues parts ended
+    pub closes : ClosesWith key_of gives ended closed
 
   -- each receipt is given for the key of its record
   abbrev pub HaveReceipts : (ℕ → R → Type 0) → Closed J R → Type 0

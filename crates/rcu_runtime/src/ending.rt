@@ -3,7 +3,7 @@
 ghost use Rattle.std.specs.Prelude.{IfErr, IfOk};
 ghost use Rattle.rcu_parts.specs.AtClose.{ClosesWith};
 ghost use Rattle.rcu_parts.specs.Drained.{HasNoneBack};
-ghost use Rattle.rcu_runtime.specs.Ends.{HaveReceipts, IsOfDrain, LosesNone};
+ghost use Rattle.rcu_runtime.specs.Ends.{ClosesLater, HaveReceipts, IsOfDrain, LosesNone};
 ghost use Rattle.rcu_runtime.specs.Runtimes.{IsDrained};
 ghost use Rattle.rcu_runtime.specs.Settled.{HasRunAll};
 
@@ -43,6 +43,7 @@ impl<J: Job> Whole<AllParts<Processor<J>, Group<J>, Hand<J>>> {
         moment: u64,
         turns: u64,
     ) -> Result<Closed<J>, AnyFault>
+        ensures closes { IfOk result (λ closed. ClosesLater J.key_of J.gives self closed) }
         ensures none_lost { IfOk result (LosesNone self) }
         ensures receipts { IfOk result (λ closed. HaveReceipts J.gives closed) }
         ensures none_back { IfOk result (λ closed. HasNoneBack closed) }

@@ -33,7 +33,9 @@ fn counts_all<J: Job>(processors: &Vec<Processor<J>>, counts: &Counts) -> bool
 }
 
 impl<J: Job> Whole<AllParts<Processor<J>, Group<J>, Hand<J>>> {
+    ghost use Rattle.rcu_control.specs.Parts.{SameControl};
     ghost use Rattle.rcu_parts.specs.OneOpen.{parts_board};
+    ghost use Rattle.rcu_runtime.specs.Calls.{OnControl};
     ghost use Rattle.rcu_runtime.specs.Runtimes.{Continues, accepted_in};
     ghost use Rattle.rcu_runtime.specs.Settled.{HasPassed, HasRunAll, IsWhyNotPassed};
 
@@ -74,6 +76,7 @@ impl<J: Job> Whole<AllParts<Processor<J>, Group<J>, Hand<J>>> {
     pub fn has_run_all(&mut self) -> bool
         ensures continues { Continues self.old self.new }
         ensures run { IsTrue result → HasRunAll self.new }
+        ensures others { OnControl SameControl self.old self.new }
         ensures none { accepted_in self.new ≡ accepted_in self.old }
     {
         let Ok(barrier) = self.barrier(&[]) else {

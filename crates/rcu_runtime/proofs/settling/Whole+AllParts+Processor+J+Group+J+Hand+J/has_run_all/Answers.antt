@@ -1,7 +1,7 @@
 use Rattle.std.proofs.Common.{Option, subst}
 use Rattle.rcu_jobs.specs.declared.Passed.{Passed}
 use Rattle.rcu_runtime.specs.Calls.{OnControl, Polls}
-use Rattle.rcu_runtime.proofs.Settles.{has_run}
+use Rattle.rcu_runtime.proofs.Settles.{control_alone, has_run, polled_alone}
 use Rattle.rcu_runtime.proofs.Wholes.{continues_again}
 use Rattle.rcu_runtime.proofs.settling.Whole+AllParts+Processor+J+Group+J+Hand+J.has_run_all.Goals as goal
 
@@ -18,3 +18,11 @@ returns-clause-run g c = λ yes. let counts = c.in-Ok.barrier.counts in
 
 pub counts_all-requires-after_bounds : goal.counts_all-requires-after_bounds
 counts_all-requires-after_bounds g c κs within = assumption
+
+pub returns-in_default-poll-clause-others : goal.returns-in_default-poll-clause-others
+returns-in_default-poll-clause-others g c = polled_alone c.in-Ok.barrier.counts c.poll.result c.args.self.now c.barrier.new.self c.poll.new.self c.in-Ok.ensures.opens c.poll.ensures.ok c.poll.ensures.stays
+    (continues_again c.args.self.now c.barrier.new.self c.poll.new.self c.barrier.ensures.continues c.poll.ensures.continues).same.control
+
+pub returns-clause-others : goal.returns-clause-others
+returns-clause-others g c = control_alone c.args.self.now c.barrier.new.self c.poll.new.self c.in-Ok.ensures.opens c.in-Ok-Some.ensures.ok
+    (continues_again c.args.self.now c.barrier.new.self c.poll.new.self c.barrier.ensures.continues c.poll.ensures.continues).same.control
