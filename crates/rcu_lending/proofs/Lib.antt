@@ -4,3 +4,4 @@ pub mod Values
 pub mod Placing
 pub mod NewParts
 pub mod Opened
+pub mod Unread

@@ -6,6 +6,7 @@ pub mod Opens
 pub mod Others
 pub mod Parts
 pub mod Processors
+pub mod Refusals
 pub mod Runs
 pub mod Shows
 pub mod Slots

@@ -3,6 +3,7 @@
 ghost use Rattle.std.specs.Prelude.{◌≡◌, IfErr, IfOk, IfSome, IfNone, None, is_some};
 ghost use Rattle.rcu_lending.specs.Gathers.{AreChecked, AreUnread, BelongsAt, IsInPlace, IsOfOpen, held_in};
 ghost use Rattle.rcu_lending.specs.Parts.{kind_of};
+ghost use Rattle.rcu_lending.specs.Refusals.{IsMisplaced, RefusesEach, RefusesSlot};
 
 use crate::fault::Fault;
 use crate::part::{Lent, Opening, PartKind};
@@ -19,6 +20,7 @@ impl Lent {
         ensures kind { IfOk result (λ _. kind_of self.now.part ≡ kind) }
         ensures place { IfOk result (λ _. (self.now.opening ≡ opening) × (self.now.at ≡ at)) }
         ensures err { IfErr result (λ _. BelongsAt opening at kind self.now → ⊥) }
+        ensures why { IfErr result (λ fault. IsMisplaced opening at kind fault self.now) }
     {
         if self.part.kind() != kind {
             return Err(self.part.not_resting());
@@ -49,6 +51,8 @@ pub(crate) fn check_one(
     ensures reading { slot.new.reading ≡ slot.old.reading }
     ensures err { IfErr result (λ _.
         slot.old.reading ≡ 0 → IfSome slot.old.held.value (BelongsAt opening at kind) → ⊥) }
+    ensures unread { IfOk result (λ _. slot.old.reading ≡ 0) }
+    ensures why { IfErr result (λ fault. RefusesSlot opening at kind fault slot.old) }
 {
     if slot.reading != 0 {
         return Err(Fault::Reading);
@@ -80,6 +84,8 @@ pub(crate) fn check_each(
     ensures checked { IfOk result (λ _. AreChecked opening kind many (held_in slots.old)) }
     ensures err { IfErr result (λ _.
         AreUnread slots.old → AreChecked opening kind many (held_in slots.old) → ⊥) }
+    ensures unread { IfOk result (λ _. AreUnread slots.old) }
+    ensures why { IfErr result (λ fault. RefusesEach opening kind many fault slots.old) }
 {
     let mut found: u64 = 0;
     for place in 0..slots.len() {

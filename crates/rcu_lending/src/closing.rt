@@ -3,6 +3,7 @@
 ghost use Rattle.std.specs.Prelude.{◌≡◌, ◌⊎◌, [], IfErr, IfOk};
 ghost use Rattle.std.specs.Vec.{vec_capacity};
 ghost use Rattle.rcu_lending.specs.Gathers.{AreEmptied, AreHeld, AreOfTheOpen, AreReady, CanClose, CanTryClose, Closes, ClosesAgain, OwesAgain, ComesTo, HasKind, HasPart, IsAllThere, IsThere, Keeps, RefusesClose, StayHeld};
+ghost use Rattle.rcu_lending.specs.Refusals.{IsWhyNotClosed, RefusesAll, RefusesFirst, RefusesOwn};
 ghost use Rattle.rcu_lending.specs.declared.fault.Fault.TheVariants.{Memory};
 ghost use Rattle.rcu_lending.specs.declared.part.Part.TheVariants as part;
 ghost use Rattle.rcu_lending.specs.declared.part.PartKind.TheVariants as kind;
@@ -57,6 +58,8 @@ fn check_there(
     ensures there { IfOk result (λ _. IsThere opening kind slot.old.held.value) }
     ensures err { IfErr result (λ _.
         slot.old.reading ≡ 0 → IsThere opening kind slot.old.held.value → ⊥) }
+    ensures unread { IfOk result (λ _. slot.old.reading ≡ 0) }
+    ensures why { IfErr result (λ fault. RefusesOwn opening kind fault slot.old) }
 {
     match check_one(alloc, slot, opening, 0, kind) {
         Ok(true) => Ok(()),
@@ -74,6 +77,8 @@ fn check_all(alloc: Global, slots: &mut PartSlots, opening: Opening) -> Result<(
     ensures stay { StayHeld slots.old slots.new }
     ensures ready { IfOk result (λ _. AreReady opening slots.new) }
     ensures err { IfErr result (λ _. IsAllThere opening slots.old → ⊥) }
+    ensures there { IfOk result (λ _. IsAllThere opening slots.old) }
+    ensures why { IfErr result (λ fault. RefusesAll opening fault slots.old) }
 {
     if let Err(fault) = check_there(alloc, &mut slots.control, opening, PartKind::Control) {
         return Err(fault);
@@ -193,6 +198,8 @@ fn close_first(alloc: Global, slots: &mut PartSlots, opening: Opening) -> Result
     requires owed { AreOfTheOpen slots.old }
     ensures closes { Closes result slots.old slots.new ⊎ RefusesClose result slots.old slots.new }
     ensures memory { IsAllThere opening slots.old → IfErr result (λ fault. fault ≡ Memory) }
+    ensures there { IfOk result (λ _. IsAllThere opening slots.old) }
+    ensures why { IfErr result (λ fault. RefusesFirst opening fault slots.old) }
 {
     if let Err(fault) = check_all(alloc, slots, opening) {
         return Err(fault);
@@ -228,6 +235,8 @@ pub fn close_from(alloc: Global, slots: &mut PartSlots) -> Result<(), Fault>
         ⊎ ClosesAgain result slots.old.control slots.new.control
         ⊎ RefusesClose result slots.old slots.new }
     ensures memory { CanTryClose slots.old → IfErr result (λ fault. fault ≡ Memory) }
+    ensures there { IfOk result (λ _. CanTryClose slots.old) }
+    ensures why { IfErr result (λ fault. IsWhyNotClosed fault slots.old) }
 {
     let Some((opening, kind)) = slots.control.peek(alloc) else {
         return Err(Fault::Empty);

@@ -13,3 +13,6 @@ returns-clause-closes c = let e = c.take_all-parts.ensures.emptied in inl (recor
   emptied = record { driver_is = e.driver_is; processors_are = e.processors_are; groups_are = e.groups_are; hands_are = e.hands_are };
   comes_to = c.close_parts.ensures;
 })
+
+pub returns-in-Err-clause-why : goal.returns-in-Err-clause-why
+returns-in-Err-clause-why c = inl c.in-Err.ensures.why

@@ -3,7 +3,7 @@ use mathlib.Core.Logic.{inl, inr}
 use Rattle.rcu_lending.specs.Gathers.{StayHeld}
 use Rattle.rcu_lending.specs.declared.slot.PartSlots.{PartSlots}
 use Rattle.rcu_lending.specs.declared.slot.Slot.{Slot}
-use Rattle.rcu_lending.proofs.Closings.{closes_again_from, closes_from_old, owed_still}
+use Rattle.rcu_lending.proofs.Closings.{can_try_again, can_try_from, closes_again_from, closes_from_old, owed_still, why_again, why_from}
 use Rattle.rcu_lending.proofs.closing.close_from.Goals as goal
 
 -- control's slot was looked at
@@ -28,3 +28,16 @@ returns-in-Control-clause-closes c = elim (closes_from_old (looked_at c.args.slo
   | inl x ↦ inl x
   | inr y ↦ inr (inr y)
 ]
+
+pub returns-in-Closing-clause-there : goal.returns-in-Closing-clause-there
+returns-in-Closing-clause-there c = let s = c.in-Some.ensures.some in can_try_again c.args.slots.now c.close_kept.result (s.0, s.1, s.3 ∙ c.in-Closing.is)
+
+pub returns-in-Closing-clause-why : goal.returns-in-Closing-clause-why
+returns-in-Closing-clause-why c = let s = c.in-Some.ensures.some in why_again c.args.slots.now c.close_kept.result (s.0, s.1, s.3 ∙ c.in-Closing.is) c.close_kept.ensures
+
+pub returns-in-Control-clause-there : goal.returns-in-Control-clause-there
+returns-in-Control-clause-there c = can_try_from c.in-Some.opening c.args.slots.now c.peek.new.self c.peek.ensures.stays c.peek.ensures.reading c.close_first.result c.close_first.ensures.there
+
+pub returns-in-Control-clause-why : goal.returns-in-Control-clause-why
+returns-in-Control-clause-why c = let s = c.in-Some.ensures.some in
+    why_from c.in-Some.opening c.args.slots.now c.peek.new.self c.peek.ensures.stays c.peek.ensures.reading c.close_first.result (s.0, s.1, s.2, s.3 ∙ c.in-Control.is) c.close_first.ensures.why
