@@ -14,6 +14,7 @@ use Rattle.rcu_lending.specs.Faults.{fault_number}
 use Rattle.rcu_lending.specs.Gathers.{Closes, ClosesAgain, RefusesClose, RefusesEnd}
 use Rattle.rcu_lending.specs.Opens.{OpensInto, RefusesOpen}
 use Rattle.rcu_lending.specs.Others.{DriverTurnsBy}
+use Rattle.rcu_lending.specs.Refusals.{IsWhyNotClosed}
 use Rattle.rcu_lending.specs.Shows.{OnlyShows}
 use Rattle.rcu_lending.specs.Slots.{OnSlot}
 use Rattle.rcu_lending.specs.declared.fault.Fault.{Fault}
@@ -80,6 +81,10 @@ pub record TellsClose (answer : ℕ) (old new : PartSlots) : Type 0 where
   pub result : Result (Unit {0}) Fault
   pub does : Closes result old new ⊎ ClosesAgain result old.control new.control ⊎ RefusesClose result old new
   pub answer_is : answer ≡ answer_of result
+
+-- Why a close isn't made: a slot is empty, or is refused, or memory was.
+abbrev pub RefusesCloseBy : ℕ → PartSlots → Type 0
+RefusesCloseBy answer slots = (fault : Fault) × (answer ≡ fault_number fault) × IsWhyNotClosed fault slots
 
 -- done, or not for want of memory
 abbrev pub IsDoneUnlessForMemory : ℕ → Type 0

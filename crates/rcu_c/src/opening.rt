@@ -1,7 +1,7 @@
 //! Open and close.
 
 ghost use Rattle.std.specs.Prelude.{◌≡◌, ◌≢◌};
-ghost use Rattle.rcu_c.specs.Exports.{IsDoneUnlessForMemory, OpensBy, RefusesOpenBy, TellsClose};
+ghost use Rattle.rcu_c.specs.Exports.{IsDoneUnlessForMemory, OpensBy, RefusesCloseBy, RefusesOpenBy, TellsClose};
 ghost use Rattle.rcu_lending.specs.Gathers.{AreOfTheOpen, CanTryClose, StayHeld};
 
 use crate::words::Settings;
@@ -43,6 +43,8 @@ pub extern "C" fn rcuo_slot_close(alloc: Global, slots: &mut PartSlots) -> u32
     requires owed { AreOfTheOpen slots.old }
     ensures tells { TellsClose result slots.old slots.new }
     ensures memory { CanTryClose slots.old → IsDoneUnlessForMemory result }
+    ensures there { result ≡ 0 → CanTryClose slots.old }
+    ensures why { result ≢ 0 → RefusesCloseBy result slots.old }
 {
     match close_from(alloc, slots) {
         Ok(()) => 0,
