@@ -1,7 +1,7 @@
 //! Threads in which processors call, and threads that run processors afterwards.
 
 ghost use denote.Param.Send.{IsSend};
-ghost use Rattle.std.specs.Prelude.{◌≡◌, ◌+◌, ◌≤◌, ◌↔◌, IsTrue, false};
+ghost use Rattle.std.specs.Prelude.{◌≡◌, ◌+◌, ◌<◌, ◌≤◌, ◌↔◌, IsTrue, false, min};
 
 use crate::jobs::{Work, nanoseconds};
 use crate::plan::Plan;
@@ -46,7 +46,14 @@ impl Pace {
     }
 
     /// Counts a tick, after which the moment may be a new one.
-    fn tick(&mut self, plan: &Plan) {
+    fn tick(&mut self, plan: &Plan)
+        ensures again { plan.now.pace ≤ self.old.ticks + 1 → self.new.ticks ≡ 0 }
+        ensures rises { plan.now.pace ≤ self.old.ticks + 1
+            → self.new.moment ≡ min (self.old.moment + 1) u64.MAX }
+        ensures counted { self.old.ticks + 1 < plan.now.pace
+            → (self.new.ticks ≡ self.old.ticks + 1) × (self.new.moment ≡ self.old.moment) }
+        ensures stays { self.new.calls ≡ self.old.calls }
+    {
         self.ticks = self.ticks.saturating_add(1);
         if self.ticks >= plan.pace {
             self.ticks = 0;

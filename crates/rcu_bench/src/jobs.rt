@@ -1,6 +1,6 @@
 //! The job: of two words, whatever it is to do.
 
-ghost use Rattle.std.specs.Prelude.{◌≡◌, Ok, false};
+ghost use Rattle.std.specs.Prelude.{◌≡◌, ◌≢◌, ℕ, Ok, false, true};
 ghost use Rattle.rcu_bench.specs.declared.jobs.Work.TheVariants.{Plain};
 
 use rcu_jobs::Job;
@@ -57,6 +57,7 @@ impl Work {
     /// Want of memory.
     pub fn new(alloc: Global, boxed: bool) -> Result<Work, AllocError>
         ensures plain { boxed ≡ false → result ≡ Ok (Plain 1) }
+        ensures boxed { boxed ≡ true → (n : ℕ) → result ≢ Ok (Plain n) }
     {
         if !boxed {
             return Ok(Work::Plain(1));

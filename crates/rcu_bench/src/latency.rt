@@ -1,5 +1,7 @@
 //! How long a single callback waits, from its call to its run.
 
+ghost use Rattle.std.specs.Prelude.{◌≡◌, IfOk, length, vec_len};
+
 use crate::jobs::{Timing, Work, nanoseconds};
 use crate::plan::Plan;
 use rcu_parts::{AllParts, Control, Parts, Processor};
@@ -19,9 +21,11 @@ const MOST_TICKS: u64 = 1_000_000_000;
 const AFTER: u64 = 50_000;
 
 /// Places for so many times.
-fn places(alloc: Global, many: u64) -> Result<Vec<AtomicU64>, AllocError> {
+fn places(alloc: Global, many: u64) -> Result<Vec<AtomicU64>, AllocError>
+    ensures { IfOk result (λ places. vec_len places ≡ many) }
+{
     let mut places = Vec::new(alloc);
-    for _ in 0..many {
+    for _place in 0..many {
         places.push(AtomicU64::new(0))?;
     }
     Ok(places)
@@ -89,7 +93,9 @@ fn call_spaced(
 }
 
 /// The times that were noted, in nanoseconds.
-fn noted(alloc: Global, places: &[AtomicU64]) -> Result<Vec<u64>, AllocError> {
+fn noted(alloc: Global, places: &[AtomicU64]) -> Result<Vec<u64>, AllocError>
+    ensures { IfOk result (λ times. vec_len times ≡ length places.now) }
+{
     let mut times = Vec::new(alloc);
     for place in places {
         times.push(place.load(Ordering::SeqCst))?;
@@ -149,7 +155,9 @@ pub fn wait_times<R: Threads + Wait + Clock + Copy + Send + 'static>(
     alloc: Global,
     parts: Parts<Work>,
     plan: &Plan,
-) -> Result<Vec<u64>, AllocError> {
+) -> Result<Vec<u64>, AllocError>
+    ensures { IfOk result (λ times. vec_len times ≡ plan.now.calls) }
+{
     let times = Arc::new(alloc, places(alloc, plan.calls)?)?;
     run_beside(clock, rt, alloc, parts, &times, plan);
     noted(alloc, times.as_slice())
