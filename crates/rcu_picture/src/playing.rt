@@ -1,7 +1,7 @@
 //! The run of a script over the core, command by command.
 
 ghost use Rattle.std.specs.Option.{is_some};
-ghost use Rattle.std.specs.Prelude.{◌≡◌};
+ghost use Rattle.std.specs.Prelude.{◌≡◌, IfSome};
 ghost use Rattle.rcu_picture.specs.Keys.{IsKey, key_in};
 ghost use Rattle.rcu_script.specs.Calls.{is_call};
 ghost use Rattle.rcu_world.specs.Turns.{IsAtRest};
@@ -131,7 +131,8 @@ fn all_shown(alloc: Global, world: &World<KeyJob>) -> Result<Vec<Shown>, Fault>
 
 /// The job of this key, if the command is a call.
 fn job_of(command: &Command, key: u64) -> Option<KeyJob>
-    ensures { is_some result ≡ is_call command.now }
+    ensures call { is_some result ≡ is_call command.now }
+    ensures key { IfSome result (λ job. job.key ≡ key) }
 {
     match command {
         Command::Call { .. } | Command::Lazy { .. } => Some(KeyJob { key }),

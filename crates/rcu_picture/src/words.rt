@@ -1,5 +1,8 @@
 //! The words of the command line.
 
+ghost use Rattle.std.specs.Prelude.{◌≡◌};
+ghost use Rattle.rcu_picture.specs.declared.words.Refusal.TheVariants.{Fault};
+
 use clap::error::ErrorKind;
 use clap::{Arg, ArgAction};
 use rcu_script::Fault;
@@ -27,6 +30,8 @@ pub enum Refusal {
 }
 
 impl From<Fault> for Refusal {
+    ghost from_gives = { λ fault refusal. refusal ≡ Fault fault };
+
     fn from(fault: Fault) -> Refusal {
         Refusal::Fault(fault)
     }
