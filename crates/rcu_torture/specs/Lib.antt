@@ -4,3 +4,6 @@ pub mod Ends
 pub mod Left
 pub mod Line
 pub mod Sums
+pub mod Endings
+pub mod Ages
+pub mod Acts

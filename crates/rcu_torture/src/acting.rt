@@ -1,6 +1,7 @@
 //! What a processor's thread does: random calls, read sections, reports, ticks and barriers.
 
-ghost use Rattle.std.specs.Prelude.{IfErr, IfOk, IsTrue, Some, ◌≡◌, ◌↔◌, []};
+ghost use Rattle.std.specs.Prelude.{IfErr, IfOk, IfSome, IsTrue, None, Some, ◌≡◌, ◌+◌, ◌<◌, ◌↔◌, [], length};
+ghost use Rattle.rcu_torture.specs.Acts.{ReportsOnce, one_barrier, one_call};
 ghost use Rattle.rcu_torture.specs.Kept.{Accepts, GoesOn};
 ghost use Rattle.rcu_torture.specs.Left.{IsCount};
 ghost use Rattle.rcu_torture.specs.Sums.{one_current, one_freed, one_removed};
@@ -75,7 +76,9 @@ pub(crate) struct Actor {
 
 /// Takes out a version of the table, and makes the job that frees it under this ticket. None where no version is left to be
 /// made, or for want of memory.
-fn retire(shared: &Arc<Shared>, chance: &mut Chance, ticket: Ticket) -> Option<Retire> {
+fn retire(shared: &Arc<Shared>, chance: &mut Chance, ticket: Ticket) -> Option<Retire>
+    ensures { IfSome result (λ job. job.ticket ≡ ticket) }
+{
     let yields = if chance.once_in(LONG) {
         chance.below(LONGEST)
     } else {
@@ -118,6 +121,7 @@ pub(crate) fn saw(counters: &mut Counters, flaws: &Flaws, seen: Option<Age>)
     ensures current { seen ≡ Some Current → counters.new ≡ one_current counters.old }
     ensures removed { seen ≡ Some Removed → counters.new ≡ one_removed counters.old }
     ensures freed { seen ≡ Some Freed → counters.new ≡ one_freed counters.old }
+    ensures missing { seen ≡ None → counters.new ≡ one_freed counters.old }
 {
     match seen {
         Some(Age::Current) => counters.current = counters.current.saturating_add(1),
@@ -130,7 +134,9 @@ pub(crate) fn saw(counters: &mut Counters, flaws: &Flaws, seen: Option<Age>)
 }
 
 /// How many calls the burst has that begins now; 0 where none does.
-fn next_burst(chance: &mut Chance) -> u64 {
+fn next_burst(chance: &mut Chance) -> u64
+    ensures { result < BURST }
+{
     if chance.once_in(BURSTS) {
         chance.below(BURST)
     } else {
@@ -173,7 +179,9 @@ impl Actor {
         chance: Chance,
     ) -> Actor
         ensures processor { result.processor ≡ processor }
+        ensures cpu { result.cpu ≡ cpu }
         ensures keys { result.keys.items ≡ [] }
+        ensures reports { result.reports ≡ 0 }
     {
         Actor {
             processor,
@@ -190,7 +198,9 @@ impl Actor {
 
     /// Counts a callback that was accepted.
     fn accepted(&mut self, ticket: Ticket, lazy: bool)
-        ensures { GoesOn self.old self.new }
+        ensures goes_on { GoesOn self.old self.new }
+        ensures keys { self.new.keys ≡ self.old.keys }
+        ensures counted { self.new.counters ≡ one_call lazy self.old.counters }
     {
         let accepted = ticket.number.saturating_add(1);
         self.shared.accept(self.cpu, accepted);
@@ -200,7 +210,9 @@ impl Actor {
 
     /// Hands this job to the processor.
     fn call(&mut self, job: Retire) -> Called
-        ensures { GoesOn self.old self.new }
+        ensures goes_on { GoesOn self.old self.new }
+        ensures accepted { result ≡ Called.Accepted
+            → length self.new.keys.items ≡ length self.old.keys.items + 1 }
     {
         let Ok(()) = self.keys.reserve(1) else {
             return Called::Refused;
@@ -239,7 +251,8 @@ impl Actor {
 
     /// A report.
     fn report(&mut self)
-        ensures { GoesOn self.old self.new }
+        ensures goes_on { GoesOn self.old self.new }
+        ensures reports { ReportsOnce self.old self.new }
     {
         let counted = self.processor.quiescent().is_some();
         self.reports = self.reports.saturating_add(u64::from(counted));
@@ -247,7 +260,8 @@ impl Actor {
 
     /// Opens a barrier, and leaves it to control to poll it.
     pub(crate) fn open_barrier(&mut self)
-        ensures { GoesOn self.old self.new }
+        ensures goes_on { GoesOn self.old self.new }
+        ensures counted { self.new.counters ≡ one_barrier self.old.counters }
     {
         let barrier = self.processor.barrier();
         let counted = counts_own(&barrier, self.cpu, self.processor.accepted());

@@ -1,7 +1,8 @@
 //! Threads in which processors are driven.
 
-ghost use Rattle.std.specs.Prelude.{◌≡◌, [], length, IfOk, IfSome, None};
+ghost use Rattle.std.specs.Prelude.{◌≡◌, ◌≢◌, ◌+◌, ◌/◌, ◌%◌, ◌<◌, ◌≤◌, ◌↔◌, [], length, IfOk, IfSome, IsTrue, None, vec_len};
 ghost use Rattle.std.specs.List.{AllZip};
+ghost use Rattle.rcu_torture.specs.Endings.{place_of, more_of};
 ghost use Rattle.rcu_torture.specs.Kept.{GoesOn, Keeps};
 
 use crate::acting::{Actor, Called};
@@ -42,18 +43,37 @@ pub(crate) struct Orders {
     pub(crate) more: u64,
 }
 
+/// How many calls a processor's thread makes beyond its share in a run that ends so.
+fn more_after(ending: Ending) -> u64
+    ensures { result ≡ more_of ending }
+{
+    match ending {
+        Ending::Shut => MORE,
+        Ending::DrainThenShut => 0,
+        Ending::Drain => 0,
+        Ending::Halt => 0,
+    }
+}
+
 impl Orders {
     /// Those of processor `p` in a run.
-    fn of(plan: &Plan, run: u64, p: u64) -> Orders {
+    fn of(plan: &Plan, run: u64, p: u64) -> Orders
+        ensures cpu { result.cpu ≡ p }
+        ensures drawn { (result.seed ≡ plan.now.seed) × (result.run ≡ run) }
+        ensures first { p < plan.now.callbacks % plan.now.processors
+            → result.share ≡ plan.now.callbacks / plan.now.processors + 1 }
+        ensures others { plan.now.callbacks % plan.now.processors ≤ p
+            → result.share ≡ plan.now.callbacks / plan.now.processors }
+        // (where the run ends by a shut in the midst of calls)
+        ensures more { place_of plan.now.seed run ≡ 1 → result.more ≡ MORE }
+        ensures none { place_of plan.now.seed run ≢ 1 → result.more ≡ 0 }
+    {
         Orders {
             cpu: p,
             seed: plan.seed,
             run,
             share: plan.share(p),
-            more: match plan.ending(run) {
-                Ending::Shut => MORE,
-                Ending::DrainThenShut | Ending::Drain | Ending::Halt => 0,
-            },
+            more: more_after(plan.ending(run)),
         }
     }
 }
@@ -92,7 +112,9 @@ pub(crate) type Driving = PromisedHandle<Driven, Drives>;
 
 impl Actor {
     /// Whether so many callbacks are accepted.
-    fn has_accepted(&self, share: u64) -> bool {
+    fn has_accepted(&self, share: u64) -> bool
+        ensures { IsTrue result ↔ (share ≤ vec_len self.now.keys) }
+    {
         self.keys.len() as u64 >= share
     }
 

@@ -5,6 +5,9 @@
 //! command line were refused.
 #![tactic(auto)]
 
+ghost use Rattle.std.specs.Prelude.{◌≡◌};
+ghost use Rattle.rcu_torture.specs.declared.Fault.TheVariants.{CannotRun, Refused, Write};
+
 mod acting;
 mod chance;
 mod checking;
@@ -46,24 +49,32 @@ enum Fault {
 }
 
 impl From<Refusal> for Fault {
+    ghost from_gives = { λ refusal fault. fault ≡ Refused refusal };
+
     fn from(refusal: Refusal) -> Fault {
         Fault::Refused(refusal)
     }
 }
 
 impl From<ThreadsFault> for Fault {
+    ghost from_gives = { λ _ fault. fault ≡ CannotRun };
+
     fn from(_fault: ThreadsFault) -> Fault {
         Fault::CannotRun
     }
 }
 
 impl From<AllocError> for Fault {
+    ghost from_gives = { λ _ fault. fault ≡ CannotRun };
+
     fn from(_error: AllocError) -> Fault {
         Fault::CannotRun
     }
 }
 
 impl From<io::Error> for Fault {
+    ghost from_gives = { λ error fault. fault ≡ Write error };
+
     fn from(error: io::Error) -> Fault {
         Fault::Write(error)
     }

@@ -2,6 +2,7 @@
 
 ghost use Rattle.std.specs.Prelude.{◌≡◌, ◌+◌, ◌*◌, ◌/◌, ◌%◌, ◌<◌, ◌≤◌, ◌↔◌, IsSome, IfSome, false};
 ghost use Rattle.rcu_numbers.specs.declared.shape.TheConstants.{MOST_CALLBACKS, MOST_PROCESSORS};
+ghost use Rattle.rcu_torture.specs.Endings.{EndsAt, place_of};
 ghost use Rattle.rcu_torture.specs.declared.plan.Refusal.TheVariants.{Memory};
 
 use crate::chance::Chance;
@@ -132,7 +133,9 @@ impl Plan {
     }
 
     /// How a run ends.
-    pub fn ending(&self, run: u64) -> Ending {
+    pub fn ending(&self, run: u64) -> Ending
+        ensures { EndsAt (place_of self.now.seed run) result }
+    {
         match self.seed.wrapping_add(run) % 4 {
             0 => Ending::DrainThenShut,
             1 => Ending::Shut,

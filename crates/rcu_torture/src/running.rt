@@ -1,6 +1,6 @@
 //! One run: all parts of one open in threads of their own, from the first call to `close`, and the checks at the end.
 
-ghost use Rattle.std.specs.Prelude.{IfOk};
+ghost use Rattle.std.specs.Prelude.{◌≡◌, IfErr, IfOk};
 ghost use Rattle.rcu_parts.specs.AtClose.{ClosesWith};
 ghost use Rattle.rcu_parts.specs.OneOpen.{AreOfOneOpen, AreSoundParts};
 ghost use Rattle.rcu_threads.specs.Ends.{ClosesSame};
@@ -139,7 +139,8 @@ fn run_parts<R: Threads + Wait + Clock + Copy + Send + 'static>(
 fn close_all(alloc: Global, parts: Parts<Retire>) -> Result<Closed<Retire>, ThreadsFault>
     requires parts { AreOfOneOpen parts }
     requires sound { AreSoundParts version_of IsVersion parts }
-    ensures { IfOk result (λ closed. ClosesWith version_of IsVersion parts closed) }
+    ensures closes { IfOk result (λ closed. ClosesWith version_of IsVersion parts closed) }
+    ensures memory { IfErr result (λ fault. fault ≡ ThreadsFault.Memory) }
 {
     match close(alloc, parts) {
         Ok(closed) => Ok(closed),

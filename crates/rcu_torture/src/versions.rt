@@ -1,5 +1,8 @@
 //! The versions of a table, and what has become of each.
 
+ghost use Rattle.std.specs.Prelude.{◌≡◌, min};
+ghost use Rattle.rcu_torture.specs.Ages.{word_of};
+
 use std::alloc::{AllocError, Global};
 use std::sync::atomic::{AtomicU64, Ordering};
 
@@ -19,7 +22,9 @@ pub enum Age {
 
 impl Age {
     /// The word that says so.
-    fn word(self) -> u64 {
+    fn word(self) -> u64
+        ensures { result ≡ word_of self }
+    {
         match self {
             Age::Current => 0,
             Age::Removed => 1,
@@ -28,7 +33,9 @@ impl Age {
     }
 
     /// What this word says.
-    fn of_word(word: u64) -> Age {
+    fn of_word(word: u64) -> Age
+        ensures { word_of result ≡ min word 2 }
+    {
         match word {
             0 => Age::Current,
             1 => Age::Removed,

@@ -11,5 +11,5 @@ pub returns : goal.returns
 returns g c = record {
   ended = c.in_ok-ended.ended.parts;
   same = all_same c.args.parts c.in_ok-ended.ended.parts c.in_ok-ended.ensures;
-  closes = c.in_ok-closed.ensures;
+  closes = c.in_ok-closed.ensures.closes;
 }

@@ -6,6 +6,6 @@ use Rattle.rcu_torture.proofs.acting.Actor.update.Goals.{in-Some, in-None}
 
 pub returns : goal.returns
 returns c = elim c.match-retire.branch [
-  | in-Some w ↦ subst (GoesOn c.args.self.now) (sym w.self-is) w.call-called.ensures
+  | in-Some w ↦ subst (GoesOn c.args.self.now) (sym w.self-is) w.call-called.ensures.goes_on
   | in-None w ↦ subst (GoesOn c.args.self.now) (sym w.self-is) (keeps_none _ _)
 ]
