@@ -1,3 +1,6 @@
+pub mod Answers
 pub mod Driven
 pub mod Ends
+pub mod Faults
+pub mod Shows
 pub mod Works

@@ -1,6 +1,7 @@
 //! What stands after a call: docs/specification/surface.md, "After want of memory".
 
-ghost use Rattle.std.specs.Prelude.{◌≡◌, IfOk, Some};
+ghost use Rattle.std.specs.Prelude.{◌≡◌, IfErr, IfOk, Some};
+ghost use Rattle.rcu_memory.specs.Faults.{IsBroken};
 
 use crate::growth::{Fault, Growth, stands};
 use crate::machine::{Answer, Cpu, Shown, accepted, bypass, done, length, mode};
@@ -52,7 +53,9 @@ impl Step {
 }
 
 /// Checks what stands after a call, and says which growth was refused, if one was.
-pub fn check(step: Step) -> Result<Step, Fault> {
+pub fn check(step: Step) -> Result<Step, Fault>
+    ensures broken { IfErr result IsBroken }
+{
     if let Answer::Memory(growth) = step.answer {
         return check_memory(step, growth);
     }
@@ -75,7 +78,8 @@ pub fn check(step: Step) -> Result<Step, Fault> {
 
 /// A call that answered want of memory, and hands nothing back.
 fn check_memory(step: Step, growth: Growth) -> Result<Step, Fault>
-    ensures { IfOk result (λ s. s ≡ record step { refused = Some growth }) }
+    ensures refused { IfOk result (λ s. s ≡ record step { refused = Some growth }) }
+    ensures broken { IfErr result IsBroken }
 {
     stands(step.is_unchanged(), growth, "a refused call changed a list")?;
     Ok(step.refused_by(growth))
@@ -83,7 +87,8 @@ fn check_memory(step: Step, growth: Growth) -> Result<Step, Fault>
 
 /// A call whose job came back.
 fn check_refused(step: Step, growth: Growth, key: u64) -> Result<Step, Fault>
-    ensures { IfOk result (λ s. s ≡ record step { refused = Some growth }) }
+    ensures refused { IfOk result (λ s. s ≡ record step { refused = Some growth }) }
+    ensures broken { IfErr result IsBroken }
 {
     let same_job = key == next_key(step.action, &step.before);
     stands(same_job, growth, "another job came back")?;
@@ -93,7 +98,9 @@ fn check_refused(step: Step, growth: Growth, key: u64) -> Result<Step, Fault>
 
 /// A call that was accepted. Each has a moment of its own, so a plain callback releases the bypass list, unless the lane has
 /// no room for it.
-fn check_accepted(step: Step, growth: Growth, cpu: Cpu, ticket: Ticket) -> Result<Step, Fault> {
+fn check_accepted(step: Step, growth: Growth, cpu: Cpu, ticket: Ticket) -> Result<Step, Fault>
+    ensures broken { IfErr result IsBroken }
+{
     let (old, new) = (step.before.of(cpu), step.after.of(cpu));
     let number = accepted(old);
     let named = (ticket.cpu, ticket.number) == (cpu.number(), number);
@@ -120,7 +127,9 @@ fn check_accepted(step: Step, growth: Growth, cpu: Cpu, ticket: Ticket) -> Resul
 }
 
 /// A tick of the local processor.
-fn check_local(step: Step, ran: u64, stop: Stop) -> Result<Step, Fault> {
+fn check_local(step: Step, ran: u64, stop: Stop) -> Result<Step, Fault>
+    ensures broken { IfErr result IsBroken }
+{
     let (old, new) = (step.before.local, step.after.local);
     let left = length(new).wrapping_add(ran) == length(old);
     stands(left, Growth::TickRecord, "a callback is lost")?;
@@ -139,7 +148,9 @@ fn check_local(step: Step, ran: u64, stop: Stop) -> Result<Step, Fault> {
 }
 
 /// A tick of the offloadable processor, late for any bypass list.
-fn check_tick(step: Step, ran: u64, stop: Stop) -> Result<Step, Fault> {
+fn check_tick(step: Step, ran: u64, stop: Stop) -> Result<Step, Fault>
+    ensures broken { IfErr result IsBroken }
+{
     let (old, new) = (step.before.offloadable, step.after.offloadable);
     let left = length(new).wrapping_add(ran) == length(old);
     let others = (step.before.local, step.before.member) == (step.after.local, step.after.member);
@@ -156,7 +167,9 @@ fn check_tick(step: Step, ran: u64, stop: Stop) -> Result<Step, Fault> {
 }
 
 /// A tick whose batch came back: the bypass list is what it was, or what was poured into it.
-fn check_put(step: Step) -> Result<Step, Fault> {
+fn check_put(step: Step) -> Result<Step, Fault>
+    ensures broken { IfErr result IsBroken }
+{
     let (old, new) = (step.before.offloadable, step.after.offloadable);
     let has = (mode(new), bypass(new), length(new));
     let (expected, what) = if mode(old) == Mode::Offloaded {
@@ -175,7 +188,9 @@ fn check_put(step: Step) -> Result<Step, Fault> {
 }
 
 /// A tick that left nothing in the bypass list: it heeded what was asked of it, unless the own list could not be poured.
-fn check_switch(step: Step, left: bool) -> Result<Step, Fault> {
+fn check_switch(step: Step, left: bool) -> Result<Step, Fault>
+    ensures broken { IfErr result IsBroken }
+{
     let new = step.after.offloadable;
     if mode(new) == Mode::Offloading {
         stands(left, Growth::TickPour, "something moved")?;
@@ -191,7 +206,9 @@ fn check_switch(step: Step, left: bool) -> Result<Step, Fault> {
 }
 
 /// A turn of the group: what it took, or had held, is in its list, held or given.
-fn check_group(step: Step, turn: GroupTurn) -> Result<Step, Fault> {
+fn check_group(step: Step, turn: GroupTurn) -> Result<Step, Fault>
+    ensures broken { IfErr result IsBroken }
+{
     let GroupTurn { took, gave, held } = turn;
     let (old, new) = (step.before.member, step.after.member);
     let had = length(old).wrapping_add(step.held).wrapping_add(took);
@@ -213,7 +230,9 @@ fn check_group(step: Step, turn: GroupTurn) -> Result<Step, Fault> {
 }
 
 /// A turn of the hand.
-fn check_hand(step: Step, stop: Stop) -> Result<Step, Fault> {
+fn check_hand(step: Step, stop: Stop) -> Result<Step, Fault>
+    ensures broken { IfErr result IsBroken }
+{
     stands(
         step.is_unchanged(),
         Growth::HandRecord,
@@ -226,7 +245,9 @@ fn check_hand(step: Step, stop: Stop) -> Result<Step, Fault> {
 }
 
 /// A call that changes no list.
-fn check_other(step: Step) -> Result<Step, Fault> {
+fn check_other(step: Step) -> Result<Step, Fault>
+    ensures broken { IfErr result IsBroken }
+{
     let (growth, expected) = match (step.action, step.answer) {
         (Action::Report(_), Answer::Reported(_)) => (Growth::Quiescent, true),
         (Action::Drive, Answer::Done) => (Growth::DriverTurn, true),

@@ -1,6 +1,7 @@
 //! Which growth was refused, and what did not stand after it.
 
-ghost use Rattle.std.specs.Prelude.{◌≡◌, ◌↔◌, IsOk, IsTrue, IfOk, None, Some};
+ghost use Rattle.std.specs.Prelude.{◌≡◌, ◌↔◌, IsOk, IsTrue, IfErr, IfOk, None, Some};
+ghost use Rattle.rcu_memory.specs.Faults.{IsBroken, growth_in};
 
 use std::alloc::{AllocError, AllocFailed};
 use std::fmt;
@@ -115,7 +116,9 @@ impl<T: Drop> From<AllocFailed<T>> for Fault {
 
 /// Ok where `holds`, which is what stands after a call.
 pub fn stands(holds: bool, at: Growth, what: &'static str) -> Result<(), Fault>
-    ensures { IsOk result ↔ IsTrue holds }
+    ensures ok { IsOk result ↔ IsTrue holds }
+    ensures broken { IfErr result IsBroken }
+    ensures named { IfErr result (λ fault. growth_in fault ≡ Some at) }
 {
     if holds {
         Ok(())
@@ -148,6 +151,10 @@ impl Refusals {
     pub fn note(&mut self, growth: Growth) -> Result<(), Fault>
         ensures once { IfOk result (λ _. self.old.first ≡ None) }
         ensures noted { IfOk result (λ _. self.new.first ≡ Some growth) }
+        ensures first { self.old.first ≡ None → IsOk result }
+        ensures stays { IfErr result (λ _. self.new ≡ self.old) }
+        ensures broken { IfErr result IsBroken }
+        ensures named { IfErr result (λ fault. growth_in fault ≡ Some growth) }
     {
         stands(
             self.first.is_none(),

@@ -1,7 +1,8 @@
 //! The scenarios of a lane and of a board.
 
-ghost use Rattle.std.specs.Prelude.{IfOk};
+ghost use Rattle.std.specs.Prelude.{IfErr, IfOk};
 ghost use Rattle.rcu_lanes.specs.Ends.{SameLane, SameRear};
+ghost use Rattle.rcu_memory.specs.Faults.{IsBroken};
 
 use crate::growth::{Fault, Growth, Refusals, stands};
 use crate::machine::shape;
@@ -17,7 +18,8 @@ const DRAWN: u64 = 10;
 
 /// A new lane.
 fn open_lane(alloc: Global, refusals: &mut Refusals) -> Result<(Front<u64>, Rear<u64>), Fault>
-    ensures { IfOk result (λ ends. SameLane ends.0 ends.1) }
+    ensures lane { IfOk result (λ ends. SameLane ends.0 ends.1) }
+    ensures broken { IfErr result IsBroken }
 {
     if let Ok(ends) = lane(alloc) {
         return Ok(ends);
@@ -31,7 +33,8 @@ fn open_lane(alloc: Global, refusals: &mut Refusals) -> Result<(Front<u64>, Rear
 
 /// Puts an item, again where it came back.
 fn put(refusals: &mut Refusals, rear: &mut Rear<u64>, item: u64) -> Result<(), Fault>
-    ensures { SameRear rear.old rear.new }
+    ensures lane { SameRear rear.old rear.new }
+    ensures broken { IfErr result IsBroken }
 {
     let Err(back) = rear.put(item) else {
         return Ok(());
@@ -43,7 +46,8 @@ fn put(refusals: &mut Refusals, rear: &mut Rear<u64>, item: u64) -> Result<(), F
 
 /// Puts all items, in order.
 fn put_all(refusals: &mut Refusals, mut rear: Rear<u64>) -> Result<Rear<u64>, Fault>
-    ensures { IfOk result (SameRear rear) }
+    ensures lane { IfOk result (SameRear rear) }
+    ensures broken { IfErr result IsBroken }
 {
     for item in 0..ITEMS {
         put(refusals, &mut rear, item)?;
@@ -52,7 +56,9 @@ fn put_all(refusals: &mut Refusals, mut rear: Rear<u64>) -> Result<Rear<u64>, Fa
 }
 
 /// The lane still has the items from `DRAWN` on, in order.
-fn check_left(mut left: Rest<u64>) -> Result<(), Fault> {
+fn check_left(mut left: Rest<u64>) -> Result<(), Fault>
+    ensures broken { IfErr result IsBroken }
+{
     for item in DRAWN..ITEMS {
         stands(
             left.take() == Some(item),
@@ -68,7 +74,9 @@ fn check_left(mut left: Rest<u64>) -> Result<(), Fault> {
 }
 
 /// The scenario of a lane: items put, some drawn, and the rest taken.
-pub fn play_lanes(alloc: Global) -> Result<Refusals, Fault> {
+pub fn play_lanes(alloc: Global) -> Result<Refusals, Fault>
+    ensures broken { IfErr result IsBroken }
+{
     let mut refusals = Refusals::new();
     let (mut front, rear) = open_lane(alloc, &mut refusals)?;
     let rear = put_all(&mut refusals, rear)?;
@@ -85,7 +93,9 @@ pub fn play_lanes(alloc: Global) -> Result<Refusals, Fault> {
 }
 
 /// The scenario of a board.
-pub fn play_board(alloc: Global) -> Result<Refusals, Fault> {
+pub fn play_board(alloc: Global) -> Result<Refusals, Fault>
+    ensures broken { IfErr result IsBroken }
+{
     let mut refusals = Refusals::new();
     let shape = shape().ok_or(Fault::Broken(Growth::OpenBoard, "no shape"))?;
     if open_board(alloc, shape).is_err() {

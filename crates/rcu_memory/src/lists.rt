@@ -1,5 +1,8 @@
 //! The scenario of the list types.
 
+ghost use Rattle.std.specs.Prelude.{◌≡◌, IfErr};
+ghost use Rattle.rcu_memory.specs.Faults.{IsBroken};
+
 use crate::growth::{Fault, Growth, Refusals, stands};
 use crate::work::Work;
 use rcu_jobs::Callback;
@@ -12,7 +15,11 @@ const CALLBACKS: u64 = 40;
 /// How many are taken as a batch.
 const TAKEN: usize = 20;
 
-fn callback(number: u64) -> Callback<Work> {
+fn callback(number: u64) -> Callback<Work>
+    ensures number { result.number ≡ number }
+    ensures key { result.key ≡ number }
+    ensures job { result.job.key ≡ number }
+{
     Callback {
         cpu: 0,
         number,
@@ -23,7 +30,9 @@ fn callback(number: u64) -> Callback<Work> {
 }
 
 /// Adds a callback, in room that is found before.
-fn enqueue(refusals: &mut Refusals, list: &mut Segments<Work>, number: u64) -> Result<(), Fault> {
+fn enqueue(refusals: &mut Refusals, list: &mut Segments<Work>, number: u64) -> Result<(), Fault>
+    ensures broken { IfErr result IsBroken }
+{
     let before = list.lengths();
     if list.reserve(1).is_err() {
         refusals.note(Growth::Reserve)?;
@@ -40,7 +49,9 @@ fn enqueue(refusals: &mut Refusals, list: &mut Segments<Work>, number: u64) -> R
 }
 
 /// Fills a list with callbacks, which then are done.
-fn fill(refusals: &mut Refusals, list: &mut Segments<Work>) -> Result<(), Fault> {
+fn fill(refusals: &mut Refusals, list: &mut Segments<Work>) -> Result<(), Fault>
+    ensures broken { IfErr result IsBroken }
+{
     for number in 0..CALLBACKS {
         enqueue(refusals, list, number)?;
     }
@@ -52,7 +63,9 @@ fn fill(refusals: &mut Refusals, list: &mut Segments<Work>) -> Result<(), Fault>
 }
 
 /// Takes a batch of done callbacks.
-fn take_batch(refusals: &mut Refusals, list: &mut Segments<Work>) -> Result<Batch<Work>, Fault> {
+fn take_batch(refusals: &mut Refusals, list: &mut Segments<Work>) -> Result<Batch<Work>, Fault>
+    ensures broken { IfErr result IsBroken }
+{
     let before = (list.lengths(), list.numbers());
     if let Ok(batch) = list.take_batch(TAKEN) {
         return Ok(batch);
@@ -71,7 +84,9 @@ fn pour(
     refusals: &mut Refusals,
     list: &mut Segments<Work>,
     bypass: &mut Bypass<Work>,
-) -> Result<(), Fault> {
+) -> Result<(), Fault>
+    ensures broken { IfErr result IsBroken }
+{
     let before = (list.lengths(), list.numbers(), bypass.len());
     if list.pour(bypass).is_ok() {
         return Ok(());
@@ -84,7 +99,9 @@ fn pour(
 }
 
 /// Adds a lazy callback to a bypass list, in room that is found before.
-fn hold(refusals: &mut Refusals, bypass: &mut Bypass<Work>, number: u64) -> Result<(), Fault> {
+fn hold(refusals: &mut Refusals, bypass: &mut Bypass<Work>, number: u64) -> Result<(), Fault>
+    ensures broken { IfErr result IsBroken }
+{
     let before = bypass.len();
     if bypass.reserve().is_err() {
         refusals.note(Growth::BypassReserve)?;
@@ -111,7 +128,9 @@ fn is_next(batch: &mut Batch<Work>, number: u64) -> bool {
 }
 
 /// The batch holds the callbacks from `first` up to `end`, in order.
-fn check_batch(mut batch: Batch<Work>, first: u64, end: u64) -> Result<(), Fault> {
+fn check_batch(mut batch: Batch<Work>, first: u64, end: u64) -> Result<(), Fault>
+    ensures broken { IfErr result IsBroken }
+{
     for number in first..end {
         stands(
             is_next(&mut batch, number),
@@ -131,7 +150,9 @@ fn pass_on(
     refusals: &mut Refusals,
     list: &mut Segments<Work>,
     bypass: &mut Bypass<Work>,
-) -> Result<(), Fault> {
+) -> Result<(), Fault>
+    ensures broken { IfErr result IsBroken }
+{
     check_batch(take_batch(refusals, list)?, 0, TAKEN as u64)?;
     pour(refusals, list, bypass)?;
     for number in CALLBACKS..2 * CALLBACKS {
@@ -141,7 +162,9 @@ fn pass_on(
 }
 
 /// The scenario: a list that is filled, cut and poured into a bypass list, which then grows.
-pub fn play_lists(alloc: Global) -> Result<Refusals, Fault> {
+pub fn play_lists(alloc: Global) -> Result<Refusals, Fault>
+    ensures broken { IfErr result IsBroken }
+{
     let mut refusals = Refusals::new();
     let mut list = Segments::new(alloc);
     fill(&mut refusals, &mut list)?;

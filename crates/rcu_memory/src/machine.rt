@@ -1,7 +1,9 @@
 //! The runtime that a scenario drives: the parts or the core. It has a local processor and an offloadable one.
 
-ghost use Rattle.std.specs.Prelude.{◌≡◌, ◌↔◌, IfOk, IsTrue};
+ghost use Rattle.std.specs.Prelude.{◌≡◌, ◌↔◌, IfErr, IfOk, IfSome, IsSome, IsTrue, vec_len};
 ghost use Rattle.rcu_memory.specs.Ends.{AreFirst, AreNext, EndsWhole, IsWhole, accepted_in};
+ghost use Rattle.rcu_memory.specs.Faults.{IsBroken};
+ghost use Rattle.rcu_memory.specs.Shows.{bypass_in, done_in, length_in, lengths_in, lists_of, mode_in, number_of};
 
 use crate::growth::{Fault, Growth, stands};
 use crate::script::Action;
@@ -17,24 +19,29 @@ pub enum Cpu {
 }
 
 impl Cpu {
-    pub fn number(self) -> u64 {
+    pub fn number(self) -> u64
+        ensures { result ≡ number_of self }
+    {
         match self {
             Cpu::Local => 0,
             Cpu::Offloadable => 1,
         }
     }
 
-    pub fn place(self) -> usize {
-        match self {
-            Cpu::Local => 0,
-            Cpu::Offloadable => 1,
-        }
+    pub fn place(self) -> usize
+        ensures { result ≡ number_of self }
+    {
+        self.number() as usize
     }
 }
 
 /// The shape of two processors, of which the second is offloadable and a group of its own. A turn runs or gives one
 /// callback more than stand in a batch without memory.
-pub fn shape() -> Option<Shape> {
+pub fn shape() -> Option<Shape>
+    ensures some { IsSome result }
+    ensures two { IfSome result (λ s. (s.processors ≡ 2) × (s.offloadable ≡ 2)) }
+    ensures turn { IfSome result (λ s. s.blimit ≡ 17) }
+{
     Shape::new(2, 0b10, 1, 17, 1000, 1000)
 }
 
@@ -47,7 +54,9 @@ pub struct Shown {
 }
 
 impl Shown {
-    pub fn of(&self, cpu: Cpu) -> Lists {
+    pub fn of(&self, cpu: Cpu) -> Lists
+        ensures { result ≡ lists_of self.now cpu }
+    {
         match cpu {
             Cpu::Local => self.local,
             Cpu::Offloadable => self.offloadable,
@@ -66,34 +75,44 @@ pub fn accepted(lists: Lists) -> u64
 }
 
 /// How many callbacks stand in a bypass list.
-pub fn bypass(lists: Lists) -> u64 {
+pub fn bypass(lists: Lists) -> u64
+    ensures { result ≡ bypass_in lists }
+{
     match lists {
         Lists::Cpu { bypass, .. } => bypass,
         Lists::Folk { .. } => 0,
     }
 }
 
-pub fn mode(lists: Lists) -> Mode {
+pub fn mode(lists: Lists) -> Mode
+    ensures { result ≡ mode_in lists }
+{
     match lists {
         Lists::Cpu { mode, .. } => mode,
         Lists::Folk { .. } => Mode::Offloaded,
     }
 }
 
-fn lengths(lists: Lists) -> [u64; 4] {
+fn lengths(lists: Lists) -> [u64; 4]
+    ensures { result ≡ lengths_in lists }
+{
     match lists {
         Lists::Cpu { lengths, .. } | Lists::Folk { lengths, .. } => lengths,
     }
 }
 
 /// How many callbacks are done in a list.
-pub fn done(lists: Lists) -> u64 {
+pub fn done(lists: Lists) -> u64
+    ensures { result ≡ done_in lists }
+{
     let [done, _, _, _] = lengths(lists);
     done
 }
 
 /// How many callbacks stand in a list's segments.
-pub fn length(lists: Lists) -> u64 {
+pub fn length(lists: Lists) -> u64
+    ensures { result ≡ length_in lists }
+{
     let [done, wait, ready, next] = lengths(lists);
     done.wrapping_add(wait)
         .wrapping_add(ready)
@@ -179,6 +198,8 @@ pub fn check_closed(growth: Growth, closed: &Closed<Work>, shown: &Shown) -> Res
     ensures local { IfOk result (λ _. EndsWhole 0 (accepted_in shown.now.local) closed.now) }
     ensures offloadable { IfOk result (λ _.
         EndsWhole 1 (accepted_in shown.now.offloadable) closed.now) }
+    ensures reports { IfOk result (λ _. vec_len closed.now.reports ≡ 2) }
+    ensures broken { IfErr result IsBroken }
 {
     let whole = is_whole(closed, 0, accepted(shown.local))
         && is_whole(closed, 1, accepted(shown.offloadable));

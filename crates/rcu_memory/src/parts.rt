@@ -1,10 +1,13 @@
 //! The scenario of the running parts, all of which one thread drives.
 
-ghost use Rattle.std.specs.Prelude.{All, IfOk};
+ghost use Rattle.std.specs.Prelude.{◌≡◌, All, IfErr, IfOk};
 ghost use Rattle.std.specs.List.{AllZip};
 ghost use Rattle.rcu_control.specs.Parts.{SameControl};
+ghost use Rattle.rcu_memory.specs.Answers.{refused_as};
 ghost use Rattle.rcu_memory.specs.Driven.{AreDriven};
+ghost use Rattle.rcu_memory.specs.Faults.{IsBroken};
 ghost use Rattle.rcu_memory.specs.Works.{IsOwnKey, key_of_work};
+ghost use Rattle.rcu_memory.specs.declared.machine.Answer.TheVariants.{Accepted};
 ghost use Rattle.rcu_part_group.specs.Groups.{SameGroup};
 ghost use Rattle.rcu_part_hand.specs.Hands.{IsSoundHand, SameHand};
 ghost use Rattle.rcu_part_processor.specs.Processors.{IsSound, SameProcessor};
@@ -20,11 +23,14 @@ use rcu_parts::{Group, Hand, Parts, Processor, close, open};
 use std::alloc::Global;
 
 /// What a call of either kind answered.
-pub fn called(answer: Result<Ticket, Refused<Work>>) -> Answer {
+pub fn called(answer: Result<Ticket, Refused<Work>>) -> Answer
+    ensures accepted { IfOk answer (λ ticket. result ≡ Accepted ticket) }
+    ensures refused { IfErr answer (λ refused. result ≡ refused_as refused) }
+{
     match answer {
         Ok(ticket) => Answer::Accepted(ticket),
         Err(Refused::Memory(job)) => Answer::Refused(job.key),
-        Err(_) => Answer::Other,
+        Err(Refused::Limit(_) | Refused::Closed(_)) => Answer::Other,
     }
 }
 
@@ -154,7 +160,8 @@ impl Machine for Parts<Work> {
 
 /// Opens the parts.
 fn open_parts(alloc: Global, refusals: &mut Refusals) -> Result<Parts<Work>, Fault>
-    ensures { IfOk result AreDriven }
+    ensures driven { IfOk result AreDriven }
+    ensures broken { IfErr result IsBroken }
 {
     let shape = shape().ok_or(Fault::Broken(Growth::Open, "no shape"))?;
     if let Ok(parts) = open(alloc, shape) {
@@ -174,6 +181,7 @@ fn close_parts(
     parts: Parts<Work>,
 ) -> Result<Closed<Work>, Fault>
     requires { AreDriven parts }
+    ensures broken { IfErr result IsBroken }
 {
     let closing = match close(alloc, parts) {
         Ok(closed) => return Ok(closed),
@@ -189,14 +197,17 @@ fn close_parts(
 /// Each call of the table. Answers what the parts show then.
 fn perform_all(progress: &mut Progress, parts: &mut Parts<Work>) -> Result<Shown, Fault>
     requires { AreDriven parts.old }
-    ensures { AreDriven parts.new }
+    ensures driven { AreDriven parts.new }
+    ensures broken { IfErr result IsBroken }
 {
     progress.perform_all(parts)?;
     shown(parts)
 }
 
 /// The scenario: `open`, each call of the table, `close`.
-pub fn play_parts(alloc: Global) -> Result<Refusals, Fault> {
+pub fn play_parts(alloc: Global) -> Result<Refusals, Fault>
+    ensures broken { IfErr result IsBroken }
+{
     let mut refusals = Refusals::new();
     let mut parts = open_parts(alloc, &mut refusals)?;
     let mut progress = Progress::new(refusals);

@@ -1,6 +1,14 @@
 //! The calls of a runtime in turn: after each, what it says and shows is what the specification allows. A call that was
 //! refused a growth is made once more.
 
+ghost use Rattle.std.specs.Prelude.{◌≡◌, IfErr, true};
+ghost use Rattle.rcu_memory.specs.Ends.{accepted_in};
+ghost use Rattle.rcu_memory.specs.Faults.{IsBroken};
+ghost use Rattle.rcu_memory.specs.Shows.{lists_of, number_of};
+ghost use Rattle.rcu_memory.specs.Works.{callback_key};
+ghost use Rattle.rcu_memory.specs.declared.machine.Cpu.{Cpu};
+ghost use Rattle.rcu_memory.specs.declared.script.Action.TheVariants.{Call, Lazy};
+
 use crate::checking::{Step, check};
 use crate::growth::{Fault, Growth, Refusals, stands};
 use crate::machine::{Answer, Machine, Shown, accepted};
@@ -23,7 +31,11 @@ pub struct Progress {
 
 impl Progress {
     /// Before the first action.
-    pub fn new(refusals: Refusals) -> Progress {
+    pub fn new(refusals: Refusals) -> Progress
+        ensures refusals { result.refusals ≡ refusals }
+        ensures held { result.held ≡ 0 }
+        ensures asked { result.asked_on ≡ true }
+    {
         Progress {
             refusals,
             moment: 0,
@@ -35,7 +47,8 @@ impl Progress {
     /// Performs the whole script.
     pub fn perform_all<M: Machine>(&mut self, machine: &mut M) -> Result<(), Fault>
         requires { M.holds machine.old }
-        ensures { M.holds machine.new }
+        ensures holds { M.holds machine.new }
+        ensures broken { IfErr result IsBroken }
     {
         for steps in SCRIPT {
             self.perform(machine, steps)?;
@@ -46,7 +59,8 @@ impl Progress {
     /// Performs these steps.
     pub fn perform<M: Machine>(&mut self, machine: &mut M, steps: Steps) -> Result<(), Fault>
         requires { M.holds machine.old }
-        ensures { M.holds machine.new }
+        ensures holds { M.holds machine.new }
+        ensures broken { IfErr result IsBroken }
     {
         for (times, action) in steps {
             self.repeat(machine, *times, *action)?;
@@ -62,7 +76,8 @@ impl Progress {
         action: Action,
     ) -> Result<(), Fault>
         requires { M.holds machine.old }
-        ensures { M.holds machine.new }
+        ensures holds { M.holds machine.new }
+        ensures broken { IfErr result IsBroken }
     {
         for _ in 0..times {
             self.make(machine, action)?;
@@ -73,7 +88,8 @@ impl Progress {
     /// Makes one call, and once more where it was refused a growth.
     fn make<M: Machine>(&mut self, machine: &mut M, action: Action) -> Result<(), Fault>
         requires { M.holds machine.old }
-        ensures { M.holds machine.new }
+        ensures holds { M.holds machine.new }
+        ensures broken { IfErr result IsBroken }
     {
         let first = self.make_once(machine, action)?;
         let Some(growth) = first.refused else {
@@ -95,7 +111,8 @@ impl Progress {
     /// Makes one call, and checks what stands after it.
     fn make_once<M: Machine>(&mut self, machine: &mut M, action: Action) -> Result<Step, Fault>
         requires { M.holds machine.old }
-        ensures { M.holds machine.new }
+        ensures holds { M.holds machine.new }
+        ensures broken { IfErr result IsBroken }
     {
         let before = shown(machine)?;
         self.moment = self.moment.wrapping_add(match action {
@@ -124,14 +141,21 @@ impl Progress {
 }
 
 /// What a runtime shows.
-pub fn shown<M: Machine>(machine: &M) -> Result<Shown, Fault> {
+pub fn shown<M: Machine>(machine: &M) -> Result<Shown, Fault>
+    ensures broken { IfErr result IsBroken }
+{
     machine
         .shown()
         .ok_or(Fault::Broken(Growth::Open, "a part is missing"))
 }
 
 /// The key of the job that a call hands in, by what its processor accepted before.
-pub fn next_key(action: Action, before: &Shown) -> u64 {
+pub fn next_key(action: Action, before: &Shown) -> u64
+    ensures call { (c : Cpu) → action ≡ Call c
+        → result ≡ callback_key (number_of c) (accepted_in (lists_of before.now c)) }
+    ensures lazy { (c : Cpu) → action ≡ Lazy c
+        → result ≡ callback_key (number_of c) (accepted_in (lists_of before.now c)) }
+{
     match action {
         Action::Call(cpu) | Action::Lazy(cpu) => key_at(cpu.number(), accepted(before.of(cpu))),
         _ => 0,

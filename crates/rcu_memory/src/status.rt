@@ -1,5 +1,8 @@
 //! The scenario of the lines of lists and totals.
 
+ghost use Rattle.std.specs.Prelude.{◌≡◌, ◌↔◌, IfErr, IsOkAnd, IsTrue, string_bytes};
+ghost use Rattle.rcu_memory.specs.Faults.{IsBroken};
+
 use crate::growth::{Fault, Growth, Refusals, stands};
 use crate::work::Work;
 use rcu_jobs::{Closed, Lists, Mode, Record};
@@ -36,7 +39,9 @@ fn closed(alloc: Global) -> Result<Closed<Work>, Fault> {
 }
 
 /// Whether this text was written.
-fn is_text(written: &Result<String, AllocError>, text: &str) -> bool {
+fn is_text(written: &Result<String, AllocError>, text: &str) -> bool
+    ensures { IsTrue result ↔ IsOkAnd written.now (λ s. string_bytes s ≡ text.now) }
+{
     match written {
         Ok(written) => written.as_str() == text,
         Err(_) => false,
@@ -44,7 +49,9 @@ fn is_text(written: &Result<String, AllocError>, text: &str) -> bool {
 }
 
 /// A line of `show`, again where memory was wanted.
-fn write_line(alloc: Global, refusals: &mut Refusals) -> Result<(), Fault> {
+fn write_line(alloc: Global, refusals: &mut Refusals) -> Result<(), Fault>
+    ensures broken { IfErr result IsBroken }
+{
     let mut text = line(alloc, 31, &SHOWN);
     if text.is_err() {
         refusals.note(Growth::Line)?;
@@ -54,11 +61,9 @@ fn write_line(alloc: Global, refusals: &mut Refusals) -> Result<(), Fault> {
 }
 
 /// The totals, again where memory was wanted.
-fn write_totals(
-    alloc: Global,
-    refusals: &mut Refusals,
-    closed: &Closed<Work>,
-) -> Result<(), Fault> {
+fn write_totals(alloc: Global, refusals: &mut Refusals, closed: &Closed<Work>) -> Result<(), Fault>
+    ensures broken { IfErr result IsBroken }
+{
     let mut text = totals(alloc, closed, true);
     if text.is_err() {
         refusals.note(Growth::Totals)?;

@@ -1,7 +1,8 @@
 //! The scenario of the core.
 
-ghost use Rattle.std.specs.Prelude.{IfOk};
+ghost use Rattle.std.specs.Prelude.{IfErr, IfOk};
 ghost use Rattle.rcu_memory.specs.Driven.{IsDrivenWorld};
+ghost use Rattle.rcu_memory.specs.Faults.{IsBroken};
 ghost use Rattle.rcu_memory.specs.Works.{IsOwnKey, key_of_work};
 ghost use Rattle.rcu_world.specs.Worlds.{IsWorld};
 
@@ -168,7 +169,8 @@ impl Machine for World<Work> {
 
 /// Opens the world.
 fn open_world(alloc: Global, refusals: &mut Refusals) -> Result<World<Work>, Fault>
-    ensures { IfOk result IsDrivenWorld }
+    ensures driven { IfOk result IsDrivenWorld }
+    ensures broken { IfErr result IsBroken }
 {
     let shape = shape().ok_or(Fault::Broken(Growth::WorldNew, "no shape"))?;
     if let Ok(world) = World::new(alloc, shape) {
@@ -207,6 +209,7 @@ fn run_events(alloc: Global, refusals: &mut Refusals, world: &mut World<Work>) -
 /// Closes the world, or tries it again.
 fn close_world(refusals: &mut Refusals, world: World<Work>) -> Result<Closed<Work>, Fault>
     requires { IsWorld key_of_work IsOwnKey world.core }
+    ensures broken { IfErr result IsBroken }
 {
     let before = shown(&world)?;
     let marks = world.history().len();
@@ -225,7 +228,9 @@ fn close_world(refusals: &mut Refusals, world: World<Work>) -> Result<Closed<Wor
 
 /// The short script on a world whose history has so many marks before it: among some lengths in a row is one at which the
 /// history grows at each call.
-fn play_short(alloc: Global, refusals: Refusals, marks: u64) -> Result<Refusals, Fault> {
+fn play_short(alloc: Global, refusals: Refusals, marks: u64) -> Result<Refusals, Fault>
+    ensures broken { IfErr result IsBroken }
+{
     let mut progress = Progress::new(refusals);
     let mut world = open_world(alloc, &mut progress.refusals)?;
     progress.repeat(&mut world, marks, ONE_MARK)?;
@@ -234,7 +239,9 @@ fn play_short(alloc: Global, refusals: Refusals, marks: u64) -> Result<Refusals,
 }
 
 /// The short script on histories of some lengths in a row.
-fn play_all_short(alloc: Global) -> Result<Refusals, Fault> {
+fn play_all_short(alloc: Global) -> Result<Refusals, Fault>
+    ensures broken { IfErr result IsBroken }
+{
     let mut refusals = Refusals::new();
     for marks in 0..LENGTHS {
         refusals = play_short(alloc, refusals, marks)?;
