@@ -1,9 +1,11 @@
-//! Tests of `rcu_board` through its public calls, in a crate of their own, so that its functions are proved once, and not with
-//! its tests once more.
+//! Tests of `rcu_board` and `rcu_control` through their public calls, in a crate of their own, so that the functions of those are
+//! proved once, and not with their tests once more.
 #![tactic(auto)]
 
 #[cfg(test)]
 mod tests;
+#[cfg(test)]
+mod tests_control;
 #[cfg(test)]
 mod tests_rows;
 #[cfg(test)]

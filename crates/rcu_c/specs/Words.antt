@@ -18,7 +18,7 @@ use Rattle.rcu_numbers.specs.declared.shape.Shape.{Shape}
 
 -- `enum rcuo_step`, with the number or the mask
 abbrev pub AreTurnWords : DriverTurn → DriverWords → Type 0
-AreTurnWords Idle w = w.step ≡ 0
+AreTurnWords Idle w = (w.step ≡ 0) × (w.number ≡ 0)
 AreTurnWords (Started n) w = (w.step ≡ 1) × (w.number ≡ n)
 AreTurnWords (Ended n) w = (w.step ≡ 2) × (w.number ≡ n)
 AreTurnWords (Waits mask) w = (w.step ≡ 3) × (w.number ≡ mask)

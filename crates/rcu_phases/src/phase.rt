@@ -1,5 +1,7 @@
 //! What the parts do in a phase, and what their calls answer.
 
+ghost use Rattle.std.specs.Prelude.{◌≡◌, []};
+
 use crate::signal::Signal;
 use rcu_jobs::{BarrierFault, Ticked, Ticket};
 use std::alloc::Global;
@@ -86,7 +88,11 @@ pub struct Phase<J> {
 
 impl<J: Drop> Phase<J> {
     /// A phase in which nothing is done.
-    pub fn new(alloc: Global) -> Phase<J> {
+    pub fn new(alloc: Global) -> Phase<J>
+        ensures steps { result.steps.items ≡ [] }
+        ensures turns { (result.group_turns ≡ 0) × (result.hand_turns ≡ 0) }
+        ensures moves { result.moves.items ≡ [] }
+    {
         Phase {
             steps: Vec::new(alloc),
             group_turns: 0,

@@ -5,8 +5,6 @@
 
 mod planning;
 mod retired;
-#[cfg(test)]
-mod tests;
 
 pub use planning::{Plan, Refusal, Subcommand, read_plan};
 pub use retired::versions;

@@ -6,6 +6,3 @@
 mod merging;
 
 pub use merging::merge_records;
-
-#[cfg(test)]
-mod tests;

@@ -8,6 +8,3 @@ mod show;
 pub use closed::totals;
 pub use numbers::counts;
 pub use show::line;
-
-#[cfg(test)]
-mod tests;

@@ -3,8 +3,6 @@
 
 mod retiring;
 mod table;
-#[cfg(test)]
-mod tests;
 
 pub use retiring::{versions_by_rounds, versions_by_script};
 pub use table::{Retired, Version};

@@ -1,7 +1,7 @@
 //! Whole versions of a route table.
 
-use crate::{Retired, versions_by_rounds, versions_by_script};
 use rcu_setup::read_setup;
+use rcu_versions::{Retired, versions_by_rounds, versions_by_script};
 use std::alloc::Global;
 use std::test::Fail;
 

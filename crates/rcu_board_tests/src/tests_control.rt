@@ -3,8 +3,8 @@
 ghost use Rattle.std.specs.Prelude.{◌≡◌, IfOk};
 ghost use Rattle.rcu_control.specs.Parts.{driver_board, control_board};
 
-use super::*;
 use rcu_board::{Seats, open_board};
+use rcu_control::{Control, Driver};
 use rcu_jobs::{BarrierFault, Counts, DriverTurn, SwitchFault, Ticket};
 use rcu_numbers::Shape;
 use std::alloc::{AllocError, Global};

@@ -1,7 +1,7 @@
 //! Two lists of records merged by their numbers.
 
-use super::*;
 use rcu_jobs::{BoxedJob, Record};
+use rcu_records::merge_records;
 use std::collections::VecDeque;
 use std::test::Fail;
 

@@ -1,6 +1,6 @@
 //! Words of the command line, and a reader that fails.
 
-use crate::planning::{Refusal, read_plan};
+use rcu_plan::{Refusal, read_plan};
 use rcu_script::Fault;
 use rcu_setup::SetupFault;
 use std::io;

@@ -1,7 +1,7 @@
 //! The lines of lists and totals.
 
-use crate::{counts, line, totals};
 use rcu_jobs::{BoxedJob, Closed, Counts, Lists, Mode, Record};
+use rcu_status::{counts, line, totals};
 use std::test::Fail;
 
 fn record(receipt: u64) -> Record<u64> {
