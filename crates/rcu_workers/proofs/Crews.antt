@@ -2,7 +2,7 @@
 use Rattle.std.proofs.Common.{◌≡◌, ℕ, zero, suc, ◌+◌, ◌<◌, ◌≤◌, Some, List, [], ◌∷◌, ◌++◌, map, length, append_assoc, ap, sym, ◌∙◌, refl, subst, arith}
 use Rattle.std.specs.List.{AllZip, slice_get}
 use Rattle.std.specs.Prelude.{unwrap_or}
-use Rattle.std.proofs.lemmas.List.{length-map, nil_from_length}
+use Rattle.std.proofs.lemmas.List.{length-map, map-append, nil_from_length}
 use Rattle.rcu_parts.proofs.Zips.{all_of}
 use Rattle.rcu_workers.specs.Crews.{HasBegun, HasEnded}
 use Rattle.rcu_workers.specs.declared.crew.Started.{Started}
@@ -11,6 +11,10 @@ use Rattle.rcu_workers.specs.declared.post.Post.{Post}
 use Rattle.rcu_workers.specs.declared.worker.End.TheVariants.{NotBegun}
 
 module _ {A B : Type 0} (R : A → B → Type 0) where
+  -- of a list of which none has come yet
+  pub zip_none : (all : List A) (ys : List B) → ys ≡ [] → AllZip R [] ys
+  zip_none all ys none = subst (AllZip R []) (sym none) tt
+
   zip_push : (xs : List A) (ys : List B) (x : A) (y : B) → AllZip R xs ys → R x y → AllZip R (xs ++ x ∷ []) (ys ++ y ∷ [])
   zip_push [] [] x y h r = (r, tt)
   zip_push [] (b ∷ bs) x y h r = absurd h
@@ -32,6 +36,19 @@ module _ {X : Type 0} where
   -- and, once one more is in, room for all that is left then
   pub room_for_more : (n m cap dap : ℕ) (rest more : List X) (x : X) → n + length rest ≤ cap → rest ≡ x ∷ more → m ≡ n + 1 → dap ≡ cap → m + length more ≤ dap
   room_for_more n m cap dap rest more x room step one same = let e = ap (λ (l : List X). length l) step in omega (arith, room, e, one, same)
+
+-- and an empty list that has room for all has it at first
+pub room_for_all : {X Y : Type 0} (n m cap : ℕ) (none : List Y) (rest all : List X) → n ≡ length none → none ≡ [] → rest ≡ all → m ≡ length all → m ≤ cap → n + length rest ≤ cap
+room_for_all {X} {Y} n m cap none rest all len empty same many room = let e = ap (λ (l : List Y). length l) empty in let s = ap (λ (l : List X). length l) same in omega (arith, len, e, s, many, room)
+
+module _ {A B : Type 0} (f : A → B) where
+  -- what is taken from each, where one more is there
+  pub taken_pushed : (xs ys : List A) (x : A) (taken : List B) → ys ≡ xs ++ x ∷ [] → map f xs ≡ taken → map f ys ≡ taken ++ f x ∷ []
+  taken_pushed xs ys x taken pushed old = ap (λ l. map f l) pushed ∙ (map-append f xs (x ∷ []) ∙ ap (λ l. l ++ f x ∷ []) old)
+
+  -- and a list of what was taken, where one more was put to it
+  pub pushed_taken : (xs : List A) (x : A) (ys zs : List B) → zs ≡ ys ++ f x ∷ [] → ys ≡ map f xs → zs ≡ map f (xs ++ x ∷ [])
+  pushed_taken xs x ys zs pushed old = pushed ∙ (ap (λ l. l ++ f x ∷ []) old ∙ sym (map-append f xs (x ∷ [])))
 
 module _ {A B C : Type 0} where
   -- what is said of each of two steps is said of both together
@@ -70,9 +87,13 @@ module _ {H P : Type 0} (of : H → P) (S : P → P → Type 0) (K : H → P →
 pub as_many : {A B : Type 0} (f : A → B) (xs : List A) (ys : List B) → map f xs ≡ ys → length xs ≡ length ys
 as_many f xs ys e = sym (length-map xs f) ∙ ap (λ l. length l) e
 
+-- where none is left, all have come
+pub all_came : {A : Type 0} (done rest all : List A) → done ++ rest ≡ all → length rest ≡ 0 → done ≡ all
+all_came done rest all order none = all_of done rest all order (nil_from_length rest none)
+
 -- what is said of all that came is said of the whole list, where none is left
 pub all_done : {A B : Type 0} (R : A → B → Type 0) (done rest all : List A) (ys : List B) → done ++ rest ≡ all → length rest ≡ 0 → AllZip R done ys → AllZip R all ys
-all_done R done rest all ys order none z = subst (λ l. AllZip R l ys) (all_of done rest all order (nil_from_length rest none)) z
+all_done R done rest all ys order none z = subst (λ l. AllZip R l ys) (all_came done rest all order none) z
 
 -- what is left as it was has its worker, in its place
 pub unbegun_at : {P W : Type 0} (ps qs : List (Post P W)) → AllZip (λ p q. q.end ≡ NotBegun → q ≡ p) ps qs → (k : ℕ) → slice_get (map (λ q. q.end) qs) k ≡ Some NotBegun

@@ -15,8 +15,11 @@ module _ {J R : Type 0} (key_of : J → ℕ) (gives : ℕ → R → Type 0) wher
     count = omega (arith, a.count, b.count);
   }
 
-  -- what two steps leave that accept nothing
+  -- what a step leaves that accepts nothing
+  pub works_once : (p q : Processor J R) → SameProcessor p.state q.state → (IsSound key_of gives p.state → IsSound key_of gives q.state) → q.state.accepted ≡ p.state.accepted → ProcessorWorks key_of gives p q
+  works_once p q same sound count = record { keeps = record { same = same; sound = sound }; count = omega (arith, count) }
+
+  -- and what two such steps leave
   pub works_twice : (p q r : Processor J R) → SameProcessor p.state q.state → (IsSound key_of gives p.state → IsSound key_of gives q.state) → q.state.accepted ≡ p.state.accepted → SameProcessor q.state r.state
       → (IsSound key_of gives q.state → IsSound key_of gives r.state) → r.state.accepted ≡ q.state.accepted → ProcessorWorks key_of gives p r
-  works_twice p q r same sound count same' sound' count' =
-      works_again p q r (record { keeps = record { same = same; sound = sound }; count = omega (arith, count) }) (record { keeps = record { same = same'; sound = sound' }; count = omega (arith, count') })
+  works_twice p q r same sound count same' sound' count' = works_again p q r (works_once p q same sound count) (works_once q r same' sound' count')

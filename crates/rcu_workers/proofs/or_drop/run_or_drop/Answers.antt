@@ -35,3 +35,21 @@ drop-refused-requires-room-A-Destruct-2 g c κs within = assumption
 
 pub drop-refused-requires-room-A-Destruct-3 : goal.drop-refused-requires-room-A-Destruct-3
 drop-refused-requires-room-A-Destruct-3 g c κs within = assumption
+
+pub returns-in-Ok-clause-number : goal.returns-in-Ok-clause-number
+returns-in-Ok-clause-number g c = c.in-Ok.ensures.number
+
+pub returns-in-Ok-clause-continues : goal.returns-in-Ok-clause-continues
+returns-in-Ok-clause-continues g c = c.in-Ok.ensures.continues
+
+pub returns-in-Ok-clause-workers : goal.returns-in-Ok-clause-workers
+returns-in-Ok-clause-workers g c = c.in-Ok.ensures.workers
+
+pub returns-in-Ok-clause-unbegun : goal.returns-in-Ok-clause-unbegun
+returns-in-Ok-clause-unbegun g c = c.in-Ok.ensures.unbegun
+
+pub returns-in-Ok-clause-run : goal.returns-in-Ok-clause-run
+returns-in-Ok-clause-run g c = c.in-Ok.ensures.run
+
+pub returns-in-Ok-clause-drained : goal.returns-in-Ok-clause-drained
+returns-in-Ok-clause-drained g c = c.in-Ok.ensures.drained

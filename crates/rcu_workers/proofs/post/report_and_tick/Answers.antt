@@ -26,3 +26,21 @@ returns-else-counted-clause-turns g c = let r = c.quiescent.ensures in let t = c
   reports = record { reports = r.reports; keeps = r.keeps };
   ticks = record { ticks = t.ticks; few = t.few; first = t.first; fresh = t.fresh; local = t.local; none = t.none };
 }
+
+pub quiescent-requires-send-J : goal.quiescent-requires-send-J
+quiescent-requires-send-J g c κs within = c.type_bounds.send-J
+
+pub quiescent-requires-send-J-Receipt : goal.quiescent-requires-send-J-Receipt
+quiescent-requires-send-J-Receipt g c κs within = c.type_bounds.send-J-Receipt
+
+pub quiescent-requires-after_bounds : goal.quiescent-requires-after_bounds
+quiescent-requires-after_bounds g c κs within = assumption
+
+pub tick-ticked-requires-send-J : goal.tick-ticked-requires-send-J
+tick-ticked-requires-send-J g c κs within = c.type_bounds.send-J
+
+pub tick-ticked-requires-send-J-Receipt : goal.tick-ticked-requires-send-J-Receipt
+tick-ticked-requires-send-J-Receipt g c κs within = c.type_bounds.send-J-Receipt
+
+pub tick-ticked-requires-after_bounds : goal.tick-ticked-requires-after_bounds
+tick-ticked-requires-after_bounds g c κs within = assumption

@@ -1,4 +1,5 @@
-use Rattle.rcu_workers.proofs.Steps.{works_again}
+use mir.Syntax.{of_param}
+use Rattle.rcu_workers.proofs.Steps.{works_again, works_itself}
 use Rattle.rcu_workers.proofs.post.report_until_over.Goals as goal
 
 pub loop-preserved : goal.loop-preserved
@@ -7,3 +8,18 @@ loop-preserved g c = let t = c.report_and_tick-has_moved in
 
 pub report_and_tick-has_moved-requires-after_bounds : goal.report_and_tick-has_moved-requires-after_bounds
 report_and_tick-has_moved-requires-after_bounds g c κs within = assumption
+
+pub report_and_tick-has_moved-requires-send-J : goal.report_and_tick-has_moved-requires-send-J
+report_and_tick-has_moved-requires-send-J g c κs within = c.type_bounds.send-J
+
+pub report_and_tick-has_moved-requires-send-J-Receipt : goal.report_and_tick-has_moved-requires-send-J-Receipt
+report_and_tick-has_moved-requires-send-J-Receipt g c κs within = record { owned = c.type_bounds.send-J-Receipt.owned; leaving = λ k. c.type_bounds.send-J-Receipt.leaving (λ _. k (of_param 1)) }
+
+pub loop-init : goal.loop-init
+loop-init g c = record { next = tt; finite = tt; works = works_itself g.J.Job.key_of g.J.Job.gives c.args.processor.now }
+
+pub returns-then-is_over : goal.returns-then-is_over
+returns-then-is_over g c = c.loop.invariant.works
+
+pub unreachable-requires : goal.unreachable-requires
+unreachable-requires g c = let z = c.in-None.ensures.steps in cc

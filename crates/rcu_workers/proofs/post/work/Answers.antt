@@ -1,8 +1,9 @@
 use Rattle.std.proofs.Common.{subst}
+use mir.Syntax.{of_param}
 use Rattle.rcu_workers.specs.Steps.{Does}
 use Rattle.rcu_workers.specs.declared.acting.Acted.TheVariants as acted
 use Rattle.rcu_workers.proofs.Acts.{none_ends_unbegun}
-use Rattle.rcu_workers.proofs.Steps.{works_again}
+use Rattle.rcu_workers.proofs.Steps.{works_again, works_itself}
 use Rattle.rcu_workers.proofs.post.work.Goals as goal
 
 pub act-requires-after_bounds : goal.act-requires-after_bounds
@@ -17,3 +18,27 @@ loop-preserved g c = record { next = tt; finite = tt; works = works_again g.J.Jo
 pub returns-in-Ends-clause-begun : goal.returns-in-Ends-clause-begun
 returns-in-Ends-clause-begun g c = λ none. none_ends_unbegun g.J.Job.key_of c.step-step.result c.loop.processor c.act.new.processor
     (subst (λ e. Does g.J.Job.key_of c.step-step.result (acted.Ends e) c.loop.processor c.act.new.processor) none c.in-Ends.ensures.does)
+
+pub cpu-requires-send-J : goal.cpu-requires-send-J
+cpu-requires-send-J g c κs within = c.type_bounds.send-J
+
+pub cpu-requires-send-J-Receipt : goal.cpu-requires-send-J-Receipt
+cpu-requires-send-J-Receipt g c κs within = record { owned = c.type_bounds.send-J-Receipt.owned; leaving = λ k. c.type_bounds.send-J-Receipt.leaving (λ _. k (of_param 1)) }
+
+pub cpu-requires-after_bounds : goal.cpu-requires-after_bounds
+cpu-requires-after_bounds g c κs within = assumption
+
+pub act-requires-send-J : goal.act-requires-send-J
+act-requires-send-J g c κs within = c.type_bounds.send-J
+
+pub act-requires-send-W : goal.act-requires-send-W
+act-requires-send-W g c κs within = c.type_bounds.send-W
+
+pub act-requires-send-J-Receipt : goal.act-requires-send-J-Receipt
+act-requires-send-J-Receipt g c κs within = record { owned = c.type_bounds.send-J-Receipt.owned; leaving = λ k. c.type_bounds.send-J-Receipt.leaving (λ _. k (of_param 2)) }
+
+pub loop-init : goal.loop-init
+loop-init g c = record { next = tt; finite = tt; works = works_itself g.J.Job.key_of g.J.Job.gives c.args.processor.now }
+
+pub unreachable-requires : goal.unreachable-requires
+unreachable-requires g c = let z = c.in-None.ensures.steps in cc

@@ -1,8 +1,8 @@
-use Rattle.std.proofs.Common.{◌≡◌, length, rules, refl, arith}
+use Rattle.std.proofs.Common.{◌≤◌, ◌∙◌, refl, sym, arith}
 use Rattle.std.specs.Vec.{vec_capacity, vec_len}
 use Rattle.rcu_workers.specs.Crews.{HasBegun}
 use Rattle.rcu_workers.specs.Steps.{PostWorks}
-use Rattle.rcu_workers.proofs.Crews.{all_done, order_after, room_for_more, zip_pushed}
+use Rattle.rcu_workers.proofs.Crews.{all_done, order_after, room_for_all, room_for_more, room_for_one, zip_none, zip_pushed}
 use Rattle.rcu_workers.proofs.starting.start_posts.Goals as goal
 
 pub loop-post-preserved : goal.loop-post-preserved
@@ -33,7 +33,7 @@ pub start_post-requires-after_bounds : goal.start_post-requires-after_bounds
 start_post-requires-after_bounds g c κs within = assumption
 
 pub returns : goal.returns
-returns g c = let l = c.loop-post in let rest = l.post-iterator.rest.items in let none : length rest ≡ 0 = search rules in
+returns g c = let l = c.loop-post in let rest = l.post-iterator.rest.items in let none = sym l.post-iterator.rest.ok.0 ∙ c.in-None.ensures.steps.0 in
     all_done (HasBegun (λ thread. thread.promise.0.value) (PostWorks g.J.Job.key_of g.J.Job.gives)) l.yielded rest c.args.posts.items l.started.items l.invariant.order none l.invariant.started
 
 pub into_iter-post-iterator-requires-room-T-Destruct : goal.into_iter-post-iterator-requires-room-T-Destruct
@@ -44,3 +44,15 @@ next-requires-room-T-Destruct g c κs within = assumption
 
 pub drop-post-iterator-requires-room-T-Destruct : goal.drop-post-iterator-requires-room-T-Destruct
 drop-post-iterator-requires-room-T-Destruct g c κs within = assumption
+
+pub push_reserved-requires : goal.push_reserved-requires
+push_reserved-requires g c = let l = c.loop-post in room_for_one (vec_len l.started) (vec_capacity l.started) l.post-iterator.rest.items c.next.new.self.rest.items c.in-Some.post l.invariant.room c.in-Some.ensures.steps.0
+
+pub loop-post-init : goal.loop-post-init
+loop-post-init g c = let room = c.args.room in let gives = c.into_iter-post-iterator.ensures.into_iter_gives.0 in let rest = c.into_iter-post-iterator.result.rest.items in let all = c.args.posts in let few = c.requires in
+    let started : vec_len all ≤ vec_capacity room.started = (let fits = room.fits.0 in omega (arith, few, fits)) in let ended : vec_len all ≤ vec_capacity room.ended = (let fits = room.fits.1 in omega (arith, few, fits)) in record {
+      order = gives;
+      room = room_for_all (vec_len room.started) (vec_len all) (vec_capacity room.started) room.started.items rest all.items room.started.ok.0 room.empty.0 gives all.ok.0 started;
+      ended = room_for_all (vec_len room.started) (vec_len all) (vec_capacity room.ended) room.started.items rest all.items room.started.ok.0 room.empty.0 gives all.ok.0 ended;
+      started = zip_none (HasBegun (λ thread. thread.promise.0.value) (PostWorks g.J.Job.key_of g.J.Job.gives)) all.items room.started.items room.empty.0;
+    }

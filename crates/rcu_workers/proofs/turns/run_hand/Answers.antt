@@ -1,4 +1,5 @@
-use Rattle.rcu_part_hand.proofs.HandRuns.{same_hand_again}
+use mir.Syntax.{of_param}
+use Rattle.rcu_part_hand.proofs.HandRuns.{same_hand, same_hand_again}
 use Rattle.rcu_workers.proofs.turns.run_hand.Goals as goal
 
 pub loop-preserved : goal.loop-preserved
@@ -10,3 +11,18 @@ loop-preserved g c = let i = c.loop.invariant.stays in let e = c.turn-turned.ens
 
 pub turn-turned-requires-after_bounds : goal.turn-turned-requires-after_bounds
 turn-turned-requires-after_bounds g c κs within = assumption
+
+pub turn-turned-requires-send-J : goal.turn-turned-requires-send-J
+turn-turned-requires-send-J g c κs within = c.type_bounds.send-J
+
+pub turn-turned-requires-send-J-Receipt : goal.turn-turned-requires-send-J-Receipt
+turn-turned-requires-send-J-Receipt g c κs within = record { owned = c.type_bounds.send-J-Receipt.owned; leaving = λ k. c.type_bounds.send-J-Receipt.leaving (λ _. k (of_param 1)) }
+
+pub loop-init : goal.loop-init
+loop-init g c = record { next = tt; finite = tt; stays = record { same = same_hand c.args.hand.state; sound = λ sound. sound } }
+
+pub returns-then-is_over : goal.returns-then-is_over
+returns-then-is_over g c = c.loop.invariant.stays
+
+pub unreachable-requires : goal.unreachable-requires
+unreachable-requires g c = let z = c.in-None.ensures.steps in cc
