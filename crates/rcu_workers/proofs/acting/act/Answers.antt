@@ -1,11 +1,11 @@
 use Rattle.rcu_lists.specs.declared.pace.Kind.TheVariants.{Lazy, Plain}
 use Rattle.std.proofs.Common.{refl, subst, sym}
-use mir.Syntax.{of_param}
 use Rattle.rcu_workers.specs.Steps.{Does}
 use Rattle.rcu_workers.specs.declared.acting.Acted.TheVariants as acted
 use Rattle.rcu_workers.specs.declared.worker.Answer.TheVariants as answer
 use Rattle.rcu_workers.specs.declared.worker.End.TheVariants as end
 use Rattle.rcu_workers.proofs.Acts.{called_works, told_lazy, told_plain}
+use Rattle.rcu_workers.proofs.Sends.{sent_as}
 use Rattle.rcu_workers.proofs.Steps.{works_itself, works_once}
 use Rattle.rcu_workers.proofs.acting.act.Goals as goal
 
@@ -33,7 +33,7 @@ pub call_rcu-requires-send-J : goal.call_rcu-requires-send-J
 call_rcu-requires-send-J g c κs within = c.type_bounds.send-J
 
 pub call_rcu-requires-send-J-Receipt : goal.call_rcu-requires-send-J-Receipt
-call_rcu-requires-send-J-Receipt g c κs within = record { owned = c.type_bounds.send-J-Receipt.owned; leaving = λ k. c.type_bounds.send-J-Receipt.leaving (λ _. k (of_param 1)) }
+call_rcu-requires-send-J-Receipt g c κs within = sent_as 2 1 g.row.J-Receipt c.type_bounds.send-J-Receipt
 
 pub call_rcu-requires-after_bounds : goal.call_rcu-requires-after_bounds
 call_rcu-requires-after_bounds g c κs within = assumption
@@ -42,7 +42,7 @@ pub call_rcu_lazy-requires-send-J : goal.call_rcu_lazy-requires-send-J
 call_rcu_lazy-requires-send-J g c κs within = c.type_bounds.send-J
 
 pub call_rcu_lazy-requires-send-J-Receipt : goal.call_rcu_lazy-requires-send-J-Receipt
-call_rcu_lazy-requires-send-J-Receipt g c κs within = record { owned = c.type_bounds.send-J-Receipt.owned; leaving = λ k. c.type_bounds.send-J-Receipt.leaving (λ _. k (of_param 1)) }
+call_rcu_lazy-requires-send-J-Receipt g c κs within = sent_as 2 1 g.row.J-Receipt c.type_bounds.send-J-Receipt
 
 pub call_rcu_lazy-requires-after_bounds : goal.call_rcu_lazy-requires-after_bounds
 call_rcu_lazy-requires-after_bounds g c κs within = assumption
@@ -51,7 +51,7 @@ pub reading-requires-send-J : goal.reading-requires-send-J
 reading-requires-send-J g c κs within = c.type_bounds.send-J
 
 pub reading-requires-send-J-Receipt : goal.reading-requires-send-J-Receipt
-reading-requires-send-J-Receipt g c κs within = record { owned = c.type_bounds.send-J-Receipt.owned; leaving = λ k. c.type_bounds.send-J-Receipt.leaving (λ _. k (of_param 1)) }
+reading-requires-send-J-Receipt g c κs within = sent_as 2 1 g.row.J-Receipt c.type_bounds.send-J-Receipt
 
 pub reading-requires-after_bounds : goal.reading-requires-after_bounds
 reading-requires-after_bounds g c κs within = assumption
@@ -60,7 +60,7 @@ pub quiescent-requires-send-J : goal.quiescent-requires-send-J
 quiescent-requires-send-J g c κs within = c.type_bounds.send-J
 
 pub quiescent-requires-send-J-Receipt : goal.quiescent-requires-send-J-Receipt
-quiescent-requires-send-J-Receipt g c κs within = record { owned = c.type_bounds.send-J-Receipt.owned; leaving = λ k. c.type_bounds.send-J-Receipt.leaving (λ _. k (of_param 1)) }
+quiescent-requires-send-J-Receipt g c κs within = sent_as 2 1 g.row.J-Receipt c.type_bounds.send-J-Receipt
 
 pub quiescent-requires-after_bounds : goal.quiescent-requires-after_bounds
 quiescent-requires-after_bounds g c κs within = assumption
@@ -69,7 +69,7 @@ pub tick-requires-send-J : goal.tick-requires-send-J
 tick-requires-send-J g c κs within = c.type_bounds.send-J
 
 pub tick-requires-send-J-Receipt : goal.tick-requires-send-J-Receipt
-tick-requires-send-J-Receipt g c κs within = record { owned = c.type_bounds.send-J-Receipt.owned; leaving = λ k. c.type_bounds.send-J-Receipt.leaving (λ _. k (of_param 1)) }
+tick-requires-send-J-Receipt g c κs within = sent_as 2 1 g.row.J-Receipt c.type_bounds.send-J-Receipt
 
 pub tick-requires-after_bounds : goal.tick-requires-after_bounds
 tick-requires-after_bounds g c κs within = assumption
@@ -78,7 +78,7 @@ pub barrier-requires-send-J : goal.barrier-requires-send-J
 barrier-requires-send-J g c κs within = c.type_bounds.send-J
 
 pub barrier-requires-send-J-Receipt : goal.barrier-requires-send-J-Receipt
-barrier-requires-send-J-Receipt g c κs within = record { owned = c.type_bounds.send-J-Receipt.owned; leaving = λ k. c.type_bounds.send-J-Receipt.leaving (λ _. k (of_param 1)) }
+barrier-requires-send-J-Receipt g c κs within = sent_as 2 1 g.row.J-Receipt c.type_bounds.send-J-Receipt
 
 pub barrier-requires-after_bounds : goal.barrier-requires-after_bounds
 barrier-requires-after_bounds g c κs within = assumption
@@ -87,7 +87,7 @@ pub poll-requires-send-J : goal.poll-requires-send-J
 poll-requires-send-J g c κs within = c.type_bounds.send-J
 
 pub poll-requires-send-J-Receipt : goal.poll-requires-send-J-Receipt
-poll-requires-send-J-Receipt g c κs within = record { owned = c.type_bounds.send-J-Receipt.owned; leaving = λ k. c.type_bounds.send-J-Receipt.leaving (λ _. k (of_param 1)) }
+poll-requires-send-J-Receipt g c κs within = sent_as 2 1 g.row.J-Receipt c.type_bounds.send-J-Receipt
 
 pub poll-requires-after_bounds : goal.poll-requires-after_bounds
 poll-requires-after_bounds g c κs within = assumption

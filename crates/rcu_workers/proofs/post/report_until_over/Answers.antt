@@ -1,4 +1,4 @@
-use mir.Syntax.{of_param}
+use Rattle.rcu_workers.proofs.Sends.{sent_as}
 use Rattle.rcu_workers.proofs.Steps.{works_again, works_itself}
 use Rattle.rcu_workers.proofs.post.report_until_over.Goals as goal
 
@@ -13,7 +13,7 @@ pub report_and_tick-has_moved-requires-send-J : goal.report_and_tick-has_moved-r
 report_and_tick-has_moved-requires-send-J g c κs within = c.type_bounds.send-J
 
 pub report_and_tick-has_moved-requires-send-J-Receipt : goal.report_and_tick-has_moved-requires-send-J-Receipt
-report_and_tick-has_moved-requires-send-J-Receipt g c κs within = record { owned = c.type_bounds.send-J-Receipt.owned; leaving = λ k. c.type_bounds.send-J-Receipt.leaving (λ _. k (of_param 1)) }
+report_and_tick-has_moved-requires-send-J-Receipt g c κs within = sent_as 2 1 g.row.J-Receipt c.type_bounds.send-J-Receipt
 
 pub loop-init : goal.loop-init
 loop-init g c = record { next = tt; finite = tt; works = works_itself g.J.Job.key_of g.J.Job.gives c.args.processor.now }

@@ -1,5 +1,5 @@
 use Rattle.std.proofs.Common.{refl}
-use mir.Syntax.{of_param}
+use Rattle.rcu_workers.proofs.Sends.{sent_as}
 use Rattle.rcu_workers.proofs.Steps.{works_again, works_itself}
 use Rattle.rcu_workers.proofs.post.run_post.Goals as goal
 
@@ -31,4 +31,4 @@ pub report_until_over-requires-send-J : goal.report_until_over-requires-send-J
 report_until_over-requires-send-J g c κs within = c.type_bounds.send-J
 
 pub report_until_over-requires-send-J-Receipt : goal.report_until_over-requires-send-J-Receipt
-report_until_over-requires-send-J-Receipt g c κs within = record { owned = c.type_bounds.send-J-Receipt.owned; leaving = λ k. c.type_bounds.send-J-Receipt.leaving (λ _. k (of_param 2)) }
+report_until_over-requires-send-J-Receipt g c κs within = sent_as 3 2 g.row.J-Receipt c.type_bounds.send-J-Receipt

@@ -1,8 +1,8 @@
 use Rattle.std.proofs.Common.{subst}
-use mir.Syntax.{of_param}
 use Rattle.rcu_workers.specs.Steps.{Does}
 use Rattle.rcu_workers.specs.declared.acting.Acted.TheVariants as acted
 use Rattle.rcu_workers.proofs.Acts.{none_ends_unbegun}
+use Rattle.rcu_workers.proofs.Sends.{sent_as}
 use Rattle.rcu_workers.proofs.Steps.{works_again, works_itself}
 use Rattle.rcu_workers.proofs.post.work.Goals as goal
 
@@ -23,7 +23,7 @@ pub cpu-requires-send-J : goal.cpu-requires-send-J
 cpu-requires-send-J g c κs within = c.type_bounds.send-J
 
 pub cpu-requires-send-J-Receipt : goal.cpu-requires-send-J-Receipt
-cpu-requires-send-J-Receipt g c κs within = record { owned = c.type_bounds.send-J-Receipt.owned; leaving = λ k. c.type_bounds.send-J-Receipt.leaving (λ _. k (of_param 1)) }
+cpu-requires-send-J-Receipt g c κs within = sent_as 3 1 g.row.J-Receipt c.type_bounds.send-J-Receipt
 
 pub cpu-requires-after_bounds : goal.cpu-requires-after_bounds
 cpu-requires-after_bounds g c κs within = assumption
@@ -35,7 +35,7 @@ pub act-requires-send-W : goal.act-requires-send-W
 act-requires-send-W g c κs within = c.type_bounds.send-W
 
 pub act-requires-send-J-Receipt : goal.act-requires-send-J-Receipt
-act-requires-send-J-Receipt g c κs within = record { owned = c.type_bounds.send-J-Receipt.owned; leaving = λ k. c.type_bounds.send-J-Receipt.leaving (λ _. k (of_param 2)) }
+act-requires-send-J-Receipt g c κs within = sent_as 3 2 g.row.J-Receipt c.type_bounds.send-J-Receipt
 
 pub loop-init : goal.loop-init
 loop-init g c = record { next = tt; finite = tt; works = works_itself g.J.Job.key_of g.J.Job.gives c.args.processor.now }

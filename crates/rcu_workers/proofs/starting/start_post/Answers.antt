@@ -1,4 +1,6 @@
+use Rattle.std.proofs.Common.{ap, subst, sym, ◌∙◌}
 use mir.Syntax.{of_param}
+use Rattle.rcu_workers.specs.Steps.{PostWorks}
 use Rattle.rcu_workers.proofs.Sends.{quiet_either}
 use Rattle.rcu_workers.proofs.starting.start_post.Goals as goal
 
@@ -43,3 +45,18 @@ run-requires-send-R g c κs within = record { owned = c.type_bounds.send-R.owned
 
 pub run-requires-send-S : goal.run-requires-send-S
 run-requires-send-S g c κs within = record { owned = c.type_bounds.send-S.owned; leaving = c.type_bounds.send-S.leaving }
+
+pub returns-in_default : goal.returns-in_default
+returns-in_default g c = c.run_post.ensures
+
+pub spawn_with-requires-clause-keeps : goal.spawn_with-requires-clause-keeps
+spawn_with-requires-clause-keeps g c κs within = λ r kept. subst (λ x. PostWorks g.J.Job.key_of g.J.Job.gives x r) (sym c.of.ensures) kept
+
+pub run-requires-after_bounds : goal.run-requires-after_bounds
+run-requires-after_bounds g c κs within = assumption
+
+pub returns-in-Ok-spawn_with : goal.returns-in-Ok-spawn_with
+returns-in-Ok-spawn_with g c = ap (λ p. p.0.value) c.in-Ok-spawn_with.ensures.ok ∙ c.of.ensures
+
+pub returns-in-Err : goal.returns-in-Err
+returns-in-Err g c = subst (λ x. PostWorks g.J.Job.key_of g.J.Job.gives x c.run.result) (ap (λ kept. kept.0) c.in-Err.ensures.err) c.run.ensures

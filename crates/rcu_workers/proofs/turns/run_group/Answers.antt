@@ -1,5 +1,5 @@
-use mir.Syntax.{of_param}
 use Rattle.rcu_part_group.proofs.GroupTurns.{same_group, same_group_again}
+use Rattle.rcu_workers.proofs.Sends.{sent_as}
 use Rattle.rcu_workers.proofs.turns.run_group.Goals as goal
 
 pub loop-init : goal.loop-init
@@ -15,7 +15,7 @@ pub turn-turned-requires-send-J : goal.turn-turned-requires-send-J
 turn-turned-requires-send-J g c κs within = c.type_bounds.send-J
 
 pub turn-turned-requires-send-J-Receipt : goal.turn-turned-requires-send-J-Receipt
-turn-turned-requires-send-J-Receipt g c κs within = record { owned = c.type_bounds.send-J-Receipt.owned; leaving = λ k. c.type_bounds.send-J-Receipt.leaving (λ _. k (of_param 1)) }
+turn-turned-requires-send-J-Receipt g c κs within = sent_as 2 1 g.row.J-Receipt c.type_bounds.send-J-Receipt
 
 pub returns-then-is_over : goal.returns-then-is_over
 returns-then-is_over g c = c.loop.invariant.stays

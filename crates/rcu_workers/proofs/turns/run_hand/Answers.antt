@@ -1,5 +1,5 @@
-use mir.Syntax.{of_param}
 use Rattle.rcu_part_hand.proofs.HandRuns.{same_hand, same_hand_again}
+use Rattle.rcu_workers.proofs.Sends.{sent_as}
 use Rattle.rcu_workers.proofs.turns.run_hand.Goals as goal
 
 pub loop-preserved : goal.loop-preserved
@@ -16,7 +16,7 @@ pub turn-turned-requires-send-J : goal.turn-turned-requires-send-J
 turn-turned-requires-send-J g c κs within = c.type_bounds.send-J
 
 pub turn-turned-requires-send-J-Receipt : goal.turn-turned-requires-send-J-Receipt
-turn-turned-requires-send-J-Receipt g c κs within = record { owned = c.type_bounds.send-J-Receipt.owned; leaving = λ k. c.type_bounds.send-J-Receipt.leaving (λ _. k (of_param 1)) }
+turn-turned-requires-send-J-Receipt g c κs within = sent_as 2 1 g.row.J-Receipt c.type_bounds.send-J-Receipt
 
 pub loop-init : goal.loop-init
 loop-init g c = record { next = tt; finite = tt; stays = record { same = same_hand c.args.hand.state; sound = λ sound. sound } }

@@ -1,6 +1,6 @@
 use Rattle.std.proofs.Common.{refl, rules}
-use mir.Syntax.{of_param}
 use Rattle.rcu_runtime.proofs.Wholes.{continues_itself}
+use Rattle.rcu_workers.proofs.Sends.{sent_as}
 use Rattle.rcu_workers.proofs.worked.answer.Goals as goal
 
 pub returns-then-not-has_begun-clause-continues : goal.returns-then-not-has_begun-clause-continues
@@ -16,7 +16,7 @@ pub is_settled-is_settled-requires-send-J : goal.is_settled-is_settled-requires-
 is_settled-is_settled-requires-send-J g c κs within = c.type_bounds.send-J
 
 pub is_settled-is_settled-requires-send-J-Receipt : goal.is_settled-is_settled-requires-send-J-Receipt
-is_settled-is_settled-requires-send-J-Receipt g c κs within = record { owned = c.type_bounds.send-J-Receipt.owned; leaving = λ k. c.type_bounds.send-J-Receipt.leaving (λ _. k (of_param 1)) }
+is_settled-is_settled-requires-send-J-Receipt g c κs within = sent_as 2 1 g.row.J-Receipt c.type_bounds.send-J-Receipt
 
 pub is_settled-is_settled-requires-after_bounds : goal.is_settled-is_settled-requires-after_bounds
 is_settled-is_settled-requires-after_bounds g c κs within = assumption
