@@ -5,3 +5,9 @@ pub mod Placing
 pub mod NewParts
 pub mod Opened
 pub mod Unread
+pub mod Calling
+pub mod TakenOut
+pub mod Boxing
+pub mod Ready
+pub mod Lending
+pub mod Jobs

@@ -27,10 +27,7 @@ struct Boxes {
 fn box_part(alloc: Global, opening: Opening, at: u64, part: Part) -> Result<Box<Lent>, AllocError>
     ensures { IfOk result (λ boxed. boxed.value ≡ lent_of opening at part) }
 {
-    match Box::new(alloc, Lent { opening, at, part }) {
-        Ok(boxed) => Ok(boxed),
-        Err(_) => Err(AllocError),
-    }
+    Ok(Box::new(alloc, Lent { opening, at, part })?)
 }
 
 fn box_processors(

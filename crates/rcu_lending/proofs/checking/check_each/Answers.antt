@@ -1,11 +1,12 @@
-use Rattle.std.proofs.Common.{◌≡◌, ◌+◌, arith, get_or, set, sym, ◌∙◌, subst}
+use Rattle.std.proofs.Common.{◌≡◌, ℕ, ◌+◌, ◌≤◌, List, arith, get_or, length, refl, set, sym, ◌∙◌, subst}
+use Rattle.std.proofs.lemmas.List.{length-map}
 use Rattle.std.proofs.Math.Seq.{map-set_same}
 use Rattle.std.proofs.lemmas.List.Elements.{All-get_or, All-set}
-use Rattle.rcu_lending.specs.Gathers.{held_in}
+use Rattle.rcu_lending.specs.Gathers.{AreChecked, held_in}
 use Rattle.rcu_lending.specs.declared.slot.Slot.{Slot}
-use mathlib.Core.Logic.{inl}
-use Rattle.rcu_lending.proofs.Helds.{IsCheckedTo, belongs_here, checked_more, counted}
-use Rattle.rcu_lending.proofs.Unread.{refused_here, unread_all, unread_more}
+use mathlib.Core.Logic.{inl, inr}
+use Rattle.rcu_lending.proofs.Helds.{IsCheckedTo, belongs_here, checked_all, checked_more, checked_none, counted, found_all}
+use Rattle.rcu_lending.proofs.Unread.{refused_here, unread_all, unread_more, unread_none}
 use Rattle.rcu_lending.proofs.checking.check_each.Goals as goal
 
 pub returns-in-Err-clause-stay : goal.returns-in-Err-clause-stay
@@ -31,3 +32,44 @@ returns-in-Err-clause-why c = let l = c.loop-place in let d = c.index-slots-plac
 
 pub returns-clause-unread : goal.returns-clause-unread
 returns-clause-unread c = let l = c.loop-place in unread_all l.place c.args.slots.now l.slots (omega (arith, l.auto.slots, c.loop-place-test.false)) l.invariant.2
+
+pub loop-place-init : goal.loop-place-init
+loop-place-init c = (checked_none c.args.opening c.args.kind (held_in c.args.slots.now), λ unread. unread, unread_none c.args.slots.now)
+
+pub returns-then-found-many-clause-stay : goal.returns-then-found-many-clause-stay
+returns-then-found-many-clause-stay c = c.loop-place.invariant.0.same
+
+pub returns-then-found-many-2-clause-stay : goal.returns-then-found-many-2-clause-stay
+returns-then-found-many-2-clause-stay c = c.loop-place.invariant.0.same
+
+pub returns-clause-stay : goal.returns-clause-stay
+returns-clause-stay c = c.loop-place.invariant.0.same
+
+-- all were looked at
+looked_at_all : (slots : List Slot) (i : ℕ) → length slots ≤ i → length (held_in slots) ≤ i
+looked_at_all slots i end = let long = length-map slots (λ (s : Slot). s.held.value) in omega (arith, end, long)
+
+pub returns-then-found-many-clause-err : goal.returns-then-found-many-clause-err
+returns-then-found-many-clause-err c = let l = c.loop-place in λ unread checked.
+    let found = found_all c.args.opening c.args.kind c.args.many l.place l.found (held_in c.args.slots.now) (held_in l.slots) (looked_at_all c.args.slots.now l.place c.loop-place-test.false) l.invariant.0 checked in
+    omega (arith, found, c.if-found-many.true)
+
+pub returns-then-found-many-clause-why : goal.returns-then-found-many-clause-why
+returns-then-found-many-clause-why c = let l = c.loop-place in
+    let count = (checked_all c.args.opening c.args.kind l.place l.found (held_in c.args.slots.now) (held_in l.slots) (looked_at_all c.args.slots.now l.place c.loop-place-test.false) l.invariant.0).count in
+    inr (inl (refl, omega (arith, count, c.if-found-many.true)))
+
+pub returns-then-found-many-2-clause-err : goal.returns-then-found-many-2-clause-err
+returns-then-found-many-2-clause-err c = let l = c.loop-place in λ unread checked.
+    let found = found_all c.args.opening c.args.kind c.args.many l.place l.found (held_in c.args.slots.now) (held_in l.slots) (looked_at_all c.args.slots.now l.place c.loop-place-test.false) l.invariant.0 checked in
+    omega (arith, found, c.if-found-many-2.true)
+
+pub returns-then-found-many-2-clause-why : goal.returns-then-found-many-2-clause-why
+returns-then-found-many-2-clause-why c = let l = c.loop-place in
+    let count = (checked_all c.args.opening c.args.kind l.place l.found (held_in c.args.slots.now) (held_in l.slots) (looked_at_all c.args.slots.now l.place c.loop-place-test.false) l.invariant.0).count in
+    inr (inr (refl, omega (arith, count, c.if-found-many-2.true)))
+
+pub returns-clause-checked : goal.returns-clause-checked
+returns-clause-checked c = let l = c.loop-place in
+    subst (λ n. AreChecked c.args.opening c.args.kind n (held_in c.args.slots.now)) (omega (arith, c.if-found-many.false, c.if-found-many-2.false))
+    (checked_all c.args.opening c.args.kind l.place l.found (held_in c.args.slots.now) (held_in l.slots) (looked_at_all c.args.slots.now l.place c.loop-place-test.false) l.invariant.0)

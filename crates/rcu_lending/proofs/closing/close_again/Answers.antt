@@ -1,4 +1,5 @@
 use Rattle.std.proofs.Common.{refl}
+use Rattle.rcu_lending.proofs.Jobs.{job_sends, receipt_sends}
 use Rattle.rcu_lending.proofs.closing.close_again.Goals as goal
 
 pub returns-in-Ok : goal.returns-in-Ok
@@ -7,3 +8,9 @@ returns-in-Ok c = let kept = c.put_part.ensures in record {
   control_is = (_, kept.2, refl);
   closes = c.in-Ok.ensures.closes c.requires.owed.1;
 }
+
+pub again-requires-send-J : goal.again-requires-send-J
+again-requires-send-J c κs = job_sends
+
+pub again-requires-send-J-Receipt : goal.again-requires-send-J-Receipt
+again-requires-send-J-Receipt c κs = receipt_sends

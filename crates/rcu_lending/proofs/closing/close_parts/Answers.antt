@@ -1,4 +1,5 @@
 use Rattle.std.proofs.Common.{refl}
+use Rattle.rcu_lending.proofs.Jobs.{job_sends, receipt_sends}
 use Rattle.rcu_lending.proofs.closing.close_parts.Goals as goal
 
 pub returns-in-Ok : goal.returns-in-Ok
@@ -7,3 +8,9 @@ returns-in-Ok c = let kept = c.put_part.ensures in record {
   control_is = (_, kept.2, refl);
   closes = c.in-Ok.ensures.closes c.requires.owed.1;
 }
+
+pub close-requires-send-J : goal.close-requires-send-J
+close-requires-send-J c κs = job_sends
+
+pub close-requires-send-J-Receipt : goal.close-requires-send-J-Receipt
+close-requires-send-J-Receipt c κs = receipt_sends

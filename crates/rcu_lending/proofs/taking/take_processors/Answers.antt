@@ -1,10 +1,12 @@
-use Rattle.std.proofs.Common.{◌≡◌, ap, ◌∙◌, arith, vec_capacity}
+use Rattle.std.proofs.Common.{◌≡◌, ap, ◌∙◌, arith, refl, subst, sym, vec_capacity}
+use Rattle.std.proofs.lemmas.List.{length-map}
 use Rattle.rcu_lending.specs.Gathers.{held_in}
 use Rattle.rcu_lending.specs.Parts.{kind_of}
 use Rattle.rcu_lending.specs.declared.part.Lent.{Lent}
 use Rattle.rcu_lending.specs.declared.part.Part.TheVariants as part
 use Rattle.rcu_lending.specs.declared.part.PartKind.TheVariants as kind
-use Rattle.rcu_lending.proofs.Helds.{here_is, room_here, taken_more, taken_nothing}
+use Rattle.rcu_lending.specs.declared.slot.Slot.{Slot}
+use Rattle.rcu_lending.proofs.Helds.{IsTakenTo, empty_all, here_is, room_here, taken_all, taken_more, taken_none, taken_nothing}
 use Rattle.rcu_lending.proofs.taking.take_processors.Goals.{in-Some, in_default}
 use Rattle.rcu_lending.proofs.taking.take_processors.Goals as goal
 
@@ -29,3 +31,14 @@ loop-place-preserved c = let l = c.loop-place in let d = c.index-slots-place.res
     ap vec_capacity w.out-is ∙ l.invariant.1,
   )
 ]
+
+pub loop-place-init : goal.loop-place-init
+loop-place-init c = (subst (λ out. IsTakenTo (λ x. part.Processor x) 0 (held_in c.args.slots.now) (held_in c.args.slots.now) out) (sym c.requires.none) (taken_none (λ x. part.Processor x) (held_in c.args.slots.now)), refl)
+
+pub returns-clause-took : goal.returns-clause-took
+returns-clause-took c = let l = c.loop-place in let long = length-map l.slots (λ (s : Slot). s.held.value) in
+    taken_all (λ x. part.Processor x) l.place (held_in c.args.slots.now) (held_in l.slots) l.out.items (omega (arith, long, l.auto.slots, c.loop-place-test.false)) l.invariant.0
+
+pub returns-clause-empty : goal.returns-clause-empty
+returns-clause-empty c = let l = c.loop-place in let long = length-map l.slots (λ (s : Slot). s.held.value) in
+    empty_all (λ x. part.Processor x) l.place (held_in c.args.slots.now) (held_in l.slots) l.out.items (omega (arith, long, l.auto.slots, c.loop-place-test.false)) l.invariant.0

@@ -2,6 +2,7 @@ use Rattle.std.proofs.Common.{refl, subst, sym}
 use Rattle.std.specs.declared.result.Result.TheVariants.{Ok}
 use Rattle.rcu_lending.specs.Barriers.{OpensPart}
 use Rattle.rcu_lending.specs.declared.part.Part.TheVariants as part
+use Rattle.rcu_lending.proofs.Jobs.{cpu_fits, job_sends, receipt_sends}
 use Rattle.rcu_lending.proofs.part.Part.barrier.Goals as goal
 
 pub returns-in-Ok : goal.returns-in-Ok
@@ -21,3 +22,12 @@ returns-in-Processor c = let e = c.barrier-in-Processor.ensures in subst (λ old
   new_is = refl;
   does = record { kept = record { same = e.same; sound = e.sound }; lists = e.keeps; opens = e.opens; own = e.own };
 })
+
+pub barrier-requires-in-Processor-send-J : goal.barrier-requires-in-Processor-send-J
+barrier-requires-in-Processor-send-J c κs = job_sends
+
+pub barrier-requires-in-Processor-send-J-Receipt : goal.barrier-requires-in-Processor-send-J-Receipt
+barrier-requires-in-Processor-send-J-Receipt c κs = receipt_sends
+
+pub barrier-requires-in-Processor-after_bounds : goal.barrier-requires-in-Processor-after_bounds
+barrier-requires-in-Processor-after_bounds c κs = cpu_fits

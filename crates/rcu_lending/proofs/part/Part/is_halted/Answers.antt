@@ -2,6 +2,7 @@ use Rattle.std.proofs.Common.{refl, subst, sym}
 use Rattle.std.specs.declared.result.Result.TheVariants.{Ok}
 use Rattle.rcu_lending.specs.Others.{ReadsHaltBy}
 use Rattle.rcu_lending.specs.declared.part.Part.TheVariants as part
+use Rattle.rcu_lending.proofs.Jobs.{cpu_fits, group_fits, hand_fits, job_sends, receipt_sends}
 use Rattle.rcu_lending.proofs.part.Part.is_halted.Goals as goal
 
 pub returns-in-Driver : goal.returns-in-Driver
@@ -39,3 +40,30 @@ returns-in-Group c = let e = c.is_halted-in-Group.ensures in subst (λ old. Read
   new_is = refl;
   does = record { same = e.same; members = e.members; reads = e.view };
 })
+
+pub is_halted-requires-in-Processor-send-J : goal.is_halted-requires-in-Processor-send-J
+is_halted-requires-in-Processor-send-J c κs = job_sends
+
+pub is_halted-requires-in-Processor-send-J-Receipt : goal.is_halted-requires-in-Processor-send-J-Receipt
+is_halted-requires-in-Processor-send-J-Receipt c κs = receipt_sends
+
+pub is_halted-requires-in-Processor-after_bounds : goal.is_halted-requires-in-Processor-after_bounds
+is_halted-requires-in-Processor-after_bounds c κs = cpu_fits
+
+pub is_halted-requires-in-Hand-send-J : goal.is_halted-requires-in-Hand-send-J
+is_halted-requires-in-Hand-send-J c κs = job_sends
+
+pub is_halted-requires-in-Hand-send-J-Receipt : goal.is_halted-requires-in-Hand-send-J-Receipt
+is_halted-requires-in-Hand-send-J-Receipt c κs = receipt_sends
+
+pub is_halted-requires-in-Hand-after_bounds : goal.is_halted-requires-in-Hand-after_bounds
+is_halted-requires-in-Hand-after_bounds c κs = hand_fits
+
+pub is_halted-requires-in-Group-send-J : goal.is_halted-requires-in-Group-send-J
+is_halted-requires-in-Group-send-J c κs = job_sends
+
+pub is_halted-requires-in-Group-send-J-Receipt : goal.is_halted-requires-in-Group-send-J-Receipt
+is_halted-requires-in-Group-send-J-Receipt c κs = receipt_sends
+
+pub is_halted-requires-in-Group-after_bounds : goal.is_halted-requires-in-Group-after_bounds
+is_halted-requires-in-Group-after_bounds c κs = group_fits

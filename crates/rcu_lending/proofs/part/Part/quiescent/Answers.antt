@@ -2,6 +2,7 @@ use Rattle.std.proofs.Common.{refl, subst, sym}
 use Rattle.std.specs.declared.result.Result.TheVariants.{Ok}
 use Rattle.rcu_lending.specs.Processors.{ReportsBy}
 use Rattle.rcu_lending.specs.declared.part.Part.TheVariants as part
+use Rattle.rcu_lending.proofs.Jobs.{cpu_fits, job_sends, receipt_sends}
 use Rattle.rcu_lending.proofs.part.Part.quiescent.Goals as goal
 
 pub returns-in-Processor : goal.returns-in-Processor
@@ -21,3 +22,12 @@ returns-in-RunningProcessor c = subst (λ old. ReportsBy (Ok c.report_begun.resu
   new_is = refl;
   does = c.report_begun.ensures;
 })
+
+pub quiescent-requires-send-J : goal.quiescent-requires-send-J
+quiescent-requires-send-J c κs = job_sends
+
+pub quiescent-requires-send-J-Receipt : goal.quiescent-requires-send-J-Receipt
+quiescent-requires-send-J-Receipt c κs = receipt_sends
+
+pub quiescent-requires-after_bounds : goal.quiescent-requires-after_bounds
+quiescent-requires-after_bounds c κs = cpu_fits
