@@ -1,4 +1,5 @@
-use Rattle.std.proofs.Common.{Some, ◌≤◌, ap, arith, length, ◌∙◌}
+use Rattle.std.proofs.Common.{Some, ◌≤◌, ap, arith, length, refl, ◌∙◌}
+use mathlib.Core.Logic.{inr}
 use Rattle.rcu_lending.specs.Gathers.{held_in}
 use Rattle.rcu_lending.specs.Opens.{boxed}
 use Rattle.rcu_lending.specs.Processors.{ForeignCpu}
@@ -50,3 +51,33 @@ returns-clause-opened c =
         many_hands = b.boxed.many.hands;
       };
     }
+
+pub returns-then-is_full-clause-refused : goal.returns-then-is_full-clause-refused
+returns-then-is_full-clause-refused c = record { control_stays = refl; driver_stays = refl; processors_stay = refl; groups_stay = refl; hands_stay = refl }
+
+pub returns-then-not-are_empty-clause-refused : goal.returns-then-not-are_empty-clause-refused
+returns-then-not-are_empty-clause-refused c = record { control_stays = refl; driver_stays = refl; processors_stay = refl; groups_stay = refl; hands_stay = refl }
+
+pub returns-in_default-clause-refused : goal.returns-in_default-clause-refused
+returns-in_default-clause-refused c = record { control_stays = refl; driver_stays = refl; processors_stay = refl; groups_stay = refl; hands_stay = refl }
+
+pub returns-in_default-clause-why : goal.returns-in_default-clause-why
+returns-in_default-clause-why c = inr (
+  refl,
+  record {
+    control_is = c.is_full.ensures.empty c.if-is_full.false;
+    driver_is = c.is_full-else-is_full.ensures.empty c.if-is_full-2.false;
+    processors_are = c.are_empty.ensures.empty c.if-not-are_empty.false;
+    groups_are = c.are_empty-else-not-are_empty.ensures.empty c.if-not-are_empty-2.false;
+    hands_are = c.are_empty-else-not-are_empty-2.ensures.empty c.if-not-are_empty-3.false;
+  },
+)
+
+pub put_each-requires-clause-empty : goal.put_each-requires-clause-empty
+put_each-requires-clause-empty c = c.are_empty.ensures.empty c.if-not-are_empty.false
+
+pub put_each-requires-2-clause-empty : goal.put_each-requires-2-clause-empty
+put_each-requires-2-clause-empty c = c.are_empty-else-not-are_empty.ensures.empty c.if-not-are_empty-2.false
+
+pub put_each-requires-3-clause-empty : goal.put_each-requires-3-clause-empty
+put_each-requires-3-clause-empty c = c.are_empty-else-not-are_empty-2.ensures.empty c.if-not-are_empty-3.false
