@@ -1,5 +1,5 @@
 -- How a runtime is drained: it is shut, and then a barrier is opened and passes.
-use Rattle.std.proofs.Common.{◌≡◌, ℕ, ◌/◌, ◌%◌, ◌<◌, ◌∙◌, List, [], ◌∷◌, Some, Ok, length, sym, ap, refl, arith}
+use Rattle.std.proofs.Common.{◌≡◌, ℕ, ◌/◌, ◌%◌, ◌<◌, ◌∙◌, List, [], ◌∷◌, Some, Ok, Err, length, sym, ap, refl, arith}
 use Rattle.std.specs.List.{Any}
 use Rattle.rcu_board.specs.Seats.{NeverFalls, SawShut}
 use Rattle.rcu_board.specs.Views.{seen_at}
@@ -8,6 +8,7 @@ use Rattle.rcu_board.specs.declared.view.View.{View}
 use Rattle.rcu_control.proofs.Stepping.{untouched}
 use Rattle.rcu_control.specs.Parts.{control_view}
 use Rattle.rcu_control.specs.declared.barrier.Barrier.{Barrier}
+use Rattle.rcu_jobs.specs.declared.BarrierFault.{BarrierFault}
 use Rattle.rcu_jobs.specs.declared.Counts.{Counts}
 use Rattle.rcu_jobs.specs.declared.Passed.{Passed}
 use Rattle.rcu_parts.specs.Drained.{IsCountedFor}
@@ -35,6 +36,10 @@ module _ {J R : Type 0} where
 
   pub all_shut : (counts : Counts) (parts : Parts J R) → IsShutFor counts parts → IsShut parts
   all_shut counts parts shut p low = (shut.counted p (omega (arith, low, shut.many))).0
+
+  -- a barrier for no ticket is never refused
+  pub never_refused : (fault : BarrierFault) (old new : Parts J R) → OnControl (Opens [] (Err fault)) old new → ⊥
+  never_refused fault old new opens = let first = opens.does.first in cc
 
   -- a barrier that was opened once all were shut counts all that they accepted
   pub opened_for : (counts : Counts) (b : Barrier) (old between new : Parts J R) → OnControl (ShutsAll counts) old between → AreSameParts old between → OnControl (Opens [] (Ok b)) between new → AreSameParts between new → IsShutFor b.counts new

@@ -1,4 +1,5 @@
 pub mod Changing
+pub mod Outcomes
 pub mod Wholes
 pub mod Accounting
 pub mod Accepted

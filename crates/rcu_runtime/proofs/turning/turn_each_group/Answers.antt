@@ -1,3 +1,4 @@
+use borrow.Author.Rules.{scaled_Fits}
 use Rattle.std.proofs.Common.{◌∙◌, ap, arith, length}
 use Rattle.std.specs.List.{AllZip}
 use Rattle.rcu_runtime.specs.Passing.{PassesGroup}
@@ -15,3 +16,15 @@ pub returns : goal.returns
 returns g c = let l = c.loop-group in let old = c.args.groups.now in
     left_by (AllZip PassesGroup old.items) l.group-items old.items old.len (l.auto.group-items ∙ ap length c.deref_mut-group-items.ensures.value) old.ok.0
     (firsts_all PassesGroup l.group-index old.items l.group-items (omega (arith, l.auto.group-items, c.loop-group-test.false)) l.invariant)
+
+pub turn-requires-send-J : goal.turn-requires-send-J
+turn-requires-send-J g c κs within = c.type_bounds.send-J
+
+pub turn-requires-send-J-Receipt : goal.turn-requires-send-J-Receipt
+turn-requires-send-J-Receipt g c κs within = c.type_bounds.send-J-Receipt
+
+pub turn-requires-after_bounds : goal.turn-requires-after_bounds
+turn-requires-after_bounds g c κs within = assumption
+
+pub offset_bounds-group-items-group-index : goal.offset_bounds-group-items-group-index
+offset_bounds-group-items-group-index g c = scaled_Fits _ _ _ c.loop-group-test.true assumption

@@ -1,3 +1,4 @@
+use borrow.Author.Rules.{scaled_Fits}
 use Rattle.std.proofs.Common.{◌∙◌, ap, arith, length}
 use Rattle.std.specs.List.{AllZip}
 use Rattle.rcu_runtime.specs.Passing.{PassesHand}
@@ -15,3 +16,15 @@ pub returns : goal.returns
 returns g c = let l = c.loop-hand in let old = c.args.hands.now in
     left_by (AllZip (PassesHand g.J.Job.key_of g.J.Job.gives) old.items) l.hand-items old.items old.len (l.auto.hand-items ∙ ap length c.deref_mut-hand-items.ensures.value) old.ok.0
     (firsts_all (PassesHand g.J.Job.key_of g.J.Job.gives) l.hand-index old.items l.hand-items (omega (arith, l.auto.hand-items, c.loop-hand-test.false)) l.invariant)
+
+pub turn-requires-send-J : goal.turn-requires-send-J
+turn-requires-send-J g c κs within = c.type_bounds.send-J
+
+pub turn-requires-send-J-Receipt : goal.turn-requires-send-J-Receipt
+turn-requires-send-J-Receipt g c κs within = c.type_bounds.send-J-Receipt
+
+pub turn-requires-after_bounds : goal.turn-requires-after_bounds
+turn-requires-after_bounds g c κs within = assumption
+
+pub offset_bounds-hand-items-hand-index : goal.offset_bounds-hand-items-hand-index
+offset_bounds-hand-items-hand-index g c = scaled_Fits _ _ _ c.loop-hand-test.true assumption

@@ -1,3 +1,4 @@
+use borrow.Author.Rules.{scaled_Fits}
 use Rattle.std.proofs.Common.{◌∙◌, ap, arith, get_or, length}
 use Rattle.std.specs.List.{AllZip}
 use Rattle.rcu_runtime.specs.Passing.{PassesTick}
@@ -16,3 +17,24 @@ pub returns : goal.returns
 returns g c = let l = c.loop-processor in let old = c.args.processors.now in
     left_by (AllZip (PassesTick g.J.Job.key_of g.J.Job.gives c.args.moment) old.items) l.processor-items old.items old.len (l.auto.processor-items ∙ ap length c.deref_mut-processor-items.ensures.value) old.ok.0
     (firsts_all (PassesTick g.J.Job.key_of g.J.Job.gives c.args.moment) l.processor-index old.items l.processor-items (omega (arith, l.auto.processor-items, c.loop-processor-test.false)) l.invariant)
+
+pub quiescent-requires-send-J : goal.quiescent-requires-send-J
+quiescent-requires-send-J g c κs within = c.type_bounds.send-J
+
+pub quiescent-requires-send-J-Receipt : goal.quiescent-requires-send-J-Receipt
+quiescent-requires-send-J-Receipt g c κs within = c.type_bounds.send-J-Receipt
+
+pub quiescent-requires-after_bounds : goal.quiescent-requires-after_bounds
+quiescent-requires-after_bounds g c κs within = assumption
+
+pub tick-requires-send-J : goal.tick-requires-send-J
+tick-requires-send-J g c κs within = c.type_bounds.send-J
+
+pub tick-requires-send-J-Receipt : goal.tick-requires-send-J-Receipt
+tick-requires-send-J-Receipt g c κs within = c.type_bounds.send-J-Receipt
+
+pub tick-requires-after_bounds : goal.tick-requires-after_bounds
+tick-requires-after_bounds g c κs within = assumption
+
+pub offset_bounds-processor-items-processor-index : goal.offset_bounds-processor-items-processor-index
+offset_bounds-processor-items-processor-index g c = scaled_Fits _ _ _ c.loop-processor-test.true assumption

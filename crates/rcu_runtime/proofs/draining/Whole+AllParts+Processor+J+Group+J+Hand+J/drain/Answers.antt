@@ -23,3 +23,51 @@ returns-clause-shut g c = all_shut c.shut_and_open-barrier.result.counts c.has_r
 
 pub returns-clause-continues : goal.returns-clause-continues
 returns-clause-continues g c = continues_again c.args.self.now c.loop.self c.has_run-2.new.self c.loop.invariant.continues c.has_run-2.ensures.continues
+
+pub shut_and_open-barrier-requires-send-J : goal.shut_and_open-barrier-requires-send-J
+shut_and_open-barrier-requires-send-J g c κs within = c.type_bounds.send-J
+
+pub shut_and_open-barrier-requires-after_bounds : goal.shut_and_open-barrier-requires-after_bounds
+shut_and_open-barrier-requires-after_bounds g c κs within = assumption
+
+pub loop-init : goal.loop-init
+loop-init g c = record { continues = c.shut_and_open-barrier.ensures.continues; shut = c.shut_and_open-barrier.ensures.shut; none = c.shut_and_open-barrier.ensures.none }
+
+pub has_run-requires-send-J : goal.has_run-requires-send-J
+has_run-requires-send-J g c κs within = c.type_bounds.send-J
+
+pub has_run-requires-send-J-Receipt : goal.has_run-requires-send-J-Receipt
+has_run-requires-send-J-Receipt g c κs within = c.type_bounds.send-J-Receipt
+
+pub has_run-requires-after_bounds : goal.has_run-requires-after_bounds
+has_run-requires-after_bounds g c κs within = assumption
+
+pub returns-then-has_run-clause-drained : goal.returns-then-has_run-clause-drained
+returns-then-has_run-clause-drained g c = λ yes. c.has_run.ensures.drained c.if-has_run.true
+
+pub returns-then-has_run-clause-none : goal.returns-then-has_run-clause-none
+returns-then-has_run-clause-none g c = c.has_run.ensures.none ∙ c.loop.invariant.none
+
+pub turn_all-requires-send-J : goal.turn_all-requires-send-J
+turn_all-requires-send-J g c κs within = c.type_bounds.send-J
+
+pub turn_all-requires-send-J-Receipt : goal.turn_all-requires-send-J-Receipt
+turn_all-requires-send-J-Receipt g c κs within = c.type_bounds.send-J-Receipt
+
+pub turn_all-requires-after_bounds : goal.turn_all-requires-after_bounds
+turn_all-requires-after_bounds g c κs within = assumption
+
+pub has_run-requires-2-send-J : goal.has_run-requires-2-send-J
+has_run-requires-2-send-J g c κs within = c.type_bounds.send-J
+
+pub has_run-requires-2-send-J-Receipt : goal.has_run-requires-2-send-J-Receipt
+has_run-requires-2-send-J-Receipt g c κs within = c.type_bounds.send-J-Receipt
+
+pub has_run-requires-2-after_bounds : goal.has_run-requires-2-after_bounds
+has_run-requires-2-after_bounds g c κs within = assumption
+
+pub returns-clause-drained : goal.returns-clause-drained
+returns-clause-drained g c = c.has_run-2.ensures.drained
+
+pub returns-clause-none : goal.returns-clause-none
+returns-clause-none g c = c.has_run-2.ensures.none ∙ c.loop.invariant.none

@@ -23,3 +23,30 @@ returns-in-Ok-clause-drained g c = λ drained. let own = c.into_parts.result in 
 pub returns-in-Ok-clause-run : goal.returns-in-Ok-clause-run
 returns-in-Ok-clause-run g c = λ run. let own = c.into_parts.result in let r = subst (λ whole. HasRunAll whole) (sym c.into_parts.ensures.parts) run in
     run_none_back own c.in-Ok.closed r c.into_parts.ensures.whole.1.close.one c.in-Ok.ensures.accounts
+
+pub into_parts-requires-room-A-Wholeness : goal.into_parts-requires-room-A-Wholeness
+into_parts-requires-room-A-Wholeness g c κs within = assumption
+
+pub into_parts-requires-room-A-Wholeness-2 : goal.into_parts-requires-room-A-Wholeness-2
+into_parts-requires-room-A-Wholeness-2 g c κs within = assumption
+
+pub into_parts-requires-room-A-Wholeness-3 : goal.into_parts-requires-room-A-Wholeness-3
+into_parts-requires-room-A-Wholeness-3 g c κs within = assumption
+
+pub close-requires-send-J : goal.close-requires-send-J
+close-requires-send-J g c κs within = c.type_bounds.send-J
+
+pub close-requires-send-J-Receipt : goal.close-requires-send-J-Receipt
+close-requires-send-J-Receipt g c κs within = c.type_bounds.send-J-Receipt
+
+pub close-requires-clause-parts : goal.close-requires-clause-parts
+close-requires-clause-parts g c κs within = (assumption, (assumption, (assumption, c.into_parts.ensures.whole.1.close.one)))
+
+pub drop-requires-room-T-Destruct : goal.drop-requires-room-T-Destruct
+drop-requires-room-T-Destruct g c κs within = assumption
+
+pub drop-requires-in-Err-3-room-T-Destruct : goal.drop-requires-in-Err-3-room-T-Destruct
+drop-requires-in-Err-3-room-T-Destruct g c κs within = assumption
+
+pub drop-requires-in-Err-4-room-T-Destruct : goal.drop-requires-in-Err-4-room-T-Destruct
+drop-requires-in-Err-4-room-T-Destruct g c κs within = assumption

@@ -46,3 +46,45 @@ returns-in-Err-poll-clause-continues g c = continues_again c.args.self.now c.loo
 
 pub returns-in-Err-poll-clause-why : goal.returns-in-Err-poll-clause-why
 returns-in-Err-poll-clause-why g c = other_on c.args.barrier.now.counts.n c.args.self.now c.loop.self c.loop.invariant.continues c.in-Err-poll.ensures.err
+
+pub poll-requires-send-J : goal.poll-requires-send-J
+poll-requires-send-J g c κs within = c.type_bounds.send-J
+
+pub poll-requires-send-J-Receipt : goal.poll-requires-send-J-Receipt
+poll-requires-send-J-Receipt g c κs within = c.type_bounds.send-J-Receipt
+
+pub poll-requires-after_bounds : goal.poll-requires-after_bounds
+poll-requires-after_bounds g c κs within = assumption
+
+pub returns-in-Ok-Some-clause-none : goal.returns-in-Ok-Some-clause-none
+returns-in-Ok-Some-clause-none g c = c.poll.ensures.none ∙ c.loop.invariant.none
+
+pub returns-in-Err-clause-none : goal.returns-in-Err-clause-none
+returns-in-Err-clause-none g c = c.poll.ensures.none ∙ c.loop.invariant.none
+
+pub turn_all-requires-send-J : goal.turn_all-requires-send-J
+turn_all-requires-send-J g c κs within = c.type_bounds.send-J
+
+pub turn_all-requires-send-J-Receipt : goal.turn_all-requires-send-J-Receipt
+turn_all-requires-send-J-Receipt g c κs within = c.type_bounds.send-J-Receipt
+
+pub turn_all-requires-after_bounds : goal.turn_all-requires-after_bounds
+turn_all-requires-after_bounds g c κs within = assumption
+
+pub poll-requires-2-send-J : goal.poll-requires-2-send-J
+poll-requires-2-send-J g c κs within = c.type_bounds.send-J
+
+pub poll-requires-2-send-J-Receipt : goal.poll-requires-2-send-J-Receipt
+poll-requires-2-send-J-Receipt g c κs within = c.type_bounds.send-J-Receipt
+
+pub poll-requires-2-after_bounds : goal.poll-requires-2-after_bounds
+poll-requires-2-after_bounds g c κs within = assumption
+
+pub returns-in-Ok-Some-poll-clause-none : goal.returns-in-Ok-Some-poll-clause-none
+returns-in-Ok-Some-poll-clause-none g c = c.poll-2.ensures.none ∙ c.loop.invariant.none
+
+pub returns-in-Ok-None-poll-clause-none : goal.returns-in-Ok-None-poll-clause-none
+returns-in-Ok-None-poll-clause-none g c = c.poll-2.ensures.none ∙ c.loop.invariant.none
+
+pub returns-in-Err-poll-clause-none : goal.returns-in-Err-poll-clause-none
+returns-in-Err-poll-clause-none g c = c.poll-2.ensures.none ∙ c.loop.invariant.none

@@ -14,3 +14,30 @@ returns-clause-turns g c = turns_all g.J.Job.key_of g.J.Job.gives c.args.self.no
 
 pub returns-clause-none : goal.returns-clause-none
 returns-clause-none g c = turned_count g.J.Job.key_of g.J.Job.gives c.args.self.now c.self.inside.parts (record { processors = c.turn_each_processor.new.processors; driver = c.turn.new.self; groups = c.turn_each_group.new.groups; hands = c.turn_each_hand.new.hands; control = c.self.inside.parts.control }) c.self.view_is (all_turned g.J.Job.key_of g.J.Job.gives c.self.inside.parts _ c.args.moment c.turn_each_processor.ensures c.turn_each_group.ensures c.turn_each_hand.ensures c.turn.ensures.same refl)
+
+pub turn_each_processor-requires-send-J : goal.turn_each_processor-requires-send-J
+turn_each_processor-requires-send-J g c κs within = c.type_bounds.send-J
+
+pub turn_each_processor-requires-send-J-Receipt : goal.turn_each_processor-requires-send-J-Receipt
+turn_each_processor-requires-send-J-Receipt g c κs within = c.type_bounds.send-J-Receipt
+
+pub turn_each_processor-requires-after_bounds : goal.turn_each_processor-requires-after_bounds
+turn_each_processor-requires-after_bounds g c κs within = assumption
+
+pub turn_each_group-requires-send-J : goal.turn_each_group-requires-send-J
+turn_each_group-requires-send-J g c κs within = c.type_bounds.send-J
+
+pub turn_each_group-requires-send-J-Receipt : goal.turn_each_group-requires-send-J-Receipt
+turn_each_group-requires-send-J-Receipt g c κs within = c.type_bounds.send-J-Receipt
+
+pub turn_each_group-requires-after_bounds : goal.turn_each_group-requires-after_bounds
+turn_each_group-requires-after_bounds g c κs within = assumption
+
+pub turn_each_hand-requires-send-J : goal.turn_each_hand-requires-send-J
+turn_each_hand-requires-send-J g c κs within = c.type_bounds.send-J
+
+pub turn_each_hand-requires-send-J-Receipt : goal.turn_each_hand-requires-send-J-Receipt
+turn_each_hand-requires-send-J-Receipt g c κs within = c.type_bounds.send-J-Receipt
+
+pub turn_each_hand-requires-after_bounds : goal.turn_each_hand-requires-after_bounds
+turn_each_hand-requires-after_bounds g c κs within = assumption

@@ -14,3 +14,12 @@ returns-clause-turns g c = turns_hands g.J.Job.key_of g.J.Job.gives c.args.self.
 
 pub returns-clause-none : goal.returns-clause-none
 returns-clause-none g c = seen_count c.args.self.now c.self.inside.parts c.self.view_is
+
+pub turn_each_hand-requires-send-J : goal.turn_each_hand-requires-send-J
+turn_each_hand-requires-send-J g c κs within = c.type_bounds.send-J
+
+pub turn_each_hand-requires-send-J-Receipt : goal.turn_each_hand-requires-send-J-Receipt
+turn_each_hand-requires-send-J-Receipt g c κs within = c.type_bounds.send-J-Receipt
+
+pub turn_each_hand-requires-after_bounds : goal.turn_each_hand-requires-after_bounds
+turn_each_hand-requires-after_bounds g c κs within = assumption

@@ -14,3 +14,12 @@ returns-clause-turns g c = turns_processors g.J.Job.key_of g.J.Job.gives c.args.
 
 pub returns-clause-none : goal.returns-clause-none
 returns-clause-none g c = turned_count g.J.Job.key_of g.J.Job.gives c.args.self.now c.self.inside.parts (record c.self.inside.parts { processors = c.turn_each_processor.new.processors }) c.self.view_is (record { processors = cpus_stay g.J.Job.key_of g.J.Job.gives c.args.moment _ _ c.turn_each_processor.ensures; groups = groups_itself c.self.inside.parts.groups.items; hands = all_hands_itself g.J.Job.key_of g.J.Job.gives c.self.inside.parts.hands.items; driver = driver_itself c.self.inside.parts.driver; control = refl })
+
+pub turn_each_processor-requires-send-J : goal.turn_each_processor-requires-send-J
+turn_each_processor-requires-send-J g c κs within = c.type_bounds.send-J
+
+pub turn_each_processor-requires-send-J-Receipt : goal.turn_each_processor-requires-send-J-Receipt
+turn_each_processor-requires-send-J-Receipt g c κs within = c.type_bounds.send-J-Receipt
+
+pub turn_each_processor-requires-after_bounds : goal.turn_each_processor-requires-after_bounds
+turn_each_processor-requires-after_bounds g c κs within = assumption
