@@ -1,5 +1,5 @@
 -- Lists place by place: what was started, what threads gave back, and what came of it.
-use Rattle.std.proofs.Common.{◌≡◌, ℕ, ◌+◌, ◌<◌, ◌≤◌, List, [], ◌∷◌, ◌++◌, map, length, append-nil, append_assoc, ap, sym, ◌∙◌, subst, arith}
+use Rattle.std.proofs.Common.{◌≡◌, ℕ, ◌+◌, ◌<◌, ◌≤◌, List, [], ◌∷◌, ◌++◌, map, length, append-nil, append_assoc, ap, sym, ◌∙◌, subst, arith, Option, Some, None}
 use Rattle.std.specs.Prelude.{All, IfOk, IfSome, Ok, Err, Option, Result}
 use Rattle.std.specs.Result.{result_ok}
 use Rattle.std.specs.List.{AllZip}
@@ -8,6 +8,10 @@ use Rattle.rcu_gathering.proofs.Lists.{all_cons, all_head, all_none, all_tail}
 
 pub all_of : {X : Type 0} (xs rest all : List X) → xs ++ rest ≡ all → rest ≡ [] → xs ≡ all
 all_of xs rest all h e = sym (append-nil xs) ∙ ap (λ l. xs ++ l) (sym e) ∙ h
+
+-- what there is is not none
+pub some_never : {A P : Type 0} {x : A} → Some x ≡ None → P
+some_never is = absurd (cc)
 
 module _ {A B C : Type 0} where
   -- what is said of each of two steps is said of both together

@@ -9,7 +9,7 @@ use Rattle.rcu_crews.proofs.calling.call_all.Goals as goal
 
 pub loop-job-init : goal.loop-job-init
 loop-job-init g c = let caller = c.args.caller in record {
-  order = search rules;
+  order = c.into_iter-job-iterator.ensures.into_iter_gives.0;
   answered = subst (λ l. HasAnswered g.J.Job.key_of g.J.Job.gives [] l caller.processor caller.processor) (sym caller.empty) (answered_none g.J.Job.key_of g.J.Job.gives caller.processor);
   room = let none = caller.empty in let room = caller.room in search rules;
 }
@@ -30,5 +30,8 @@ pub call_one-answer-requires-send-J : goal.call_one-answer-requires-send-J
 call_one-answer-requires-send-J g c κs within = assumption
 
 pub returns : goal.returns
-returns g c = let l = c.loop-job in let rest = l.job-iterator.rest.items in let none : length rest ≡ 0 = search rules in
+returns g c = let l = c.loop-job in let rest = l.job-iterator.rest.items in let none = sym l.job-iterator.rest.ok.0 ∙ c.in-None.ensures.steps.0 in
     subst (λ x. HasAnswered g.J.Job.key_of g.J.Job.gives x l.answers.items c.args.caller.processor l.processor) (all_of l.yielded rest c.args.caller.jobs.items l.invariant.order (nil_from_length rest none)) l.invariant.answered
+
+pub call_one-answer-requires-after_bounds : goal.call_one-answer-requires-after_bounds
+call_one-answer-requires-after_bounds g c κs within = assumption

@@ -1,4 +1,4 @@
-use Rattle.std.proofs.Common.{◌≡◌, rules, List, ◌∷◌, ◌++◌, [], length, append_assoc, ap, sym, ◌∙◌, subst}
+use Rattle.std.proofs.Common.{◌≡◌, List, ◌∷◌, ◌++◌, [], length, append_assoc, ap, sym, ◌∙◌, subst}
 use Rattle.std.specs.List.{AllZip}
 use Rattle.std.proofs.lemmas.List.{nil_from_length}
 use Rattle.rcu_crews.proofs.Zips.{all_of}
@@ -6,7 +6,7 @@ use Rattle.rcu_crews.specs.Calls.{HasAnswered, HasCalled}
 use Rattle.rcu_crews.specs.Dealing.{tickets_in}
 use Rattle.rcu_crews.proofs.calling.join_callers.Given.{Over}
 use Rattle.rcu_crews.proofs.Tickets.{joined_more}
-use Rattle.rcu_crews.proofs.Zips.{zip_pushed}
+use Rattle.rcu_crews.proofs.Zips.{some_never, zip_pushed}
 use Rattle.rcu_crews.proofs.calling.join_callers.Goals as goal
 
 pub loop-thread-preserved : goal.loop-thread-preserved
@@ -19,7 +19,7 @@ loop-thread-preserved g c = let key_of = g.J.Job.key_of in let gives = g.J.Job.g
     }
 
 over : (g : Over) (c : goal.In-None-fault g) → length c.loop-thread.thread-iterator.rest.items ≡ 0
-over g c = search rules
+over g c = sym c.loop-thread.thread-iterator.rest.ok.0 ∙ c.in-None.ensures.steps.0
 
 pub returns-in-None-fault-clause-called : goal.returns-in-None-fault-clause-called
 returns-in-None-fault-clause-called g c = let i = c.loop-thread.invariant in let rest = c.loop-thread.thread-iterator.rest.items in
@@ -66,3 +66,22 @@ drop-thread-iterator-requires-room-T-Destruct-3 g c κs within = assumption
 
 pub drop-called-requires-room-T-Destruct : goal.drop-called-requires-room-T-Destruct
 drop-called-requires-room-T-Destruct g c κs within = assumption
+
+pub loop-thread-init : goal.loop-thread-init
+loop-thread-init g c = record {
+  order = c.into_iter-thread-iterator.ensures.into_iter_gives.0;
+  whole = λ none. none;
+  called = λ none. rw c.new-called.ensures.items tt;
+  answered = λ none. rw c.new-called.ensures.items tt;
+}
+
+pub loop-thread-preserved-in_default : goal.loop-thread-preserved-in_default
+loop-thread-preserved-in_default g c = let done = c.loop-thread.yielded in let thread = c.in-Some.thread in record {
+  order = append_assoc done (thread ∷ []) c.next.new.self.rest.items ∙ (ap (λ l. done ++ l) (sym c.in-Some.ensures.steps.0) ∙ c.loop-thread.invariant.order);
+  whole = λ none. some_never none;
+  called = λ none. some_never none;
+  answered = λ none. some_never none;
+}
+
+pub returns-in-None-fault-clause-whole : goal.returns-in-None-fault-clause-whole
+returns-in-None-fault-clause-whole g c = c.loop-thread.invariant.whole c.in-None-fault.is

@@ -1,4 +1,4 @@
-use Rattle.std.proofs.Common.{◌≡◌, rules, [], ◌∷◌, ◌++◌, map, length, append_assoc, ap, refl, sym, ◌∙◌}
+use Rattle.std.proofs.Common.{◌≡◌, [], ◌∷◌, ◌++◌, map, length, append_assoc, ap, refl, sym, ◌∙◌}
 use Rattle.std.proofs.lemmas.List.{map-append, nil_from_length}
 use Rattle.rcu_crews.proofs.Dealt.{mapped_more}
 use Rattle.rcu_crews.proofs.Zips.{all_of}
@@ -12,7 +12,7 @@ loop-one-preserved g c = let l = c.loop-one in let i = l.invariant in let done =
 }
 
 pub returns : goal.returns
-returns g c = let l = c.loop-one in let i = l.invariant in let rest = l.one-iterator.rest.items in let none : length rest ≡ 0 = search rules in
+returns g c = let l = c.loop-one in let i = l.invariant in let rest = l.one-iterator.rest.items in let none = sym l.one-iterator.rest.ok.0 ∙ c.in-None.ensures.steps.0 in
     let all : l.yielded ≡ c.args.called.items = all_of l.yielded rest c.args.called.items i.order (nil_from_length rest none) in record {
       processors = i.processors ∙ ap (map (λ o. o.processor)) all;
       answers = i.answers ∙ ap (map (λ o. o.answers.items)) all;

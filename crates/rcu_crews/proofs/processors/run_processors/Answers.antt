@@ -8,6 +8,7 @@ use Rattle.rcu_crews.specs.Runs.{AreOver}
 use Rattle.rcu_crews.proofs.Answering.{all_answered}
 use Rattle.rcu_crews.proofs.Tickets.{all_run}
 use Rattle.rcu_crews.proofs.Zips.{zip_kept, zip_mapped}
+use Rattle.rcu_lists.proofs.Outcomes.{if_ok_never}
 use Rattle.rcu_crews.proofs.processors.run_processors.Goals as goal
 
 pub start_callers-callers-requires-send-J : goal.start_callers-callers-requires-send-J
@@ -68,3 +69,27 @@ returns-in_err-passed-clause-same g c = same_again _ _ _ _ _ _ c.pass_barrier-pa
 
 pub returns-clause-same : goal.returns-clause-same
 returns-clause-same g c = same_again _ _ _ _ _ _ c.pass_barrier-passed.ensures.same c.finish.ensures.same
+
+pub drop-callers-requires-room-T-Destruct : goal.drop-callers-requires-room-T-Destruct
+drop-callers-requires-room-T-Destruct g c κs within = assumption
+
+pub split-requires-room-P-Destruct : goal.split-requires-room-P-Destruct
+split-requires-room-P-Destruct g c κs within = assumption
+
+pub returns-in_err-all-clause-ran : goal.returns-in_err-all-clause-ran
+returns-in_err-all-clause-ran g c = if_ok_never _ _ c.from_residual.ensures
+
+pub returns-in_err-all-clause-answered : goal.returns-in_err-all-clause-answered
+returns-in_err-all-clause-answered g c = λ none. if_ok_never _ _ c.from_residual.ensures
+
+pub returns-in_err-processors-clause-ran : goal.returns-in_err-processors-clause-ran
+returns-in_err-processors-clause-ran g c = if_ok_never _ _ c.from_residual-in_err-processors.ensures
+
+pub returns-in_err-processors-clause-answered : goal.returns-in_err-processors-clause-answered
+returns-in_err-processors-clause-answered g c = λ none. if_ok_never _ _ c.from_residual-in_err-processors.ensures
+
+pub returns-in_err-passed-clause-ran : goal.returns-in_err-passed-clause-ran
+returns-in_err-passed-clause-ran g c = if_ok_never _ _ c.from_residual-in_err-passed.ensures
+
+pub returns-in_err-passed-clause-answered : goal.returns-in_err-passed-clause-answered
+returns-in_err-passed-clause-answered g c = λ none. if_ok_never _ _ c.from_residual-in_err-passed.ensures

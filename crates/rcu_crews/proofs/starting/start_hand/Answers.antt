@@ -22,3 +22,6 @@ spawn_with-requires-clause-keeps g c κs within = λ r kept. subst (λ x. HandSt
 
 pub returns : goal.returns
 returns g c = ap (λ p. p.0.value) c.in-Ok.ensures.ok ∙ c.of.ensures
+
+pub drop-requires : goal.drop-requires
+drop-requires g c = assumption

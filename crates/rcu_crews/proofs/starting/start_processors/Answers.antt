@@ -1,6 +1,6 @@
-use Rattle.std.proofs.Common.{◌≡◌, length, rules, ap}
+use Rattle.std.proofs.Common.{◌≡◌, length, ap, sym, ◌∙◌}
 use Rattle.std.specs.Vec.{vec_capacity, vec_len}
-use Rattle.rcu_crews.proofs.Zips.{all_started, room_for_more, room_for_one, started_more}
+use Rattle.rcu_crews.proofs.Zips.{all_started, room_for_more, room_for_one, started_more, some_never}
 use Rattle.rcu_crews.proofs.starting.start_processors.Goals as goal
 
 pub loop-processor-preserved : goal.loop-processor-preserved
@@ -21,7 +21,7 @@ pub start_processor-requires-after_bounds : goal.start_processor-requires-after_
 start_processor-requires-after_bounds g c κs within = assumption
 
 pub returns : goal.returns
-returns g c = let i = c.loop-processor.invariant in let rest = c.loop-processor.processor-iterator.rest.items in let none : length rest ≡ 0 = search rules in
+returns g c = let i = c.loop-processor.invariant in let rest = c.loop-processor.processor-iterator.rest.items in let none = sym c.loop-processor.processor-iterator.rest.ok.0 ∙ c.in-None.ensures.steps.0 in
     λ whole. all_started (λ thread. thread.promise.0.value) c.loop-processor.yielded rest c.args.processors.items c.loop-processor.threads.items c.whole.result.threads.items i.order none (ap (λ v. v.items) c.whole.ensures.0) i.started
 
 pub none-requires-room-H-Destruct : goal.none-requires-room-H-Destruct
@@ -68,3 +68,9 @@ whole-requires-room-H-Destruct-2 g c κs within = assumption
 
 pub whole-requires-room-H-Destruct-3 : goal.whole-requires-room-H-Destruct-3
 whole-requires-room-H-Destruct-3 g c κs within = assumption
+
+pub returns-in_default : goal.returns-in_default
+returns-in_default g c = λ whole. some_never (sym c.none.ensures.1 ∙ whole)
+
+pub returns-in_default-start_processor : goal.returns-in_default-start_processor
+returns-in_default-start_processor g c = λ whole. some_never (sym c.partial.ensures.1 ∙ whole)
