@@ -1,5 +1,5 @@
 -- What is lent of a list, or that there is nothing in a place.
-use Rattle.std.proofs.Common.{◌≡◌, ℕ, Bor, List, None, Some, sym, ap, ◌∙◌, subst, arith}
+use Rattle.std.proofs.Common.{◌≡◌, ℕ, Bor, List, None, Some, sym, ap, ◌∙◌, subst}
 use Rattle.std.proofs.lemmas.Option.{slice_get-get_or, slice_get_past}
 use Rattle.core.specs.Slice.{IsItemAt}
 use Rattle.std.specs.List.{slice_get}

@@ -1,6 +1,6 @@
 -- What a close knows once it looked at all slots, by what it found in those of the hands, which come last.
 use Rattle.std.proofs.Common.{◌≡◌, Result, Ok, Err, IfErr, IfOk, sym, subst}
-use mathlib.Core.Logic.{inl, inr}
+use mathlib.Core.Logic.{inr}
 use Rattle.rcu_lending.specs.Gathers.{AreChecked, AreReady, AreUnread, ComesTo, ForeignParts, IsAllThere, IsThere, StayHeld, held_in}
 use Rattle.rcu_lending.specs.Refusals.{RefusesAll, RefusesEach, RefusesFirst}
 use Rattle.rcu_lending.specs.declared.fault.Fault.{Fault}
