@@ -5,6 +5,8 @@ import pathlib
 import subprocess
 
 ROOT = pathlib.Path(__file__).resolve().parent.parent
+# The sum of what a crate was proved with, beside what that made.
+STAMP = "out/proved"
 # What a proof reads of a crate.
 PARTS = ("src", "specs", "proofs")
 
@@ -81,6 +83,15 @@ class Crate:
             return False
         made = self.made.stat().st_mtime
         return not any(file.stat().st_mtime > made for it in [*self.below, self] for file in it.files)
+
+    def is_proved(self):
+        """Whether what was made is there, and was proved with just these files."""
+        stamp = self.folder / STAMP
+        return stamp.is_file() and self.made.exists() and stamp.read_text(encoding="ascii") == self.stamp
+
+    def note_proved(self):
+        """Notes with which files it was proved."""
+        (self.folder / STAMP).write_text(self.stamp, encoding="ascii")
 
 
 @functools.cache

@@ -26,7 +26,7 @@ pub struct Step {
 
 impl Step {
     /// Whether the call, made again after this growth was refused, goes on where it stopped.
-    pub fn goes_on(&self, growth: Growth) -> bool {
+    fn goes_on(&self, growth: Growth) -> bool {
         match (growth, self.answer) {
             (Growth::TickRecord | Growth::HandRecord, Answer::Ran { ran, .. }) => ran > 0,
             (Growth::GroupPut, Answer::Turned(turn)) => {
@@ -74,6 +74,18 @@ pub fn check(step: Step) -> Result<Step, Fault>
         (Action::Group, Answer::Turned(turn)) => check_group(step, turn),
         _ => check_other(step),
     }
+}
+
+/// Checks that a call, made again after this growth was refused, isn't refused once more, and goes on where it stopped.
+pub fn check_again(again: &Step, growth: Growth) -> Result<(), Fault>
+    ensures broken { IfErr result IsBroken }
+{
+    stands(again.refused.is_none(), growth, "refused again")?;
+    stands(
+        again.goes_on(growth),
+        growth,
+        "the next turn doesn't go on where it stopped",
+    )
 }
 
 /// A call that answered want of memory, and hands nothing back.

@@ -1,9 +1,11 @@
 //! Calls that may want memory, one scenario after the other, or the one that the first word names. Each says which growth
 //! was refused, if one was, and that what the specification says stood after it (docs/specification/surface.md, "After want
-//! of memory"). `tools/growth` runs each scenario with each of its allocations refused in turn.
+//! of memory"). `tools/growth` runs each scenario with each of its allocations refused in turn. With `--flaws` it makes no call:
+//! each check is handed steps that it must refuse, and what it says of them is written.
 #![tactic(auto)]
 
 mod checking;
+mod flawed;
 mod growth;
 mod lanes;
 mod lists;
@@ -16,6 +18,7 @@ mod status;
 mod work;
 mod worlds;
 
+use flawed::tell_flawed;
 use growth::{Fault, Refusals};
 use lanes::{play_board, play_lanes};
 use lists::play_lists;
@@ -92,20 +95,24 @@ fn run_one(rt: &HostRuntime, alloc: Global, scenario: Scenario) -> io::Result<bo
     Ok(true)
 }
 
-/// Plays the scenarios that the first word names, or all. Answers whether all stood.
-fn run(rt: &HostRuntime) -> io::Result<bool> {
-    let word = std::env::args(rt)?.skip(1).next();
+/// Plays the scenarios of this name, or all. Answers whether all stood.
+fn run_named(rt: &HostRuntime, word: Option<&str>) -> io::Result<bool> {
     let mut all_stood = true;
     for scenario in SCENARIOS {
-        let named = match &word {
-            Some(word) => word.as_str() == scenario.name(),
-            None => true,
-        };
-        if named {
+        if word.is_none() || word == Some(scenario.name()) {
             all_stood &= run_one(rt, rt.alloc(), scenario)?;
         }
     }
     Ok(all_stood)
+}
+
+/// Does what the first word says. Answers whether all stood.
+fn run(rt: &HostRuntime) -> io::Result<bool> {
+    let first = std::env::args(rt)?.skip(1).next();
+    match first.as_deref() {
+        Some("--flaws") => tell_flawed(rt).map(|()| true),
+        word => run_named(rt, word),
+    }
 }
 
 fn main(rt: HostRuntime) -> ExitCode {

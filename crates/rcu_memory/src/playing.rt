@@ -9,8 +9,8 @@ ghost use Rattle.rcu_memory.specs.Works.{callback_key};
 ghost use Rattle.rcu_memory.specs.declared.machine.Cpu.{Cpu};
 ghost use Rattle.rcu_memory.specs.declared.script.Action.TheVariants.{Call, Lazy};
 
-use crate::checking::{Step, check};
-use crate::growth::{Fault, Growth, Refusals, stands};
+use crate::checking::{Step, check, check_again};
+use crate::growth::{Fault, Growth, Refusals};
 use crate::machine::{Answer, Machine, Shown, accepted};
 use crate::script::{Action, SCRIPT, Steps};
 use crate::work::key_at;
@@ -99,13 +99,7 @@ impl Progress {
         if growth == Growth::CallPut {
             return Ok(());
         }
-        let again = self.make_once(machine, action)?;
-        stands(again.refused.is_none(), growth, "refused again")?;
-        stands(
-            again.goes_on(growth),
-            growth,
-            "the next turn doesn't go on where it stopped",
-        )
+        check_again(&self.make_once(machine, action)?, growth)
     }
 
     /// Makes one call, and checks what stands after it.

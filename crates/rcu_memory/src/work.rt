@@ -11,17 +11,6 @@ pub struct Work {
     pub key: u64,
 }
 
-impl Work {
-    /// The job of the callback that is to be the one of this number on processor `cpu`.
-    pub fn of(cpu: u64, number: u64) -> Work
-        ensures { result.key ≡ callback_key cpu number }
-    {
-        Work {
-            key: key_at(cpu, number),
-        }
-    }
-}
-
 /// The key of callback `number` of processor `cpu`: each another, while a processor has fewer than a million.
 pub fn key_at(cpu: u64, number: u64) -> u64
     ensures { result ≡ callback_key cpu number }
