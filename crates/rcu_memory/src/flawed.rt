@@ -67,13 +67,32 @@ fn idle(action: Action, answer: Answer) -> Step {
 /// A step after which the local processor shows this.
 fn of_local(action: Action, answer: Answer, after: Lists) -> Step {
     let before = shown();
-    between(before, action, answer, Shown { local: after, ..before })
+    between(
+        before,
+        action,
+        answer,
+        Shown {
+            local: after,
+            ..before
+        },
+    )
 }
 
 /// A step by which what the offloadable processor shows becomes this.
 fn of_offloadable(action: Action, answer: Answer, old: Lists, new: Lists) -> Step {
-    let before = Shown { offloadable: old, ..shown() };
-    between(before, action, answer, Shown { offloadable: new, ..before })
+    let before = Shown {
+        offloadable: old,
+        ..shown()
+    };
+    between(
+        before,
+        action,
+        answer,
+        Shown {
+            offloadable: new,
+            ..before
+        },
+    )
 }
 
 /// The answer of a call that was accepted as this one of the processor.
@@ -88,7 +107,11 @@ fn ran(ran: u64, stop: Stop) -> Answer {
 
 /// The answer of a group's turn that gave so many.
 fn gave(gave: u64) -> Answer {
-    Answer::Turned(GroupTurn { took: 0, gave, held: 0 })
+    Answer::Turned(GroupTurn {
+        took: 0,
+        gave,
+        held: 0,
+    })
 }
 
 /// Calls that were refused, and changed something or gave another job back.
@@ -139,7 +162,10 @@ fn ticks() -> [Step; 7] {
         of_offloadable(tick, none, offloading, offloaded(5, 1)),
         of_offloadable(tick, none, offloading, cpu(Mode::Offloading, 5, 0, 0, 2)),
         of_offloadable(tick, none, offloading, cpu(Mode::Local, 5, 0, 0, 3)),
-        Step { asked_on: false, ..kept },
+        Step {
+            asked_on: false,
+            ..kept
+        },
     ]
 }
 
@@ -168,7 +194,10 @@ fn stuck() -> [(Growth, Step); 4] {
         ..idle(report, Answer::Reported(true))
     };
     let none = ran(0, Stop::Empty);
-    let put = Step { held: 1, ..idle(Action::Group, gave(0)) };
+    let put = Step {
+        held: 1,
+        ..idle(Action::Group, gave(0))
+    };
     [
         (Growth::Quiescent, again),
         (Growth::Quiescent, idle(report, Answer::Reported(false))),

@@ -1,15 +1,39 @@
 -- What an act of a processor's thread counts.
-use Rattle.std.specs.Prelude.{◌≡◌, ℕ, Bool, Option, is_some}
+use Rattle.std.specs.Prelude.{◌≡◌, ℕ, Option, is_some}
 use Rattle.std.specs.Int.{from_bool}
+use Rattle.rcu_jobs.specs.declared.answers.Ticket.{Ticket}
+use Rattle.rcu_lists.specs.declared.pace.Kind.{Kind}
+use Rattle.rcu_lists.specs.declared.pace.Kind.TheVariants.{Plain, Lazy}
+use Rattle.rcu_part_processor.specs.Calls.{IsAccepted}
 use Rattle.rcu_part_processor.specs.Processors.{view_of}
 use Rattle.rcu_part_steps.specs.Reports.{Reports}
+use Rattle.rcu_torture.specs.Kept.{Cpu}
+use Rattle.rcu_torture.specs.Retired.{version_of}
 use Rattle.rcu_torture.specs.Sums.{sum_up}
 use Rattle.rcu_torture.specs.declared.acting.Actor.{Actor}
 use Rattle.rcu_torture.specs.declared.counters.Counters.{Counters}
+use Rattle.rcu_torture.specs.declared.retire.Retire.{Retire}
 
--- one callback more that was accepted, by a lazy call or not
-abbrev pub one_call : Bool → Counters → Counters
-one_call lazy c = record c { callbacks = sum_up c.callbacks 1; lazy = sum_up c.lazy (from_bool lazy) }
+-- how many lazy calls a call is
+abbrev pub lazy_calls : Kind → ℕ
+lazy_calls Plain = 0
+lazy_calls Lazy = 1
+
+-- one callback more that was accepted, by a call of this kind
+abbrev pub one_call : Kind → Counters → Counters
+one_call kind c = record c { callbacks = sum_up c.callbacks 1; lazy = sum_up c.lazy (lazy_calls kind) }
+
+-- the job was accepted by a call of this kind, under this ticket
+abbrev pub CallsAs : Kind → ℕ → Retire → Ticket → Cpu → Cpu → Type 0
+CallsAs kind moment job t p q = IsAccepted moment kind (version_of job) job t p.state q.state
+
+-- Its processor accepted a job by one call, which the thread counted as one of its kind.
+pub record CallsOnce (old new : Actor) : Type 0 where
+  pub kind : Kind
+  pub job : Retire
+  pub ticket : Ticket
+  pub accepts : CallsAs kind old.moment job ticket old.processor new.processor
+  pub counted : new.counters ≡ one_call kind old.counters
 
 -- one barrier more that was opened
 abbrev pub one_barrier : Counters → Counters
@@ -19,4 +43,4 @@ one_barrier c = record c { barriers = sum_up c.barriers 1 }
 pub record ReportsOnce (old new : Actor) : Type 0 where
   pub counted : Option ℕ
   pub reports : Reports old.processor.state.cpu counted (view_of old.processor.state) (view_of new.processor.state)
-  pub told : new.reports ≡ sum_up old.reports (from_bool (is_some counted))
+  pub told : new.counters.reports ≡ sum_up old.counters.reports (from_bool (is_some counted))

@@ -15,9 +15,15 @@ sections_text c =
     codes "sections " ++ (decimal (c.current + c.removed + c.freed) ++ (codes " current " ++ (decimal c.current
     ++ (codes " removed " ++ (decimal c.removed ++ (codes " freed " ++ decimal c.freed))))))
 
--- barriers B passed P switches S
+-- barriers B tickets T passed P drained D
+abbrev pub barriers_text : Counters → List ℕ
+barriers_text c =
+    codes "barriers " ++ (decimal c.barriers ++ (codes " tickets " ++ (decimal c.tickets ++ (codes " passed " ++ (decimal c.passed
+    ++ (codes " drained " ++ decimal c.drained))))))
+
+-- BARRIERS switches S reports R
 abbrev pub others_text : Counters → List ℕ
-others_text c = codes "barriers " ++ (decimal c.barriers ++ (codes " passed " ++ (decimal c.passed ++ (codes " switches " ++ decimal c.switches))))
+others_text c = barriers_text c ++ (codes " switches " ++ (decimal c.switches ++ (codes " reports " ++ decimal c.reports)))
 
 -- runs R CALLS SECTIONS OTHERS errors E
 abbrev pub line_text : ℕ → Counters → ℕ → List ℕ

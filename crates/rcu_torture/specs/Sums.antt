@@ -20,8 +20,11 @@ pub record AddsSections (old more new : Counters) : Type 0 where
 
 pub record AddsOthers (old more new : Counters) : Type 0 where
   pub barriers : new.barriers ≡ sum_up old.barriers more.barriers
+  pub tickets : new.tickets ≡ sum_up old.tickets more.tickets
   pub passed : new.passed ≡ sum_up old.passed more.passed
+  pub drained : new.drained ≡ sum_up old.drained more.drained
   pub switches : new.switches ≡ sum_up old.switches more.switches
+  pub reports : new.reports ≡ sum_up old.reports more.reports
 
 -- one read section more whose version was in the table at its end, was removed, or was freed
 abbrev pub one_current : Counters → Counters

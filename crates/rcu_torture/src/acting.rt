@@ -1,7 +1,7 @@
 //! What a processor's thread does: random calls, read sections, reports, ticks and barriers.
 
 ghost use Rattle.std.specs.Prelude.{IfErr, IfOk, IfSome, IsTrue, None, Some, ◌≡◌, ◌+◌, ◌<◌, ◌↔◌, [], length};
-ghost use Rattle.rcu_torture.specs.Acts.{ReportsOnce, one_barrier, one_call};
+ghost use Rattle.rcu_torture.specs.Acts.{CallsAs, CallsOnce, ReportsOnce, one_barrier, one_call};
 ghost use Rattle.rcu_torture.specs.Kept.{Accepts, GoesOn};
 ghost use Rattle.rcu_torture.specs.Left.{IsCount};
 ghost use Rattle.rcu_torture.specs.Sums.{one_current, one_freed, one_removed};
@@ -14,6 +14,7 @@ use crate::retire::Retire;
 use crate::shared::{Shared, rest};
 use crate::versions::{Age, SLOTS, Versions};
 use rcu_jobs::{Refused, Ticket};
+use rcu_lists::Kind;
 use rcu_parts::{Barrier, Processor, Reading};
 use std::alloc::Global;
 use std::sync::Arc;
@@ -69,8 +70,6 @@ pub(crate) struct Actor {
     pub(crate) burst: u64,
     /// The keys of the jobs that were accepted, in order.
     pub(crate) keys: Vec<u64>,
-    /// How many reports were counted, as the processor was told.
-    pub(crate) reports: u64,
     pub(crate) counters: Counters,
 }
 
@@ -152,20 +151,20 @@ fn counts_own(barrier: &Barrier, cpu: u64, accepted: u64) -> bool
     own == Some(accepted)
 }
 
-/// A call of either kind.
-fn call_either(
+/// A call of this kind.
+fn call_as(
     processor: &mut Processor<Retire>,
+    kind: Kind,
     moment: u64,
-    lazy: bool,
     job: Retire,
 ) -> Result<Ticket, Refused<Retire>>
+    ensures kind { IfOk result (λ t. CallsAs kind moment job t processor.old processor.new) }
     ensures accepted { IfOk result (λ _. Accepts 1 processor.old processor.new) }
     ensures refused { IfErr result (λ _. Accepts 0 processor.old processor.new) }
 {
-    if lazy {
-        processor.call_rcu_lazy(moment, job)
-    } else {
-        processor.call_rcu(moment, job)
+    match kind {
+        Kind::Plain => processor.call_rcu(moment, job),
+        Kind::Lazy => processor.call_rcu_lazy(moment, job),
     }
 }
 
@@ -181,7 +180,7 @@ impl Actor {
         ensures processor { result.processor ≡ processor }
         ensures cpu { result.cpu ≡ cpu }
         ensures keys { result.keys.items ≡ [] }
-        ensures reports { result.reports ≡ 0 }
+        ensures reports { result.counters.reports ≡ 0 }
     {
         Actor {
             processor,
@@ -191,21 +190,24 @@ impl Actor {
             moment: 0,
             burst: 0,
             keys: Vec::new(alloc),
-            reports: 0,
             counters: Counters::NONE,
         }
     }
 
     /// Counts a callback that was accepted.
-    fn accepted(&mut self, ticket: Ticket, lazy: bool)
+    fn accepted(&mut self, ticket: Ticket, kind: Kind)
         ensures goes_on { GoesOn self.old self.new }
         ensures keys { self.new.keys ≡ self.old.keys }
-        ensures counted { self.new.counters ≡ one_call lazy self.old.counters }
+        ensures stays { self.new.processor ≡ self.old.processor }
+        ensures counted { self.new.counters ≡ one_call kind self.old.counters }
     {
         let accepted = ticket.number.saturating_add(1);
         self.shared.accept(self.cpu, accepted);
         self.counters.callbacks = self.counters.callbacks.saturating_add(1);
-        self.counters.lazy = self.counters.lazy.saturating_add(u64::from(lazy));
+        self.counters.lazy = self
+            .counters
+            .lazy
+            .saturating_add(u64::from(kind == Kind::Lazy));
     }
 
     /// Hands this job to the processor.
@@ -213,18 +215,23 @@ impl Actor {
         ensures goes_on { GoesOn self.old self.new }
         ensures accepted { result ≡ Called.Accepted
             → length self.new.keys.items ≡ length self.old.keys.items + 1 }
+        ensures once { result ≡ Called.Accepted → CallsOnce self.old self.new }
     {
         let Ok(()) = self.keys.reserve(1) else {
             return Called::Refused;
         };
         let key = job.version;
         let expected = job.ticket;
-        let lazy = self.chance.once_in(LAZY);
-        match call_either(&mut self.processor, self.moment, lazy, job) {
+        let kind = if self.chance.once_in(LAZY) {
+            Kind::Lazy
+        } else {
+            Kind::Plain
+        };
+        match call_as(&mut self.processor, kind, self.moment, job) {
             Ok(ticket) => {
                 self.keys.push_reserved(key);
                 self.shared.flaws.check(ticket == expected, Flaw::Ticket);
-                self.accepted(ticket, lazy);
+                self.accepted(ticket, kind);
                 Called::Accepted
             }
             Err(Refused::Closed(_)) => Called::Shut,
@@ -255,7 +262,7 @@ impl Actor {
         ensures reports { ReportsOnce self.old self.new }
     {
         let counted = self.processor.quiescent().is_some();
-        self.reports = self.reports.saturating_add(u64::from(counted));
+        self.counters.reports = self.counters.reports.saturating_add(u64::from(counted));
     }
 
     /// Opens a barrier, and leaves it to control to poll it.

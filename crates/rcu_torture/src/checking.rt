@@ -88,7 +88,7 @@ fn check_processor(shared: &Shared, left: &Left, log: &Log, farewell: &Farewell)
     flaws.check(are_ready(records), Flaw::Ready);
     flaws.check(are_given(records), Flaw::Receipt);
     flaws.check(shared.ran(cpu) == records.len() as u64, Flaw::OutOfOrder);
-    flaws.check(log.reports <= reports, Flaw::Reports);
+    flaws.check(log.counters.reports <= reports, Flaw::Reports);
     flaws.check(!farewell.drained || jobs.is_empty(), Flaw::HandedBack);
     if let Some(counts) = farewell.shut {
         let count = counts.of_processors().get(cpu as usize).copied();

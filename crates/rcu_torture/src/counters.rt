@@ -23,10 +23,16 @@ pub struct Counters {
     pub freed: u64,
     /// Barriers that were opened.
     pub barriers: u64,
+    /// With how many tickets control opened its own.
+    pub tickets: u64,
     /// Those of them that were seen to pass.
     pub passed: u64,
+    /// Runs that ended after a barrier with all tickets had passed.
+    pub drained: u64,
     /// Switches that were asked for.
     pub switches: u64,
+    /// Reports that were counted, as their processors were told.
+    pub reports: u64,
 }
 
 impl Counters {
@@ -41,8 +47,11 @@ impl Counters {
         removed: 0,
         freed: 0,
         barriers: 0,
+        tickets: 0,
         passed: 0,
+        drained: 0,
         switches: 0,
+        reports: 0,
     };
 
     /// Adds what others were. A sum stays at the greatest `u64`.
@@ -60,7 +69,10 @@ impl Counters {
         self.removed = self.removed.saturating_add(more.removed);
         self.freed = self.freed.saturating_add(more.freed);
         self.barriers = self.barriers.saturating_add(more.barriers);
+        self.tickets = self.tickets.saturating_add(more.tickets);
         self.passed = self.passed.saturating_add(more.passed);
+        self.drained = self.drained.saturating_add(more.drained);
         self.switches = self.switches.saturating_add(more.switches);
+        self.reports = self.reports.saturating_add(more.reports);
     }
 }

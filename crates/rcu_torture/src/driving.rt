@@ -83,8 +83,6 @@ impl Orders {
 pub(crate) struct Log {
     /// The keys of the jobs that were accepted, in order.
     pub(crate) keys: Vec<u64>,
-    /// How many reports were counted, at least.
-    pub(crate) reports: u64,
     pub(crate) counters: Counters,
 }
 
@@ -179,17 +177,12 @@ fn go_on<R: Wait + Clock>(actor: Actor, orders: Orders, rt: &R) -> Driven
     let Actor {
         processor,
         keys,
-        reports,
         counters,
         ..
     } = actor;
     Driven {
         processor: processor.run(rt),
-        log: Log {
-            keys,
-            reports,
-            counters,
-        },
+        log: Log { keys, counters },
     }
 }
 

@@ -1,7 +1,7 @@
 //! The line of counters.
 
 ghost use Rattle.std.specs.Prelude.{◌≡◌, IfOk, string_bytes};
-ghost use Rattle.rcu_torture.specs.Line.{calls_text, line_text, others_text, sections_text};
+ghost use Rattle.rcu_torture.specs.Line.{barriers_text, calls_text, line_text, others_text, sections_text};
 
 use crate::counters::Counters;
 use std::alloc::{AllocError, Global};
@@ -35,17 +35,31 @@ fn sections(alloc: Global, counters: &Counters) -> Result<String, AllocError>
     format!(in alloc; "sections {all} current {current} removed {removed} freed {freed}")
 }
 
-/// Barriers and switches.
+/// Barriers.
+fn barriers(alloc: Global, counters: &Counters) -> Result<String, AllocError>
+    ensures { IfOk result (λ s. string_bytes s ≡ barriers_text counters.now) }
+{
+    let Counters {
+        barriers,
+        tickets,
+        passed,
+        drained,
+        ..
+    } = *counters;
+    format!(in alloc; "barriers {barriers} tickets {tickets} passed {passed} drained {drained}")
+}
+
+/// Barriers, switches and reports.
 fn others(alloc: Global, counters: &Counters) -> Result<String, AllocError>
     ensures { IfOk result (λ s. string_bytes s ≡ others_text counters.now) }
 {
     let Counters {
-        barriers,
-        passed,
         switches,
+        reports,
         ..
     } = *counters;
-    format!(in alloc; "barriers {barriers} passed {passed} switches {switches}")
+    let barriers = barriers(alloc, counters)?;
+    format!(in alloc; "{barriers} switches {switches} reports {reports}")
 }
 
 /// The line of so many runs, with how many errors they met.

@@ -95,8 +95,10 @@ fn meet_at_end(alloc: Global, shared: &Arc<Shared>) -> Result<Counters, AllocErr
     let closed = wrong_closed(alloc, shared)?;
     let log = Log {
         keys: Vec::new(alloc),
-        reports: 1,
-        counters: Counters::NONE,
+        counters: Counters {
+            reports: 1,
+            ..Counters::NONE
+        },
     };
     let farewell = Farewell {
         shut: Some(wrong_counts()),

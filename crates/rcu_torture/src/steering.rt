@@ -1,8 +1,9 @@
 //! What control's thread does: random switches, barriers with tickets, and the end of a run.
 
-ghost use Rattle.std.specs.Prelude.{◌≡◌, IfSome};
+ghost use Rattle.std.specs.Prelude.{◌≡◌, IfSome, true, false};
 ghost use Rattle.rcu_control.specs.Parts.{control_board};
 ghost use Rattle.rcu_torture.specs.Kept.{Steers};
+ghost use Rattle.rcu_torture.specs.Sums.{sum_up};
 
 use crate::chance::Chance;
 use crate::counters::Counters;
@@ -89,6 +90,7 @@ impl Steerer {
         ensures steers { Steers self.old self.new }
         ensures open { IfSome result (λ b.
             (control_board self.new.control).processors ≡ b.counts.n) }
+        ensures drained { self.new.counters.drained ≡ self.old.counters.drained }
     {
         let tickets = self.shared.tickets(alloc).ok()?;
         let Ok(barrier) = self.control.barrier(tickets.as_slice()) else {
@@ -96,6 +98,8 @@ impl Steerer {
             return None;
         };
         self.counters.barriers = self.counters.barriers.saturating_add(1);
+        let many = tickets.len() as u64;
+        self.counters.tickets = self.counters.tickets.saturating_add(many);
         Some(barrier)
     }
 
@@ -134,7 +138,11 @@ impl Steerer {
 
     /// Waits until a barrier with all tickets has passed. Answers whether there was one.
     fn drain<R: Wait + Clock>(&mut self, rt: &R, alloc: Global) -> bool
-        ensures { Steers self.old self.new }
+        ensures steers { Steers self.old self.new }
+        ensures told { result ≡ true
+            → self.new.counters.drained ≡ sum_up self.old.counters.drained 1 }
+        ensures stays { result ≡ false
+            → self.new.counters.drained ≡ self.old.counters.drained }
     {
         let Some(barrier) = self.open_barrier(alloc) else {
             return false;
@@ -142,6 +150,7 @@ impl Steerer {
         let passed = barrier.wait(rt, &mut self.control);
         self.shared.check_passed(&passed.counts);
         self.counters.passed = self.counters.passed.saturating_add(1);
+        self.counters.drained = self.counters.drained.saturating_add(1);
         true
     }
 
