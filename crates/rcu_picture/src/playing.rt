@@ -1,9 +1,11 @@
 //! The run of a script over the core, command by command.
 
 ghost use Rattle.std.specs.Option.{is_some};
-ghost use Rattle.std.specs.Prelude.{◌≡◌, IfSome};
+ghost use Rattle.std.specs.Prelude.{◌≡◌, IfErr, IfOk, IfSome, None, false, string_bytes, true, vec_len};
 ghost use Rattle.rcu_picture.specs.Keys.{IsKey, key_in};
-ghost use Rattle.rcu_script.specs.Calls.{is_call};
+ghost use Rattle.rcu_picture.specs.Steps.{HasAnswer, step_text};
+ghost use Rattle.rcu_script.specs.Calls.{is_call, is_show};
+ghost use Rattle.rcu_script.specs.Faults.{IsWantOfMemory};
 ghost use Rattle.rcu_world.specs.Turns.{IsAtRest};
 ghost use Rattle.rcu_world.specs.Views.{state};
 ghost use Rattle.rcu_world.specs.Worlds.{IsWorld};
@@ -120,6 +122,7 @@ fn shown(lists: Lists, ran: u64) -> Shown {
 /// What all processors show.
 fn all_shown(alloc: Global, world: &World<KeyJob>) -> Result<Vec<Shown>, Fault>
     requires { IsWorld key_in IsKey world.now.core }
+    ensures why { IfErr result IsWantOfMemory }
 {
     let mut all = Vec::new(alloc);
     let history = world.history();
@@ -152,6 +155,12 @@ fn perform(
     requires rest { IsAtRest (state key_in world.old.core) }
     ensures kept { IsWorld key_in IsKey world.new.core }
     ensures rest { IsAtRest (state key_in world.new.core) }
+    ensures why { IfErr result IsWantOfMemory }
+    ensures show { is_show command.now ≡ true → IfOk result (λ step. step.line ≡ None) }
+    ensures line { is_show command.now ≡ false → IfOk result (λ step.
+        HasAnswer key (state key_in world.old.core) opened.old command.now step.line
+        (state key_in world.new.core) opened.new) }
+    ensures text { IfOk result (λ step. string_bytes step.text ≡ step_text step.line) }
 {
     if is_show(command) {
         let text = format!(in alloc; "show")?;
@@ -173,7 +182,9 @@ fn perform(
 }
 
 /// Of each processor whether it has a hand.
-fn hands(alloc: Global, world: &World<KeyJob>) -> Result<Vec<bool>, Fault> {
+fn hands(alloc: Global, world: &World<KeyJob>) -> Result<Vec<bool>, Fault>
+    ensures why { IfErr result IsWantOfMemory }
+{
     let mut hands = Vec::new(alloc);
     for cpu in 0..world.processors() {
         hands.push(world.has_hand(cpu))?;
@@ -184,6 +195,7 @@ fn hands(alloc: Global, world: &World<KeyJob>) -> Result<Vec<bool>, Fault> {
 /// The groups that have a part.
 fn groups(alloc: Global, world: &World<KeyJob>) -> Result<Vec<u64>, Fault>
     requires { IsWorld key_in IsKey world.now.core }
+    ensures why { IfErr result IsWantOfMemory }
 {
     let mut groups = Vec::new(alloc);
     for group in 0..world.processors() {
@@ -199,7 +211,10 @@ fn groups(alloc: Global, world: &World<KeyJob>) -> Result<Vec<u64>, Fault>
 /// # Errors
 ///
 /// Want of memory.
-pub fn play(alloc: Global, setup: &Setup) -> Result<Run, Fault> {
+pub fn play(alloc: Global, setup: &Setup) -> Result<Run, Fault>
+    ensures why { IfErr result IsWantOfMemory }
+    ensures commands { IfOk result (λ run. run.commands ≡ vec_len setup.now.script) }
+{
     let mut world = World::new(alloc, setup.shape)?;
     let mut steps = Vec::new(alloc);
     let mut opened = None;

@@ -1,6 +1,7 @@
 //! The words of the command line.
 
 ghost use Rattle.std.specs.Prelude.{◌≡◌};
+ghost use Rattle.rcu_picture.specs.Words.{Refuses};
 ghost use Rattle.rcu_picture.specs.declared.words.Refusal.TheVariants.{Fault};
 
 use clap::error::ErrorKind;
@@ -38,6 +39,8 @@ impl From<Fault> for Refusal {
 }
 
 impl From<clap::Error> for Refusal {
+    ghost from_gives = { Refuses };
+
     fn from(error: clap::Error) -> Refusal {
         if error.kind() == ErrorKind::OutOfMemory {
             Refusal::Fault(Fault::memory())
