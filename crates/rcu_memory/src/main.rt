@@ -95,15 +95,19 @@ fn run_one(rt: &HostRuntime, alloc: Global, scenario: Scenario) -> io::Result<bo
     Ok(true)
 }
 
-/// Plays the scenarios of this name, or all. Answers whether all stood.
+/// Plays the scenario of this name, or all. Answers whether there was one, and all stood.
 fn run_named(rt: &HostRuntime, word: Option<&str>) -> io::Result<bool> {
-    let mut all_stood = true;
+    let (mut is_there, mut all_stood) = (false, true);
     for scenario in SCENARIOS {
         if word.is_none() || word == Some(scenario.name()) {
+            is_there = true;
             all_stood &= run_one(rt, rt.alloc(), scenario)?;
         }
     }
-    Ok(all_stood)
+    if !is_there {
+        eprintln!(rt; "there is no such scenario")?;
+    }
+    Ok(is_there && all_stood)
 }
 
 /// Does what the first word says. Answers whether all stood.
