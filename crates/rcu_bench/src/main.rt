@@ -5,6 +5,9 @@
 //! it says how many callbacks ran, of how many calls, which is the same in each run.
 #![tactic(auto)]
 
+ghost use Rattle.std.specs.Prelude.{◌≡◌};
+ghost use Rattle.rcu_bench.specs.declared.Fault.TheVariants.{CannotRun, Refused, Write};
+
 mod calling;
 mod jobs;
 mod latency;
@@ -37,18 +40,24 @@ enum Fault {
 }
 
 impl From<Refusal> for Fault {
+    ghost from_gives = { λ refusal fault. fault ≡ Refused refusal };
+
     fn from(refusal: Refusal) -> Fault {
         Fault::Refused(refusal)
     }
 }
 
 impl From<AllocError> for Fault {
+    ghost from_gives = { λ _ fault. fault ≡ CannotRun };
+
     fn from(_error: AllocError) -> Fault {
         Fault::CannotRun
     }
 }
 
 impl From<io::Error> for Fault {
+    ghost from_gives = { λ error fault. fault ≡ Write error };
+
     fn from(error: io::Error) -> Fault {
         Fault::Write(error)
     }

@@ -1,10 +1,12 @@
 //! What is to be measured: the words of the command line.
 
-ghost use Rattle.std.specs.Prelude.{◌≡◌, ◌/◌, ℕ, IfSome, IsSome, None, true, false};
+ghost use Rattle.std.specs.Prelude.{◌≡◌, ◌≢◌, ◌/◌, ℕ, IfSome, IsSome, None, true, false};
+ghost use Rattle.clap.specs.Words.{kind_of};
+ghost use Rattle.clap.specs.declared.error.ErrorKind.TheVariants.{OutOfMemory};
 ghost use Rattle.rcu_numbers.specs.Limits.{IsWithin, IsWholeRoot};
 ghost use Rattle.rcu_numbers.specs.Words.{all_of};
 ghost use Rattle.rcu_numbers.specs.declared.shape.TheConstants.{MOST_CALLBACKS, MOST_PROCESSORS};
-ghost use Rattle.rcu_bench.specs.declared.plan.Refusal.TheVariants.{Memory};
+ghost use Rattle.rcu_bench.specs.declared.plan.Refusal.TheVariants.{Memory, Words};
 
 use clap::error::ErrorKind;
 use clap::{Arg, ArgAction, value_parser};
@@ -43,6 +45,9 @@ impl From<AllocError> for Refusal {
 }
 
 impl From<clap::Error> for Refusal {
+    ghost from_gives = { λ error refusal. (kind_of error ≡ OutOfMemory → refusal ≡ Memory)
+        × (kind_of error ≢ OutOfMemory → refusal ≡ Words error) };
+
     fn from(error: clap::Error) -> Refusal {
         if error.kind() == ErrorKind::OutOfMemory {
             Refusal::Memory
