@@ -27,10 +27,9 @@ one_call kind c = record c { callbacks = sum_up c.callbacks 1; lazy = sum_up c.l
 abbrev pub CallsAs : Kind → ℕ → Retire → Ticket → Cpu → Cpu → Type 0
 CallsAs kind moment job t p q = IsAccepted moment kind (version_of job) job t p.state q.state
 
--- Its processor accepted a job by one call, which the thread counted as one of its kind.
-pub record CallsOnce (old new : Actor) : Type 0 where
+-- Its processor accepted this job by one call, which the thread counted as one of its kind.
+pub record CallsOnce (job : Retire) (old new : Actor) : Type 0 where
   pub kind : Kind
-  pub job : Retire
   pub ticket : Ticket
   pub accepts : CallsAs kind old.moment job ticket old.processor new.processor
   pub counted : new.counters ≡ one_call kind old.counters

@@ -215,7 +215,7 @@ impl Actor {
         ensures goes_on { GoesOn self.old self.new }
         ensures accepted { result ≡ Called.Accepted
             → length self.new.keys.items ≡ length self.old.keys.items + 1 }
-        ensures once { result ≡ Called.Accepted → CallsOnce self.old self.new }
+        ensures once { result ≡ Called.Accepted → CallsOnce job self.old self.new }
     {
         let Ok(()) = self.keys.reserve(1) else {
             return Called::Refused;

@@ -19,7 +19,6 @@ returns-in-Ok-call_as-clause-accepted c = λ is.
 pub returns-in-Ok-call_as-clause-once : goal.returns-in-Ok-call_as-clause-once
 returns-in-Ok-call_as-clause-once c = λ is. record {
   kind = _;
-  job = _;
   ticket = _;
   accepts = subst (CallsAs _ _ _ _ c.args.self.now.processor) (sym c.accepted.ensures.stays) c.in-Ok-call_as.ensures.kind;
   counted = c.accepted.ensures.counted;
