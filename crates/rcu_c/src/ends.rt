@@ -96,6 +96,7 @@ pub extern "C" fn rcuo_slot_end(alloc: Global, slot: &mut Slot) -> u32
     ensures refused { result ≢ 0 → slot.new.held.value ≡ slot.old.held.value }
     ensures was_closed { result ≡ 0 → HasEnds slot.old.held.value }
     ensures why { result ≢ 0 → RefusesEndBy result slot.old }
+    ensures reading { slot.new.reading ≡ slot.old.reading }
 {
     match slot.end(alloc) {
         Ok(()) => 0,

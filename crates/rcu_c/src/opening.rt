@@ -2,7 +2,7 @@
 
 ghost use Rattle.std.specs.Prelude.{◌≡◌, ◌≢◌};
 ghost use Rattle.rcu_c.specs.Exports.{IsDoneUnlessForMemory, OpensBy, RefusesCloseBy, RefusesOpenBy, TellsClose};
-ghost use Rattle.rcu_lending.specs.Gathers.{AreOfTheOpen, CanTryClose, StayHeld};
+ghost use Rattle.rcu_lending.specs.Gathers.{AreOfTheOpen, CanTryClose, StayHeld, StayRead};
 
 use crate::words::Settings;
 use rcu_lending::{Fault, PartSlots, close_from, open_into};
@@ -20,6 +20,7 @@ pub extern "C" fn rcuo_slot_open(
     ensures opened { result ≡ 0 → OpensBy settings.now number slots.new }
     ensures refused { result ≢ 0 → StayHeld slots.old slots.new }
     ensures why { result ≢ 0 → RefusesOpenBy settings.now result slots.old }
+    ensures sections { StayRead slots.old slots.new }
 {
     let Some(shape) = Shape::new(
         settings.processors,
@@ -45,6 +46,7 @@ pub extern "C" fn rcuo_slot_close(alloc: Global, slots: &mut PartSlots) -> u32
     ensures memory { CanTryClose slots.old → IsDoneUnlessForMemory result }
     ensures there { result ≡ 0 → CanTryClose slots.old }
     ensures why { result ≢ 0 → RefusesCloseBy result slots.old }
+    ensures sections { StayRead slots.old slots.new }
 {
     match close_from(alloc, slots) {
         Ok(()) => 0,

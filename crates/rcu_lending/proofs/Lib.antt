@@ -9,5 +9,6 @@ pub mod Calling
 pub mod TakenOut
 pub mod Boxing
 pub mod Ready
+pub mod Sections
 pub mod Lending
 pub mod Jobs

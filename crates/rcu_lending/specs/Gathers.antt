@@ -138,6 +138,18 @@ pub record AreReady (o : Opening) (slots : PartSlots) : Type 0 where
 abbrev pub BelongsAt : Opening → ℕ → PartKind → Lent → Type 0
 BelongsAt o k kind l = (kind_of l.part ≡ kind) × (l.opening ≡ o) × (l.at ≡ k)
 
+-- how many read sections are open of each slot
+abbrev pub sections_in : List Slot → List ℕ
+sections_in slots = map (λ s. s.reading) slots
+
+-- Of each slot as many read sections are open as were.
+pub record StayRead (old new : PartSlots) : Type 0 where
+  pub control_stays : new.control.reading ≡ old.control.reading
+  pub driver_stays : new.driver.reading ≡ old.driver.reading
+  pub processors_stay : sections_in new.processors ≡ sections_in old.processors
+  pub groups_stay : sections_in new.groups ≡ sections_in old.groups
+  pub hands_stay : sections_in new.hands ≡ sections_in old.hands
+
 -- No read section is open.
 abbrev pub AreUnread : List Slot → Type 0
 AreUnread slots = All (λ s. s.reading ≡ 0) slots

@@ -8,7 +8,8 @@ use Rattle.rcu_lending.specs.declared.part.Lent.{Lent}
 use Rattle.rcu_lending.specs.declared.part.Part.{Part}
 use Rattle.rcu_lending.specs.declared.slot.Slot.{Slot}
 
--- The slot had a part, of which a call made the one that it has, of the same open and at the same place.
+-- The slot had a part, of which a call made the one that it has, of the same open and at the same place. As many read sections
+-- are open as were.
 pub record Reaches (Does : Part → Part → Type 0) (old new : Slot) : Type 0 where
   pub before : Lent
   pub after : Lent
@@ -17,6 +18,7 @@ pub record Reaches (Does : Part → Part → Type 0) (old new : Slot) : Type 0 w
   pub opening : after.opening ≡ before.opening
   pub place : after.at ≡ before.at
   pub does : Does before.part after.part
+  pub reading : new.reading ≡ old.reading
 
 module _ {A : Type 0} where
   -- The slot was empty and is.
@@ -24,6 +26,7 @@ module _ {A : Type 0} where
     pub none : old.held.value ≡ None
     pub stays : new.held.value ≡ None
     pub named : result ≡ Err Empty
+    pub reading : new.reading ≡ old.reading
 
   abbrev pub OnSlot : (Result A Fault → Part → Part → Type 0) → Result A Fault → Slot → Slot → Type 0
   OnSlot By result old new = Reaches (By result) old new ⊎ FindsNone result old new

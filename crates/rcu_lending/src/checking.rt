@@ -1,7 +1,7 @@
 //! What close tests of slots before it takes anything.
 
 ghost use Rattle.std.specs.Prelude.{◌≡◌, IfErr, IfOk, IfSome, IfNone, None, is_some};
-ghost use Rattle.rcu_lending.specs.Gathers.{AreChecked, AreUnread, BelongsAt, IsInPlace, IsOfOpen, held_in};
+ghost use Rattle.rcu_lending.specs.Gathers.{AreChecked, AreUnread, BelongsAt, IsInPlace, IsOfOpen, held_in, sections_in};
 ghost use Rattle.rcu_lending.specs.Parts.{kind_of};
 ghost use Rattle.rcu_lending.specs.Refusals.{IsMisplaced, RefusesEach, RefusesSlot};
 
@@ -86,6 +86,7 @@ pub(crate) fn check_each(
         AreUnread slots.old → AreChecked opening kind many (held_in slots.old) → ⊥) }
     ensures unread { IfOk result (λ _. AreUnread slots.old) }
     ensures why { IfErr result (λ fault. RefusesEach opening kind many fault slots.old) }
+    ensures sections { sections_in slots.new ≡ sections_in slots.old }
 {
     let mut found: u64 = 0;
     for place in 0..slots.len() {

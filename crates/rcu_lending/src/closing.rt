@@ -2,7 +2,7 @@
 
 ghost use Rattle.std.specs.Prelude.{◌≡◌, ◌⊎◌, [], IfErr, IfOk};
 ghost use Rattle.std.specs.Vec.{vec_capacity};
-ghost use Rattle.rcu_lending.specs.Gathers.{AreEmptied, AreHeld, AreOfTheOpen, AreReady, CanClose, CanTryClose, Closes, ClosesAgain, OwesAgain, ComesTo, HasKind, HasPart, IsAllThere, IsThere, Keeps, RefusesClose, StayHeld};
+ghost use Rattle.rcu_lending.specs.Gathers.{AreEmptied, AreHeld, AreOfTheOpen, AreReady, CanClose, CanTryClose, Closes, ClosesAgain, OwesAgain, ComesTo, HasKind, HasPart, IsAllThere, IsThere, Keeps, RefusesClose, StayHeld, StayRead};
 ghost use Rattle.rcu_lending.specs.Refusals.{IsWhyNotClosed, RefusesAll, RefusesFirst, RefusesOwn};
 ghost use Rattle.rcu_lending.specs.declared.fault.Fault.TheVariants.{Memory};
 ghost use Rattle.rcu_lending.specs.declared.part.Part.TheVariants as part;
@@ -60,6 +60,7 @@ fn check_there(
         slot.old.reading ≡ 0 → IsThere opening kind slot.old.held.value → ⊥) }
     ensures unread { IfOk result (λ _. slot.old.reading ≡ 0) }
     ensures why { IfErr result (λ fault. RefusesOwn opening kind fault slot.old) }
+    ensures reading { slot.new.reading ≡ slot.old.reading }
 {
     match check_one(alloc, slot, opening, 0, kind) {
         Ok(true) => Ok(()),
@@ -75,6 +76,7 @@ fn check_there(
 /// They aren't. Nothing has changed.
 fn check_all(alloc: Global, slots: &mut PartSlots, opening: Opening) -> Result<(), Fault>
     ensures stay { StayHeld slots.old slots.new }
+    ensures sections { StayRead slots.old slots.new }
     ensures ready { IfOk result (λ _. AreReady opening slots.new) }
     ensures err { IfErr result (λ _. IsAllThere opening slots.old → ⊥) }
     ensures there { IfOk result (λ _. IsAllThere opening slots.old) }
@@ -119,6 +121,7 @@ fn take_control(alloc: Global, slot: &mut Slot) -> Control
     requires there { HasKind kind.Control slot.old.held.value }
     ensures takes { HasPart (part.Control result) slot.old.held.value }
     ensures keeps { Keeps part.Nothing slot.old.held.value slot.new.held.value }
+    ensures reading { slot.new.reading ≡ slot.old.reading }
 {
     match take_part(alloc, slot) {
         Part::Control(control) => control,
@@ -137,6 +140,7 @@ fn take_all(alloc: Global, slots: &mut PartSlots, opening: Opening, room: Room) 
     ensures held { AreHeld opening result slots.old }
     ensures emptied { AreEmptied slots.new }
     ensures keeps { Keeps part.Nothing slots.old.control.held.value slots.new.control.held.value }
+    ensures sections { StayRead slots.old slots.new }
 {
     let Room {
         mut processors,
@@ -161,7 +165,8 @@ fn take_all(alloc: Global, slots: &mut PartSlots, opening: Opening, room: Room) 
 fn close_parts(alloc: Global, slot: &mut Slot, parts: Parts<ForeignJob>) -> Result<(), Fault>
     requires owed { CanClose parts }
     requires there { HasPart part.Nothing slot.old.held.value }
-    ensures { ComesTo parts result slot.new }
+    ensures closes { ComesTo parts result slot.new }
+    ensures reading { slot.new.reading ≡ slot.old.reading }
 {
     match close(alloc, parts) {
         Ok(closed) => {
@@ -179,7 +184,8 @@ fn close_parts(alloc: Global, slot: &mut Slot, parts: Parts<ForeignJob>) -> Resu
 fn close_again(alloc: Global, slot: &mut Slot, closing: Closing<ForeignJob>) -> Result<(), Fault>
     requires owed { CanClose closing.parts }
     requires there { HasPart part.Nothing slot.old.held.value }
-    ensures { ComesTo closing.parts result slot.new }
+    ensures closes { ComesTo closing.parts result slot.new }
+    ensures reading { slot.new.reading ≡ slot.old.reading }
 {
     match closing.again(alloc) {
         Ok(closed) => {
@@ -200,6 +206,7 @@ fn close_first(alloc: Global, slots: &mut PartSlots, opening: Opening) -> Result
     ensures memory { IsAllThere opening slots.old → IfErr result (λ fault. fault ≡ Memory) }
     ensures there { IfOk result (λ _. IsAllThere opening slots.old) }
     ensures why { IfErr result (λ fault. RefusesFirst opening fault slots.old) }
+    ensures sections { StayRead slots.old slots.new }
 {
     if let Err(fault) = check_all(alloc, slots, opening) {
         return Err(fault);
@@ -215,7 +222,8 @@ fn close_first(alloc: Global, slots: &mut PartSlots, opening: Opening) -> Result
 fn close_kept(alloc: Global, slot: &mut Slot) -> Result<(), Fault>
     requires kind { HasKind kind.Closing slot.old.held.value }
     requires owed { OwesAgain slot.old }
-    ensures { ClosesAgain result slot.old slot.new }
+    ensures closes { ClosesAgain result slot.old slot.new }
+    ensures reading { slot.new.reading ≡ slot.old.reading }
 {
     match take_part(alloc, slot) {
         Part::Closing(closing) => close_again(alloc, slot, closing),
@@ -237,6 +245,7 @@ pub fn close_from(alloc: Global, slots: &mut PartSlots) -> Result<(), Fault>
     ensures memory { CanTryClose slots.old → IfErr result (λ fault. fault ≡ Memory) }
     ensures there { IfOk result (λ _. CanTryClose slots.old) }
     ensures why { IfErr result (λ fault. IsWhyNotClosed fault slots.old) }
+    ensures sections { StayRead slots.old slots.new }
 {
     let Some((opening, kind)) = slots.control.peek(alloc) else {
         return Err(Fault::Empty);

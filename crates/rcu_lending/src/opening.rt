@@ -1,7 +1,7 @@
 //! Opening a runtime into slots.
 
 ghost use Rattle.std.specs.Prelude.{◌≡◌, ◌≢◌, [], IfErr, IfOk, length, true, false};
-ghost use Rattle.rcu_lending.specs.Gathers.{StayHeld, held_in, lent_of, lents_in};
+ghost use Rattle.rcu_lending.specs.Gathers.{StayHeld, StayRead, held_in, lent_of, lents_in, sections_in};
 ghost use Rattle.rcu_lending.specs.Opens.{AreAt, AreRising, BoxesAll, OpensBoxes, OpensInto, RefusesOpen, TakesAt, boxed, lent_groups, lent_hands, lent_processors, places_of};
 
 use crate::fault::Fault;
@@ -127,6 +127,7 @@ fn put_each(slots: &mut [Slot], boxes: &mut VecDeque<Box<Lent>>)
     requires rising { AreRising 0 (length slots.old) (places_of (boxed boxes.old.items)) }
     ensures put { lents_in slots.new ≡ boxed boxes.old.items }
     ensures places { AreAt 0 (held_in slots.new) }
+    ensures sections { sections_in slots.new ≡ sections_in slots.old }
 {
     for place in 0..slots.len() {
         if let Some(boxed) = next_at(boxes, place as u64) {
@@ -162,6 +163,7 @@ pub fn open_into(
     ensures opened { IfOk result (λ _. OpensInto shape number slots.new) }
     ensures refused { IfErr result (λ _. StayHeld slots.old slots.new) }
     ensures why { IfErr result (λ fault. RefusesOpen fault slots.old) }
+    ensures sections { StayRead slots.old slots.new }
 {
     if slots.control.is_full() || slots.driver.is_full() {
         return Err(Fault::Full);

@@ -328,6 +328,7 @@ impl Slot {
         ensures ok { IfOk result (λ _. self.new.held.value ≡ None) }
         ensures ends { IfOk result (λ _. HasEnds self.old.held.value) }
         ensures why { IfErr result (λ fault. RefusesEnd fault self.old.held.value) }
+        ensures reading { self.new.reading ≡ self.old.reading }
     {
         let Some(boxed) = self.take(alloc) else {
             return Err(Fault::Empty);

@@ -2,7 +2,7 @@
 
 ghost use Rattle.std.specs.Prelude.{◌≡◌, ◌≢◌, ◌≤◌, None, IfSome, All, [], length, map};
 ghost use Rattle.std.specs.Vec.{vec_capacity};
-ghost use Rattle.rcu_lending.specs.Gathers.{HasKind, HasPart, Keeps, TakesOut, lents_in, parts_in};
+ghost use Rattle.rcu_lending.specs.Gathers.{HasKind, HasPart, Keeps, TakesOut, lents_in, parts_in, sections_in};
 ghost use Rattle.rcu_lending.specs.Parts.{kind_of};
 ghost use Rattle.rcu_lending.specs.declared.part.Part.TheVariants as part;
 ghost use Rattle.rcu_lending.specs.declared.part.PartKind.TheVariants as kind;
@@ -19,6 +19,7 @@ fn take_processor(alloc: Global, slot: &mut Slot) -> Option<Processor<ForeignJob
     requires kind { IfSome slot.old.held.value (λ l. kind_of l.part ≡ kind.Processor) }
     ensures takes { TakesOut (λ x. part.Processor x) result slot.old.held.value }
     ensures empty { slot.new.held.value ≡ None }
+    ensures reading { slot.new.reading ≡ slot.old.reading }
 {
     let Some(boxed) = slot.take(alloc) else {
         return None;
@@ -40,6 +41,7 @@ pub(crate) fn take_processors(
     requires room { length (lents_in slots.old) ≤ vec_capacity out.old }
     ensures took { map (λ x. part.Processor x) out.new.items ≡ parts_in slots.old }
     ensures empty { lents_in slots.new ≡ [] }
+    ensures sections { sections_in slots.new ≡ sections_in slots.old }
 {
     for place in 0..slots.len() {
         if let Some(processor) = take_processor(alloc, &mut slots[place]) {
@@ -53,6 +55,7 @@ fn take_group(alloc: Global, slot: &mut Slot) -> Option<Group<ForeignJob>>
     requires kind { IfSome slot.old.held.value (λ l. kind_of l.part ≡ kind.Group) }
     ensures takes { TakesOut (λ x. part.Group x) result slot.old.held.value }
     ensures empty { slot.new.held.value ≡ None }
+    ensures reading { slot.new.reading ≡ slot.old.reading }
 {
     let Some(boxed) = slot.take(alloc) else {
         return None;
@@ -70,6 +73,7 @@ pub(crate) fn take_groups(alloc: Global, slots: &mut [Slot], out: &mut Vec<Group
     requires room { length (lents_in slots.old) ≤ vec_capacity out.old }
     ensures took { map (λ x. part.Group x) out.new.items ≡ parts_in slots.old }
     ensures empty { lents_in slots.new ≡ [] }
+    ensures sections { sections_in slots.new ≡ sections_in slots.old }
 {
     for place in 0..slots.len() {
         if let Some(group) = take_group(alloc, &mut slots[place]) {
@@ -83,6 +87,7 @@ fn take_hand(alloc: Global, slot: &mut Slot) -> Option<Hand<ForeignJob>>
     requires kind { IfSome slot.old.held.value (λ l. kind_of l.part ≡ kind.Hand) }
     ensures takes { TakesOut (λ x. part.Hand x) result slot.old.held.value }
     ensures empty { slot.new.held.value ≡ None }
+    ensures reading { slot.new.reading ≡ slot.old.reading }
 {
     let Some(boxed) = slot.take(alloc) else {
         return None;
@@ -100,6 +105,7 @@ pub(crate) fn take_hands(alloc: Global, slots: &mut [Slot], out: &mut Vec<Hand<F
     requires room { length (lents_in slots.old) ≤ vec_capacity out.old }
     ensures took { map (λ x. part.Hand x) out.new.items ≡ parts_in slots.old }
     ensures empty { lents_in slots.new ≡ [] }
+    ensures sections { sections_in slots.new ≡ sections_in slots.old }
 {
     for place in 0..slots.len() {
         if let Some(hand) = take_hand(alloc, &mut slots[place]) {
@@ -113,6 +119,7 @@ pub(crate) fn take_driver(alloc: Global, slot: &mut Slot) -> Driver
     requires there { HasKind kind.Driver slot.old.held.value }
     ensures takes { HasPart (part.Driver result) slot.old.held.value }
     ensures empty { slot.new.held.value ≡ None }
+    ensures reading { slot.new.reading ≡ slot.old.reading }
 {
     let Some(boxed) = slot.take(alloc) else {
         unreachable!()
@@ -128,6 +135,7 @@ pub(crate) fn take_part(alloc: Global, slot: &mut Slot) -> Part
     requires there { slot.old.held.value ≢ None }
     ensures takes { HasPart result slot.old.held.value }
     ensures keeps { Keeps part.Nothing slot.old.held.value slot.new.held.value }
+    ensures reading { slot.new.reading ≡ slot.old.reading }
 {
     let Some(mut boxed) = slot.take(alloc) else {
         unreachable!()
@@ -140,7 +148,8 @@ pub(crate) fn take_part(alloc: Global, slot: &mut Slot) -> Part
 /// Puts a part into the box of control's slot.
 pub(crate) fn put_part(alloc: Global, slot: &mut Slot, whole: Part)
     requires there { HasPart part.Nothing slot.old.held.value }
-    ensures { Keeps whole slot.old.held.value slot.new.held.value }
+    ensures keeps { Keeps whole slot.old.held.value slot.new.held.value }
+    ensures reading { slot.new.reading ≡ slot.old.reading }
 {
     let Some(mut boxed) = slot.take(alloc) else {
         unreachable!()

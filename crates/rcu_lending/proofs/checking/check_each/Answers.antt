@@ -6,6 +6,7 @@ use Rattle.rcu_lending.specs.Gathers.{AreChecked, held_in}
 use Rattle.rcu_lending.specs.declared.slot.Slot.{Slot}
 use mathlib.Core.Logic.{inl, inr}
 use Rattle.rcu_lending.proofs.Helds.{IsCheckedTo, belongs_here, checked_all, checked_more, checked_none, counted, found_all}
+use Rattle.rcu_lending.proofs.Sections.{sections_after}
 use Rattle.rcu_lending.proofs.Unread.{refused_here, unread_all, unread_more, unread_none}
 use Rattle.rcu_lending.proofs.checking.check_each.Goals as goal
 
@@ -19,6 +20,7 @@ loop-place-preserved c = let l = c.loop-place in let d = c.index-slots-place.res
       (checked_more c.args.opening c.args.kind l.place l.found (held_in c.args.slots.now) l.slots d after (omega (arith, l.auto.slots, c.loop-place-test.true)) c.check_one.ensures.stays l.invariant.0 c.in-Ok.ensures.place c.in-Ok.ensures.kind),
   λ unread. All-set (λ (s : Slot). s.reading ≡ 0) l.slots l.place after (c.check_one.ensures.reading ∙ All-get_or (λ (s : Slot). s.reading ≡ 0) l.slots l.place d (omega (arith, l.auto.slots, c.loop-place-test.true)) (l.invariant.1 unread)) (l.invariant.1 unread),
   unread_more l.place c.args.slots.now l.slots d after (omega (arith, l.auto.slots, c.loop-place-test.true)) c.in-Ok.ensures.unread l.invariant.2,
+  sections_after l.place c.args.slots.now l.slots d after c.check_one.ensures.reading l.invariant.3,
 )
 
 pub returns-in-Err-clause-err : goal.returns-in-Err-clause-err
@@ -34,7 +36,7 @@ pub returns-clause-unread : goal.returns-clause-unread
 returns-clause-unread c = let l = c.loop-place in unread_all l.place c.args.slots.now l.slots (omega (arith, l.auto.slots, c.loop-place-test.false)) l.invariant.2
 
 pub loop-place-init : goal.loop-place-init
-loop-place-init c = (checked_none c.args.opening c.args.kind (held_in c.args.slots.now), λ unread. unread, unread_none c.args.slots.now)
+loop-place-init c = (checked_none c.args.opening c.args.kind (held_in c.args.slots.now), λ unread. unread, unread_none c.args.slots.now, refl)
 
 pub returns-then-found-many-clause-stay : goal.returns-then-found-many-clause-stay
 returns-then-found-many-clause-stay c = c.loop-place.invariant.0.same
@@ -73,3 +75,16 @@ pub returns-clause-checked : goal.returns-clause-checked
 returns-clause-checked c = let l = c.loop-place in
     subst (λ n. AreChecked c.args.opening c.args.kind n (held_in c.args.slots.now)) (omega (arith, c.if-found-many.false, c.if-found-many-2.false))
     (checked_all c.args.opening c.args.kind l.place l.found (held_in c.args.slots.now) (held_in l.slots) (looked_at_all c.args.slots.now l.place c.loop-place-test.false) l.invariant.0)
+
+pub returns-in-Err-clause-sections : goal.returns-in-Err-clause-sections
+returns-in-Err-clause-sections c = let l = c.loop-place in
+    sections_after l.place c.args.slots.now l.slots c.index-slots-place.result c.check_one.new.slot c.check_one.ensures.reading l.invariant.3
+
+pub returns-then-found-many-clause-sections : goal.returns-then-found-many-clause-sections
+returns-then-found-many-clause-sections c = c.loop-place.invariant.3
+
+pub returns-then-found-many-2-clause-sections : goal.returns-then-found-many-2-clause-sections
+returns-then-found-many-2-clause-sections c = c.loop-place.invariant.3
+
+pub returns-clause-sections : goal.returns-clause-sections
+returns-clause-sections c = c.loop-place.invariant.3

@@ -74,3 +74,18 @@ returns-clause-there c =
 
 pub returns-clause-why : goal.returns-clause-why
 returns-clause-why c = refuses_by c.args.opening c.args.slots.now c.check_each-3.result c.check_each-3.ensures.why
+
+pub returns-in-Err-clause-sections : goal.returns-in-Err-clause-sections
+returns-in-Err-clause-sections c = record { control_stays = c.check_there.ensures.reading; driver_stays = refl; processors_stay = refl; groups_stay = refl; hands_stay = refl }
+
+pub returns-in-Err-check_there-clause-sections : goal.returns-in-Err-check_there-clause-sections
+returns-in-Err-check_there-clause-sections c = record { control_stays = c.check_there.ensures.reading; driver_stays = c.check_there-2.ensures.reading; processors_stay = refl; groups_stay = refl; hands_stay = refl }
+
+pub returns-in-Err-check_each-clause-sections : goal.returns-in-Err-check_each-clause-sections
+returns-in-Err-check_each-clause-sections c = record { control_stays = c.check_there.ensures.reading; driver_stays = c.check_there-2.ensures.reading; processors_stay = c.check_each.ensures.sections; groups_stay = refl; hands_stay = refl }
+
+pub returns-in-Err-check_each-2-clause-sections : goal.returns-in-Err-check_each-2-clause-sections
+returns-in-Err-check_each-2-clause-sections c = record { control_stays = c.check_there.ensures.reading; driver_stays = c.check_there-2.ensures.reading; processors_stay = c.check_each.ensures.sections; groups_stay = c.check_each-2.ensures.sections; hands_stay = refl }
+
+pub returns-clause-sections : goal.returns-clause-sections
+returns-clause-sections c = record { control_stays = c.check_there.ensures.reading; driver_stays = c.check_there-2.ensures.reading; processors_stay = c.check_each.ensures.sections; groups_stay = c.check_each-2.ensures.sections; hands_stay = c.check_each-3.ensures.sections }

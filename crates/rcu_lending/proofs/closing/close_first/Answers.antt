@@ -1,4 +1,4 @@
-use Rattle.std.proofs.Common.{refl}
+use Rattle.std.proofs.Common.{refl, ◌∙◌}
 use mathlib.Core.Logic.{inl, inr}
 use Rattle.rcu_lending.proofs.Closings.{held_back}
 use Rattle.rcu_lending.proofs.Ready.{closes_there, memory_alone, refuses_first}
@@ -13,7 +13,7 @@ returns-clause-closes c = let e = c.take_all-parts.ensures.emptied in inl (recor
   parts = c.take_all-parts.result;
   held = held_back c.check_all.ensures.stay c.take_all-parts.ensures.held;
   emptied = record { driver_is = e.driver_is; processors_are = e.processors_are; groups_are = e.groups_are; hands_are = e.hands_are };
-  comes_to = c.close_parts.ensures;
+  comes_to = c.close_parts.ensures.closes;
 })
 
 pub returns-in-Err-clause-why : goal.returns-in-Err-clause-why
@@ -53,10 +53,25 @@ pub close_parts-requires-clause-there : goal.close_parts-requires-clause-there
 close_parts-requires-clause-there c = let kept = c.take_all-parts.ensures.keeps in (_, kept.2, refl)
 
 pub returns-clause-memory : goal.returns-clause-memory
-returns-clause-memory c = λ there. memory_alone c.take_all-parts.result c.close_parts.new.slot c.close_parts.result c.close_parts.ensures
+returns-clause-memory c = λ there. memory_alone c.take_all-parts.result c.close_parts.new.slot c.close_parts.result c.close_parts.ensures.closes
 
 pub returns-clause-there : goal.returns-clause-there
 returns-clause-there c = closes_there c.args.opening c.args.slots.now c.close_parts.result c.in_default.ensures.there
 
 pub returns-clause-why : goal.returns-clause-why
-returns-clause-why c = refuses_first c.args.opening c.args.slots.now c.take_all-parts.result c.close_parts.new.slot c.close_parts.result c.in_default.ensures.there c.close_parts.ensures
+returns-clause-why c = refuses_first c.args.opening c.args.slots.now c.take_all-parts.result c.close_parts.new.slot c.close_parts.result c.in_default.ensures.there c.close_parts.ensures.closes
+
+pub returns-in-Err-clause-sections : goal.returns-in-Err-clause-sections
+returns-in-Err-clause-sections c = c.check_all.ensures.sections
+
+pub returns-in_default-find_room-clause-sections : goal.returns-in_default-find_room-clause-sections
+returns-in_default-find_room-clause-sections c = c.check_all.ensures.sections
+
+pub returns-clause-sections : goal.returns-clause-sections
+returns-clause-sections c = let checked = c.check_all.ensures.sections in let took = c.take_all-parts.ensures.sections in record {
+  control_stays = c.close_parts.ensures.reading ∙ took.control_stays ∙ checked.control_stays;
+  driver_stays = took.driver_stays ∙ checked.driver_stays;
+  processors_stay = took.processors_stay ∙ checked.processors_stay;
+  groups_stay = took.groups_stay ∙ checked.groups_stay;
+  hands_stay = took.hands_stay ∙ checked.hands_stay;
+}

@@ -62,3 +62,12 @@ returns-clause-emptied c = record {
 
 pub returns-clause-keeps : goal.returns-clause-keeps
 returns-clause-keeps c = c.take_control-control.ensures.keeps
+
+pub returns-clause-sections : goal.returns-clause-sections
+returns-clause-sections c = record {
+  control_stays = c.take_control-control.ensures.reading;
+  driver_stays = c.take_driver-driver.ensures.reading;
+  processors_stay = c.take_processors.ensures.sections;
+  groups_stay = c.take_groups.ensures.sections;
+  hands_stay = c.take_hands.ensures.sections;
+}

@@ -81,3 +81,21 @@ put_each-requires-2-clause-empty c = c.are_empty-else-not-are_empty.ensures.empt
 
 pub put_each-requires-3-clause-empty : goal.put_each-requires-3-clause-empty
 put_each-requires-3-clause-empty c = c.are_empty-else-not-are_empty-2.ensures.empty c.if-not-are_empty-3.false
+
+pub returns-then-is_full-clause-sections : goal.returns-then-is_full-clause-sections
+returns-then-is_full-clause-sections c = record { control_stays = refl; driver_stays = refl; processors_stay = refl; groups_stay = refl; hands_stay = refl }
+
+pub returns-then-not-are_empty-clause-sections : goal.returns-then-not-are_empty-clause-sections
+returns-then-not-are_empty-clause-sections c = record { control_stays = refl; driver_stays = refl; processors_stay = refl; groups_stay = refl; hands_stay = refl }
+
+pub returns-in_default-clause-sections : goal.returns-in_default-clause-sections
+returns-in_default-clause-sections c = record { control_stays = refl; driver_stays = refl; processors_stay = refl; groups_stay = refl; hands_stay = refl }
+
+pub returns-clause-sections : goal.returns-clause-sections
+returns-clause-sections c = record {
+  control_stays = c.put-2.ensures.reading;
+  driver_stays = c.put.ensures.reading;
+  processors_stay = c.put_each.ensures.sections;
+  groups_stay = c.put_each-2.ensures.sections;
+  hands_stay = c.put_each-3.ensures.sections;
+}

@@ -7,6 +7,7 @@ use Rattle.rcu_lending.specs.declared.part.Part.TheVariants as part
 use Rattle.rcu_lending.specs.declared.part.PartKind.TheVariants as kind
 use Rattle.rcu_lending.specs.declared.slot.Slot.{Slot}
 use Rattle.rcu_lending.proofs.Helds.{IsTakenTo, empty_all, here_is, room_here, taken_all, taken_more, taken_none, taken_nothing}
+use Rattle.rcu_lending.proofs.Sections.{sections_after}
 use Rattle.rcu_lending.proofs.taking.take_hands.Goals.{in-Some, in_default}
 use Rattle.rcu_lending.proofs.taking.take_hands.Goals as goal
 
@@ -25,15 +26,17 @@ loop-place-preserved c = let l = c.loop-place in let d = c.index-slots-place.res
   | in-Some w ↦ (
     taken_more (λ x. part.Hand x) l.place (held_in c.args.slots.now) l.slots d after l.out.items c.match-take_hand.out.items w.in-Some.hand (omega (arith, l.auto.slots, c.loop-place-test.true)) c.take_hand.ensures.empty w.in-Some.ensures.takes (ap (λ v. v.items) w.out-is ∙ w.push_reserved.ensures.items) l.invariant.0,
     ap vec_capacity w.out-is ∙ (w.push_reserved.ensures.capacity ∙ l.invariant.1),
+    sections_after l.place c.args.slots.now l.slots d after c.take_hand.ensures.reading l.invariant.2,
   )
   | in_default w ↦ (
     rw w.out-is (taken_nothing (λ x. part.Hand x) l.place (held_in c.args.slots.now) l.slots d after l.out.items (omega (arith, l.auto.slots, c.loop-place-test.true)) c.take_hand.ensures.empty w.in_default.ensures.takes l.invariant.0),
     ap vec_capacity w.out-is ∙ l.invariant.1,
+    sections_after l.place c.args.slots.now l.slots d after c.take_hand.ensures.reading l.invariant.2,
   )
 ]
 
 pub loop-place-init : goal.loop-place-init
-loop-place-init c = (subst (λ out. IsTakenTo (λ x. part.Hand x) 0 (held_in c.args.slots.now) (held_in c.args.slots.now) out) (sym c.requires.none) (taken_none (λ x. part.Hand x) (held_in c.args.slots.now)), refl)
+loop-place-init c = (subst (λ out. IsTakenTo (λ x. part.Hand x) 0 (held_in c.args.slots.now) (held_in c.args.slots.now) out) (sym c.requires.none) (taken_none (λ x. part.Hand x) (held_in c.args.slots.now)), refl, refl)
 
 pub returns-clause-took : goal.returns-clause-took
 returns-clause-took c = let l = c.loop-place in let long = length-map l.slots (λ (s : Slot). s.held.value) in
@@ -42,3 +45,6 @@ returns-clause-took c = let l = c.loop-place in let long = length-map l.slots (�
 pub returns-clause-empty : goal.returns-clause-empty
 returns-clause-empty c = let l = c.loop-place in let long = length-map l.slots (λ (s : Slot). s.held.value) in
     empty_all (λ x. part.Hand x) l.place (held_in c.args.slots.now) (held_in l.slots) l.out.items (omega (arith, long, l.auto.slots, c.loop-place-test.false)) l.invariant.0
+
+pub returns-clause-sections : goal.returns-clause-sections
+returns-clause-sections c = c.loop-place.invariant.2
