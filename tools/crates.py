@@ -1,7 +1,9 @@
 """The crates of this repository, as crates.txt lists them: what they stand on, how long they are, what stands above them."""
 import functools
 import hashlib
+import os
 import pathlib
+import shutil
 import subprocess
 
 ROOT = pathlib.Path(__file__).resolve().parent.parent
@@ -9,6 +11,7 @@ ROOT = pathlib.Path(__file__).resolve().parent.parent
 STAMP = "out/proved"
 # What a proof reads of a crate.
 PARTS = ("src", "specs", "proofs")
+MEGABYTE = 10**6
 
 
 class Crate:
@@ -61,6 +64,11 @@ class Crate:
     def count(self, suffix):
         return sum(it.read_bytes().count(b"\n") for it in self.files if it.suffix == suffix)
 
+    def needs(self, jobs):
+        """The memory that a check is likely to take, in bytes: what `rt ci` counts with."""
+        one = 1000 + self.lines + 0.2 * self.proof_lines + 0.08 * sum(it.lines for it in self.below)
+        return one * MEGABYTE * (1 + 0.6 * (jobs - 1))
+
     @functools.cached_property
     def stamp(self):
         """A sum of all that its proof rests on: the toolchain, its line, its files, and those of the crates below."""
@@ -92,6 +100,28 @@ class Crate:
     def note_proved(self):
         """Notes with which files it was proved."""
         (self.folder / STAMP).write_text(self.stamp, encoding="ascii")
+
+
+def processors():
+    return len(os.sched_getaffinity(0))
+
+
+def free_memory():
+    with open("/proc/meminfo", encoding="ascii") as lines:
+        found = next(line for line in lines if line.startswith("MemAvailable"))
+    return int(found.split()[1]) * 1024
+
+
+def copy_tree(source, to):
+    """A second tree of a built library, whose files are links where the disk has them: a check replaces such a file, and changes none."""
+
+    def link(one, other):
+        try:
+            os.link(one, other)
+        except OSError:
+            shutil.copy2(one, other)
+
+    shutil.copytree(source, to, copy_function=link)
 
 
 @functools.cache
