@@ -7,3 +7,4 @@ pub mod Sums
 pub mod Endings
 pub mod Ages
 pub mod Acts
+pub mod Words

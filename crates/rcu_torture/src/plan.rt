@@ -3,6 +3,7 @@
 ghost use Rattle.std.specs.Prelude.{◌≡◌, ◌+◌, ◌*◌, ◌/◌, ◌%◌, ◌<◌, ◌≤◌, ◌↔◌, IsSome, IfSome, false};
 ghost use Rattle.rcu_numbers.specs.declared.shape.TheConstants.{MOST_CALLBACKS, MOST_PROCESSORS};
 ghost use Rattle.rcu_torture.specs.Endings.{EndsAt, place_of};
+ghost use Rattle.rcu_torture.specs.Words.{Refuses};
 ghost use Rattle.rcu_torture.specs.declared.plan.Refusal.TheVariants.{Memory};
 
 use crate::chance::Chance;
@@ -48,6 +49,8 @@ impl From<AllocError> for Refusal {
 }
 
 impl From<clap::Error> for Refusal {
+    ghost from_gives = { Refuses };
+
     fn from(error: clap::Error) -> Refusal {
         if error.kind() == ErrorKind::OutOfMemory {
             Refusal::Memory
