@@ -64,6 +64,11 @@ class Crate:
     def count(self, suffix):
         return sum(it.read_bytes().count(b"\n") for it in self.files if it.suffix == suffix)
 
+    @property
+    def weight(self):
+        """Roughly what a check of it takes, in lines of code: of those of proofs each a quarter, and some for what it loads."""
+        return 300 + self.lines + self.proof_lines // 4
+
     def needs(self, jobs):
         """The memory that a check is likely to take, in bytes: what `rt ci` counts with."""
         one = 1000 + self.lines + 0.2 * self.proof_lines + 0.08 * sum(it.lines for it in self.below)

@@ -43,3 +43,9 @@ pub record ReportsOnce (old new : Actor) : Type 0 where
   pub counted : Option ℕ
   pub reports : Reports old.processor.state.cpu counted (view_of old.processor.state) (view_of new.processor.state)
   pub told : new.counters.reports ≡ sum_up old.counters.reports (from_bool (is_some counted))
+
+-- It is of the same processor, at the same moment, with as many calls left of a burst.
+pub record StaysInPlace (old new : Actor) : Type 0 where
+  pub cpu : new.cpu ≡ old.cpu
+  pub moment : new.moment ≡ old.moment
+  pub burst : new.burst ≡ old.burst

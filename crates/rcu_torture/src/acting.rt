@@ -1,7 +1,7 @@
 //! What a processor's thread does: random calls, read sections, reports, ticks and barriers.
 
 ghost use Rattle.std.specs.Prelude.{IfErr, IfOk, IfSome, IsTrue, None, Some, ◌≡◌, ◌+◌, ◌<◌, ◌↔◌, [], length};
-ghost use Rattle.rcu_torture.specs.Acts.{CallsAs, CallsOnce, ReportsOnce, one_barrier, one_call};
+ghost use Rattle.rcu_torture.specs.Acts.{CallsAs, CallsOnce, ReportsOnce, StaysInPlace, one_barrier, one_call};
 ghost use Rattle.rcu_torture.specs.Kept.{Accepts, GoesOn};
 ghost use Rattle.rcu_torture.specs.Left.{IsCount};
 ghost use Rattle.rcu_torture.specs.Sums.{one_current, one_freed, one_removed};
@@ -200,6 +200,7 @@ impl Actor {
         ensures keys { self.new.keys ≡ self.old.keys }
         ensures stays { self.new.processor ≡ self.old.processor }
         ensures counted { self.new.counters ≡ one_call kind self.old.counters }
+        ensures place { StaysInPlace self.old self.new }
     {
         let accepted = ticket.number.saturating_add(1);
         self.shared.accept(self.cpu, accepted);
@@ -259,6 +260,7 @@ impl Actor {
     /// A report.
     fn report(&mut self)
         ensures goes_on { GoesOn self.old self.new }
+        ensures place { StaysInPlace self.old self.new }
         ensures reports { ReportsOnce self.old self.new }
     {
         let counted = self.processor.quiescent().is_some();
@@ -268,6 +270,7 @@ impl Actor {
     /// Opens a barrier, and leaves it to control to poll it.
     pub(crate) fn open_barrier(&mut self)
         ensures goes_on { GoesOn self.old self.new }
+        ensures place { StaysInPlace self.old self.new }
         ensures counted { self.new.counters ≡ one_barrier self.old.counters }
     {
         let barrier = self.processor.barrier();

@@ -91,6 +91,7 @@ impl Steerer {
         ensures open { IfSome result (λ b.
             (control_board self.new.control).processors ≡ b.counts.n) }
         ensures drained { self.new.counters.drained ≡ self.old.counters.drained }
+        ensures many { self.new.processors ≡ self.old.processors }
     {
         let tickets = self.shared.tickets(alloc).ok()?;
         let Ok(barrier) = self.control.barrier(tickets.as_slice()) else {
@@ -143,6 +144,7 @@ impl Steerer {
             → self.new.counters.drained ≡ sum_up self.old.counters.drained 1 }
         ensures stays { result ≡ false
             → self.new.counters.drained ≡ self.old.counters.drained }
+        ensures many { self.new.processors ≡ self.old.processors }
     {
         let Some(barrier) = self.open_barrier(alloc) else {
             return false;
