@@ -77,7 +77,7 @@ class Crate:
     @functools.cached_property
     def stamp(self):
         """A sum of all that its proof rests on: the toolchain, its line, its files, and those of the crates below."""
-        sum = hashlib.sha256(repr((toolchain(), self.line, [it.stamp for it in self.deps])).encode())
+        sum = hashlib.sha256(repr((version(), self.line, [it.stamp for it in self.deps])).encode())
         for file in self.files:
             sum.update(repr((str(file.relative_to(self.folder)), file.read_bytes())).encode())
         return sum.hexdigest()
@@ -130,7 +130,8 @@ def copy_tree(source, to):
 
 
 @functools.cache
-def toolchain():
+def version():
+    """The line by which the toolchain names itself."""
     return subprocess.run(["rt", "version"], capture_output=True, text=True).stdout
 
 
