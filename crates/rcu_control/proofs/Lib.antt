@@ -1,3 +1,4 @@
 pub mod Stepping
 pub mod Counting
 pub mod Tickets
+pub mod Waiting

@@ -37,3 +37,8 @@ pub record StepsOnEach (word_of : ℕ → ℕ) (n : ℕ) (v w : View) : Type 0 w
   pub lists : KeepsLists v w
   pub once : (p : ℕ) → p < n → tally w (word_of p) ≡ tally v (word_of p) + 1
   pub others : (i : ℕ) → IsNoneOf word_of n i → Untouched i v w
+
+-- Steps were made on the first n words of a family alone, however many.
+pub record StepsWithin (word_of : ℕ → ℕ) (n : ℕ) (v w : View) : Type 0 where
+  pub lists : KeepsLists v w
+  pub others : (i : ℕ) → IsNoneOf word_of n i → Untouched i v w
