@@ -19,7 +19,7 @@ use Rattle.rcu_board.specs.declared.view.Own.{Own}
 use Rattle.rcu_board.specs.declared.view.Claim.{Claim}
 use Rattle.rcu_board.specs.declared.view.Accepted.{Accepted}
 use Rattle.rcu_board.proofs.Views.{every, every_map, every_one, the_one, every_append, every_both, every_own, not_own, two_of, cpus-map, at_same}
-use Rattle.rcu_board.proofs.Moved.{OtherWords, SteppedWord, OtherViews, moved}
+use Rattle.rcu_board.proofs.Moved.{one_more, OtherWords, SteppedWord, OtherViews, moved}
 
 -- ---- touched views
 
@@ -47,18 +47,19 @@ alone_touched n v w i x t live weight drives seen steps owns stamps sights runni
   running = running;
 }
 
-pub beside_touched : (i x : ℕ) (v w : View) → w.weight ≡ v.weight → w.drives ≡ v.drives → w.controls ≡ v.controls → w.seen ≡ v.seen → w.merged ≡ v.merged → cpus w.own ≡ cpus v.own
+pub beside_touched : (i x : ℕ) (v w : View) → w.weight ≡ v.weight → w.drives ≡ v.drives → w.controls ≡ v.controls → w.seen ≡ v.seen → w.steps ≡ v.steps → w.merged ≡ v.merged → cpus w.own ≡ cpus v.own
     → (i ≢ 0 → (y : ℕ) → Every (λ (o : Own). Reported y o.cpu o.reports) v.own → Every (λ (o : Own). Reported y o.cpu o.reports) w.own)
     → ((p : ℕ) → i ≢ accepts_word p → (y : ℕ) → Every (λ (o : Own). o.cpu ≡ p → y / 2 ≡ accepted_count o) v.own → Every (λ (o : Own). o.cpu ≡ p → y / 2 ≡ accepted_count o) w.own)
     → ((p : ℕ) → i ≢ turns_word p → (y : ℕ) → Every (λ (c : Claim). c.cpu ≡ p → y ≡ 2 * c.number + 1) v.running → Every (λ (c : Claim). c.cpu ≡ p → y ≡ 2 * c.number + 1) w.running)
     → ((p : ℕ) → i ≢ turns_word p → ((k : ℕ) → claimed p k w ≡ claimed p k v) × (runs p w ≡ runs p v))
     → OtherWords i v (touched i x w)
-beside_touched i x v w weight drives controls seen merged own reports counts running claims =
+beside_touched i x v w weight drives controls seen steps merged own reports counts running claims =
     let same : (j : ℕ) → i ≢ j → seen_at (touched i x w) j ≡ seen_at v j = λ j ne. seen_else w i x j (λ e. ne (sym e)) ∙ ap (λ (l : List ℕ). get_or l j 0) seen in record {
       weight = weight;
       drives = drives;
       controls = controls;
       own = own;
+      tallies = ap (one_more i) steps;
       board = λ ne y t. let e = ap number_of (same 0 ne) in record { sight = omega (arith, t.sight, e); driver = λ d. e ∙ t.driver (sym drives ∙ d); reports = reports ne y t.reports };
       needed = λ ne. same 1 ne;
       accepts = λ p ne y t. let e = same (accepts_word p) ne in record { sight = omega (arith, t.sight, e); odd_sight = λ odd. e ∙ t.odd_sight (ap (λ (z : ℕ). z % 2) (sym e) ∙ odd); count = counts p ne y t.count; shut = λ c. ap (λ (z : ℕ). z % 2) e ∙ t.shut (sym controls ∙ c); merged = subst (Every (OddEquals p y)) (sym merged) t.merged };
@@ -115,8 +116,8 @@ module _ (n seats slots id : ℕ) (m : SeatState) (live : 0 < m.0.weight) where
         w,
         keeps,
         tt,
-        moved n seats s o id v w at 0 x (omega arith) lawful
-            (beside_touched 0 x v v' refl refl refl refl refl (cpus-map f (λ u. refl) v.own) (λ _. same_reports) (λ p _. same_counts p) (λ p _ y h. h) (λ p _. ((λ k. refl), refl)))
+        moved n seats s o id v w at live 0 x (omega arith) lawful
+            (beside_touched 0 x v v' refl refl refl refl refl refl (cpus-map f (λ u. refl) v.own) (λ _. same_reports) (λ p _. same_counts p) (λ p _ y h. h) (λ p _. ((λ k. refl), refl)))
             (here_board n id s.views x x w (o.board.word, o.board.within) mine (λ k u _ _ _ h. h)),
         record { view = refl; word = o.board.word; within = is_within n x v live t o.board.within; later = later; driver = b.driver },
       )
@@ -188,8 +189,8 @@ module _ (n seats slots id : ℕ) (m : SeatState) (live : 0 < m.0.weight) (o : O
         w,
         keeps,
         tt,
-        moved n seats s k id v w at 0 y (omega arith) lawful
-            (beside_touched 0 x v v' refl refl refl refl refl (cpus-map f (λ u. refl) v.own) (λ no. absurd (no refl)) (λ q _. same_counts q) (λ q _ z h. h) (λ q _. ((λ j. refl), refl)))
+        moved n seats s k id v w at live 0 y (omega arith) lawful
+            (beside_touched 0 x v v' refl refl refl refl refl refl (cpus-map f (λ u. refl) v.own) (λ no. absurd (no refl)) (λ q _. same_counts q) (λ q _ z h. h) (λ q _. ((λ j. refl), refl)))
             (here_board n id s.views x y w (clear_board x p small near k.board.word, (let le = clear_fits x p in let w = k.board.within in omega arith)) mine others),
         record {
           view = refl;
@@ -217,7 +218,7 @@ module _ (n seats slots id : ℕ) (m : SeatState) (live : 0 < m.0.weight) (drive
       (every (λ (c : Claim). c.sight ≤ sight v) (λ (c : Claim). c.sight ≤ sight (touched 0 z v)) (λ c h. omega arith) v.claims t.claims) t.running
 
   drive_beside : (z : ℕ) → OtherWords 0 m.0 (touched 0 z m.0)
-  drive_beside z = beside_touched 0 z m.0 m.0 refl refl refl refl refl refl (λ no. absurd (no refl)) (λ q _ y h. h) (λ q _ y h. h) (λ q _. ((λ j. refl), refl))
+  drive_beside z = beside_touched 0 z m.0 m.0 refl refl refl refl refl refl refl (λ no. absurd (no refl)) (λ q _ y h. h) (λ q _ y h. h) (λ q _. ((λ j. refl), refl))
 
   pub drive_allowed : seq ≤ number_of new → mask_of new ≤ all_of n → (IsBoard (packed seq 0) → IsBoard new) → ((q r : ℕ) → q < n → Reported (packed seq 0) q r → Reported new q r)
       → Allows (BoardRule n seats) slots id m 0 (λ y. either (eqb y (packed seq 0)) new y) (Driving (step slots 0 (packed seq 0) new none) m)
@@ -239,7 +240,7 @@ module _ (n seats slots id : ℕ) (m : SeatState) (live : 0 < m.0.weight) (drive
         w,
         keeps,
         tt,
-        moved n seats s k id v w at 0 new (omega arith) (drive_alone s k at new (omega arith)) (drive_beside new) (here_board n id s.views x new w (is (subst IsBoard hit k.board.word), few) mine others),
+        moved n seats s k id v w at live 0 new (omega arith) (drive_alone s k at new (omega arith)) (drive_beside new) (here_board n id s.views x new w (is (subst IsBoard hit k.board.word), few) mine others),
         record { won = λ _. refl; lost = λ away. absurd (away hit); number = sym lead; within = is_within n x v live t k.board.within; idle = idle },
       ))
       (λ miss. let w : View = touched 0 x v in let now : sight w ≡ number_of x = ap number_of (seen_here v 0 x long) in
@@ -247,7 +248,7 @@ module _ (n seats slots id : ℕ) (m : SeatState) (live : 0 < m.0.weight) (drive
         w,
         keeps,
         tt,
-        moved n seats s k id v w at 0 x (omega arith) (drive_alone s k at x (omega arith)) (drive_beside x) (here_board n id s.views x x w (k.board.word, k.board.within) mine (λ j u _ _ _ h. h)),
+        moved n seats s k id v w at live 0 x (omega arith) (drive_alone s k at x (omega arith)) (drive_beside x) (here_board n id s.views x x w (k.board.word, k.board.within) mine (λ j u _ _ _ h. h)),
         record { won = λ hit. absurd (miss hit); lost = λ _. refl; number = sym lead; within = is_within n x v live t k.board.within; idle = idle },
       ))
 

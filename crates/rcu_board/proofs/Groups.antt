@@ -1,5 +1,5 @@
 -- Seats that are made and joined keep the rule.
-use Rattle.rcu_board.specs.Views.{one_if, control_count, joined_word, joined_words, given_control, with_control, Every, total, seen_at, sight, accepted_count, one_if_claim, one_if_on, claimed, runs, cpus, one_if_equal, own_count, driver_count, spent, joined_tallies, joined, given_plain, plain, rest_own, first_own, given_own, with_own}
+use Rattle.rcu_board.specs.Views.{tally, one_if, control_count, joined_word, joined_words, given_control, with_control, Every, total, seen_at, sight, accepted_count, one_if_claim, one_if_on, claimed, runs, cpus, one_if_equal, own_count, driver_count, spent, joined_tallies, joined, given_plain, plain, rest_own, first_own, given_own, with_own}
 use Rattle.rcu_board.specs.Laws.{OddEquals, AskLawInView, Each, BoardRule, ViewAlone, BoardLawInView, AcceptLawInView, TurnLawInView, Reported}
 use Rattle.rcu_board.specs.Words.{words_of, is_asks, asks_word, accepts_word, turns_word}
 use Rattle.std.proofs.Common.{◌≡◌, ℕ, zero, suc, ◌+◌, ◌-◌, ◌*◌, ◌%◌, ◌/◌, ◌<◌, ◌≤◌, Bool, true, false, cond, ◌||◌, List, [], ◌∷◌, ◌++◌, length, get_or, set, sym, refl, ap, ◌∙◌, subst, ⊎_elim, ◌⊎◌, inl, inr, arith, max}
@@ -41,6 +41,13 @@ joined-tallies-long [] ys n a b = b
 joined-tallies-long (x ∷ xs) [] n a b = a
 joined-tallies-long (x ∷ xs) (y ∷ ys) zero a b = absurd (omega arith)
 joined-tallies-long (x ∷ xs) (y ∷ ys) (suc n) a b = let r = joined-tallies-long xs ys n (omega arith) (omega arith) in omega arith
+
+-- of a word the steps of both
+joined-tally-at : (i : ℕ) (xs ys : List ℕ) → get_or (joined_tallies xs ys) i 0 ≡ get_or xs i 0 + get_or ys i 0
+joined-tally-at i [] ys = omega arith
+joined-tally-at i (x ∷ xs) [] = omega arith
+joined-tally-at zero (x ∷ xs) (y ∷ ys) = refl
+joined-tally-at (suc i) (x ∷ xs) (y ∷ ys) = joined-tally-at i xs ys
 
 cpus-append : (a b : List Own) → cpus (a ++ b) ≡ cpus a ++ cpus b
 cpus-append [] b = refl
@@ -138,6 +145,7 @@ joins n seats id other v w live live' s k at apart at' =
             (λ d. absurd (no_true d));
       };
       halt = k.halt;
+      begins = λ i near away none. k.begins i near away (sym (sum (λ (u : View). tally u i) (joined-tally-at i v.steps w.steps) refl) ∙ none);
       alone = each (ViewAlone n) k.alone record {
         no_seat = λ e. absurd (omega arith);
         seen_long = λ _. joined-words-long w.controls 0 v.seen w.seen (words_of n) lv lw;
@@ -206,6 +214,10 @@ module _ (n seats id : ℕ) (v : View) (lo ro : List Own) (lc rc : Bool) (big : 
   total_split : (views : List View) → get_elem? views id ≡ some v → (f : View → ℕ) → f Left + f Right ≡ f v → total f (set views id Left ++ Right ∷ []) ≡ total f views
   total_split views at f e = let a = total-set f views id v Left at in let b = total-append f (set views id Left) (Right ∷ []) in omega arith
 
+  -- what both halves have is 0 before where it is 0 after
+  total_copied : (views : List View) → get_elem? views id ≡ some v → (f : View → ℕ) → f Left ≡ f v → total f (set views id Left ++ Right ∷ []) ≡ 0 → total f views ≡ 0
+  total_copied views at f e none = let a = total-set f views id v Left at in let b = total-append f (set views id Left) (Right ∷ []) in omega arith
+
   pub splits : Splits (BoardRule n seats) id v Left Right
   splits s k at = let each = each_split s.views at in let sum = total_split s.views at in let t = k.alone id v at in record {
     few = k.few;
@@ -226,6 +238,7 @@ module _ (n seats id : ℕ) (v : View) (lo ro : List Own) (lc rc : Bool) (big : 
         (record { sight = h.sight; running = every_nil (λ (c : Claim). c.cpu ≡ p → x ≡ 2 * c.number + 1) }));
     ask = λ p low. record { value = (k.ask p low).value; in_views = let x : ℕ = get_or s.words (asks_word p) 0 in let h = (k.ask p low).in_views id v at in each (AskLawInView p x) ((k.ask p low).in_views) (λ c. h (left_flag c)) (λ c. h (right_flag c)) };
     halt = k.halt;
+    begins = λ i near away none. k.begins i near away (total_copied s.views at (λ (u : View). tally u i) refl none);
     alone = each (ViewAlone n) k.alone record {
       no_seat = λ e. absurd (omega arith);
       seen_long = λ _. t.seen_long (omega arith);

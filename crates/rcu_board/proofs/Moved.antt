@@ -1,8 +1,8 @@
 -- A step on one word owes the law of that word alone.
-use Rattle.rcu_board.specs.Views.{total, seen_at, claimed, runs, cpus, one_if_equal, own_count, driver_count, control_count}
-use Rattle.rcu_board.specs.Laws.{Each, BoardRule, BoardLaw, TurnLaw, AskLaw, ViewAlone, IsBoard, BoardLawInView, AcceptLawInView, TurnLawInView, AskLawInView}
-use Rattle.rcu_board.specs.Words.{accepts_word, turns_word, asks_word}
-use Rattle.std.proofs.Common.{◌≡◌, ◌≢◌, ℕ, ◌+◌, ◌*◌, ◌<◌, ◌≤◌, Bool, cond, List, get_or, set, sym, ap, ◌∙◌, subst, arith, length-set, get_or-set_other, get_or-set_same}
+use Rattle.rcu_board.specs.Views.{total, seen_at, tally, claimed, runs, cpus, one_if_equal, own_count, driver_count, control_count}
+use Rattle.rcu_board.specs.Laws.{Each, BeginsAtZero, BoardRule, BoardLaw, TurnLaw, AskLaw, ViewAlone, IsBoard, BoardLawInView, AcceptLawInView, TurnLawInView, AskLawInView}
+use Rattle.rcu_board.specs.Words.{words_of, is_asks, accepts_word, turns_word, asks_word}
+use Rattle.std.proofs.Common.{◌≡◌, ◌≢◌, ℕ, ◌+◌, ◌*◌, ◌<◌, ◌≤◌, Bool, false, cond, List, length, get_or, set, sym, ap, ◌∙◌, subst, arith, length-set, get_or-set_other, get_or-set_same}
 use mathlib.Core.Logic.{dite}
 use mathlib.Core.Option.{some}
 use native.Mathlib.Decide.{ℕ_discrete}
@@ -10,8 +10,18 @@ use lib.ListN.{get_elem?}
 use Rattle.atomic_table.specs.Table.{State}
 use Rattle.rcu_numbers.specs.Words.{mask_of, all_of}
 use Rattle.rcu_board.specs.declared.view.View.{View}
-use Rattle.rcu_board.proofs.Views.{total-set, each_set}
+use Rattle.rcu_board.proofs.Views.{total-set, term_le, each_set}
 use Rattle.rcu_board.proofs.Turns.{TurnCounts, turn_counts, turn_law}
+
+-- the tallies after one step more on word i
+abbrev pub one_more : ℕ → List ℕ → List ℕ
+one_more i steps = set steps i (get_or steps i 0 + 1)
+
+tally_here : (i : ℕ) (v w : View) → w.steps ≡ one_more i v.steps → i < length v.steps → tally w i ≡ tally v i + 1
+tally_here i v w e near = ap (λ (l : List ℕ). get_or l i 0) e ∙ get_or-set_same v.steps i (tally v i + 1) 0 near
+
+tally_else : (i j : ℕ) (v w : View) → w.steps ≡ one_more i v.steps → i ≢ j → tally w j ≡ tally v j
+tally_else i j v w e ne = ap (λ (l : List ℕ). get_or l j 0) e ∙ get_or-set_other v.steps i j (tally v i + 1) 0 (λ same. ne (sym same))
 
 -- what a step on word i leaves of the view's laws on the other words
 pub record OtherWords (i : ℕ) (v w : View) : Type 0 where
@@ -19,6 +29,7 @@ pub record OtherWords (i : ℕ) (v w : View) : Type 0 where
   pub drives : w.drives ≡ v.drives
   pub controls : w.controls ≡ v.controls
   pub own : cpus w.own ≡ cpus v.own
+  pub tallies : w.steps ≡ one_more i v.steps
   pub board : i ≢ 0 → (x : ℕ) → BoardLawInView x v → BoardLawInView x w
   pub needed : i ≢ 1 → seen_at w 1 ≡ seen_at v 1
   pub accepts : (p : ℕ) → i ≢ accepts_word p → (x : ℕ) → AcceptLawInView p x v → AcceptLawInView p x w
@@ -45,7 +56,7 @@ after s i y id w = record { words = set s.words i y; homes = s.homes; views = se
 pub same_total : (a b c d : ℕ) → a + c ≡ b + d → d ≡ c → a ≡ b
 same_total a b c d e f = omega arith
 
-module _ (n seats : ℕ) (s : State ℕ View) (o : BoardRule n seats s) (id : ℕ) (v w : View) (at : get_elem? s.views id ≡ some v) (i y : ℕ) (here_word : i < 4 + 3 * n) where
+module _ (n seats : ℕ) (s : State ℕ View) (o : BoardRule n seats s) (id : ℕ) (v w : View) (at : get_elem? s.views id ≡ some v) (live : 0 < v.weight) (i y : ℕ) (here_word : i < 4 + 3 * n) where
   word_other : (j : ℕ) → i ≢ j → get_or (set s.words i y) j 0 ≡ get_or s.words j 0
   word_other j ne = get_or-set_other s.words i j y 0 (λ e. ne (sym e))
 
@@ -93,6 +104,13 @@ module _ (n seats : ℕ) (s : State ℕ View) (o : BoardRule n seats s) (id : �
       (λ e. let t = h.asks p low e in record { value = said_same (λ (z : ℕ). z < 2) (asks_word p) e t.0; in_views = each_same (AskLawInView p) (asks_word p) e (o.ask p low).in_views t.1 t.2 })
       (λ ne. record { value = said_other (λ (z : ℕ). z < 2) (asks_word p) ne (o.ask p low).value; in_views = each_other (AskLawInView p) (asks_word p) ne (o.ask p low).in_views (b.asks p ne) })
 
+  -- word i has a step now, and of the others neither the word nor its steps have changed
+  moved_begins : OtherWords i v w → (j : ℕ) → j < words_of n → is_asks j ≡ false → BeginsAtZero j (get_or (set s.words i y) j 0) (set s.views id w)
+  moved_begins b j near away none = let steps : View → ℕ = λ (u : View). tally u j in dite (ℕ_discrete i j)
+      (λ e. let long = (o.alone id v at).steps_long live in let one = tally_here j v w (b.tallies ∙ ap (λ (h : ℕ). one_more h v.steps) e) (omega arith) in
+      let all = total-set steps s.views id v w at in let less = term_le steps s.views id v at in absurd (omega arith))
+      (λ ne. word_other j ne ∙ o.begins j near away (sym (sum_same steps (tally_else i j v w b.tallies ne)) ∙ none))
+
   pub moved : ViewAlone n w → OtherWords i v w → SteppedWord n id s.views i (get_or s.words i 0) y w → BoardRule n seats (after s i y id w)
   moved alone b h = record {
     few = o.few;
@@ -107,6 +125,7 @@ module _ (n seats : ℕ) (s : State ℕ View) (o : BoardRule n seats s) (id : �
     turn = moved_turn b h;
     ask = moved_ask b h;
     halt = dite (ℕ_discrete i 2) (λ e. said_same (λ (z : ℕ). z < 2) 2 e (h.halt e)) (λ ne. said_other (λ (z : ℕ). z < 2) 2 ne o.halt);
+    begins = moved_begins b;
     alone = each_set s.views id w (ViewAlone n) (ViewAlone n) o.alone (λ k u _ _ t. t) alone;
     seats = record {
       processor = λ p low. sum_same (own_count p) (ap (total (one_if_equal p)) b.own) ∙ o.seats.processor p low;

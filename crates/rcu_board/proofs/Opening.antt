@@ -113,6 +113,7 @@ opens n offloadable seats ws few some_seats began = let v : View = opening_view 
         in_views = all (AskLawInView p (get_or ws (asks_word p) 0)) (λ _. begun (asks_word p) (omega arith) ∙ sym (began.first (asks_word p) (omega arith)));
       };
       halt = let e = zero_word 2 refl (omega arith) in omega arith;
+      begins = λ i near away _. zero_word i away near;
       alone = all (ViewAlone n) record {
         no_seat = λ e. absurd (omega arith);
         seen_long = λ _. first-long offloadable 0 (words_of n);

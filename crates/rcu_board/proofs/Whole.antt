@@ -91,8 +91,8 @@ module _ (n seats slots id : ℕ) (m : SeatState) (live : 0 < m.0.weight) where
         w,
         keeps,
         tt,
-        moved n seats s k id v w at 0 x (omega arith) lawful
-            (beside_touched 0 x v v refl refl refl refl refl refl (λ no. absurd (no refl)) (λ p _ y h. h) (λ p _ y h. h) (λ p _. ((λ k. refl), refl)))
+        moved n seats s k id v w at live 0 x (omega arith) lawful
+            (beside_touched 0 x v v refl refl refl refl refl refl refl (λ no. absurd (no refl)) (λ p _ y h. h) (λ p _ y h. h) (λ p _. ((λ k. refl), refl)))
             (here_board n id s.views x x w (k.board.word, k.board.within) mine (λ k u _ _ _ h. h)),
         record {
           view = refl;

@@ -54,8 +54,8 @@ module _ (n seats : ℕ) (s : State ℕ View) (k : BoardRule n seats s) (id : �
   pub loaded : let x : ℕ = get_or s.words i 0 in BoardRule n seats (after s i x id (touched i x v))
   loaded = let x : ℕ = get_or s.words i 0 in let t = k.alone id v at in let w : View = touched i x v in
       let now : seen_at w i ≡ x = now_seen x v refl in
-      moved n seats s k id v w at i x near (still_alone x v refl refl refl refl refl t.stamps t.claims t.running)
-      (beside_touched i x v v refl refl refl refl refl refl (λ _ y h. h) (λ p _ y h. h) (λ p _ y h. h) (λ p _. ((λ j. refl), refl)))
+      moved n seats s k id v w at live i x near (still_alone x v refl refl refl refl refl t.stamps t.claims t.running)
+      (beside_touched i x v v refl refl refl refl refl refl refl (λ _ y h. h) (λ p _ y h. h) (λ p _ y h. h) (λ p _. ((λ j. refl), refl)))
       record {
         board = λ e. absurd (not_board e);
         needed = λ e. (omega (arith, ap (λ (j : ℕ). seen_at w j) e, now), omega arith);
@@ -70,8 +70,8 @@ module _ (n seats : ℕ) (s : State ℕ View) (k : BoardRule n seats s) (id : �
 
   -- a store of 0 or 1 in a word of control's
   pub stored : v.controls ≡ true → i ≢ 1 → ((p : ℕ) → i ≢ accepts_word p) → ((p : ℕ) → i ≢ turns_word p) → (y : ℕ) → y < 2 → BoardRule n seats (after s i y id (touched i y v))
-  stored mine a b c y bit = let t = k.alone id v at in moved n seats s k id v (touched i y v) at i y near (still_alone y v refl refl refl refl refl t.stamps t.claims t.running)
-      (beside_touched i y v v refl refl refl refl refl refl (λ _ z h. h) (λ p _ z h. h) (λ p _ z h. h) (λ p _. ((λ j. refl), refl)))
+  stored mine a b c y bit = let t = k.alone id v at in moved n seats s k id v (touched i y v) at live i y near (still_alone y v refl refl refl refl refl t.stamps t.claims t.running)
+      (beside_touched i y v v refl refl refl refl refl refl refl (λ _ z h. h) (λ p _ z h. h) (λ p _ z h. h) (λ p _. ((λ j. refl), refl)))
       record { board = λ e. absurd (not_board e); needed = λ e. absurd (a e); accepts = λ p _ e. absurd (b p e); turns = λ p _ e. absurd (c p e); asks = λ p low e. (bit, (λ _. ap (λ (j : ℕ). seen_at (touched i y v) j) (sym e) ∙ now_seen y v refl), λ j u ne there nt _ its. absurd (one_control j u ne there mine its)); halt = λ _. bit }
 
 -- ---- loads and stores
@@ -110,8 +110,8 @@ module _ (n seats slots id : ℕ) (m : SeatState) (live : 0 < m.0.weight) where
         w,
         keeps,
         tt,
-        moved n seats s k id v w at 1 y (omega arith) (still_alone n seats s k id v at live 1 (λ e. omega arith) (omega arith) y v refl refl refl refl refl t.stamps t.claims t.running)
-            (beside_touched 1 y v v refl refl refl refl refl refl (λ _ z h. h) (λ p _ z h. h) (λ p _ z h. h) (λ p _. ((λ j. refl), refl)))
+        moved n seats s k id v w at live 1 y (omega arith) (still_alone n seats s k id v at live 1 (λ e. omega arith) (omega arith) y v refl refl refl refl refl t.stamps t.claims t.running)
+            (beside_touched 1 y v v refl refl refl refl refl refl refl (λ _ z h. h) (λ p _ z h. h) (λ p _ z h. h) (λ p _. ((λ j. refl), refl)))
             record { board = λ e. absurd (omega arith); needed = λ _. (omega (arith, now), omega arith); accepts = λ p _ e. absurd (omega arith); turns = λ p _ e. absurd (omega arith); asks = λ p _ e. absurd (omega arith); halt = λ e. absurd (omega arith) },
         record { view = refl; later = k.needed id v at },
       )
@@ -171,8 +171,8 @@ module _ (n seats slots id : ℕ) (m : SeatState) (live : 0 < m.0.weight) (p : �
         w,
         keeps,
         tt,
-        subst (λ (z : ℕ). BoardRule n seats (after s i z id w)) (sym (or_one x)) (moved n seats s k id v w at i y near (still_alone n seats s k id v at live i off near y v refl refl refl refl refl t.stamps t.claims t.running)
-            (beside_touched i y v v refl refl refl refl refl refl (λ _ z h. h) (λ p _ z h. h) (λ p _ z h. h) (λ p _. ((λ j. refl), refl)))
+        subst (λ (z : ℕ). BoardRule n seats (after s i z id w)) (sym (or_one x)) (moved n seats s k id v w at live i y near (still_alone n seats s k id v at live i off near y v refl refl refl refl refl t.stamps t.claims t.running)
+            (beside_touched i y v v refl refl refl refl refl refl refl (λ _ z h. h) (λ p _ z h. h) (λ p _ z h. h) (λ p _. ((λ j. refl), refl)))
             (here_accepts n seats s k id v at live p low y w mine others)),
         record { view = refl; later = a.sight; final = a.odd_sight },
       )
@@ -209,12 +209,12 @@ module _ (n seats slots id : ℕ) (m : SeatState) (live : 0 < m.0.weight) (p : �
         w,
         keeps,
         tt,
-        moved n seats s k id v w at i y near
+        moved n seats s k id v w at live i y near
             (still_alone n seats s k id v at live i off near y v' refl refl refl refl
             (cpus-map f (λ u. refl) v.own)
             (every_map (λ (u : Own). Every (λ (b : Accepted). b.stamp ≤ sight v) u.accepted) (λ (u : Own). Every (λ (b : Accepted). b.stamp ≤ sight v) u.accepted) f (λ u h. h) v.own t.stamps)
             t.claims t.running)
-            (beside_touched i y v v' refl refl refl refl refl (cpus-map f (λ u. refl) v.own)
+            (beside_touched i y v v' refl refl refl refl refl refl (cpus-map f (λ u. refl) v.own)
             (λ _ z. every_map (λ (u : Own). Reported z u.cpu u.reports) (λ (u : Own). Reported z u.cpu u.reports) f (λ u h. h) v.own)
             (λ q away z _. subst (λ (l : List Own). Every (λ (u : Own). u.cpu ≡ q → z / 2 ≡ accepted_count u) (map f l)) (sym only)
             (every_one (λ (u : Own). u.cpu ≡ q → z / 2 ≡ accepted_count u) (f o) (λ e. absurd (away (omega arith)))))
@@ -279,11 +279,11 @@ module _ (n seats slots id : ℕ) (m : SeatState) (live : 0 < m.0.weight) (p : �
         w,
         keeps,
         tt,
-        moved n seats s k id v w at i y near
+        moved n seats s k id v w at live i y near
             (still_alone n seats s k id v at live i off near y v' refl refl refl refl refl t.stamps
             (every_append (λ (d : Claim). d.sight ≤ sight v) v.claims (c ∷ []) t.claims (every_one (λ (d : Claim). d.sight ≤ sight v) c (omega arith)))
             (every_one (λ (d : Claim). 0 < claimed d.cpu d.number v') c (let f = total-append (one_if_claim p q) v.claims (c ∷ []) in let g = claim_here p q c refl refl in omega arith)))
-            (beside_touched i y v v' refl refl refl refl refl refl (λ _ z h. h) (λ q _ z h. h)
+            (beside_touched i y v v' refl refl refl refl refl refl refl (λ _ z h. h) (λ q _ z h. h)
             (λ r away z _. every_one (λ (d : Claim). d.cpu ≡ r → z ≡ 2 * d.number + 1) c (λ e. absurd (away (omega arith))))
             (λ r away. let apart : p ≢ r = λ e. away (omega arith) in (
               (λ j. let f = total-append (one_if_claim r j) v.claims (c ∷ []) in let g = claim_other p r j c refl apart in omega arith),
@@ -314,9 +314,9 @@ module _ (n seats slots id : ℕ) (m : SeatState) (live : 0 < m.0.weight) (p : �
         w,
         keeps,
         tt,
-        subst (λ (z : ℕ). BoardRule n seats (after s i z id w)) fits (moved n seats s k id v w at i y near
+        subst (λ (z : ℕ). BoardRule n seats (after s i z id w)) fits (moved n seats s k id v w at live i y near
             (still_alone n seats s k id v at live i off near y v' refl refl refl refl refl t.stamps t.claims (every_nil (λ (d : Claim). 0 < claimed d.cpu d.number v')))
-            (beside_touched i y v v' refl refl refl refl refl refl (λ _ z h. h) (λ q _ z h. h)
+            (beside_touched i y v v' refl refl refl refl refl refl refl (λ _ z h. h) (λ q _ z h. h)
             (λ r away z _. every_nil (λ (d : Claim). d.cpu ≡ r → z ≡ 2 * d.number + 1))
             (λ r away. ((λ j. refl), (let f : runs r v ≡ total (one_if_on r) (c ∷ []) = ap (total (one_if_on r)) runs_it in let g = on_other p r c is (λ e. away (omega arith)) in omega arith))))
             (here_turns n seats s k id v at live p low y w mine others next)),
@@ -328,9 +328,9 @@ module _ (n seats slots id : ℕ) (m : SeatState) (live : 0 < m.0.weight) (p : �
 module _ (n seats slots id : ℕ) (m : SeatState) (live : 0 < m.0.weight) (i : ℕ) (is : i ≡ urge_word n) where
   urge_goes : (s : State ℕ View) (k : BoardRule n seats s) → get_elem? s.views id ≡ some m.0 → (y left : ℕ) → BoardRule n seats (after s i y id (urged i (get_or s.words i 0) left m.0))
   urge_goes s k at y left = let v : View = m.0 in let x : ℕ = get_or s.words i 0 in let v' : View = record v { left = left } in let t = k.alone id v at in
-      moved n seats s k id v (urged i x left v) at i y (omega arith)
+      moved n seats s k id v (urged i x left v) at live i y (omega arith)
       (still_alone n seats s k id v at live i (λ e. omega arith) (omega arith) x v' refl refl refl refl refl t.stamps t.claims t.running)
-      (beside_touched i x v v' refl refl refl refl refl refl (λ _ z h. h) (λ p _ z h. h) (λ p _ z h. h) (λ p _. ((λ j. refl), refl)))
+      (beside_touched i x v v' refl refl refl refl refl refl refl (λ _ z h. h) (λ p _ z h. h) (λ p _ z h. h) (λ p _. ((λ j. refl), refl)))
       record {
         board = λ e. absurd (omega arith);
         needed = λ e. absurd (omega arith);

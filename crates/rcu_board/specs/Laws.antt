@@ -1,13 +1,13 @@
 -- The rule of a board, law by law: docs/specification/definitions.md, "The running parts: laws". A quoted sentence is one of that section.
-use Rattle.std.specs.Prelude.{◌≡◌, ℕ, ◌+◌, ◌*◌, ◌/◌, ◌%◌, ◌<◌, ◌≤◌, true, List, length, slice_index}
+use Rattle.std.specs.Prelude.{◌≡◌, ℕ, ◌+◌, ◌*◌, ◌/◌, ◌%◌, ◌<◌, ◌≤◌, true, false, List, length, slice_index}
 use Rattle.rcu_numbers.specs.declared.shape.TheConstants.{MOST_PROCESSORS}
 use Rattle.rcu_numbers.specs.declared.sequence.TheConstants.{GREATEST_NUMBER}
 use mathlib.Core.Option.{some}
 use lib.ListN.{get_elem?}
 use Rattle.atomic_table.specs.Table.{State}
 use Rattle.rcu_numbers.specs.Words.{number_of, mask_of, all_of, owes_of}
-use Rattle.rcu_board.specs.Words.{words_of, board_word, needed_word, halt_word, accepts_word, turns_word, asks_word}
-use Rattle.rcu_board.specs.Views.{seen_at, sight, Every, total, cpus, own_count, driver_count, control_count, accepted_count, claimed, runs, spent}
+use Rattle.rcu_board.specs.Words.{words_of, board_word, needed_word, halt_word, accepts_word, turns_word, asks_word, is_asks}
+use Rattle.rcu_board.specs.Views.{seen_at, sight, tally, Every, total, cpus, own_count, driver_count, control_count, accepted_count, claimed, runs, spent}
 use Rattle.rcu_board.specs.declared.view.View.{View}
 
 -- said of each view
@@ -91,6 +91,12 @@ pub record AskLaw (p x : ℕ) (views : List View) : Type 0 where
   pub value : x < 2
   pub in_views : Each views (AskLawInView p x)
 
+-- ---- how a word begins: x is word i
+
+-- a word on which no seat has made a step is 0
+abbrev pub BeginsAtZero : ℕ → ℕ → List View → Type 0
+BeginsAtZero i x views = total (λ v. tally v i) views ≡ 0 → x ≡ 0
+
 -- ---- what a view says by itself
 
 pub record ViewAlone (n : ℕ) (v : View) : Type 0 where
@@ -127,5 +133,7 @@ pub record BoardRule (n all : ℕ) (s : State ℕ View) : Type 0 where
   pub ask : (p : ℕ) → p < n → AskLaw p (slice_index s.words (asks_word p)) s.views
   -- the halt word is 0 or 1
   pub halt : slice_index s.words halt_word < 2
+  -- each word "begins as 0" (docs/specification/tables.md, "Words of the board"), but S_p, which the ask law speaks of
+  pub begins : (i : ℕ) → i < words_of n → is_asks i ≡ false → BeginsAtZero i (slice_index s.words i) s.views
   pub alone : Each s.views (ViewAlone n)
   pub seats : SeatLaw n all s.views
