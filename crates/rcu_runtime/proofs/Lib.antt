@@ -8,3 +8,4 @@ pub mod Firsts
 pub mod Seen
 pub mod Drains
 pub mod Settles
+pub mod Waiting

@@ -25,7 +25,7 @@ use Rattle.rcu_parts.specs.AtClose.{AccountsFor, cpu_part, cpu_parts, hand_for, 
 use Rattle.rcu_parts.specs.Drained.{HasNoneBack}
 use Rattle.rcu_parts.specs.OneOpen.{AreOfOneOpen, AreProcessorsFrom, Parts, hands_in, parts_board, processors_in}
 use Rattle.rcu_parts.specs.SameParts.{AreSameParts}
-use Rattle.rcu_runtime.specs.Calls.{OnControl, Opens, Polls}
+use Rattle.rcu_runtime.specs.Calls.{AsksOnce, OnControl, Opens, Polls}
 use Rattle.rcu_runtime.specs.Runtimes.{Continues}
 use Rattle.rcu_runtime.specs.Settled.{HasPassed, HasRunAll, IsCounted}
 use Rattle.rcu_runtime.specs.declared.fault.OtherBarrier.{OtherBarrier}
@@ -39,26 +39,18 @@ module _ {J R : Type 0} where
   pub passed_by : (counts : Counts) (passed : Passed) (old new : Parts J R) → OnControl (Polls counts (Some passed)) old new → HasPassed counts passed new
   passed_by counts passed old new polls = record { counts_are = polls.does.0; over = polls.does.1.over }
 
-  -- What two calls did to control, one after another, left all other parts as they were.
-  pub control_alone : {First Second : Control → Control → Type 0} (old between new : Parts J R) → OnControl First old between → OnControl Second between new → SameControl old.control new.control → OnControl SameControl old new
-  control_alone old between new first second same = record {
-    does = same;
-    processors = second.processors ∙ first.processors;
-    groups = second.groups ∙ first.groups;
-    hands = second.hands ∙ first.hands;
-    driver = second.driver ∙ first.driver;
-  }
+  -- a barrier that a runtime opened counts as many processors as it has
+  pub opened_own : (b : Barrier) (old new : Parts J R) → OnControl (Opens [] (Ok b)) old new → AreSameParts old new → b.counts.n ≡ (parts_board new).processors
+  opened_own b old new opens same = opens.does.0.many ∙ ap (λ (c : Board). c.processors) (sym same.control.board)
 
-  -- So does a poll after that, also where it was refused.
-  pub polled_alone : {First : Control → Control → Type 0} (counts : Counts) (polled : Result (Option Passed) OtherBarrier) (old between new : Parts J R) → OnControl First old between → IfOk polled (λ passed. OnControl (Polls counts passed) between new)
-      → IfErr polled (λ other. new ≡ between) → SameControl old.control new.control → OnControl SameControl old new
-  polled_alone counts (Ok passed) old between new first second stays same = control_alone old between new first second same
-  polled_alone counts (Err other) old between new first second stays same = record {
-    does = same;
-    processors = ap (λ (x : Parts J R). x.processors) stays ∙ first.processors;
-    groups = ap (λ (x : Parts J R). x.groups) stays ∙ first.groups;
-    hands = ap (λ (x : Parts J R). x.hands) stays ∙ first.hands;
-    driver = ap (λ (x : Parts J R). x.driver) stays ∙ first.driver;
+  -- a barrier was opened, and polled once
+  pub asked_once : (b : Barrier) (passed : Option Passed) (old between new : Parts J R) → OnControl (Opens [] (Ok b)) old between → OnControl (Polls b.counts passed) between new → OnControl AsksOnce old new
+  asked_once b passed old between new opens polls = record {
+    does = record { barrier = b; passed = passed; between = between.control; opens = opens.does; polls = polls.does };
+    processors = polls.processors ∙ opens.processors;
+    groups = polls.groups ∙ opens.groups;
+    hands = polls.hands ∙ opens.hands;
+    driver = polls.driver ∙ opens.driver;
   }
 
   -- a runtime that went on has as many processors
@@ -125,7 +117,7 @@ module _ {J R : Type 0} where
       → parts ≡ new → All (IsCounted passed.counts) (processors_in parts) → HasRunAll new
   has_run b passed old between new parts opens first polls second seen counted = record {
     counts = b.counts;
-    many = opens.does.0.many ∙ (ap (λ (c : Board). c.processors) (sym first.control.board) ∙ ap (λ (c : Board). c.processors) (sym second.control.board));
+    many = opened_own b old between opens first ∙ ap (λ (c : Board). c.processors) (sym second.control.board);
     counted = subst (λ (x : Counts). All (IsCounted x) (processors_in new)) polls.does.0 (subst (λ (x : Parts J R). All (IsCounted passed.counts) (processors_in x)) seen counted);
     over = polls.does.1.over;
   }

@@ -1,5 +1,6 @@
 -- What a call of one part does to a runtime: that part did what its own call says, and all others are as they were.
-use Rattle.std.specs.Prelude.{◌≡◌, ℕ, ◌<◌, ◌≤◌, List, Option, Result, length, get_or, set}
+use Rattle.std.specs.Prelude.{◌≡◌, ℕ, ◌<◌, ◌≤◌, List, [], Option, Result, length, get_or, set}
+use Rattle.std.specs.declared.result.Result.TheVariants.{Ok}
 use Rattle.rcu_control.specs.Barriers.{OpensBy, PollsBy}
 use Rattle.rcu_control.specs.Control.{Shuts, SwitchesBy}
 use Rattle.rcu_control.specs.Parts.{control_board, control_view}
@@ -115,3 +116,11 @@ Opens tickets result c d = OpensBy (control_board c).processors tickets result (
 -- a barrier was polled
 abbrev pub Polls : Counts → Option Passed → Control → Control → Type 0
 Polls counts passed c d = PollsBy counts passed (control_view c) (control_view d)
+
+-- Control opened a barrier with no tickets, polled it once, and did nothing else.
+pub record AsksOnce (c d : Control) : Type 0 where
+  pub barrier : Barrier
+  pub passed : Option Passed
+  pub between : Control
+  pub opens : Opens [] (Ok barrier) c between
+  pub polls : Polls barrier.counts passed between d

@@ -8,11 +8,13 @@ use rcu_parts::{AllParts, Barrier, Group, Hand, Processor};
 
 impl<J: Job> Whole<AllParts<Processor<J>, Group<J>, Hand<J>>> {
     ghost use Rattle.rcu_runtime.specs.Runtimes.{Continues, IsDrained, IsShut, IsShutFor, accepted_in};
+    ghost use Rattle.rcu_runtime.specs.Waits.{DrainsBy, FindsPassed, ShutsAndOpens};
 
     /// Ends acceptance, and opens a barrier for all that was accepted.
     fn shut_and_open(&mut self) -> Barrier
         ensures continues { Continues self.old self.new }
         ensures shut { IsShutFor result.counts self.new }
+        ensures begins { ShutsAndOpens result self.old self.new }
         ensures none { accepted_in self.new ≡ accepted_in self.old }
     {
         self.shut();
@@ -28,12 +30,13 @@ impl<J: Job> Whole<AllParts<Processor<J>, Group<J>, Hand<J>>> {
         ensures continues { Continues self.old self.new }
         ensures shut { IsShutFor barrier.now.counts self.new }
         ensures drained { IsTrue result → IsDrained self.new }
+        ensures finds { FindsPassed barrier.now.counts result self.old self.new }
         ensures none { accepted_in self.new ≡ accepted_in self.old }
     {
-        let Ok(Some(_)) = self.poll(barrier) else {
-            return false;
+        let Ok(passed) = self.poll(barrier) else {
+            unreachable!()
         };
-        true
+        passed.is_some()
     }
 
     /// Ends acceptance, and makes turns of all parts at this moment, at most so many, until all that was accepted has run.
@@ -42,10 +45,11 @@ impl<J: Job> Whole<AllParts<Processor<J>, Group<J>, Hand<J>>> {
         ensures continues { Continues self.old self.new }
         ensures shut { IsShut self.new }
         ensures drained { IsTrue result → IsDrained self.new }
+        ensures turns { DrainsBy moment turns result self.old self.new }
         ensures none { accepted_in self.new ≡ accepted_in self.old }
     {
         let barrier = self.shut_and_open();
-        for _ in 0..turns {
+        for _made in 0..turns {
             if self.has_run(&barrier) {
                 return true;
             }

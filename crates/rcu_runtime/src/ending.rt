@@ -43,11 +43,12 @@ impl<J: Job> Whole<AllParts<Processor<J>, Group<J>, Hand<J>>> {
         moment: u64,
         turns: u64,
     ) -> Result<Closed<J>, AnyFault>
-        ensures closes { IfOk result (λ closed. ClosesLater J.key_of J.gives self closed) }
+        ensures closes { IfOk result (λ closed.
+            ClosesLater J.key_of J.gives moment turns self closed) }
         ensures none_lost { IfOk result (LosesNone self) }
         ensures receipts { IfOk result (λ closed. HaveReceipts J.gives closed) }
         ensures none_back { IfOk result (λ closed. HasNoneBack closed) }
-        ensures fault { IfErr result IsOfDrain }
+        ensures fault { IfErr result (IsOfDrain moment turns self) }
     {
         let mut runtime = self;
         if !runtime.drain(moment, turns) {

@@ -33,11 +33,11 @@ fn counts_all<J: Job>(processors: &Vec<Processor<J>>, counts: &Counts) -> bool
 }
 
 impl<J: Job> Whole<AllParts<Processor<J>, Group<J>, Hand<J>>> {
-    ghost use Rattle.rcu_control.specs.Parts.{SameControl};
     ghost use Rattle.rcu_parts.specs.OneOpen.{parts_board};
-    ghost use Rattle.rcu_runtime.specs.Calls.{OnControl};
+    ghost use Rattle.rcu_runtime.specs.Calls.{AsksOnce, OnControl};
     ghost use Rattle.rcu_runtime.specs.Runtimes.{Continues, accepted_in};
     ghost use Rattle.rcu_runtime.specs.Settled.{HasPassed, HasRunAll, IsWhyNotPassed};
+    ghost use Rattle.rcu_runtime.specs.Waits.{TurnsUntilPassed};
 
     /// Makes turns of all parts at this moment, at most so many, until the barrier has passed.
     ///
@@ -55,9 +55,10 @@ impl<J: Job> Whole<AllParts<Processor<J>, Group<J>, Hand<J>>> {
         ensures passed { IfOk result (λ passed. HasPassed barrier.now.counts passed self.new) }
         ensures why { IfErr result
             (IsWhyNotPassed barrier.now.counts.n (parts_board self.old).processors) }
+        ensures turns { TurnsUntilPassed moment turns barrier.now.counts result self.old self.new }
         ensures none { accepted_in self.new ≡ accepted_in self.old }
     {
-        for _ in 0..turns {
+        for _made in 0..turns {
             match self.poll(barrier) {
                 Ok(Some(passed)) => return Ok(passed),
                 Ok(None) => {}
@@ -76,13 +77,16 @@ impl<J: Job> Whole<AllParts<Processor<J>, Group<J>, Hand<J>>> {
     pub fn has_run_all(&mut self) -> bool
         ensures continues { Continues self.old self.new }
         ensures run { IsTrue result → HasRunAll self.new }
-        ensures others { OnControl SameControl self.old self.new }
+        ensures asks { OnControl AsksOnce self.old self.new }
         ensures none { accepted_in self.new ≡ accepted_in self.old }
     {
         let Ok(barrier) = self.barrier(&[]) else {
-            return false;
+            unreachable!()
         };
-        let Ok(Some(passed)) = self.poll(&barrier) else {
+        let Ok(polled) = self.poll(&barrier) else {
+            unreachable!()
+        };
+        let Some(passed) = polled else {
             return false;
         };
         counts_all(&self.parts.processors, &passed.counts)

@@ -1,7 +1,9 @@
 -- What an order of a steering does to control.
 use Rattle.std.specs.Prelude.{◌≡◌, ◌≢◌, [], Ok}
+use Rattle.rcu_board.specs.Words.{turns_word}
 use Rattle.rcu_control.specs.Barriers.{IsOver}
 use Rattle.rcu_control.specs.Parts.{control_board, control_view}
+use Rattle.rcu_control.specs.Views.{StepsWithin}
 use Rattle.rcu_control.specs.declared.barrier.Barrier.{Barrier}
 use Rattle.rcu_control.specs.declared.control.Control.{Control}
 use Rattle.rcu_jobs.specs.declared.Counts.{Counts}
@@ -25,12 +27,13 @@ Steers _ _ c d = ⊥
 
 -- ---- what control does at the end of a run
 
--- A barrier was opened, and has passed.
+-- A barrier was opened, and has passed, for which control read turn words and made no other step.
 pub record Passes (c d : Control) : Type 0 where
   pub barrier : Barrier
   pub between : Control
   pub opens : Opens [] (Ok barrier) c between
   pub over : IsOver barrier.counts (control_view d)
+  pub only : StepsWithin turns_word barrier.counts.n (control_view between) (control_view d)
 
 -- Every processor was shut, and after that a barrier was opened, and has passed.
 pub record ShutsAndPasses (c d : Control) : Type 0 where

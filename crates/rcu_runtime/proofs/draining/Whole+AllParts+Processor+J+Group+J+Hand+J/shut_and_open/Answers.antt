@@ -32,3 +32,6 @@ unreachable-requires g c = never_refused c.in_default.field-0 c.shut.new.self c.
 
 pub returns-clause-none : goal.returns-clause-none
 returns-clause-none g c = c.barrier.ensures.none ∙ c.shut.ensures.none
+
+pub returns-clause-begins : goal.returns-clause-begins
+returns-clause-begins g c = record { finals = c.shut.result; shut = c.shut.new.self; shuts = c.shut.ensures.shuts; opens = c.in-Ok.ensures.opens }

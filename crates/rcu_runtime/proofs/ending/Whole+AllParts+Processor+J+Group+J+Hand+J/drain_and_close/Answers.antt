@@ -5,7 +5,13 @@ pub returns-in-Ok-clause-none_back : goal.returns-in-Ok-clause-none_back
 returns-in-Ok-clause-none_back g c = c.in-Ok.ensures.drained (c.if-not-drain.ensures.drained refl)
 
 pub returns-in-Ok-clause-closes : goal.returns-in-Ok-clause-closes
-returns-in-Ok-clause-closes g c = record { ended = c.drain.new.self; continues = c.drain.ensures.continues; closes = c.in-Ok.ensures.closes }
+returns-in-Ok-clause-closes g c = record { ended = c.drain.new.self; continues = c.drain.ensures.continues; drains = c.if-not-drain.ensures.turns; closes = c.in-Ok.ensures.closes }
+
+pub returns-then-not-drain-clause-fault : goal.returns-then-not-drain-clause-fault
+returns-then-not-drain-clause-fault g c = (c.drain.new.self, c.if-not-drain.ensures.turns)
+
+pub returns-in-Err-clause-fault : goal.returns-in-Err-clause-fault
+returns-in-Err-clause-fault g c = (c.drain.new.self, c.if-not-drain.ensures.turns)
 
 pub drain-requires-send-J : goal.drain-requires-send-J
 drain-requires-send-J g c κs within = c.type_bounds.send-J
