@@ -1,5 +1,5 @@
 -- The routes of a version, and what a call line makes of them: docs/specification/program.md, "Route table".
-use Rattle.std.specs.Prelude.{ℕ, zero, suc, List, [], ◌∷◌, ◌++◌, fold, filter_map, map, codes, String}
+use Rattle.std.specs.Prelude.{ℕ, zero, suc, ◌+◌, List, [], ◌∷◌, ◌++◌, length, sum_by, fold, filter_map, map, codes, String}
 use Rattle.std.specs.Fmt.{decimal}
 use Rattle.std.specs.Str.{bytes_eq}
 use Rattle.std.specs.declared.alloc.Global.{Global}
@@ -36,3 +36,13 @@ routes_of_round round (suc p) = routes_of_round round p ++ (codes "c" ++ decimal
 abbrev pub routes_of_rounds : ℕ → ℕ → List Route
 routes_of_rounds n zero = []
 routes_of_rounds n (suc round) = routes_of_rounds n round ++ routes_of_round round n
+
+-- ---- what versions count: "each route of each version counts as 128 bytes and those of its name"
+
+abbrev pub bytes_of : List Route → ℕ
+bytes_of = sum_by (λ r. 128 + length r.0)
+
+-- all versions of a run, of which each call makes one more
+abbrev pub bytes_of_run : List Route → List Route → ℕ
+bytes_of_run version [] = bytes_of version
+bytes_of_run version (call ∷ calls) = bytes_of version + bytes_of_run (with_route version call) calls

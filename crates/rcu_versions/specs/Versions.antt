@@ -1,8 +1,8 @@
 -- The versions that calls retire: docs/specification/program.md, "Route table".
-use Rattle.std.specs.Prelude.{◌≡◌, ℕ, ◌+◌, ◌*◌, List, [], ◌∷◌, length, map, Vec}
+use Rattle.std.specs.Prelude.{◌≡◌, ℕ, ◌+◌, ◌*◌, ◌^◌, ◌≤◌, List, [], ◌∷◌, length, map, Vec}
 use Rattle.std.specs.declared.alloc.Global.{Global}
 use Rattle.rcu_setup.specs.Words.{Route}
-use Rattle.rcu_versions.specs.Routes.{routes_in, with_route, with_routes}
+use Rattle.rcu_versions.specs.Routes.{bytes_of, bytes_of_run, routes_in, with_route, with_routes}
 use Rattle.rcu_versions.specs.declared.table.Retired.{Retired}
 use Rattle.rcu_versions.specs.declared.retiring.Retiring.{Retiring}
 use Rattle.rcu_versions.specs.declared.table.TheConstants.{KEY_STEP}
@@ -25,7 +25,17 @@ shown version = (version.key, routes_in version.table)
 abbrev pub AreVersions : List Route → List Route → Vec Retired Global → Type 0
 AreVersions setup calls versions = map shown versions.items ≡ retired_from 0 (with_routes [] setup) calls
 
+-- "All versions of a run take at most 1 GiB."
+abbrev pub most_bytes : ℕ
+most_bytes = 2 ^ 30
+
+-- Those of a setup's routes and these calls take no more.
+abbrev pub AreWithinBudget : List Route → List Route → Type 0
+AreWithinBudget setup calls = bytes_of_run (with_routes [] setup) calls ≤ most_bytes
+
 -- what was made of version 0 by these calls
 pub record HasRetired (first calls : List Route) (it : Retiring) : Type 0 where
   pub current : routes_in it.current ≡ with_routes first calls
   pub versions : map shown it.retired.items ≡ retired_from 0 first calls
+  pub bytes : it.bytes ≡ bytes_of (with_routes first calls)
+  pub budget : it.left + bytes_of_run first calls ≡ most_bytes

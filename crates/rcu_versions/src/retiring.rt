@@ -8,7 +8,7 @@ ghost use Rattle.rcu_setup.specs.Words.{Route};
 ghost use Rattle.rcu_script.specs.Calls.{is_call, route_in};
 ghost use Rattle.rcu_versions.specs.Routes.{routes_of_calls, routes_of_round, routes_of_rounds, with_routes};
 ghost use Rattle.rcu_script.specs.Faults.{IsWantOfMemory};
-ghost use Rattle.rcu_versions.specs.Versions.{AreVersions, HasRetired};
+ghost use Rattle.rcu_versions.specs.Versions.{AreVersions, AreWithinBudget, HasRetired};
 
 use crate::table::{KEY_STEP, Retired, Version, added_bytes, first_version, next_version};
 use rcu_script::{Fault, route_of};
@@ -16,7 +16,7 @@ use rcu_setup::{Command, Setup};
 use std::alloc::Global;
 use std::mem;
 
-/// How many bytes all versions of a run may take, by the count of [`route_bytes`]. A setup may ask for far more than a machine
+/// How many bytes all versions of a run may take, by the count of [`added_bytes`]. A setup may ask for far more than a machine
 /// has, as each call line copies the whole table.
 const MOST_BYTES: u64 = 1 << 30;
 
@@ -41,10 +41,13 @@ impl Retiring {
         ensures memory { IfErr result IsWantOfMemory }
     {
         let (current, bytes) = first_version(alloc, setup.routes.as_slice())?;
+        let Some(left) = MOST_BYTES.checked_sub(bytes) else {
+            return Err(Fault::memory());
+        };
         Ok(Retiring {
             current,
             bytes,
-            left: MOST_BYTES,
+            left,
             retired: Vec::new(alloc),
         })
     }
@@ -57,12 +60,13 @@ impl Retiring {
         ensures more { OnOk result (vec_len self.new.retired ≡ vec_len self.old.retired + 1) }
         ensures small { OnOk result
             (index_map_len self.new.current ≤ index_map_len self.old.current + 1) }
-        ensures spent { OnOk result (self.new.left + self.new.bytes ≡ self.old.left) }
         ensures version { (first calls : List Route) → HasRetired first calls self.old
             → OnOk result (HasRetired first (calls ++ (name.now, hop) ∷ []) self.new) }
         ensures memory { IfErr result IsWantOfMemory }
     {
-        let bytes = self.bytes.saturating_add(added_bytes(&self.current, name));
+        let Some(bytes) = self.bytes.checked_add(added_bytes(&self.current, name)) else {
+            return Err(Fault::memory());
+        };
         let Some(left) = self.left.checked_sub(bytes) else {
             return Err(Fault::memory());
         };
@@ -171,6 +175,8 @@ pub fn versions_by_script(alloc: Global, setup: &Setup) -> Result<Vec<Retired>, 
         vec_len retired ≡ count_by is_call setup.now.script.items) }
     ensures versions { IfOk result
         (AreVersions (routes_view setup.now.routes) (routes_of_calls setup.now.script.items)) }
+    ensures within { OnOk result
+        (AreWithinBudget (routes_view setup.now.routes) (routes_of_calls setup.now.script.items)) }
     ensures memory { IfErr result IsWantOfMemory }
 {
     let mut retiring = Retiring::of_routes(alloc, setup)?;
@@ -188,6 +194,8 @@ pub fn versions_by_rounds(alloc: Global, setup: &Setup) -> Result<Vec<Retired>, 
     ensures many { IfOk result (λ retired.
         vec_len retired ≡ setup.now.calls * setup.now.shape.processors) }
     ensures versions { IfOk result (AreVersions (routes_view setup.now.routes)
+        (routes_of_rounds setup.now.shape.processors setup.now.calls)) }
+    ensures within { OnOk result (AreWithinBudget (routes_view setup.now.routes)
         (routes_of_rounds setup.now.shape.processors setup.now.calls)) }
     ensures memory { IfErr result IsWantOfMemory }
 {

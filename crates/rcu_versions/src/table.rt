@@ -1,9 +1,9 @@
 //! One version of the route table.
 
-ghost use Rattle.std.specs.Prelude.{◌≡◌, ◌≤◌, ◌+◌, ◌%◌, [], IfErr, IfOk, OnOk, length, map};
+ghost use Rattle.std.specs.Prelude.{◌≡◌, ◌≤◌, ◌+◌, ◌%◌, ℕ, [], IfErr, IfOk, OnOk, length, map};
 ghost use Rattle.indexmap.specs.IndexMap.{index_map_len};
 ghost use Rattle.rcu_setup.specs.Arrays.{route_view};
-ghost use Rattle.rcu_versions.specs.Routes.{routes_in, with_route, with_routes};
+ghost use Rattle.rcu_versions.specs.Routes.{bytes_of, routes_in, with_route, with_routes};
 ghost use Rattle.rcu_script.specs.Faults.{IsWantOfMemory};
 
 use indexmap::IndexMap;
@@ -27,17 +27,15 @@ pub struct Retired {
 /// How many bytes a route takes beside its name, at most: its place in the map, with what a list keeps spare.
 const ROUTE_BYTES: u64 = 128;
 
-/// How many bytes a route of this name takes, at most.
-fn route_bytes(name: &str) -> u64 {
-    ROUTE_BYTES.saturating_add(name.len() as u64)
-}
-
 /// How many bytes more than this version the one with this route takes, at most. A name that is there takes its place.
-pub fn added_bytes(version: &Version, name: &str) -> u64 {
+pub fn added_bytes(version: &Version, name: &str) -> u64
+    ensures { (hop : ℕ) → bytes_of (with_route (routes_in version.now) (name.now, hop))
+        ≡ bytes_of (routes_in version.now) + result }
+{
     if version.contains_key(name) {
         0
     } else {
-        route_bytes(name)
+        ROUTE_BYTES + name.len() as u64
     }
 }
 
@@ -70,17 +68,21 @@ pub fn next_version(
     Ok(copy)
 }
 
-/// Version 0, which the setup's routes make, and how many bytes it takes, by the count of [`route_bytes`].
+/// Version 0, which the setup's routes make, and how many bytes it takes, by the count of [`added_bytes`].
 pub fn first_version(alloc: Global, routes: &[(String, u32)]) -> Result<(Version, u64), Fault>
     ensures small { IfOk result (λ v. index_map_len v.0 ≤ length routes.now) }
     ensures routes { IfOk result (λ v. routes_in v.0 ≡ with_routes [] (map route_view routes.now)) }
+    ensures bytes { IfOk result (λ v. v.1 ≡ bytes_of (routes_in v.0)) }
     ensures memory { IfErr result IsWantOfMemory }
 {
     let mut version = Version::new(alloc);
     let mut bytes = 0u64;
     for (name, hop) in routes {
+        let Some(more) = bytes.checked_add(added_bytes(&version, name.as_str())) else {
+            return Err(Fault::memory());
+        };
         set_route(alloc, &mut version, name.as_str(), *hop)?;
-        bytes = bytes.saturating_add(route_bytes(name.as_str()));
+        bytes = more;
     }
     Ok((version, bytes))
 }
