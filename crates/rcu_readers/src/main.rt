@@ -5,6 +5,8 @@
 
 mod table;
 
+ghost use Rattle.std.specs.Prelude.{⊤};
+
 use rcu_workers::{
     Answer, AnyFault, End, Ending, Order, Reading, Reply, Shape, Steering, Step, Worker, open,
     run_or_drop,
@@ -91,6 +93,8 @@ struct Switcher {
 }
 
 impl Steering for Switcher {
+    ghost may = { λ order. ⊤ };
+
     fn order(&mut self, reply: Reply) -> Order {
         match reply {
             Reply::Switched(_) => Order::Done,

@@ -4,3 +4,4 @@ pub mod Acts
 pub mod Runs
 pub mod Backs
 pub mod Sends
+pub mod Steered

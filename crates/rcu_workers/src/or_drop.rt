@@ -6,6 +6,7 @@ ghost use Rattle.rcu_runtime.specs.Runtimes.{Continues, IsDrained};
 ghost use Rattle.rcu_runtime.specs.Settled.{HasRunAll};
 ghost use Rattle.rcu_workers.specs.Faults.{IsOfRun};
 ghost use Rattle.rcu_workers.specs.Runs.{ComeBack, KeepsUnbegun};
+ghost use Rattle.rcu_workers.specs.Steers.{RunsControl};
 
 use crate::running::Ending;
 use crate::steering::Steering;
@@ -46,6 +47,7 @@ pub fn run_or_drop<
     ensures unbegun { IfOk result (λ worked. KeepsUnbegun workers worked.workers worked.ends) }
     ensures run { ending ≡ Ending.AfterBarrier → IfOk result (λ worked. HasRunAll worked.runtime) }
     ensures drained { ending ≡ Ending.Drained → IfOk result (λ worked. IsDrained worked.runtime) }
+    ensures control { IfOk result (λ worked. RunsControl G.may ending runtime worked.runtime) }
 {
     match run_workers(rt, alloc, runtime, workers, steering, ending) {
         Ok(worked) => Ok(worked),

@@ -3,7 +3,7 @@
 ghost use Rattle.std.specs.Prelude.{◌≡◌, vec_len};
 ghost use Rattle.rcu_workers.specs.Rooms.{AreHalvesFor, IsRoomFor};
 ghost use Rattle.rcu_workers.specs.Runs.{ComeBack, HaveWorked, KeepsUnbegun};
-ghost use Rattle.rcu_workers.specs.Steers.{Passes, ShutsAndPasses};
+ghost use Rattle.rcu_workers.specs.Steers.{EndsBy, Oversees, Passes};
 ghost use Rattle.rcu_control.specs.Parts.{SameControl};
 
 use crate::crew::{join, join_all};
@@ -55,9 +55,7 @@ fn pass<R: Wait + Clock>(rt: &R, control: &mut Control)
 /// Waits for what the ending waits for.
 fn settle<R: Wait + Clock>(rt: &R, control: &mut Control, ending: Ending)
     ensures same { SameControl control.old control.new }
-    ensures at_once { ending ≡ Ending.AtOnce → control.new ≡ control.old }
-    ensures after_barrier { ending ≡ Ending.AfterBarrier → Passes control.old control.new }
-    ensures drained { ending ≡ Ending.Drained → ShutsAndPasses control.old control.new }
+    ensures ends { EndsBy ending control.old control.new }
 {
     match ending {
         Ending::AtOnce => {}
@@ -70,7 +68,7 @@ fn settle<R: Wait + Clock>(rt: &R, control: &mut Control, ending: Ending)
 }
 
 /// What is done while all parts run: the workers begin, control is steered, and once all workers have ended comes what the
-/// ending waits for. Where some part has no thread, nothing.
+/// ending waits for. Where some part has no thread, nothing. Answers whether all parts had one.
 fn oversee<G: Steering, R: Wait + Clock>(
     rt: &R,
     control: &mut Control,
@@ -79,7 +77,8 @@ fn oversee<G: Steering, R: Wait + Clock>(
     many: u64,
     ending: Ending,
 ) -> bool
-    ensures { SameControl control.old control.new }
+    ensures same { SameControl control.old control.new }
+    ensures oversees { Oversees G.may ending result control.old control.new }
 {
     if signals.is_over() {
         return false;
@@ -123,6 +122,7 @@ pub(crate) fn run_parts<
     requires others { (rooms.groups.many ≡ vec_len parts.groups)
         × (rooms.hands.many ≡ vec_len parts.hands) }
     ensures parts { HaveWorked J.key_of J.gives parts result.parts }
+    ensures control { Oversees G.may ending result.has_begun parts.control result.parts.control }
     ensures workers { ComeBack workers result.workers result.ends }
     ensures unbegun { KeepsUnbegun workers result.workers result.ends }
 {

@@ -1,7 +1,7 @@
 //! What a program hands in for control: a steering, which says step by step what control does.
 
 ghost use Rattle.std.specs.Prelude.{◌≡◌};
-ghost use Rattle.rcu_workers.specs.Steers.{Steers};
+ghost use Rattle.rcu_workers.specs.Steers.{IsSteered, Steers};
 ghost use Rattle.rcu_control.specs.Parts.{SameControl};
 
 use crate::pausing::rest;
@@ -53,8 +53,12 @@ pub enum Reply {
 
 /// What a program does with control. It never has control: it says what that does, and is told what came of it.
 pub trait Steering {
+    // What it may order.
+    ghost may: { Order → Type 0 };
+
     /// The next order, where this is what the one before came to.
-    fn order(&mut self, reply: Reply) -> Order;
+    fn order(&mut self, reply: Reply) -> Order
+        ensures { may result };
 }
 
 /// A steering that orders nothing.
@@ -62,6 +66,8 @@ pub trait Steering {
 pub struct NoSteering;
 
 impl Steering for NoSteering {
+    ghost may = { λ order. order ≡ Order.Done };
+
     fn order(&mut self, _reply: Reply) -> Order
         ensures { result ≡ Order.Done }
     {
@@ -110,7 +116,8 @@ fn obey(control: &mut Control, order: Order) -> Reply
 
 /// Makes the orders of a steering, one after another, until the last one.
 pub(crate) fn steer<G: Steering, R: Wait + Clock>(rt: &R, control: &mut Control, steering: &mut G)
-    ensures { SameControl control.old control.new }
+    ensures same { SameControl control.old control.new }
+    ensures steers { IsSteered G.may control.old control.new }
 {
     let mut reply = Reply::Began;
     let mut pauses = Pauses::new();

@@ -1,12 +1,13 @@
 //! A whole runtime in threads, and back.
 
-ghost use Rattle.std.specs.Prelude.{◌≡◌, IfErr, IfOk, IsTrue, MatchResult, length, vec_len};
+ghost use Rattle.std.specs.Prelude.{◌≡◌, true, IfErr, IfOk, IsTrue, MatchResult, length, vec_len};
 ghost use Rattle.rcu_parts.specs.OneOpen.{processors_in};
 ghost use Rattle.rcu_runtime.specs.Runtimes.{Continues, IsDrained};
 ghost use Rattle.rcu_runtime.specs.Settled.{HasRunAll};
 ghost use Rattle.rcu_workers.specs.Rooms.{AreHalvesFor, IsRoomFor};
 ghost use Rattle.rcu_workers.specs.Faults.{ComesBack, HaveEnded, IsEarly, IsLate, IsWhy};
 ghost use Rattle.rcu_workers.specs.Runs.{ComeBack, KeepsUnbegun};
+ghost use Rattle.rcu_workers.specs.Steers.{LooksBy, LooksIf, RunsControl, StopsControl};
 
 use crate::fault::WorkersFault;
 use crate::rooms::Rooms;
@@ -72,6 +73,7 @@ fn is_settled<J: Job>(runtime: &mut Runtime<J>, ending: Ending) -> bool
     ensures at_once { ending ≡ Ending.AtOnce → IsTrue result }
     ensures run { ending ≡ Ending.AfterBarrier → IsTrue result → HasRunAll runtime.new }
     ensures drained { ending ≡ Ending.Drained → IsTrue result → IsDrained runtime.new }
+    ensures looks { LooksBy ending runtime.old runtime.new }
 {
     match ending {
         Ending::AtOnce => true,
@@ -96,6 +98,10 @@ fn answer<J: Job, W: Worker<J>>(
     ensures ends { IfErr result (λ refused. refused.worked.ends ≡ ends) }
     ensures run { ending ≡ Ending.AfterBarrier → IfOk result (λ w. HasRunAll w.runtime) }
     ensures drained { ending ≡ Ending.Drained → IfOk result (λ w. IsDrained w.runtime) }
+    ensures begun { IfOk result (λ _. has_begun ≡ true) }
+    ensures looks { IfOk result (λ w. LooksBy ending runtime w.runtime) }
+    ensures looks_back { IfErr result (λ refused.
+        LooksIf has_begun ending runtime refused.worked.runtime) }
 {
     let mut runtime = runtime;
     if !has_begun {
@@ -165,6 +171,9 @@ pub fn run_workers<
         KeepsUnbegun workers refused.worked.workers refused.worked.ends) }
     ensures run { ending ≡ Ending.AfterBarrier → IfOk result (λ worked. HasRunAll worked.runtime) }
     ensures drained { ending ≡ Ending.Drained → IfOk result (λ worked. IsDrained worked.runtime) }
+    ensures control { IfOk result (λ worked. RunsControl G.may ending runtime worked.runtime) }
+    ensures control_back { IfErr result (λ refused.
+        StopsControl G.may ending refused.fault runtime refused.worked.runtime) }
 {
     let (parts, limit) = runtime.take_apart();
     let rooms = match find_room(alloc, &parts, workers.len()) {

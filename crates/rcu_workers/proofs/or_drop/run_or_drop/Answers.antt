@@ -53,3 +53,6 @@ returns-in-Ok-clause-run g c = c.in-Ok.ensures.run
 
 pub returns-in-Ok-clause-drained : goal.returns-in-Ok-clause-drained
 returns-in-Ok-clause-drained g c = c.in-Ok.ensures.drained
+
+pub returns-in-Ok-clause-control : goal.returns-in-Ok-clause-control
+returns-in-Ok-clause-control g c = c.in-Ok.ensures.control

@@ -1,4 +1,5 @@
-use Rattle.std.proofs.Common.{refl, rules}
+use Rattle.std.proofs.Common.{refl, rules, subst, sym}
+use Rattle.rcu_workers.specs.Steers.{LooksIf}
 use Rattle.rcu_runtime.proofs.Wholes.{continues_itself}
 use Rattle.rcu_workers.proofs.Sends.{sent_as}
 use Rattle.rcu_workers.proofs.worked.answer.Goals as goal
@@ -47,3 +48,15 @@ returns-clause-ends g c = refl
 
 pub returns-clause-fault : goal.returns-clause-fault
 returns-clause-fault g c = (c.if-not-has_begun.false, λ e. absurd (let yes = c.is_settled-is_settled.ensures.at_once e in let no = c.if-is_settled.false in cc))
+
+pub returns-then-not-has_begun-clause-looks_back : goal.returns-then-not-has_begun-clause-looks_back
+returns-then-not-has_begun-clause-looks_back g c = subst (λ b. LooksIf b c.args.ending c.args.runtime c.args.runtime) (sym c.if-not-has_begun.true) refl
+
+pub returns-then-is_settled-clause-begun : goal.returns-then-is_settled-clause-begun
+returns-then-is_settled-clause-begun g c = c.if-not-has_begun.false
+
+pub returns-then-is_settled-clause-looks : goal.returns-then-is_settled-clause-looks
+returns-then-is_settled-clause-looks g c = c.is_settled-is_settled.ensures.looks
+
+pub returns-clause-looks_back : goal.returns-clause-looks_back
+returns-clause-looks_back g c = subst (λ b. LooksIf b c.args.ending c.args.runtime c.is_settled-is_settled.new.runtime) (sym c.if-not-has_begun.false) c.is_settled-is_settled.ensures.looks

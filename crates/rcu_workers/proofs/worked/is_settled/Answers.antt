@@ -55,3 +55,12 @@ returns-in-Drained-clause-run g c = λ asked. absurd (let e = c.in-Drained.is in
 
 pub returns-in-Drained-clause-drained : goal.returns-in-Drained-clause-drained
 returns-in-Drained-clause-drained g c = λ _. c.drain.ensures.drained
+
+pub returns-in-AtOnce-clause-looks : goal.returns-in-AtOnce-clause-looks
+returns-in-AtOnce-clause-looks g c = refl
+
+pub returns-in-AfterBarrier-clause-looks : goal.returns-in-AfterBarrier-clause-looks
+returns-in-AfterBarrier-clause-looks g c = c.has_run_all.ensures.asks
+
+pub returns-in-Drained-clause-looks : goal.returns-in-Drained-clause-looks
+returns-in-Drained-clause-looks g c = (c.drain.result, c.drain.ensures.turns)

@@ -7,6 +7,9 @@ use Rattle.rcu_parts.specs.OneOpen.{processors_in}
 use Rattle.rcu_workers.specs.Faults.{ComesBack, HaveEnded, IsLate, IsWhy}
 use Rattle.rcu_workers.proofs.Backs.{all_come_back, as_many_back, continues_either, early_back, early_ends, early_why, if_err, if_err_both, if_ok, late_back, late_ends, late_why, unbegun_back, unbegun_come}
 use Rattle.rcu_workers.proofs.Runs.{worked_continues, worked_whole}
+use Rattle.rcu_workers.proofs.Steered.{early_control, if_ok_both, late_control, runs_control}
+use Rattle.rcu_workers.specs.Steers.{LooksBy, LooksIf, RunsControl, StopsControl}
+use Rattle.std.proofs.Common.{true}
 use Rattle.rcu_workers.proofs.worked.run_workers.Goals as goal
 
 pub put_together-requires-clause-whole : goal.put_together-requires-clause-whole
@@ -133,3 +136,20 @@ returns-clause-unbegun g c = let ran = c.run_parts-ran in unbegun_come c.args.wo
 pub returns-clause-unbegun_back : goal.returns-clause-unbegun_back
 returns-clause-unbegun_back g c = let ran = c.run_parts-ran in
     unbegun_back c.args.workers ran.result.workers ran.result.ends ran.ensures.unbegun (λ refused. refused.worked.workers) (λ refused. refused.worked.ends) c.answer.result c.answer.ensures.back c.answer.ensures.ends
+
+pub returns-in-Err-clause-control_back : goal.returns-in-Err-clause-control_back
+returns-in-Err-clause-control_back g c =
+    early_control g.G.Steering.may c.args.ending (vec_len c.take_apart-parts.result.0.processors) c.len.result c.in-Err.fault c.args.runtime c.put_together.result c.in-Err.ensures.fault (c.put_together.ensures ∙ c.take_apart-parts.ensures.parts)
+
+pub returns-clause-control : goal.returns-clause-control
+returns-clause-control g c = let may = g.G.Steering.may in let ran = c.run_parts-ran.result in let whole = c.put_together-runtime.result in
+    if_ok_both (λ w. ran.has_begun ≡ true) (λ w. LooksBy c.args.ending whole w.runtime) (λ w. RunsControl may c.args.ending c.args.runtime w.runtime)
+    (λ w is looks. runs_control may c.args.ending c.args.runtime c.take_apart-parts.result.0 ran.parts whole c.take_apart-parts.ensures.parts c.put_together-runtime.ensures ran.has_begun w.runtime is c.run_parts-ran.ensures.control looks)
+    c.answer.result c.answer.ensures.begun c.answer.ensures.looks
+
+pub returns-clause-control_back : goal.returns-clause-control_back
+returns-clause-control_back g c = let may = g.G.Steering.may in let ran = c.run_parts-ran.result in let whole = c.put_together-runtime.result in
+    if_err_both (λ refused. IsLate ran.has_begun c.args.ending refused.fault) (λ refused. LooksIf ran.has_begun c.args.ending whole refused.worked.runtime)
+    (λ refused. StopsControl may c.args.ending refused.fault c.args.runtime refused.worked.runtime)
+    (λ refused late looks. late_control may c.args.ending c.args.runtime c.take_apart-parts.result.0 ran.parts whole c.take_apart-parts.ensures.parts c.put_together-runtime.ensures ran.has_begun refused.fault refused.worked.runtime late c.run_parts-ran.ensures.control looks)
+    c.answer.result c.answer.ensures.fault c.answer.ensures.looks_back
