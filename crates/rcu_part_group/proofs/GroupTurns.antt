@@ -13,8 +13,7 @@ use Rattle.rcu_board.specs.declared.view.View.{View}
 use Rattle.rcu_control.proofs.Stepping.{same_again}
 use Rattle.rcu_control.specs.Views.{IsBare, KeepsLists}
 use Rattle.rcu_holdings.specs.Aims.{AreUpTo, is_up_to, aim, wanted, looked as list_looked}
-use Rattle.rcu_holdings.specs.declared.member_lists.TheConstants.{MOST_BATCHES}
-use Rattle.rcu_holdings.specs.MemberLists.{Relay, relay, TakesIn, Gives, Loads, Hands}
+use Rattle.rcu_holdings.specs.MemberLists.{most_batches, Relay, relay, TakesIn, Gives, Loads, Hands}
 use Rattle.rcu_holdings.proofs.Aims.{up-raised, look-needed}
 use Rattle.rcu_holdings.specs.declared.member_lists.MemberLists.{MemberLists}
 use Rattle.rcu_jobs.specs.declared.callback.Callback.{Callback}
@@ -220,9 +219,9 @@ module _ {J : Type 0} where
     bare = l.bare;
     members_are = members_kept ms ns (takes_same took ms ns s) l.members_are;
     looked = each_all TakesFrom (λ _. Unit {0}) (λ m. (relay_of m).advanced ≤ sight v) (λ m. (relay_of m).advanced ≤ sight v)
-        (λ n x y r t h. omega (arith, h, takes_advanced MOST_BATCHES n (relay_of x) (relay_of y) r.takes)) s.each ms ns s.elements (always s.each) l.looked;
+        (λ n x y r t h. omega (arith, h, takes_advanced most_batches n (relay_of x) (relay_of y) r.takes)) s.each ms ns s.elements (always s.each) l.looked;
     needed = each_all TakesFrom (λ _. Unit {0}) (λ m. AreUpTo (seen_at v needed_word) (relay_of m).list) (λ m. AreUpTo (seen_at v needed_word) (relay_of m).list)
-        (λ n x y r t h. takes_upto (seen_at v needed_word) MOST_BATCHES n (relay_of x) (relay_of y) r.takes h) s.each ms ns s.elements (always s.each) l.needed;
+        (λ n x y r t h. takes_upto (seen_at v needed_word) most_batches n (relay_of x) (relay_of y) r.takes h) s.each ms ns s.elements (always s.each) l.needed;
     loaded = each_all TakesFrom (λ _. Unit {0}) (λ m. length (relay_of m).out ≤ blimit) (λ m. length (relay_of m).out ≤ blimit)
         (λ n x y r t h. omega (arith, h, ap (λ (z : Relay J). length z.out) r.takes.others)) s.each ms ns s.elements (always s.each) l.loaded;
   }

@@ -11,8 +11,7 @@ use Rattle.rcu_board.specs.declared.board.Seat.{Seat}
 use Rattle.rcu_board.specs.declared.view.View.{View}
 use Rattle.rcu_control.specs.Views.{SamePart}
 use Rattle.rcu_holdings.specs.Aims.{wanted}
-use Rattle.rcu_holdings.specs.MemberLists.{front_of, rear_of, TakesIn, after_look, Gives, GivesSome, folk_lists, nothing_relayed}
-use Rattle.rcu_holdings.specs.declared.member_lists.TheConstants.{MOST_BATCHES}
+use Rattle.rcu_holdings.specs.MemberLists.{most_batches, front_of, rear_of, TakesIn, after_look, Gives, GivesSome, folk_lists, nothing_relayed}
 use Rattle.rcu_jobs.specs.declared.callback.Callback.{Callback}
 use Rattle.rcu_jobs.specs.declared.turns.GroupTurn.{GroupTurn}
 use Rattle.rcu_jobs.specs.declared.turns.Lists.{Lists}
@@ -37,7 +36,7 @@ module _ {J : Type 0} where
   -- so many callbacks were drawn from its lane, and joined its list
   pub record TakesFrom (took : ℕ) (m n : GroupMember J) : Type 0 where
     pub same : SameGroupMember m n
-    pub takes : TakesIn MOST_BATCHES took (relay_of m) (relay_of n)
+    pub takes : TakesIn most_batches took (relay_of m) (relay_of n)
 
   -- its list was advanced by the number seen, and accelerated, and wants this number if any
   pub record LooksAt (seen : ℕ) (wants : Option ℕ) (m n : GroupMember J) : Type 0 where
