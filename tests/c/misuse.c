@@ -147,6 +147,12 @@ static void wrong_kinds(void) {
     bool over;
     is("a barrier of three", rcuo_poll(&parts.control, &counts, &over), RCUO_FOREIGN);
     is("a barrier of three by a processor", rcuo_poll(&parts.processors[0], &counts, &over), RCUO_FOREIGN);
+    counts.processors = 0;
+    is("a barrier of none", rcuo_poll(&parts.control, &counts, &over), RCUO_FOREIGN);
+    is("a barrier of none by a processor", rcuo_poll(&parts.processors[0], &counts, &over), RCUO_FOREIGN);
+    counts.processors = 1;
+    is("a barrier of one", rcuo_poll(&parts.control, &counts, &over), RCUO_FOREIGN);
+    is("a barrier of one by a processor", rcuo_poll(&parts.processors[0], &counts, &over), RCUO_FOREIGN);
     counts.processors = UINT64_MAX;
     is("a barrier of too many", rcuo_poll(&parts.control, &counts, &over), RCUO_FOREIGN);
     is("a ticket of none", rcuo_counts_ticket(&counts, (struct rcuo_ticket){40, 0}), RCUO_NO_PROCESSOR);

@@ -27,13 +27,15 @@ OpensPart result (Control c) new = Gives Control ControlOpens result c new
 OpensPart result (Processor p) new = Gives Processor OpensOne result p new
 OpensPart result old new = IsRefused (not_resting old) result old new
 
--- control read turn words: the barrier has passed, or not yet
+-- control read turn words, of as many processors as there are: the barrier has passed, or not yet
 pub record PollsOne (counts : Counts) (passed : Option Passed) (c d : TheControl) : Type 0 where
+  pub many : counts.n ≡ (control_board c).processors
   pub same : SameControl c d
   pub polls : PollsBy counts passed (control_view c) (control_view d)
 
 -- a processor did, and nothing else changed
 pub record PollsCpu (counts : Counts) (passed : Option Passed) (p q : ForeignCpu) : Type 0 where
+  pub many : counts.n ≡ (board_of p.state).processors
   pub kept : KeepsProcessor p q
   pub lists : KeepsAll p.state q.state
   pub polls : PollsBy counts passed (view_of p.state) (view_of q.state)
