@@ -1,7 +1,8 @@
 -- What begin and finish on a processor or a hand in a slot do, in the words of their own calls.
-use Rattle.std.specs.Prelude.{◌≡◌, ℕ, Result, MatchResult}
+use Rattle.std.specs.Prelude.{◌≡◌, ◌≢◌, ℕ, Result, MatchResult}
 use Rattle.std.specs.declared.result.Result.TheVariants.{Err, Ok}
 use Rattle.rcu_jobs.specs.declared.Stop.{Stop}
+use Rattle.rcu_jobs.specs.declared.Stop.TheVariants.{Limit}
 use Rattle.rcu_lending.specs.Faults.{stop_fault}
 use Rattle.rcu_lending.specs.Parts.{not_resting, not_running}
 use Rattle.rcu_lending.specs.Processors.{ForeignCpu, HasKey, KeepsProcessor, foreign_key}
@@ -31,11 +32,12 @@ pub record BeginsOne (moment : ℕ) (job : ForeignJob) (p : ForeignCpu) (q : Beg
   pub keyed : IsSound foreign_key HasKey p.state → job.key ≡ q.processor.state.claimed.key
   pub sound : IsSound foreign_key HasKey p.state → IsSoundRunning foreign_key HasKey q.processor.state
 
--- A tick that ran nothing, and why.
+-- A tick that ran nothing, and why: never for its limit.
 pub record StopsOne (moment : ℕ) (fault : Fault) (p q : ForeignCpu) : Type 0 where
   pub kept : KeepsProcessor p q
   pub stop : Stop
   pub named : fault ≡ stop_fault stop
+  pub counts : stop ≢ Limit
   pub stops : StopsBegin moment stop p.state q.state
 
 -- The claim has ended, and its record is added, with the job that was handed out.
@@ -53,11 +55,13 @@ pub record BeginsHandOne (job : ForeignJob) (h : ForeignHand) (i : BegunHand) : 
   pub keyed : hands.IsKeyed foreign_key i.hand.state job
   pub sound : IsSoundHand foreign_key HasKey h.state → hands.IsSoundRunning foreign_key HasKey i.hand.state
 
+-- A turn that ran nothing, and why: never for its limit.
 pub record StopsHandOne (fault : Fault) (h i : ForeignHand) : Type 0 where
   pub same : SameHand h.state i.state
   pub sound : IsSoundHand foreign_key HasKey h.state → IsSoundHand foreign_key HasKey i.state
   pub stop : Stop
   pub named : fault ≡ stop_fault stop
+  pub counts : stop ≢ Limit
   pub stops : hands.StopsHand stop h.state i.state
 
 pub record FinishesHandOne (h : BegunHand) (i : ForeignHand) : Type 0 where

@@ -6,7 +6,7 @@ pub returns-in-Runs : goal.returns-in-Runs
 returns-in-Runs c = let e = c.in-Runs.ensures in (record { hand = c.in-Runs.hand; job = c.in-Runs.job }, refl, record { same = e.same; job_is = refl; begins = e.runs; keyed = e.keyed; sound = λ s. (e.sound s).0 })
 
 pub returns-in-Stops : goal.returns-in-Stops
-returns-in-Stops c = let e = c.in-Stops.ensures in (c.in-Stops.hand, refl, record { same = e.stays; sound = λ s. (e.sound s).1; stop = c.in-Stops.stop; named = c.fault_of_stop.ensures; stops = e.stops })
+returns-in-Stops c = let e = c.in-Stops.ensures in (c.in-Stops.hand, refl, record { same = e.stays; sound = λ s. (e.sound s).1; stop = c.in-Stops.stop; named = c.fault_of_stop.ensures; counts = e.counts; stops = e.stops })
 
 pub begin-requires-send-J : goal.begin-requires-send-J
 begin-requires-send-J c κs = job_sends
