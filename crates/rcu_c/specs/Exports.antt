@@ -64,13 +64,17 @@ pub record OpensBy (settings : Settings) (number : ℕ) (slots : PartSlots) : Ty
   pub is : IsShapeOf settings shape
   pub opens : OpensInto shape number slots
 
--- Why nothing was opened: a setting is outside its limits, a slot has a part, or memory was refused.
-abbrev pub IsOutside : Settings → Type 0
-IsOutside s = IsWithinLimits s.processors s.offloadable s.stride s.blimit s.qhimark s.limit → ⊥
+-- Each setting is within its limits; and one is outside.
+abbrev pub IsInside : Settings → Type 0
+IsInside s = IsWithinLimits s.processors s.offloadable s.stride s.blimit s.qhimark s.limit
 
+abbrev pub IsOutside : Settings → Type 0
+IsOutside s = IsInside s → ⊥
+
+-- Why nothing was opened: a setting is outside its limits; or all are within, and a slot has a part, or memory was refused.
 abbrev pub RefusesOpenBy : Settings → ℕ → PartSlots → Type 0
 RefusesOpenBy settings answer slots = ((answer ≡ fault_number OfShape) × IsOutside settings)
-    ⊎ ((fault : Fault) × (answer ≡ fault_number fault) × RefusesOpen fault slots)
+    ⊎ (IsInside settings × ((fault : Fault) × (answer ≡ fault_number fault) × RefusesOpen fault slots))
 
 -- Why nothing was let go: the slot is empty, or what it has isn't what is left of a runtime.
 abbrev pub RefusesEndBy : ℕ → Slot → Type 0

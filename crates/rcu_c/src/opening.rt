@@ -3,6 +3,7 @@
 ghost use Rattle.std.specs.Prelude.{◌≡◌, ◌≢◌};
 ghost use Rattle.rcu_c.specs.Exports.{IsDoneUnlessForMemory, OpensBy, RefusesCloseBy, RefusesOpenBy, TellsClose};
 ghost use Rattle.rcu_lending.specs.Gathers.{AreOfTheOpen, CanTryClose, StayHeld, StayRead};
+ghost use Rattle.rcu_lending.specs.Opens.{AreEmpty};
 
 use crate::words::Settings;
 use rcu_lending::{Fault, PartSlots, close_from, open_into};
@@ -18,6 +19,7 @@ pub extern "C" fn rcuo_slot_open(
     slots: &mut PartSlots,
 ) -> u32
     ensures opened { result ≡ 0 → OpensBy settings.now number slots.new }
+    ensures empty { result ≡ 0 → AreEmpty slots.old }
     ensures refused { result ≢ 0 → StayHeld slots.old slots.new }
     ensures why { result ≢ 0 → RefusesOpenBy settings.now result slots.old }
     ensures sections { StayRead slots.old slots.new }

@@ -104,10 +104,17 @@ pub record OpensBoxes (shape : Shape) (number : ℕ) (boxes : Boxes) : Type 0 wh
   pub new : AreNew shape parts
   pub boxes_all : BoxesAll number parts boxes
 
--- The slots have all parts of a new runtime under this number, each in its place.
+-- Each processor, group and hand is for the place of its own number.
+pub record AreAtHome (o : Opening) (parts : ForeignParts) (slots : PartSlots) : Type 0 where
+  pub processors_are : lents_in slots.processors ≡ lent_processors o (processors_in parts)
+  pub groups_are : lents_in slots.groups ≡ lent_groups o (groups_in parts)
+  pub hands_are : lents_in slots.hands ≡ lent_hands o (hands_in parts)
+
+-- The slots have all parts of a new runtime under this number, each in the place of its own number.
 pub record OpensInto (shape : Shape) (number : ℕ) (slots : PartSlots) : Type 0 where
   pub parts : ForeignParts
   pub new : AreNew shape parts
   pub opening : Opening
   pub named : opening.number ≡ number
   pub held : AreHeld opening parts slots
+  pub at_home : AreAtHome opening parts slots

@@ -2,7 +2,7 @@
 
 ghost use Rattle.std.specs.Prelude.{◌≡◌, ◌≢◌, [], IfErr, IfOk, length, true, false};
 ghost use Rattle.rcu_lending.specs.Gathers.{StayHeld, StayRead, held_in, lent_of, lents_in, sections_in};
-ghost use Rattle.rcu_lending.specs.Opens.{AreAt, AreRising, BoxesAll, OpensBoxes, OpensInto, RefusesOpen, TakesAt, boxed, lent_groups, lent_hands, lent_processors, places_of};
+ghost use Rattle.rcu_lending.specs.Opens.{AreAt, AreEmpty, AreRising, BoxesAll, OpensBoxes, OpensInto, RefusesOpen, TakesAt, boxed, lent_groups, lent_hands, lent_processors, places_of};
 
 use crate::fault::Fault;
 use crate::job::ForeignJob;
@@ -161,6 +161,7 @@ pub fn open_into(
     slots: &mut PartSlots,
 ) -> Result<(), Fault>
     ensures opened { IfOk result (λ _. OpensInto shape number slots.new) }
+    ensures empty { IfOk result (λ _. AreEmpty slots.old) }
     ensures refused { IfErr result (λ _. StayHeld slots.old slots.new) }
     ensures why { IfErr result (λ fault. RefusesOpen fault slots.old) }
     ensures sections { StayRead slots.old slots.new }

@@ -50,7 +50,21 @@ returns-clause-opened c =
         many_groups = b.boxed.many.groups;
         many_hands = b.boxed.many.hands;
       };
+      at_home = record {
+        processors_are = put_ps.put ∙ b.boxed.processors_are;
+        groups_are = put_gs.put ∙ b.boxed.groups_are;
+        hands_are = put_hs.put ∙ b.boxed.hands_are;
+      };
     }
+
+pub returns-clause-empty : goal.returns-clause-empty
+returns-clause-empty c = record {
+  control_is = c.is_full.ensures.empty c.if-is_full.false;
+  driver_is = c.is_full-else-is_full.ensures.empty c.if-is_full-2.false;
+  processors_are = c.are_empty.ensures.empty c.if-not-are_empty.false;
+  groups_are = c.are_empty-else-not-are_empty.ensures.empty c.if-not-are_empty-2.false;
+  hands_are = c.are_empty-else-not-are_empty-2.ensures.empty c.if-not-are_empty-3.false;
+}
 
 pub returns-then-is_full-clause-refused : goal.returns-then-is_full-clause-refused
 returns-then-is_full-clause-refused c = record { control_stays = refl; driver_stays = refl; processors_stay = refl; groups_stay = refl; hands_stay = refl }
