@@ -60,8 +60,8 @@ enum rcuo_answer {
     RCUO_SHAPE = 14,          /* a number is outside the limits */
     RCUO_FEW = 15,            /* there are fewer slots than parts */
     RCUO_READING = 16,        /* a read section is open */
-    RCUO_NONE_LEFT = 17,      /* no callback, record or job is left */
-    RCUO_TURN = 18,           /* the next callback's wait isn't over, or it isn't its turn */
+    RCUO_NONE_LEFT = 17,      /* no callback is ready here; after a close, no further record or job is left */
+    RCUO_TURN = 18,           /* it isn't the turn of the first callback here, or, of a hand, its wait isn't over */
     RCUO_AGAIN = 19,          /* another thread's step was in the way: begin again */
     RCUO_NULL = 20            /* a pointer is null */
 };
@@ -86,8 +86,8 @@ static inline const char *rcuo_strerror(enum rcuo_answer answer) {
     case RCUO_SHAPE: return "a number is outside the limits";
     case RCUO_FEW: return "there are fewer slots than parts";
     case RCUO_READING: return "a read section is open";
-    case RCUO_NONE_LEFT: return "none is left";
-    case RCUO_TURN: return "the next callback's wait isn't over, or it isn't its turn";
+    case RCUO_NONE_LEFT: return "none is ready here, or none is left";
+    case RCUO_TURN: return "it isn't the turn of the first callback here, or its wait isn't over";
     case RCUO_AGAIN: return "another thread's step was in the way";
     case RCUO_NULL: return "a pointer is null";
     }
@@ -117,7 +117,7 @@ struct rcuo_parts {
 struct rcuo_settings {
     uint64_t processors; /* how many, 1 to 32 */
     uint64_t stride;     /* how many neighbours make a group, 1 to 32 */
-    uint64_t blimit;     /* how many callbacks a group gives a hand in one turn, and how many rcuo_run runs, at most; 1 to 1000000 */
+    uint64_t blimit;     /* how many callbacks a group gives a hand in one turn at most; 1 to 1000000 */
     uint64_t qhimark;    /* at how many callbacks a bypass list is released at once; 1 to 1000000 */
     uint64_t limit;      /* how many callbacks a processor accepts in its life; 1 to 1000000 */
     uint32_t offloadable; /* bit p: processor p starts offloaded, has a hand, and may be switched */
@@ -384,8 +384,11 @@ static inline enum rcuo_answer rcuo_lists(struct rcuo_slot *processor, struct rc
  * `job->function(job->argument)`, and then `rcuo_finish`; until then no later callback of the processor runs anywhere. Of a
  * processor this is its tick, which it needs even where it has nothing to run: it asks for grace periods, releases its bypass
  * list and heeds a switch. `moment` is as in `rcuo_call`; a hand needs none. Takes memory.
- * Answers RCUO_NONE_LEFT, RCUO_TURN or RCUO_AGAIN where nothing can run, RCUO_MEMORY where there is no room for the record,
- * RCUO_RUNNING where one was begun. */
+ * Answers RCUO_NONE_LEFT where none is ready here: of a processor none in its own list is done, though some may wait there; a
+ * hand holds none and drew none. RCUO_TURN where it isn't the turn of the first one here, whose claim was lost, or, of a hand,
+ * its wait isn't over. RCUO_AGAIN where another thread's step kept a hand from drawing. RCUO_MEMORY where there is no room for
+ * the record. In these cases the tick, or the hand's look and draw, was made all the same.
+ * Answers RCUO_RUNNING where one was begun before. Then nothing was done. */
 static inline enum rcuo_answer rcuo_begin(struct rcuo_slot *slot, uint64_t moment, struct rcuo_job *job) {
     if (!slot || !job) return RCUO_NULL;
     return RCUO_CALL(rcuo_slot_begin(slot, moment, job));

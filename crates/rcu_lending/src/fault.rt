@@ -43,11 +43,12 @@ pub enum Fault {
     Few,
     /// A read section is open.
     Reading,
-    /// No callback is left to begin.
+    /// No callback is ready here: a processor's own list has none that is done, a hand holds none and drew none. After a close,
+    /// no further record or job is left.
     NoneLeft,
-    /// The next callback's wait isn't over, or its claim wasn't won.
+    /// The first callback here isn't begun: its claim wasn't won, or, of a hand, its wait isn't over.
     Turn,
-    /// Another step on the lane was in the way.
+    /// A hand holds no callback and drew none, since another step on the lane was in the way.
     Again,
 }
 
