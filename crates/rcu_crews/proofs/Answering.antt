@@ -1,6 +1,6 @@
 -- Calls one after another, and what they answer.
 use Rattle.std.proofs.Common.{◌≡◌, ℕ, suc, ◌+◌, ◌*◌, ◌<◌, take, get_or, List, [], ◌∷◌, ◌++◌, map, length, append-nil, append_assoc, ap, sym, ◌∙◌, subst, refl, arith}
-use Rattle.std.specs.Prelude.{All, IfErr, IfOk, Result}
+use Rattle.std.specs.Prelude.{All, IfErr, IfOk, MatchResult, Result}
 use Rattle.std.specs.Prelude.{Ok, Err}
 use Rattle.std.specs.List.{AllZip}
 use Rattle.std.proofs.Math.Seq.{take-suc}
@@ -20,8 +20,9 @@ use Rattle.rcu_lists.specs.declared.pace.Kind.{Kind}
 use Rattle.rcu_part_processor.specs.Calls.{IsAccepted, IsRefusedAs, KeepsAll}
 use Rattle.rcu_part_processor.specs.Processors.{AcceptedStays, IsSound, SameProcessor, view_of}
 use Rattle.rcu_part_processor.specs.declared.processor.Processor.{Processor}
+use Rattle.rcu_part_processor.specs.declared.processor.ProcessorState.{ProcessorState}
 use Rattle.rcu_crews.proofs.Zips.{zip_push}
-use Rattle.rcu_crews.specs.Calls.{HasAnswered, HaveAnswered, keys_in}
+use Rattle.rcu_crews.specs.Calls.{CallsInTurn, CallsThenTurns, HasAnswered, HaveAnswered, keys_in}
 use Rattle.rcu_crews.specs.Dealing.{IsAnswer, accepted_jobs, accepted_keys, tickets_in}
 use Rattle.rcu_crews.specs.Parts.{ProcessorStays}
 use Rattle.rcu_crews.proofs.Tickets.{called_again, called_later, called_more, called_once, called_still, calls_none}
@@ -47,6 +48,21 @@ module _ {J : Type 0} where
       let taken : take (i + 1) all ≡ take i all ++ a ∷ [] = ap (λ n. take n all) next ∙ (take-suc all i a low ∙ ap (λ x. take i all ++ x ∷ []) is) in
       ap (λ l. l ++ tickets_in (a ∷ [])) so_far ∙ (append_assoc now (tickets_in (take i all)) (tickets_in (a ∷ []))
       ∙ ap (λ l. now ++ l) (sym (tickets-append (take i all) (a ∷ [])) ∙ ap (λ l. tickets_in l) (sym taken)))
+
+-- what an answer says, by the clauses for each of the two
+pub called_as : {T E : Type 0} (r : Result T E) (P : T → Type 0) (Q S : E → Type 0) → IfOk r P → IfErr r Q → IfErr r S → MatchResult r P (λ e. Q e × S e)
+called_as (Ok t) P Q S ok err why = ok
+called_as (Err e) P Q S ok err why = (err, why)
+
+-- one call more
+pub calls_more : {J R : Type 0} (key_of : J → ℕ) (m n : ℕ) (js : List J) (as' : List (Result Ticket (Refused J))) (j : J) (a : Result Ticket (Refused J)) (p q r : ProcessorState J R) → n ≡ m + length js → CallsInTurn key_of m js as' p q → CallsThenTurns key_of n j a q r
+    → CallsInTurn key_of m (js ++ j ∷ []) (as' ++ a ∷ []) p r
+calls_more key_of m n [] [] j a p q r at before last = let now : n ≡ m = omega (arith, at) in
+    (r, subst (λ s. CallsThenTurns key_of m j a s r) before (subst (λ k. CallsThenTurns key_of k j a q r) now last), refl)
+calls_more key_of m n [] (b ∷ bs) j a p q r at before last = absurd before
+calls_more key_of m n (k ∷ ks) [] j a p q r at before last = absurd before
+calls_more key_of m n (k ∷ ks) (b ∷ bs) j a p q r at before last =
+    (before.0, before.1, calls_more key_of (m + 1) n ks bs j a before.0 q r (omega (arith, at)) before.2 last)
 
 module _ {J R : Type 0} (key_of : J → ℕ) (gives : ℕ → R → Type 0) where
   pub answered_none : (p : Processor J R) → HasAnswered key_of gives [] [] p p

@@ -1,12 +1,18 @@
 -- What a processor's calls in a thread of its own give: docs/specification/program.md, "threads".
-use Rattle.std.specs.Prelude.{◌≡◌, ℕ, ◌<◌, ◌≤◌, List, ◌++◌, map, Result}
+use Rattle.std.specs.Prelude.{◌≡◌, ℕ, ◌+◌, ◌<◌, ◌≤◌, List, [], ◌∷◌, ◌++◌, map, MatchResult, Option, Result}
 use Rattle.std.specs.List.{AllZip, Contains}
 use Rattle.rcu_endings.specs.Ends.{keys_of}
 use Rattle.rcu_gathering.specs.Parts.{accepted_list}
 use Rattle.rcu_jobs.specs.declared.answers.Refused.{Refused}
 use Rattle.rcu_jobs.specs.declared.answers.Ticket.{Ticket}
+use Rattle.rcu_jobs.specs.declared.Ticked.{Ticked}
+use Rattle.rcu_lists.specs.declared.pace.Kind.TheVariants.{Plain}
+use Rattle.rcu_part_processor.specs.Calls.{IsAccepted, IsRefusedAs, KeepsAll}
 use Rattle.rcu_part_processor.specs.Processors.{IsSound, SameProcessor, view_of}
+use Rattle.rcu_part_processor.specs.Ticks.{TicksBy}
 use Rattle.rcu_part_processor.specs.declared.processor.Processor.{Processor}
+use Rattle.rcu_part_processor.specs.declared.processor.ProcessorState.{ProcessorState}
+use Rattle.rcu_part_steps.specs.Reports.{Reports}
 use Rattle.rcu_crews.specs.Dealing.{IsAnswer, accepted_jobs, accepted_keys, tickets_in}
 
 abbrev pub ticket : ℕ → ℕ → Ticket
@@ -17,6 +23,24 @@ abbrev pub AreTickets : ℕ → ℕ → ℕ → List Ticket → Type 0
 AreTickets cpu before after tickets = (k : ℕ) → before ≤ k → k < after → Contains tickets (ticket cpu k)
 
 module _ {J R : Type 0} where
+  -- a plain call at this moment, then a report, then a tick at the same moment
+  pub record CallsThenTurns (key_of : J → ℕ) (moment : ℕ) (job : J) (answer : Result Ticket (Refused J)) (p q : ProcessorState J R) : Type 0 where
+    pub called : ProcessorState J R
+    pub told : ProcessorState J R
+    pub counted : Option ℕ
+    pub ticked : Ticked
+    pub calls : MatchResult answer (λ t. IsAccepted moment Plain (key_of job) job t p called) (λ r. KeepsAll p called × IsRefusedAs job r p called)
+    pub keeps : KeepsAll called told
+    pub reports : Reports p.cpu counted (view_of called) (view_of told)
+    pub ticks : TicksBy moment ticked told q
+
+  -- these jobs one after another, the first at this moment, the next at the moment after it, and so on
+  abbrev pub CallsInTurn : (J → ℕ) → ℕ → List J → List (Result Ticket (Refused J)) → ProcessorState J R → ProcessorState J R → Type 0
+  CallsInTurn key_of moment [] [] p q = q ≡ p
+  CallsInTurn key_of moment (job ∷ jobs) (answer ∷ answers) p q =
+      (between : ProcessorState J R) × CallsThenTurns key_of moment job answer p between × CallsInTurn key_of (moment + 1) jobs answers between q
+  CallsInTurn key_of moment jobs answers p q = ⊥
+
   -- The same processor of its open, which called: for each number that it accepted meanwhile there is a ticket.
   pub record HasCalled (key_of : J → ℕ) (gives : ℕ → R → Type 0) (tickets : List Ticket) (p q : Processor J R) : Type 0 where
     pub same : SameProcessor p.state q.state

@@ -2,7 +2,7 @@
 
 ghost use Rattle.std.specs.Prelude.{◌≡◌, ◌<◌, ◌≤◌, [], ◌∷◌, ◌++◌, map, IfOk, IfSome, OnOk, None};
 ghost use Rattle.std.specs.List.{AllZip};
-ghost use Rattle.rcu_crews.specs.Calls.{HasAnswered, HasCalled};
+ghost use Rattle.rcu_crews.specs.Calls.{CallsInTurn, CallsThenTurns, HasAnswered, HasCalled};
 ghost use Rattle.rcu_crews.specs.Dealing.{tickets_in};
 
 use crate::answer::Answer;
@@ -28,7 +28,10 @@ pub(crate) struct Called<P, J> {
 
 /// One call, after which the processor reports and ticks.
 fn call_one<J: Job<Receipt = u64>>(processor: &mut Processor<J>, moment: u64, job: J) -> Answer<J>
-    ensures { HasAnswered J.key_of J.gives (job ∷ []) (result ∷ []) processor.old processor.new }
+    ensures turns { CallsThenTurns J.key_of moment job result processor.old.state
+        processor.new.state }
+    ensures answered { HasAnswered J.key_of J.gives (job ∷ []) (result ∷ []) processor.old
+        processor.new }
 {
     let answer = processor.call_rcu(moment, job);
     processor.quiescent();
@@ -38,8 +41,10 @@ fn call_one<J: Job<Receipt = u64>>(processor: &mut Processor<J>, moment: u64, jo
 
 /// Calls with each job in turn, at the moments 0, 1, ..
 fn call_all<J: Job<Receipt = u64>>(caller: Caller<Processor<J>, J>) -> Called<Processor<J>, J>
-    ensures { HasAnswered J.key_of J.gives caller.jobs.items result.answers.items caller.processor
-        result.processor }
+    ensures turns { CallsInTurn J.key_of 0 caller.jobs.items result.answers.items
+        caller.processor.state result.processor.state }
+    ensures answered { HasAnswered J.key_of J.gives caller.jobs.items result.answers.items
+        caller.processor result.processor }
 {
     let Caller {
         mut processor,
