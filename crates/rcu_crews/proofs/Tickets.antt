@@ -118,4 +118,4 @@ over_tickets counts v ts over counted =
 -- What the driver's thread gave back is the driver that it was given.
 pub driver_kept : {H : Type 0} (of : H → Driver) (t : Option H) (d e : Driver) → IfSome t (λ h. of h ≡ d) → GivesBack of t e → SameDriver d e
 driver_kept of None d e started kept = absurd kept
-driver_kept of (Some h) d e started kept = subst (λ x. SameDriver x e) started kept
+driver_kept of (Some h) d e started kept = subst (λ x. SameDriver x e) started kept.same

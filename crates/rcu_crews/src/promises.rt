@@ -10,14 +10,15 @@ use rcu_part_processor::Processor;
 use std::snapshot::Snapshot;
 use std::thread::{Promise, PromisedHandle};
 
-/// The promise of a thread that runs a part until the runtime is halted: what comes back is the same part.
+/// The promise of a thread that runs a part until the runtime is halted: what comes back is the same part, once it saw the
+/// halt word set.
 #[derive(Drop)]
 pub struct Stays<P>(pub Snapshot<P>);
 
 impl Promise<Driver> for Stays<Driver> {
-    ghost use Rattle.rcu_control.specs.Parts.{SameDriver};
+    ghost use Rattle.rcu_crews.specs.Parts.{DriverStays};
 
-    ghost kept_by = { λ p d. SameDriver p.0.value d };
+    ghost kept_by = { λ p d. DriverStays p.0.value d };
 }
 
 impl<J: Job<Receipt = u64>> Promise<Group<J>> for Stays<Group<J>> {

@@ -1,8 +1,10 @@
 //! Threads of their own for parts. Each gives back the part that it was given.
 
-ghost use Rattle.std.specs.Prelude.{◌≡◌, IfOk, IfSome, None};
+ghost use Rattle.std.specs.Prelude.{◌≡◌, IfSome, MatchResult, None};
 ghost use Rattle.std.specs.List.{AllZip};
 ghost use denote.Param.Send.{IsSend};
+ghost use Rattle.rcu_board.specs.Seats.{SawHalt};
+ghost use Rattle.rcu_part_group.specs.Groups.{group_view};
 ghost use Rattle.rcu_crews.specs.Parts.{GivesBack, GroupStays, HandStays, ProcessorStays};
 
 use crate::crew::Crew;
@@ -41,7 +43,8 @@ pub fn join_driver<R: Threads>(
     rt: &R,
     thread: Option<RunningDriver>,
 ) -> Result<Driver, ThreadsFault>
-    ensures { IfOk result (λ driver. GivesBack (λ t. t.promise.0.value) thread driver) }
+    ensures { MatchResult result (λ driver. GivesBack (λ t. t.promise.0.value) thread driver)
+        (λ fault. (thread ≡ None) × (fault ≡ ThreadsFault.CannotRun)) }
 {
     match thread {
         Some(thread) => Ok(thread.join(rt)),
@@ -51,7 +54,8 @@ pub fn join_driver<R: Threads>(
 
 /// Runs a group until the runtime is halted.
 fn run_group<J: Job<Receipt = u64>, R: Wait + Clock>(group: Group<J>, rt: &R) -> Group<J>
-    ensures { GroupStays group result }
+    ensures same { GroupStays group result }
+    ensures halted { SawHalt (group_view result.state) }
 {
     group.run(rt)
 }

@@ -1,5 +1,5 @@
 -- What a run in threads does to parts: docs/specification/program.md, "threads".
-use Rattle.std.specs.Prelude.{◌≡◌, ℕ, Err, Result}
+use Rattle.std.specs.Prelude.{◌≡◌, ℕ, Err, Result, is_ok, true}
 use Rattle.std.proofs.Common.{◌⊎◌}
 use Rattle.std.specs.List.{AllZip}
 use Rattle.rcu_control.specs.Parts.{control_view, SameControl, SameDriver}
@@ -17,7 +17,9 @@ module _ {J R : Type 0} where
     pub hands : AllZip (HandStays key_of gives) (hands_in old) (hands_in new)
     pub processors : AllZip (HasRun key_of gives (control_view new.control)) (processors_in old) (processors_in new)
 
--- the fault is that of the driver's thread, of the groups', of the hands' or of the calls
-abbrev pub IsFaultOf : {D G H A : Type 0} → Result D ThreadsFault → Result G ThreadsFault → Result H ThreadsFault → Result A ThreadsFault → ThreadsFault → Type 0
-IsFaultOf driver groups hands answered fault =
-    (driver ≡ Err fault) ⊎ ((groups ≡ Err fault) ⊎ ((hands ≡ Err fault) ⊎ (answered ≡ Err fault)))
+-- the fault of the first of these four that has one: the driver's thread, the groups', the hands', and the calls
+abbrev pub IsFirstFault : {D G H A : Type 0} → Result D ThreadsFault → Result G ThreadsFault → Result H ThreadsFault → Result A ThreadsFault → ThreadsFault → Type 0
+IsFirstFault driver groups hands answered fault =
+    (driver ≡ Err fault) ⊎ ((is_ok driver ≡ true) × ((groups ≡ Err fault)
+    ⊎ ((is_ok groups ≡ true) × ((hands ≡ Err fault)
+    ⊎ ((is_ok hands ≡ true) × (answered ≡ Err fault))))))

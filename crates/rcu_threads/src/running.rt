@@ -7,7 +7,7 @@ ghost use Rattle.rcu_parts.specs.Drained.{HasNoneBack};
 ghost use Rattle.rcu_crews.specs.Calls.{keys_in};
 ghost use Rattle.rcu_crews.specs.Dealing.{AreDealt, HaveAllRun};
 ghost use Rattle.rcu_threads.specs.Ends.{AreUnused, ClosesSame, keys_ran};
-ghost use Rattle.rcu_threads.specs.Runs.{HaveRun, IsFaultOf};
+ghost use Rattle.rcu_threads.specs.Runs.{HaveRun, IsFirstFault};
 
 use crate::ended::Ended;
 use rcu_crews::{
@@ -61,7 +61,7 @@ fn first_fault<D, G, H, A>(
     ensures groups { OnOk result (is_ok groups.now ≡ true) }
     ensures hands { OnOk result (is_ok hands.now ≡ true) }
     ensures answered { OnOk result (is_ok answered.now ≡ true) }
-    ensures why { IfErr result (IsFaultOf driver.now groups.now hands.now answered.now) }
+    ensures why { IfErr result (IsFirstFault driver.now groups.now hands.now answered.now) }
 {
     match (driver, groups, hands, answered) {
         (Err(fault), ..) | (_, Err(fault), ..) | (_, _, Err(fault), _) | (.., Err(fault)) => {

@@ -2,7 +2,7 @@ use Rattle.std.proofs.Common.{◌≡◌, ℕ, ◌<◌, length, map, ap, sym, sub
 use Rattle.std.specs.Prelude.{All}
 use Rattle.std.specs.List.{AllZip}
 use Rattle.std.proofs.lemmas.List.{length-map}
-use Rattle.std.proofs.lemmas.Result.{IfOk-at_ok}
+use Rattle.std.proofs.lemmas.Result.{IfOk-at_ok, MatchResult-at_ok}
 use Rattle.rcu_gathering.proofs.Lists.{all_map}
 use Rattle.rcu_part_processor.specs.declared.processor.Processor.{Processor}
 use Rattle.rcu_control.proofs.Stepping.{same_again}
@@ -43,7 +43,7 @@ run_processors-answered-requires-after_bounds g c κs within = assumption
 pub returns-clause-ran : goal.returns-clause-ran
 returns-clause-ran g c = let key_of = g.J.Job.key_of in let gives = g.J.Job.gives in let parts = c.args.parts in let rs = c.unwrap-answered.result.processors.items in
     -- what each of the four gave
-    let driver = IfOk-at_ok _ c.unwrap-driver.ensures c.join_driver-driver.ensures in
+    let driver = MatchResult-at_ok _ _ _ c.unwrap-driver.ensures c.join_driver-driver.ensures in
     let groups = IfOk-at_ok _ c.unwrap-groups.ensures c.join_all-groups.ensures.whole in
     let groups_kept = IfOk-at_ok _ c.unwrap-groups.ensures c.join_all-groups.ensures.kept in
     let hands = IfOk-at_ok _ c.unwrap-hands.ensures c.join_all-hands.ensures.whole in
