@@ -53,6 +53,8 @@ pub enum Reply {
 
 /// What a program does with control. It never has control: it says what that does, and is told what came of it.
 pub trait Steering {
+    ghost use Rattle.rcu_workers.specs.declared.steering.Order.{Order};
+
     // What it may order.
     ghost may: { Order → Type 0 };
 
@@ -66,7 +68,9 @@ pub trait Steering {
 pub struct NoSteering;
 
 impl Steering for NoSteering {
-    ghost may = { λ order. order ≡ Order.Done };
+    ghost use Rattle.rcu_workers.specs.declared.steering.Order.TheVariants.{Done};
+
+    ghost may = { λ order. order ≡ Done };
 
     fn order(&mut self, _reply: Reply) -> Order
         ensures { result ≡ Order.Done }
