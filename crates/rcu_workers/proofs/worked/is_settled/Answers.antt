@@ -1,4 +1,6 @@
-use Rattle.std.proofs.Common.{refl}
+use Rattle.std.proofs.Common.{refl, subst, sym}
+use Rattle.rcu_workers.specs.Steers.{LooksBy}
+use Rattle.rcu_workers.specs.declared.running.Ending.{Ending}
 use Rattle.rcu_runtime.proofs.Wholes.{continues_itself}
 use Rattle.rcu_workers.proofs.worked.is_settled.Goals as goal
 
@@ -57,10 +59,10 @@ pub returns-in-Drained-clause-drained : goal.returns-in-Drained-clause-drained
 returns-in-Drained-clause-drained g c = λ _. c.drain.ensures.drained
 
 pub returns-in-AtOnce-clause-looks : goal.returns-in-AtOnce-clause-looks
-returns-in-AtOnce-clause-looks g c = refl
+returns-in-AtOnce-clause-looks g c = subst (λ (e : Ending). LooksBy e c.args.runtime.now c.args.runtime.now) (sym c.in-AtOnce.is) refl
 
 pub returns-in-AfterBarrier-clause-looks : goal.returns-in-AfterBarrier-clause-looks
-returns-in-AfterBarrier-clause-looks g c = c.has_run_all.ensures.asks
+returns-in-AfterBarrier-clause-looks g c = subst (λ (e : Ending). LooksBy e c.args.runtime.now c.has_run_all.new.self) (sym c.in-AfterBarrier.is) c.has_run_all.ensures.asks
 
 pub returns-in-Drained-clause-looks : goal.returns-in-Drained-clause-looks
-returns-in-Drained-clause-looks g c = (c.drain.result, c.drain.ensures.turns)
+returns-in-Drained-clause-looks g c = subst (λ (e : Ending). LooksBy e c.args.runtime.now c.drain.new.self) (sym c.in-Drained.is) (c.drain.result, c.drain.ensures.turns)
