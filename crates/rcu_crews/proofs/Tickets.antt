@@ -20,7 +20,8 @@ use Rattle.rcu_part_processor.specs.Processors.{IsSound, SameProcessor}
 use Rattle.rcu_part_processor.specs.declared.processor.Processor.{Processor}
 use Rattle.rcu_part_processor.proofs.TickRuns.{same_processor, same_processor_again}
 use Rattle.rcu_crews.proofs.Zips.{zip_chain, zip_imp, zip_pushed}
-use Rattle.rcu_crews.specs.Calls.{AreTickets, HasCalled, ticket}
+use Rattle.rcu_crews.specs.Calls.{AreTickets, HasCalled}
+use Rattle.rcu_crews.specs.Dealing.{ticket}
 use Rattle.rcu_crews.specs.Parts.{GivesBack, ProcessorStays}
 use Rattle.rcu_crews.specs.Runs.{AreOver, HasRun}
 

@@ -46,6 +46,15 @@ module _ {A B : Type 0} where
   zip_all P Q S f (x ∷ xs) [] q p = absurd q
   zip_all P Q S f (x ∷ xs) (y ∷ ys) q p = all_cons S y ys (f x y q.0 (all_head P x xs p)) (zip_all P Q S f xs ys q.1 (all_tail P x xs p))
 
+-- what is said of each of two lists, once those of the first went on
+pub zip_along : {A B : Type 0} (P Q : A → B → Type 0) (S : A → A → Type 0) → ((x y : A) (z : B) → S x y → P x z → Q y z) → (xs ys : List A) (zs : List B) → AllZip S xs ys → AllZip P xs zs → AllZip Q ys zs
+zip_along P Q S f [] [] [] s p = tt
+zip_along P Q S f [] [] (z ∷ zs) s p = absurd p
+zip_along P Q S f [] (y ∷ ys) zs s p = absurd s
+zip_along P Q S f (x ∷ xs) [] zs s p = absurd s
+zip_along P Q S f (x ∷ xs) (y ∷ ys) [] s p = absurd p
+zip_along P Q S f (x ∷ xs) (y ∷ ys) (z ∷ zs) s p = (f x y z s.0 p.0, zip_along P Q S f xs ys zs s.1 p.1)
+
 -- of what was taken from each
 pub zip_mapped : {A B C D : Type 0} (f : A → C) (g : B → D) (P : C → D → Type 0) → (xs : List A) (ys : List B) → AllZip (λ x y. P (f x) (g y)) xs ys → AllZip P (map f xs) (map g ys)
 zip_mapped f g P [] [] p = tt

@@ -1,11 +1,13 @@
 -- What a run leaves to `close`, and what `close` finds: docs/specification/promises.md, "Headline on the running parts", close.
-use Rattle.std.proofs.Common.{◌≡◌, ℕ, suc, ◌+◌, ◌*◌, ◌/◌, ◌≤◌, List, [], ◌∷◌, ◌++◌, map, take, drop, length, get_or, ap, sym, ◌∙◌, subst, refl, arith}
+use Rattle.std.proofs.Common.{◌≡◌, ℕ, zero, suc, ◌+◌, ◌*◌, ◌/◌, ◌<◌, ◌≤◌, List, [], ◌∷◌, ◌++◌, map, take, drop, length, get_or, ap, sym, ◌∙◌, subst, refl, arith}
 use Rattle.std.specs.Prelude.{All, Result}
+use Rattle.std.specs.List.{AllZip}
 use Rattle.std.proofs.lemmas.List.{length-map, take_all}
 use Rattle.std.proofs.lemmas.Simd.{map-map}
 use Rattle.rcu_board.specs.Seats.{accepted_of}
 use Rattle.rcu_board.specs.Views.{seen_at}
 use Rattle.rcu_board.specs.Words.{turns_word}
+use Rattle.rcu_board.specs.declared.board.Board.{Board}
 use Rattle.rcu_board.specs.declared.view.View.{View}
 use Rattle.rcu_control.specs.Parts.{control_view}
 use Rattle.rcu_gathering.proofs.Lists.{all_cons, all_head, all_map, all_mapped, all_none, all_tail}
@@ -21,14 +23,14 @@ use Rattle.rcu_gathering.specs.Parts.{CpuPart, accepted_entry, accepted_list}
 use Rattle.rcu_jobs.specs.declared.answers.Closed.{Closed}
 use Rattle.rcu_parts.specs.AtClose.{ClosesWith, cpu_part, cpu_parts, hand_for, hands_after, other_views}
 use Rattle.rcu_part_hand.specs.Hands.{IsSoundHand}
-use Rattle.rcu_parts.specs.OneOpen.{AreSoundParts, Parts, hands_in, processors_in}
+use Rattle.rcu_parts.specs.OneOpen.{AreOfOneOpen, AreProcessorsFrom, AreSoundParts, Parts, hands_in, parts_board, processors_in}
 use Rattle.rcu_part_processor.specs.Processors.{IsSound, SameProcessor, view_of}
 use Rattle.rcu_parts.specs.SameParts.{AreSameParts}
 use Rattle.rcu_part_hand.specs.declared.hand.Hand.{Hand}
 use Rattle.rcu_part_processor.specs.declared.processor.Processor.{Processor}
 use Rattle.rcu_parts.specs.Drained.{HasNoneBack}
 use Rattle.rcu_crews.specs.Calls.{keys_in}
-use Rattle.rcu_crews.specs.Dealing.{HaveAllRun}
+use Rattle.rcu_crews.specs.Dealing.{AreInOrder, HaveAllRun, tickets_in}
 use Rattle.rcu_threads.specs.Ends.{AreUnused, keys_ran}
 use Rattle.rcu_crews.specs.Parts.{HandStays}
 use Rattle.rcu_crews.specs.Runs.{HasRun}
@@ -138,6 +140,28 @@ module _ {J R : Type 0} (key_of : J → ℕ) (gives : ℕ → R → Type 0) wher
       sym (map-map keys (λ x. x.items) closed.ran.items)
       ∙ (ap (map keys) c.ran ∙ (map-map keys (λ (e : CpuEnd J R). e.ran) c.ends
       ∙ ran_keys_each v views (processors_of c.ends) c.ends (processors_in new) (hands_in new) c.parts_are c.closes ran))
+
+  -- Processors of one open, in order, called and ran: the tickets of each are those of its own numbers.
+  tickets_at : (v : View) (k : ℕ) (b : Board) (ps qs : List (Processor J R)) (own : List (List (Result Ticket (Refused J)))) → AreProcessorsFrom k b ps → AllZip (HasRun key_of gives v) ps qs → AllZip (λ q a. AreInOrder q.state.cpu 0 (tickets_in a)) qs own
+      → (p : ℕ) → p < length own → AreInOrder (k + p) 0 (tickets_in (get_or own p []))
+  unfolding AreProcessorsFrom
+  tickets_at v k b [] [] [] from ran numbers p low = absurd (omega (arith, low))
+  tickets_at v k b [] [] (a ∷ as') from ran numbers p low = absurd numbers
+  tickets_at v k b [] (q ∷ qs) own from ran numbers p low = absurd ran
+  tickets_at v k b (x ∷ ps) [] own from ran numbers p low = absurd ran
+  tickets_at v k b (x ∷ ps) (q ∷ qs) [] from ran numbers p low = absurd numbers
+  tickets_at v k b (x ∷ ps) (q ∷ qs) (a ∷ as') from ran numbers zero low =
+      let cpu : q.state.cpu ≡ k = ran.0.same.cpu ∙ from.1 in let here : k ≡ k + 0 = omega arith in
+      subst (λ c. AreInOrder c 0 (tickets_in a)) (cpu ∙ here) numbers.0
+  tickets_at v k b (x ∷ ps) (q ∷ qs) (a ∷ as') from ran numbers (suc p) low =
+      let next : suc k + p ≡ k + suc p = omega arith in
+      subst (λ c. AreInOrder c 0 (tickets_in (get_or as' p []))) next (tickets_at v (suc k) b ps qs as' from.2 ran.1 numbers.1 p (omega (arith, low)))
+
+  pub tickets_of_each : (v : View) (old : Parts J R) (qs : List (Processor J R)) (own : List (List (Result Ticket (Refused J)))) → AreOfOneOpen old → AllZip (HasRun key_of gives v) (processors_in old) qs → AllZip (λ q a. AreInOrder q.state.cpu 0 (tickets_in a)) qs own
+      → (p : ℕ) → p < length own → AreInOrder p 0 (tickets_in (get_or own p []))
+  tickets_of_each v old qs own one ran numbers p low =
+      let here : 0 + p ≡ p = omega arith in
+      subst (λ c. AreInOrder c 0 (tickets_in (get_or own p []))) here (tickets_at v 0 (parts_board old) (processors_in old) qs own one.processors ran numbers p low)
 
   -- so each job that was handed in has run or was refused
   pub all_have_run : (old new : Parts J R) (closed : Closed J R) (jobs : List J) (answers : List (List (Result Ticket (Refused J)))) → HaveRun key_of gives old new → AreUnused old → ClosesWith key_of gives new closed

@@ -4,9 +4,9 @@ ghost use Rattle.std.specs.Prelude.{◌≡◌, ◌<◌, map, length, All, IfErr,
 ghost use Rattle.std.specs.List.{AllZip};
 ghost use Rattle.rcu_parts.specs.OneOpen.{AreOfOneOpen, AreSoundParts};
 ghost use Rattle.rcu_parts.specs.Drained.{HasNoneBack};
-ghost use Rattle.rcu_crews.specs.Calls.{keys_in};
+ghost use Rattle.rcu_crews.specs.Calls.{AreRefusalsBy, keys_in};
 ghost use Rattle.rcu_crews.specs.Dealing.{AreDealt, HaveAllRun};
-ghost use Rattle.rcu_threads.specs.Ends.{AreUnused, ClosesSame, keys_ran};
+ghost use Rattle.rcu_threads.specs.Ends.{AreUnused, ClosesSame, RefusesFor, keys_ran};
 ghost use Rattle.rcu_threads.specs.Runs.{HaveRun, IsFirstFault};
 
 use crate::ended::Ended;
@@ -83,11 +83,16 @@ fn run_parts<J: Job<Receipt = u64> + 'static, R: Threads + Wait + Clock + Copy +
     parts: Parts<J>,
     jobs: Vec<J>,
 ) -> Result<(Parts<J>, Vec<Vec<Answer<J>>>), ThreadsFault>
+    requires parts { AreOfOneOpen parts }
     ensures ran { IfOk result (λ ended. HaveRun J.key_of J.gives parts ended.0) }
     ensures answered { AreUnused parts
         → IfOk result (λ ended.
         HaveAllRun J.key_of jobs.items (map (λ own. own.items) ended.1.items)
         (map (λ p. keys_in p) ended.0.processors.items)) }
+    ensures refused { AreUnused parts
+        → IfOk result (λ ended.
+        AllZip (λ q own. AreRefusalsBy q.state own) ended.0.processors.items
+        (map (λ own. own.items) ended.1.items)) }
 {
     let AllParts {
         processors,
@@ -143,6 +148,10 @@ pub fn run_in_threads<
         → IfOk result (λ ended.
         HaveAllRun J.key_of jobs.items (map (λ own. own.items) ended.answers.items)
         (keys_ran ended.closed)) }
+    ensures refused { AreUnused parts
+        → IfOk result (λ ended.
+        RefusesFor J.key_of J.gives parts ended.closed
+        (map (λ own. own.items) ended.answers.items)) }
 {
     let (ended, answers) = run_parts(rt, alloc, parts, jobs)?;
     same_parts::<J>();

@@ -11,6 +11,7 @@ use Rattle.rcu_crews.specs.Parts.{GroupStays, HandStays}
 use Rattle.rcu_crews.specs.Runs.{HasRun}
 use Rattle.rcu_crews.proofs.Tickets.{all_halted, driver_kept}
 use Rattle.rcu_crews.proofs.Zips.{zip_kept}
+use Rattle.rcu_threads.proofs.Ending.{tickets_of_each}
 use Rattle.rcu_threads.proofs.running.run_parts.Goals as goal
 
 pub start_groups-groups-requires-send-J : goal.start_groups-groups-requires-send-J
@@ -65,13 +66,23 @@ returns-clause-answered g c = λ unused. let callers = c.in_ok-callers.callers.i
     let answered = IfOk-at_ok _ c.unwrap-answered.ensures (c.run_processors-answered.ensures.answered none) in
     let some : 0 < length ps = subst (λ n. 0 < n) c.args.parts.processors.ok.0 c.in_ok-callers.ensures.some in
     let many = ap (λ l. length l) c.in_ok-callers.ensures.processors in
+    let key_of = g.J.Job.key_of in let gives = g.J.Job.gives in let v = control_view c.run_processors-answered.new.control in
+    let have_run = IfOk-at_ok _ c.unwrap-answered.ensures c.run_processors-answered.ensures.ran in
+    let ran = subst (λ xs. AllZip (HasRun key_of gives v) xs c.unwrap-answered.result.processors.items) c.in_ok-callers.ensures.processors have_run in
     let jobs = length-map callers (λ y. y.jobs.items) in let parts = length-map callers (λ y. y.processor) in record {
       shares = map (λ y. y.jobs.items) callers;
       some = omega (arith, some, many, jobs, parts);
       dealt = c.in_ok-callers.ensures.dealt;
       answered = answered.answered;
+      tickets = tickets_of_each key_of gives v c.args.parts c.unwrap-answered.result.processors.items (map (λ own. own.items) c.unwrap-answered.result.answers.items) c.requires.parts ran answered.tickets;
       accepted = answered.keys;
     }
+
+pub returns-clause-refused : goal.returns-clause-refused
+returns-clause-refused g c = λ unused. let callers = c.in_ok-callers.callers.items in
+    let Unused : Processor g.row.J.Denot ℕ → Type 0 = λ p. p.state.accepted ≡ 0 in
+    let none = all_map Unused (λ y. y.processor) callers (subst (λ l. All Unused l) (sym c.in_ok-callers.ensures.processors) unused) in
+    let answered = IfOk-at_ok _ c.unwrap-answered.ensures (c.run_processors-answered.ensures.answered none) in answered.why
 
 pub join_all-groups-requires-room-P-Promise : goal.join_all-groups-requires-room-P-Promise
 join_all-groups-requires-room-P-Promise g c κs within = assumption
