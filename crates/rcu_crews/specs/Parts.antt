@@ -3,7 +3,7 @@ use Rattle.std.specs.Prelude.{◌≡◌, ℕ, Option, Some, None}
 use Rattle.rcu_board.specs.Seats.{SawHalt}
 use Rattle.rcu_control.specs.Parts.{SameDriver, driver_view}
 use Rattle.rcu_control.specs.declared.driver.Driver.{Driver}
-use Rattle.rcu_part_group.specs.Groups.{SameGroup}
+use Rattle.rcu_part_group.specs.Groups.{SameGroup, group_view}
 use Rattle.rcu_part_hand.specs.Hands.{IsSoundHand, SameHand, hand_view}
 use Rattle.rcu_part_processor.specs.Processors.{AcceptedStays, IsSound, SameProcessor, view_of}
 use Rattle.rcu_part_group.specs.declared.group.Group.{Group}
@@ -21,9 +21,10 @@ GivesBack of None e = ⊥
 GivesBack of (Some h) e = DriverStays (of h) e
 
 module _ {J R : Type 0} where
-  -- the same group of its open
-  abbrev pub GroupStays : Group J R → Group J R → Type 0
-  GroupStays g h = SameGroup g.state h.state
+  -- the same group of its open, which ran until it saw the halt word set
+  pub record GroupStays (g h : Group J R) : Type 0 where
+    pub same : SameGroup g.state h.state
+    pub halted : SawHalt (group_view h.state)
 
   -- The same hand of its open, which ran until it saw the halt word set, and knows of its jobs what it should if it did before.
   pub record HandStays (key_of : J → ℕ) (gives : ℕ → R → Type 0) (h i : Hand J R) : Type 0 where

@@ -1,8 +1,9 @@
 //! The run of all processors of one open, from the first call until a barrier with all tickets has passed.
 
-ghost use Rattle.std.specs.Prelude.{◌≡◌, map, All, IfOk};
+ghost use Rattle.std.specs.Prelude.{◌≡◌, map, All, IfOk, MatchResult};
 ghost use Rattle.std.specs.List.{AllZip};
 ghost use Rattle.rcu_control.specs.Parts.{control_view, SameControl};
+ghost use Rattle.rcu_crews.specs.Barriers.{BreaksOff, PassesAndHalts, PassesBy};
 ghost use Rattle.rcu_crews.specs.Calls.{HaveAnswered};
 ghost use Rattle.rcu_crews.specs.Runs.{AreOver, HasRun};
 
@@ -33,6 +34,7 @@ fn pass_barrier<R: Wait + Clock, H>(
 ) -> Result<(), ThreadsFault>
     ensures same { SameControl control.old control.new }
     ensures passed { IfOk result (λ _. AreOver (control_view control.new) tickets.now) }
+    ensures control { PassesBy result tickets.now control.old control.new }
 {
     if !crew.is_whole() {
         return Err(ThreadsFault::CannotRun);
@@ -62,6 +64,8 @@ pub fn run_processors<
     room: Vec<Ticket>,
 ) -> Result<Answered<Processor<J>, J>, ThreadsFault>
     ensures same { SameControl control.old control.new }
+    ensures control { MatchResult result (λ _. PassesAndHalts control.old control.new)
+        (λ _. BreaksOff control.old control.new) }
     ensures ran { IfOk result (λ ended.
         AllZip (HasRun J.key_of J.gives (control_view control.new))
         (map (λ c. c.processor) callers.items) ended.processors.items) }

@@ -3,8 +3,6 @@
 ghost use Rattle.std.specs.Prelude.{◌≡◌, IfSome, MatchResult, None};
 ghost use Rattle.std.specs.List.{AllZip};
 ghost use denote.Param.Send.{IsSend};
-ghost use Rattle.rcu_board.specs.Seats.{SawHalt};
-ghost use Rattle.rcu_part_group.specs.Groups.{group_view};
 ghost use Rattle.rcu_crews.specs.Parts.{GivesBack, GroupStays, HandStays, ProcessorStays};
 
 use crate::crew::Crew;
@@ -54,8 +52,7 @@ pub fn join_driver<R: Threads>(
 
 /// Runs a group until the runtime is halted.
 fn run_group<J: Job<Receipt = u64>, R: Wait + Clock>(group: Group<J>, rt: &R) -> Group<J>
-    ensures same { GroupStays group result }
-    ensures halted { SawHalt (group_view result.state) }
+    ensures { GroupStays group result }
 {
     group.run(rt)
 }

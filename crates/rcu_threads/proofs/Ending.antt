@@ -22,8 +22,9 @@ use Rattle.rcu_jobs.specs.declared.callback.Record.{Record}
 use Rattle.rcu_gathering.specs.Parts.{CpuPart, accepted_entry, accepted_list}
 use Rattle.rcu_jobs.specs.declared.answers.Closed.{Closed}
 use Rattle.rcu_parts.specs.AtClose.{ClosesWith, cpu_part, cpu_parts, hand_for, hands_after, other_views}
+use Rattle.rcu_part_group.specs.Groups.{SameGroup}
 use Rattle.rcu_part_hand.specs.Hands.{IsSoundHand}
-use Rattle.rcu_parts.specs.OneOpen.{AreOfOneOpen, AreProcessorsFrom, AreSoundParts, Parts, hands_in, parts_board, processors_in}
+use Rattle.rcu_parts.specs.OneOpen.{AreOfOneOpen, AreProcessorsFrom, AreSoundParts, Parts, groups_in, hands_in, parts_board, processors_in}
 use Rattle.rcu_part_processor.specs.Processors.{IsSound, SameProcessor, view_of}
 use Rattle.rcu_parts.specs.SameParts.{AreSameParts}
 use Rattle.rcu_part_hand.specs.declared.hand.Hand.{Hand}
@@ -32,7 +33,7 @@ use Rattle.rcu_parts.specs.Drained.{HasNoneBack}
 use Rattle.rcu_crews.specs.Calls.{keys_in}
 use Rattle.rcu_crews.specs.Dealing.{AreInOrder, HaveAllRun, tickets_in}
 use Rattle.rcu_threads.specs.Ends.{AreUnused, keys_ran}
-use Rattle.rcu_crews.specs.Parts.{HandStays}
+use Rattle.rcu_crews.specs.Parts.{GroupStays, HandStays}
 use Rattle.rcu_crews.specs.Runs.{HasRun}
 use Rattle.rcu_threads.specs.Runs.{HaveRun}
 use Rattle.rcu_crews.proofs.Zips.{zip_all, zip_imp}
@@ -56,7 +57,7 @@ module _ {J R : Type 0} (key_of : J → ℕ) (gives : ℕ → R → Type 0) wher
     control = h.control;
     driver = h.driver;
     processors = zip_imp (HasRun key_of gives (control_view new.control)) (λ p q. SameProcessor p.state q.state) (λ p q r. r.same) (processors_in old) (processors_in new) h.processors;
-    groups = h.groups;
+    groups = zip_imp GroupStays (λ g h. SameGroup g.state h.state) (λ g h s. s.same) (groups_in old) (groups_in new) h.groups;
     hands = zip_imp (HandStays key_of gives) _ (λ h i s. s.same) (hands_in old) (hands_in new) h.hands;
   }
 

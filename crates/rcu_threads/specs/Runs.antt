@@ -4,14 +4,17 @@ use Rattle.std.proofs.Common.{◌⊎◌}
 use Rattle.std.specs.List.{AllZip}
 use Rattle.rcu_control.specs.Parts.{control_view, SameControl, SameDriver}
 use Rattle.rcu_parts.specs.OneOpen.{Parts, groups_in, hands_in, processors_in}
+use Rattle.rcu_crews.specs.Barriers.{HaltsAfter, PassesAndHalts}
 use Rattle.rcu_crews.specs.Parts.{GroupStays, HandStays}
 use Rattle.rcu_crews.specs.Runs.{HasRun}
 use Rattle.rcu_crews.specs.declared.fault.ThreadsFault.{ThreadsFault}
 
 module _ {J R : Type 0} where
-  -- All parts are the same parts, and of each processor all callbacks have run, by what control has seen.
+  -- All parts are the same parts, and of each processor all callbacks have run, by what control has seen; it passed one barrier,
+  -- and set the halt word, once all have run and once more for all threads.
   pub record HaveRun (key_of : J → ℕ) (gives : ℕ → R → Type 0) (old new : Parts J R) : Type 0 where
     pub control : SameControl old.control new.control
+    pub passes : HaltsAfter (PassesAndHalts old.control) new.control
     pub driver : SameDriver old.driver new.driver
     pub groups : AllZip GroupStays (groups_in old) (groups_in new)
     pub hands : AllZip (HandStays key_of gives) (hands_in old) (hands_in new)

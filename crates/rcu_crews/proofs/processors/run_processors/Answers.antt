@@ -1,4 +1,5 @@
-use Rattle.std.proofs.Common.{map, subst, sym}
+use Rattle.std.proofs.Common.{inl, inr, map, refl, subst, sym}
+use Rattle.std.proofs.lemmas.Result.{MatchResult-from_err}
 use Rattle.std.specs.List.{AllZip}
 use Rattle.rcu_control.specs.Parts.{control_view}
 use Rattle.rcu_control.proofs.Stepping.{same_again}
@@ -93,3 +94,38 @@ returns-in_err-passed-clause-ran g c = if_ok_never _ _ c.from_residual-in_err-pa
 
 pub returns-in_err-passed-clause-answered : goal.returns-in_err-passed-clause-answered
 returns-in_err-passed-clause-answered g c = λ none. if_ok_never _ _ c.from_residual-in_err-passed.ensures
+
+pub returns-clause-control : goal.returns-clause-control
+returns-clause-control g c = (
+  c.as_slice.result.now,
+  record {
+    between = c.pass_barrier-passed.new.control;
+    before = c.in_ok-passed.ensures.control;
+    halts = c.finish.ensures.halts;
+  },
+)
+
+pub returns-in_err-all-clause-control : goal.returns-in_err-all-clause-control
+returns-in_err-all-clause-control g c = MatchResult-from_err _ _ _ c.from_residual.ensures.0 (λ fault. inl refl)
+
+pub returns-in_err-processors-clause-control : goal.returns-in_err-processors-clause-control
+returns-in_err-processors-clause-control g c = MatchResult-from_err _ _ _ c.from_residual-in_err-processors.ensures.0 (λ fault. inr (
+  c.pass_barrier-passed.result,
+  c.as_slice.result.now,
+  record {
+    between = c.pass_barrier-passed.new.control;
+    before = c.pass_barrier-passed.ensures.control;
+    halts = c.finish.ensures.halts;
+  },
+))
+
+pub returns-in_err-passed-clause-control : goal.returns-in_err-passed-clause-control
+returns-in_err-passed-clause-control g c = MatchResult-from_err _ _ _ c.from_residual-in_err-passed.ensures.0 (λ fault. inr (
+  c.pass_barrier-passed.result,
+  c.as_slice.result.now,
+  record {
+    between = c.pass_barrier-passed.new.control;
+    before = c.pass_barrier-passed.ensures.control;
+    halts = c.finish.ensures.halts;
+  },
+))

@@ -50,9 +50,11 @@ returns-clause-ran g c = let key_of = g.J.Job.key_of in let gives = g.J.Job.give
     let hands = IfOk-at_ok _ c.unwrap-hands.ensures c.join_all-hands.ensures.whole in
     let hands_kept = IfOk-at_ok _ c.unwrap-hands.ensures c.join_all-hands.ensures.kept in
     let have_run = IfOk-at_ok _ c.unwrap-answered.ensures c.run_processors-answered.ensures.ran in
+    let passes = MatchResult-at_ok _ _ _ c.unwrap-answered.ensures c.run_processors-answered.ensures.control in
     let v = control_view c.run_processors-answered.new.control in
     let ran = subst (λ ps. AllZip (HasRun key_of gives v) ps rs) c.in_ok-callers.ensures.processors have_run in record {
       control = same_again _ _ _ _ _ _ c.run_processors-answered.ensures.same c.finish.ensures.same;
+      passes = record { between = c.run_processors-answered.new.control; before = passes; halts = c.finish.ensures.halts };
       driver = driver_kept (λ t. t.promise.0.value) c.start_driver-driver.result parts.driver c.unwrap-driver.result c.start_driver-driver.ensures driver;
       groups = zip_kept (λ t. t.promise.0.value) (λ t q. GroupStays t.promise.0.value q) GroupStays (λ t q kept. kept) parts.groups.items c.start_groups-groups.result.threads.items c.unwrap-groups.result.items (c.start_groups-groups.ensures groups) groups_kept;
       hands = zip_kept (λ t. t.promise.0.value) (λ t q. HandStays key_of gives t.promise.0.value q) (HandStays key_of gives) (λ t q kept. kept) parts.hands.items c.start_hands-hands.result.threads.items c.unwrap-hands.result.items (c.start_hands-hands.ensures hands) hands_kept;
