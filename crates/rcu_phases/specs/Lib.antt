@@ -1,2 +1,4 @@
 pub mod Kept
 pub mod Company
+pub mod Acts
+pub mod Moves

@@ -4,6 +4,7 @@ ghost use Rattle.std.specs.Prelude.{◌≡◌, ◌≤◌, All, IfErr, IfOk, leng
 ghost use Rattle.std.specs.List.{AllZip};
 ghost use Rattle.rcu_part_processor.specs.Processors.{IsSound, SameProcessor};
 ghost use Rattle.rcu_jobs.specs.Refusals.{number_of};
+ghost use Rattle.rcu_phases.specs.Acts.{Acts};
 ghost use Rattle.rcu_phases.specs.Kept.{ProcessorsKeep};
 ghost use Rattle.rcu_phases.specs.declared.phase.Answer.TheVariants.{Accepted, NoProcessor};
 
@@ -32,6 +33,7 @@ fn accepted<J: Drop>(called: Result<Ticket, Refused<J>>) -> Answer
 
 /// One call of a processor.
 fn act_one<J: Job<Receipt = u64>>(processor: &mut Processor<J>, act: Act<J>) -> Answer
+    ensures acts { Acts J.key_of act result processor.old.state processor.new.state }
     ensures same { SameProcessor processor.old.state processor.new.state }
     ensures sound { IsSound J.key_of J.gives processor.old.state
         → IsSound J.key_of J.gives processor.new.state }

@@ -3,6 +3,7 @@
 ghost use Rattle.std.specs.Prelude.{◌≡◌, ◌↔◌, IfOk, IsSome, None};
 ghost use Rattle.std.proofs.Props.{props};
 ghost use Rattle.rcu_phases.specs.Kept.{IsOurs};
+ghost use Rattle.rcu_phases.specs.Moves.{MovesControl, MovesDriver, OpensAs, PollsAs};
 ghost use Rattle.rcu_phases.specs.declared.phase.Reply.TheVariants.{NoBarrier, Opened};
 ghost use Rattle.rcu_control.specs.Parts.{SameControl, SameDriver};
 
@@ -26,6 +27,7 @@ fn open_barrier(control: &mut Control, barrier: &mut Option<Barrier>, tickets: &
     ensures control { SameControl control.old control.new }
     ensures ours { IsOurs control.new barrier.new }
     ensures opened { (result ≡ Opened) ↔ IsSome barrier.new }
+    ensures opens { OpensAs tickets.now result barrier.new control.old control.new }
 {
     match control.barrier(tickets) {
         Ok(opened) => {
@@ -44,6 +46,7 @@ fn poll_barrier(control: &mut Control, barrier: &Option<Barrier>) -> Reply
     requires ours { IsOurs control.old barrier.now }
     ensures control { SameControl control.old control.new }
     ensures none { (result ≡ NoBarrier) ↔ (barrier.now ≡ None) }
+    ensures polls { PollsAs result barrier.now control.old control.new }
 {
     let Some(mut polled) = *barrier else {
         return Reply::NoBarrier;
@@ -65,6 +68,8 @@ fn move_one(
     ensures driver { SameDriver driver.old driver.new }
     ensures control { SameControl control.old control.new }
     ensures ours { IsOurs control.new barrier.new }
+    ensures drives { MovesDriver next driver.old driver.new }
+    ensures moves { MovesControl next result barrier.old barrier.new control.old control.new }
 {
     match next {
         Move::Drive => {
