@@ -48,6 +48,29 @@ fn moves(alloc: Global, moves: Vec<Move>) -> Phase<Work> {
     phase
 }
 
+/// Adds a phase in which processor 0 makes one call.
+fn push_act(
+    phases: &mut Vec<Phase<Work>>,
+    alloc: Global,
+    act: Act<Work>,
+) -> Result<(), AllocError> {
+    phases.push(calls(alloc, vec![in alloc; act]?)?)?;
+    Ok(())
+}
+
+/// Adds a phase in which the driver's thread makes one move.
+fn push_move(phases: &mut Vec<Phase<Work>>, alloc: Global, next: Move) -> Result<(), AllocError> {
+    phases.push(moves(alloc, vec![in alloc; next]?))?;
+    Ok(())
+}
+
+/// Adds the phases by which what the parts wait for comes about: a grace period begins, processor 0 reports, and it ends.
+fn push_grace_period(phases: &mut Vec<Phase<Work>>, alloc: Global) -> Result<(), AllocError> {
+    push_move(phases, alloc, Move::Drive)?;
+    push_act(phases, alloc, Act::Report)?;
+    push_move(phases, alloc, Move::Drive)
+}
+
 /// A phase in which all groups take so many turns.
 fn group_turns(alloc: Global, turns: u64) -> Phase<Work> {
     let mut phase = Phase::new(alloc);
@@ -58,19 +81,10 @@ fn group_turns(alloc: Global, turns: u64) -> Phase<Work> {
 /// The phases by which one offloadable processor's first callback, of this job, comes to its hand.
 fn to_the_hand(alloc: Global, first: Work) -> Result<Vec<Phase<Work>>, AllocError> {
     let mut phases = Vec::new(alloc);
-    phases.push(calls(
-        alloc,
-        vec![in alloc;
-            Act::Call {
-                moment: 0,
-                job: first
-            },
-        ]?,
-    )?)?;
+    let (moment, job) = (0, first);
+    push_act(&mut phases, alloc, Act::Call { moment, job })?;
     phases.push(group_turns(alloc, 1))?;
-    phases.push(moves(alloc, vec![in alloc; Move::Drive]?))?;
-    phases.push(calls(alloc, vec![in alloc; Act::Report]?)?)?;
-    phases.push(moves(alloc, vec![in alloc; Move::Drive]?))?;
+    push_grace_period(&mut phases, alloc)?;
     phases.push(group_turns(alloc, 1))?;
     Ok(phases)
 }
@@ -154,7 +168,7 @@ fn call_beside_a_running_job(rt: HostRuntime) -> Result<(), Fail> {
 /// `turn-word-order` up to its command `hand 0`, where the first callback is of this job.
 fn to_the_claims(alloc: Global, first: Work) -> Result<Vec<Phase<Work>>, AllocError> {
     let mut phases = to_the_hand(alloc, first)?;
-    phases.push(moves(alloc, vec![in alloc; Move::Deoffload(0)]?))?;
+    push_move(&mut phases, alloc, Move::Deoffload(0))?;
     let second = Act::Call {
         moment: 0,
         job: job(alloc, 8)?,
@@ -164,10 +178,8 @@ fn to_the_claims(alloc: Global, first: Work) -> Result<Vec<Phase<Work>>, AllocEr
         alloc,
         vec![in alloc; Act::Tick { moment: 0 }, second, tick]?,
     )?)?;
-    phases.push(moves(alloc, vec![in alloc; Move::Drive]?))?;
-    phases.push(calls(alloc, vec![in alloc; Act::Report]?)?)?;
-    phases.push(moves(alloc, vec![in alloc; Move::Drive]?))?;
-    phases.push(calls(alloc, vec![in alloc; Act::Tick { moment: 0 }]?)?)?;
+    push_grace_period(&mut phases, alloc)?;
+    push_act(&mut phases, alloc, Act::Tick { moment: 0 })?;
     Ok(phases)
 }
 
@@ -182,7 +194,7 @@ fn hand_claim_lasts(rt: HostRuntime) -> Result<(), Fail> {
         ticks.push(Act::Tick { moment: 0 })?;
     }
     phases.push(beside_the_hand(alloc, &running, ticks, &ticked_on)?)?;
-    phases.push(calls(alloc, vec![in alloc; Act::Tick { moment: 0 }]?)?)?;
+    push_act(&mut phases, alloc, Act::Tick { moment: 0 })?;
     let played = play_one(&rt, alloc, true, phases)?;
     let mut answers = vec![in alloc;
         accepted(0),
@@ -236,10 +248,10 @@ fn local_claim_lasts(rt: HostRuntime) -> Result<(), Fail> {
     let mut phases = Vec::new(alloc);
     phases.push(calls(alloc, vec![in alloc; call, Act::Tick { moment: 0 }]?)?)?;
     phases.push(moves(alloc, vec![in alloc; Move::Open(tickets), Move::Drive]?))?;
-    phases.push(calls(alloc, vec![in alloc; Act::Report]?)?)?;
-    phases.push(moves(alloc, vec![in alloc; Move::Drive]?))?;
+    push_act(&mut phases, alloc, Act::Report)?;
+    push_move(&mut phases, alloc, Move::Drive)?;
     phases.push(polls_beside_a_tick(alloc, &running, &polled)?)?;
-    phases.push(moves(alloc, vec![in alloc; Move::Poll]?))?;
+    push_move(&mut phases, alloc, Move::Poll)?;
     let played = play_one(&rt, alloc, false, phases)?;
     let mut replies = vec![in alloc; Reply::Opened]?;
     for _ in 0..20 {

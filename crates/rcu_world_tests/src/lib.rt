@@ -3,4 +3,6 @@
 #![tactic(auto)]
 
 #[cfg(test)]
+mod steps;
+#[cfg(test)]
 mod tests;

@@ -2,6 +2,7 @@
 
 ghost use Rattle.std.specs.Prelude.{◌≡◌, ◌%◌};
 
+use crate::steps::{call, drive, report, tick};
 use rcu_jobs::{
     BarrierFault, BoxedJob, DriverTurn, Job, Lists, Mode, Stop, SwitchFault, Ticked, Ticket,
 };
@@ -74,14 +75,13 @@ fn first_run(rt: HostRuntime) -> Result<(), Fail> {
     let shape = Shape::new(1, 0, 1, 10, 100, 10).ok_or("no shape")?;
     let mut world = World::new(rt.alloc(), shape)?;
     assert!(rt; world.is_at_rest());
-    let job = boxed(&rt, 65537)?;
-    let ticket = world.call_rcu(0, 0, job).ok().ok_or("refused")?;
+    let ticket = call(&mut world, 0, boxed(&rt, 65537)?)?;
     assert_eq!(rt; ticket, Ticket { cpu: 0, number: 0 });
-    assert_eq!(rt; world.tick(0, 0)?.ran, 0);
-    assert_eq!(rt; world.driver_turn()?, DriverTurn::Started(1));
-    assert_eq!(rt; world.quiescent(0)?, Some(1));
-    assert_eq!(rt; world.quiescent(0)?, None);
-    assert_eq!(rt; world.driver_turn()?, DriverTurn::Ended(4));
+    tick(&rt, &mut world, 0, 0)?;
+    drive(&rt, &mut world, DriverTurn::Started(1))?;
+    report(&rt, &mut world, Some(1))?;
+    report(&rt, &mut world, None)?;
+    drive(&rt, &mut world, DriverTurn::Ended(4))?;
     assert_eq!(rt;
         world.tick(0, 0)?,
         Ticked {
@@ -99,13 +99,12 @@ fn first_run(rt: HostRuntime) -> Result<(), Fail> {
 fn two_generations(rt: HostRuntime) -> Result<(), Fail> {
     let shape = Shape::new(1, 0, 1, 10, 100, 10).ok_or("no shape")?;
     let mut world = World::new(rt.alloc(), shape)?;
-    let first = boxed(&rt, 65538)?;
+    call(&mut world, 0, boxed(&rt, 65538)?)?;
+    tick(&rt, &mut world, 0, 0)?;
+    drive(&rt, &mut world, DriverTurn::Started(1))?;
     let second = boxed(&rt, 65539)?;
-    assert!(rt; world.call_rcu(0, 0, first).is_ok());
-    assert_eq!(rt; world.tick(0, 0)?.ran, 0);
-    assert_eq!(rt; world.driver_turn()?, DriverTurn::Started(1));
     assert!(rt; world.call_rcu_lazy(0, 0, second).is_ok());
-    assert_eq!(rt; world.tick(0, 0)?.ran, 0);
+    tick(&rt, &mut world, 0, 0)?;
     assert_eq!(rt;
         world.lists(0),
         Lists::Cpu {
@@ -128,10 +127,9 @@ fn two_generations(rt: HostRuntime) -> Result<(), Fail> {
 fn barrier_tickets(rt: HostRuntime) -> Result<(), Fail> {
     let shape = Shape::new(1, 1, 1, 10, 100, 10).ok_or("no shape")?;
     let mut world = World::new(rt.alloc(), shape)?;
-    let (first, second, third) = (boxed(&rt, 0)?, boxed(&rt, 1)?, boxed(&rt, 2)?);
-    assert!(rt; world.call_rcu(0, 5, first).is_ok());
-    assert!(rt; world.call_rcu(0, 5, second).is_ok());
-    assert!(rt; world.call_rcu(0, 5, third).is_ok());
+    call(&mut world, 5, boxed(&rt, 0)?)?;
+    call(&mut world, 5, boxed(&rt, 1)?)?;
+    call(&mut world, 5, boxed(&rt, 2)?)?;
     let early = [Ticket { cpu: 0, number: 3 }];
     assert_eq!(rt;
         world.barrier(None, &early),
@@ -155,16 +153,15 @@ fn barrier_tickets(rt: HostRuntime) -> Result<(), Fail> {
 fn a_barrier_passes_once(rt: HostRuntime) -> Result<(), Fail> {
     let shape = Shape::new(1, 0, 1, 10, 100, 10).ok_or("no shape")?;
     let mut world = World::new(rt.alloc(), shape)?;
-    let job = boxed(&rt, 65536)?;
-    assert!(rt; world.call_rcu(0, 5, job).is_ok());
+    call(&mut world, 5, boxed(&rt, 65536)?)?;
     assert_eq!(rt; world.barrier(None, &[]), Ok(0));
     assert_eq!(rt; world.poll(0)?, None);
-    world.tick(0, 5)?;
-    world.driver_turn()?;
-    world.quiescent(0)?;
-    world.driver_turn()?;
+    tick(&rt, &mut world, 5, 0)?;
+    drive(&rt, &mut world, DriverTurn::Started(1))?;
+    report(&rt, &mut world, Some(1))?;
+    drive(&rt, &mut world, DriverTurn::Ended(4))?;
     assert_eq!(rt; world.poll(0)?, None);
-    assert_eq!(rt; world.tick(0, 5)?.ran, 1);
+    tick(&rt, &mut world, 5, 1)?;
     let passed = world.poll(0)?.ok_or("it waits")?;
     assert_eq!(rt;
         passed.counts.of_processors().first().ok_or("no count")?,
@@ -300,27 +297,25 @@ fn shown(mode: Mode, accepted: u64, lengths: [u64; 4], numbers: [u64; 2]) -> Lis
 fn switch_and_pour(rt: HostRuntime) -> Result<(), Fail> {
     let shape = Shape::new(1, 1, 1, 1, 100, 10).ok_or("no shape")?;
     let mut world = World::new(rt.alloc(), shape)?;
-    let (job0, job1, job2) = (boxed(&rt, 0)?, boxed(&rt, 1)?, boxed(&rt, 2)?);
-    let (job3, job4, job5) = (boxed(&rt, 3)?, boxed(&rt, 4)?, boxed(&rt, 5)?);
     assert_eq!(rt; world.deoffload(0), Ok(()));
-    assert_eq!(rt; world.tick(0, 0)?.ran, 0);
-    assert!(rt; world.call_rcu(0, 0, job0).is_ok());
-    assert!(rt; world.call_rcu(0, 0, job1).is_ok());
-    assert!(rt; world.call_rcu(0, 0, job2).is_ok());
-    assert_eq!(rt; world.tick(0, 0)?.ran, 0);
-    assert_eq!(rt; world.driver_turn()?, DriverTurn::Started(1));
-    assert!(rt; world.call_rcu(0, 0, job3).is_ok());
-    assert_eq!(rt; world.tick(0, 0)?.ran, 0);
-    assert_eq!(rt; world.quiescent(0)?, Some(1));
-    assert_eq!(rt; world.driver_turn()?, DriverTurn::Ended(4));
-    assert_eq!(rt; world.tick(0, 0)?.ran, 1);
-    assert_eq!(rt; world.driver_turn()?, DriverTurn::Started(5));
-    assert!(rt; world.call_rcu(0, 0, job4).is_ok());
-    assert_eq!(rt; world.tick(0, 0)?.ran, 1);
-    assert!(rt; world.call_rcu(0, 0, job5).is_ok());
+    tick(&rt, &mut world, 0, 0)?;
+    call(&mut world, 0, boxed(&rt, 0)?)?;
+    call(&mut world, 0, boxed(&rt, 1)?)?;
+    call(&mut world, 0, boxed(&rt, 2)?)?;
+    tick(&rt, &mut world, 0, 0)?;
+    drive(&rt, &mut world, DriverTurn::Started(1))?;
+    call(&mut world, 0, boxed(&rt, 3)?)?;
+    tick(&rt, &mut world, 0, 0)?;
+    report(&rt, &mut world, Some(1))?;
+    drive(&rt, &mut world, DriverTurn::Ended(4))?;
+    tick(&rt, &mut world, 0, 1)?;
+    drive(&rt, &mut world, DriverTurn::Started(5))?;
+    call(&mut world, 0, boxed(&rt, 4)?)?;
+    tick(&rt, &mut world, 0, 1)?;
+    call(&mut world, 0, boxed(&rt, 5)?)?;
     assert_eq!(rt; world.lists(0), shown(Mode::Local, 6, [1; 4], [8, 12]));
     assert_eq!(rt; world.offload(0), Ok(()));
-    assert_eq!(rt; world.tick(0, 0)?.ran, 0);
+    tick(&rt, &mut world, 0, 0)?;
     if !world.has_group(0) {
         return Err(Fail::from("no group"));
     }
