@@ -1,6 +1,7 @@
 //! The core, event by event and by its turn calls.
 
 ghost use Rattle.std.specs.Prelude.{◌≡◌, ◌%◌};
+ghost use Rattle.rcu_world_tests.specs.Resting.{IsResting};
 
 use crate::steps::{call, drive, report, tick};
 use rcu_jobs::{
@@ -10,6 +11,7 @@ use rcu_law::marks::Mark;
 use rcu_law::who::{Side, Who};
 use rcu_numbers::Shape;
 use rcu_world::{Answer, Event, World};
+use std::process::Abort;
 use std::test::Fail;
 
 const KEY: u64 = 65536;
@@ -25,29 +27,31 @@ fn boxed(rt: &HostRuntime, key: u64) -> Result<BoxedJob<KEY>, Fail> {
     Ok(BoxedJob::<65536>::new(key, call))
 }
 
+// A callback of key 65543, up to its claim, which isn't finished.
+fn until_claimed(rt: &HostRuntime) -> Result<Vec<Event<BoxedJob<KEY>>>, Fail> {
+    let mut events = Vec::new(rt.alloc());
+    let job = boxed(rt, 65543)?;
+    events.push(Event::Accept { cpu: 0, job })?;
+    let (moment, lazy) = (1, false);
+    events.push(Event::Stamp {
+        cpu: 0,
+        moment,
+        lazy,
+    })?;
+    events.push(Event::Look { cpu: 0 })?;
+    push_grace_period(&mut events, Who::Cpu(0))?;
+    events.push(Event::Look { cpu: 0 })?;
+    let by = Side::Local;
+    events.push(Event::Claim { cpu: 0, by })?;
+    Ok(events)
+}
+
 // The row `cut-core`, with boxed jobs: the events end between a claim and its finish, and the job counts as run.
 #[test]
 fn boxed_jobs_run(rt: HostRuntime) -> Result<(), Fail> {
+    let events = until_claimed(&rt)?;
     let shape = Shape::new(1, 0, 1, 10, 100, 10).ok_or("no shape")?;
     let mut world = World::new(rt.alloc(), shape)?;
-    let job = boxed(&rt, 65543)?;
-    let mut events = Vec::new(rt.alloc());
-    events.push(Event::Accept { cpu: 0, job })?;
-    events.push(Event::Stamp {
-        cpu: 0,
-        moment: 1,
-        lazy: false,
-    })?;
-    events.push(Event::Look { cpu: 0 })?;
-    events.push(Event::Need { who: Who::Cpu(0) })?;
-    events.push(Event::Start)?;
-    events.push(Event::Report { cpu: 0 })?;
-    events.push(Event::End)?;
-    events.push(Event::Look { cpu: 0 })?;
-    events.push(Event::Claim {
-        cpu: 0,
-        by: Side::Local,
-    })?;
     let answers = world.run(events).ok().ok_or("no room")?;
     assert!(rt; !world.is_at_rest());
     assert_eq!(rt; answers.len(), 9);
@@ -57,11 +61,13 @@ fn boxed_jobs_run(rt: HostRuntime) -> Result<(), Fail> {
     let Ok((marks, closed)) = world.close() else {
         return Err(Fail::from("no room"));
     };
-    assert_eq!(rt; marks.len(), 4);
-    assert_eq!(rt; marks[0], Mark::Accepted(0, 65543));
-    assert_eq!(rt; marks[1], Mark::Reported(0));
-    assert_eq!(rt; marks[2], Mark::Ran(0, 65543));
-    assert_eq!(rt; marks[3], Mark::Shut(0));
+    let expected = [
+        Mark::Accepted(0, 65543),
+        Mark::Reported(0),
+        Mark::Ran(0, 65543),
+        Mark::Shut(0),
+    ];
+    assert_eq!(rt; marks.as_slice(), expected.as_slice());
     let ran = closed.ran.first().ok_or("no processor")?;
     let record = ran.first().ok_or("no record")?;
     assert_eq!(rt; record.receipt, 7);
@@ -292,6 +298,18 @@ fn shown(mode: Mode, accepted: u64, lengths: [u64; 4], numbers: [u64; 2]) -> Lis
     }
 }
 
+// Grace period 1 ends, which one callback waited for, and the second one begins.
+fn second_period<J: Job>(rt: &impl Abort, world: &mut World<J>) -> Result<(), Fail>
+    requires { IsResting J.key_of J.gives world.old.core }
+    ensures { IsResting J.key_of J.gives world.new.core }
+{
+    tick(rt, world, 0, 0)?;
+    report(rt, world, Some(1))?;
+    drive(rt, world, DriverTurn::Ended(4))?;
+    tick(rt, world, 0, 1)?;
+    drive(rt, world, DriverTurn::Started(5))
+}
+
 // The row `switch-and-pour`: what waits in the own list is poured, and the four jobs come back in order.
 #[test]
 fn switch_and_pour(rt: HostRuntime) -> Result<(), Fail> {
@@ -305,11 +323,7 @@ fn switch_and_pour(rt: HostRuntime) -> Result<(), Fail> {
     tick(&rt, &mut world, 0, 0)?;
     drive(&rt, &mut world, DriverTurn::Started(1))?;
     call(&mut world, 0, boxed(&rt, 3)?)?;
-    tick(&rt, &mut world, 0, 0)?;
-    report(&rt, &mut world, Some(1))?;
-    drive(&rt, &mut world, DriverTurn::Ended(4))?;
-    tick(&rt, &mut world, 0, 1)?;
-    drive(&rt, &mut world, DriverTurn::Started(5))?;
+    second_period(&rt, &mut world)?;
     call(&mut world, 0, boxed(&rt, 4)?)?;
     tick(&rt, &mut world, 0, 1)?;
     call(&mut world, 0, boxed(&rt, 5)?)?;
