@@ -5,9 +5,10 @@
 ghost use Rattle.std.specs.Prelude.{◌≡◌, ◌==◌, ◌+◌, ◌++◌, [], ◌∷◌, IfOk, OnErr, OnOk, find, reverse, vec_len};
 ghost use Rattle.std.specs.Option.{option_map};
 ghost use Rattle.std.specs.Arc.{arc_value};
-ghost use Rattle.rcu_runtime.specs.Calls.{AcceptsPlain, OnProcessor};
+ghost use Rattle.rcu_runtime.specs.Calls.{AcceptsPlain, GivesBack, OnProcessor};
 ghost use Rattle.rcu_runtime.specs.Ends.{HaveReceipts, back_in, ran_in};
 ghost use Rattle.rcu_runtime.specs.Runtimes.{accepted_in};
+ghost use Rattle.rcu_embedding.specs.Updates.{HasFailed};
 
 use rcu_runtime::{AnyFault, Closed, Job, Reading, Runtime, Shape, Ticket, open};
 use std::alloc::{AllocError, Global};
@@ -146,6 +147,8 @@ impl Table {
             let job : TheRetired = record { 0 = self.old.current } in
             IfOk result (λ t.
             OnProcessor p (AcceptsPlain moment key job t) self.old.runtime self.new.runtime) }
+        ensures fails { let job : TheRetired = record { 0 = self.old.current } in
+            OnErr result (HasFailed (GivesBack p job) self.old.runtime self.new.runtime) }
     {
         let next = Arc::new(self.alloc, self.current.with(row)?)?;
         let old = mem::replace(&mut self.current, next);
