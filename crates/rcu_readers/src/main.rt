@@ -5,7 +5,7 @@
 
 mod table;
 
-ghost use Rattle.std.specs.Prelude.{⊤};
+ghost use Rattle.std.specs.Prelude.{◌≡◌, ◌≢◌, ◌≤◌, ⊤};
 
 use rcu_workers::{
     Answer, AnyFault, End, Ending, Order, Reading, Reply, Shape, Steering, Step, Worker, open,
@@ -44,13 +44,17 @@ struct Member {
 
 impl Member {
     /// Gives up, so that nobody waits for more versions.
-    fn give_up(&self) -> Step<Retired> {
+    fn give_up(&self) -> Step<Retired>
+        ensures { result ≡ Step.Fail }
+    {
         self.table.end();
         Step::Fail
     }
 
     /// Publishes a version, where a place is free, and retires the one before.
-    fn publish(&self) -> Step<Retired> {
+    fn publish(&self) -> Step<Retired>
+        ensures { result ≢ Step.Done }
+    {
         let Ok(table) = Arc::try_clone(&self.table) else {
             return self.give_up();
         };
@@ -63,7 +67,17 @@ impl Member {
 }
 
 impl Worker<Retired> for Member {
-    fn step(&mut self, answer: Answer<Retired>) -> Step<Retired> {
+    ghost use Rattle.rcu_workers.specs.declared.worker.End.TheVariants.{Done};
+
+    // It is known again by what it is to do; and one that is done has read as often as it was to.
+    ghost name_of = { λ member. member.last };
+
+    ghost ends_as = { λ end member. end ≡ Done → member.reads ≤ member.seen.reads };
+
+    fn step(&mut self, answer: Answer<Retired>) -> Step<Retired>
+        ensures name { self.new.last ≡ self.old.last }
+        ensures done { result ≡ Step.Done → self.new.reads ≤ self.new.seen.reads }
+    {
         self.moment = self.moment.saturating_add(1);
         let moment = self.moment;
         match answer {

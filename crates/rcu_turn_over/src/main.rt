@@ -3,7 +3,7 @@
 //! threads. docs/embedding.md, "Limits", speaks of it.
 #![tactic(auto)]
 
-ghost use Rattle.std.specs.Prelude.{◌≡◌, ◌+◌, ◌<◌, ◌≤◌, ◌↔◌, IfOk, IsTrue, OnOk, drop, max, vec_len};
+ghost use Rattle.std.specs.Prelude.{◌≡◌, ◌≢◌, ◌+◌, ◌<◌, ◌≤◌, ◌↔◌, IfOk, IsTrue, OnOk, drop, max, vec_len};
 ghost use Rattle.rcu_turn_over.specs.Callers.{CallsFirst, HasCalledAll, next_job};
 ghost use Rattle.rcu_turn_over.specs.Numbers.{AreNumberedFrom};
 ghost use Rattle.rcu_workers.specs.Ends.{HasNoneBack, LosesNone};
@@ -97,7 +97,16 @@ impl Caller {
 }
 
 impl Worker<Number> for Caller {
-    fn step(&mut self, answer: Answer<Number>) -> Step<Number> {
+    ghost use Rattle.rcu_workers.specs.declared.worker.End.TheVariants.{Done};
+
+    // Its processor is the only one; and it never gives up.
+    ghost name_of = { λ caller. 0 };
+
+    ghost ends_as = { λ end caller. end ≡ Done };
+
+    fn step(&mut self, answer: Answer<Number>) -> Step<Number>
+        ensures { result ≢ Step.Fail }
+    {
         match answer {
             Answer::Refused(refused) => {
                 self.refused = Some(refused.into_job());

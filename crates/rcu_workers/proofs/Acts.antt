@@ -1,5 +1,5 @@
 -- What a call of a processor answers, as what its worker is told.
-use Rattle.std.proofs.Common.{◌≡◌, ◌≢◌, ℕ, ◌<◌, Result, Ok, Err, true, false, sym, subst, arith}
+use Rattle.std.proofs.Common.{◌≡◌, ◌≢◌, ℕ, ◌<◌, Result, Ok, Err, true, false, refl, sym, subst, arith}
 use Rattle.std.specs.Prelude.{MatchResult}
 use Rattle.rcu_jobs.specs.declared.answers.Refused.{Refused}
 use Rattle.rcu_jobs.specs.declared.answers.Ticket.{Ticket}
@@ -8,10 +8,12 @@ use Rattle.rcu_lists.specs.declared.pace.Kind.TheVariants.{Lazy, Plain}
 use Rattle.rcu_part_processor.specs.Processors.{IsSound}
 use Rattle.rcu_part_processor.specs.declared.processor.Processor.{Processor}
 use Rattle.rcu_runtime.proofs.Accepted.{Answers}
+use Rattle.rcu_workers.specs.Says.{EndsAs}
 use Rattle.rcu_workers.specs.Steps.{Does, ProcessorWorks}
 use Rattle.rcu_workers.specs.declared.acting.Acted.{Acted}
 use Rattle.rcu_workers.specs.declared.acting.Acted.TheVariants as acted
 use Rattle.rcu_workers.specs.declared.worker.Answer.TheVariants as answer
+use Rattle.rcu_workers.specs.declared.worker.End.{End}
 use Rattle.rcu_workers.specs.declared.worker.End.TheVariants as end
 use Rattle.rcu_workers.specs.declared.worker.Step.{Step}
 use Rattle.rcu_workers.specs.declared.worker.Step.TheVariants as step
@@ -35,6 +37,24 @@ module _ {J R : Type 0} (key_of : J → ℕ) (moment : ℕ) (job : J) (p q : Pro
   pub called_works : (gives : ℕ → R → Type 0) (kind : Kind) (r : Result Ticket (Refused J)) → Answers moment kind (key_of job) job r p q → (IsSound key_of gives p.state → IsSound key_of gives q.state) → ProcessorWorks key_of gives p q
   called_works gives kind (Ok t) w sound = record { keeps = record { same = w.same; sound = sound }; count = (let h = w.ok.count in omega (arith, h)) }
   called_works gives kind (Err x) w sound = record { keeps = record { same = w.same; sound = sound }; count = (let h = w.err.count in omega (arith, h)) }
+
+module _ {J R W : Type 0} (key_of : J → ℕ) (ends_as : End → W → Type 0) (p q : Processor J R) (w v : W) where
+  -- a worker that ends by a step is as it said
+  pub ends_as_said : (s : Step J) (e : End) → EndsAs ends_as s w → Does key_of s (acted.Ends e) p q → (s ≢ step.Read → v ≡ w) → ends_as e v
+  ends_as_said (step.Call moment job) e says d same = absurd d
+  ends_as_said (step.CallLazy moment job) e says d same = absurd d
+  ends_as_said step.Read e says d same = absurd d
+  ends_as_said step.Report e says d same = absurd d
+  ends_as_said (step.Tick moment) e says d same = absurd d
+  ends_as_said step.OpenBarrier e says d same = absurd d
+  ends_as_said (step.PollBarrier barrier) e says d same = absurd d
+  ends_as_said step.Pause e says d same = absurd d
+  ends_as_said step.Done end.Done says d same = subst (ends_as end.Done) (sym (same (λ r. let z = r in cc))) (says.0 refl)
+  ends_as_said step.Done end.Failed says d same = absurd d
+  ends_as_said step.Done end.NotBegun says d same = absurd d
+  ends_as_said step.Fail end.Done says d same = absurd d
+  ends_as_said step.Fail end.Failed says d same = subst (ends_as end.Failed) (sym (same (λ r. let z = r in cc))) (says.1 refl)
+  ends_as_said step.Fail end.NotBegun says d same = absurd d
 
 -- no step ends as one that wasn't made
 pub none_ends_unbegun : {J R : Type 0} (key_of : J → ℕ) (s : Step J) (p q : Processor J R) → Does key_of s (acted.Ends end.NotBegun) p q → ⊥

@@ -8,6 +8,7 @@ use Rattle.rcu_runtime.proofs.Wholes.{continues_again}
 use Rattle.rcu_runtime.specs.Runtimes.{Continues}
 use Rattle.rcu_workers.specs.Faults.{ComesBack, HaveEnded, IsEarly, IsLate, IsWhy}
 use Rattle.rcu_workers.specs.Runs.{ComeBack, KeepsUnbegun}
+use Rattle.rcu_workers.specs.Says.{AreSameWorkers, HaveEndedAs}
 use Rattle.rcu_workers.specs.declared.running.Ending.{Ending}
 use Rattle.rcu_workers.specs.declared.worker.End.{End}
 use Rattle.rcu_workers.specs.declared.worker.End.TheVariants.{NotBegun}
@@ -90,3 +91,28 @@ module _ {A B W : Type 0} (workers left : Vec W Global) (ends : Vec End Global) 
 
   pub unbegun_back : (f : B → Vec W Global) (g : B → Vec End Global) (r : Result A B) → IfErr r (λ b. f b ≡ left) → IfErr r (λ b. g b ≡ ends) → IfErr r (λ b. KeepsUnbegun workers (f b) (g b))
   unbegun_back f g r same told = if_err_both (λ b. f b ≡ left) (λ b. g b ≡ ends) (λ b. KeepsUnbegun workers (f b) (g b)) (λ b s t. kept_by workers left (f b) ends (g b) kept s t) r same told
+
+module _ {A B W : Type 0} (name_of : W → ℕ) (workers left : Vec W Global) (same : AreSameWorkers name_of workers left) where
+  pub named_come : {X : Type 0} (f : A → Vec W Global) (g : A → X) (x : X) (r : Result A B) → IfOk r (λ a. (f a ≡ left) × (g a ≡ x)) → IfOk r (λ a. AreSameWorkers name_of workers (f a))
+  named_come f g x (Ok a) is = subst (AreSameWorkers name_of workers) (sym is.0) same
+  named_come f g x (Err b) is = is
+
+  pub named_back : (f : B → Vec W Global) (r : Result A B) → IfErr r (λ b. f b ≡ left) → IfErr r (λ b. AreSameWorkers name_of workers (f b))
+  named_back f (Ok a) is = is
+  named_back f (Err b) is = subst (AreSameWorkers name_of workers) (sym is) same
+
+-- and so is how each ended
+said_by : {W : Type 0} (ends_as : End → W → Type 0) (left now : Vec W Global) (ends said : Vec End Global) → HaveEndedAs ends_as left ends → now ≡ left → said ≡ ends → HaveEndedAs ends_as now said
+said_by ends_as left now ends said have same told = subst (λ v. HaveEndedAs ends_as v said) (sym same) (subst (HaveEndedAs ends_as left) (sym told) have)
+
+-- where no end is said, of none
+pub none_ended : {W : Type 0} (ends_as : End → W → Type 0) (workers : Vec W Global) (ends : Vec End Global) → ends.items ≡ [] → HaveEndedAs ends_as workers ends
+none_ended ends_as workers ends none = λ k w e is said begun. absurd (let h : slice_get [] k ≡ Some e = subst (λ l. slice_get l k ≡ Some e) none said in cc)
+
+module _ {A B W : Type 0} (ends_as : End → W → Type 0) (left : Vec W Global) (ends : Vec End Global) (have : HaveEndedAs ends_as left ends) where
+  pub ended_come : (f : A → Vec W Global) (g : A → Vec End Global) (r : Result A B) → IfOk r (λ a. (f a ≡ left) × (g a ≡ ends)) → IfOk r (λ a. HaveEndedAs ends_as (f a) (g a))
+  ended_come f g (Ok a) same = said_by ends_as left (f a) ends (g a) have same.0 same.1
+  ended_come f g (Err b) same = same
+
+  pub ended_back : (f : B → Vec W Global) (g : B → Vec End Global) (r : Result A B) → IfErr r (λ b. f b ≡ left) → IfErr r (λ b. g b ≡ ends) → IfErr r (λ b. HaveEndedAs ends_as (f b) (g b))
+  ended_back f g r same told = if_err_both (λ b. f b ≡ left) (λ b. g b ≡ ends) (λ b. HaveEndedAs ends_as (f b) (g b)) (λ b s t. said_by ends_as left (f b) ends (g b) have s t) r same told

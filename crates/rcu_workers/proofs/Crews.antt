@@ -1,5 +1,5 @@
 -- Lists place by place: what was started, what came back, and what is known of both.
-use Rattle.std.proofs.Common.{◌≡◌, ℕ, zero, suc, ◌+◌, ◌<◌, ◌≤◌, Some, List, [], ◌∷◌, ◌++◌, map, length, append_assoc, ap, sym, ◌∙◌, refl, subst, arith}
+use Rattle.std.proofs.Common.{◌≡◌, ◌≢◌, ℕ, zero, suc, ◌+◌, ◌<◌, ◌≤◌, Some, List, [], ◌∷◌, ◌++◌, map, length, append_assoc, ap, sym, ◌∙◌, refl, subst, arith}
 use Rattle.std.specs.List.{AllZip, slice_get}
 use Rattle.std.specs.Prelude.{unwrap_or}
 use Rattle.std.proofs.lemmas.List.{length-map, map-append, nil_from_length}
@@ -8,6 +8,7 @@ use Rattle.rcu_workers.specs.Crews.{HasBegun, HasEnded}
 use Rattle.rcu_workers.specs.declared.crew.Started.{Started}
 use Rattle.rcu_workers.specs.declared.crew.Started.TheVariants.{Running, Back}
 use Rattle.rcu_workers.specs.declared.post.Post.{Post}
+use Rattle.rcu_workers.specs.declared.worker.End.{End}
 use Rattle.rcu_workers.specs.declared.worker.End.TheVariants.{NotBegun}
 
 module _ {A B : Type 0} (R : A → B → Type 0) where
@@ -96,10 +97,20 @@ pub all_done : {A B : Type 0} (R : A → B → Type 0) (done rest all : List A) 
 all_done R done rest all ys order none z = subst (λ l. AllZip R l ys) (all_came done rest all order none) z
 
 -- what is left as it was has its worker, in its place
-pub unbegun_at : {P W : Type 0} (ps qs : List (Post P W)) → AllZip (λ p q. q.end ≡ NotBegun → q ≡ p) ps qs → (k : ℕ) → slice_get (map (λ q. q.end) qs) k ≡ Some NotBegun
+pub unbegun_at : {P W : Type 0} (ps qs : List (Post P W)) → AllZip (λ p q. q.end ≡ NotBegun → q.worker ≡ p.worker) ps qs → (k : ℕ) → slice_get (map (λ q. q.end) qs) k ≡ Some NotBegun
     → slice_get (map (λ q. q.worker) qs) k ≡ slice_get (map (λ p. p.worker) ps) k
 unbegun_at [] [] z k none = refl
 unbegun_at [] (q ∷ qs) z k none = absurd z
 unbegun_at (p ∷ ps) [] z k none = absurd z
-unbegun_at (p ∷ ps) (q ∷ qs) z zero none = ap (λ x. Some x.worker) (z.0 (ap (λ e. unwrap_or e q.end) none))
+unbegun_at (p ∷ ps) (q ∷ qs) z zero none = ap Some (z.0 (ap (λ e. unwrap_or e q.end) none))
 unbegun_at (p ∷ ps) (q ∷ qs) z (suc k) none = unbegun_at ps qs z.1 k none
+
+-- and one that has ended is as it said, in its place
+pub ended_at : {P W : Type 0} (ends_as : End → W → Type 0) (ps qs : List (Post P W)) → AllZip (λ p q. q.end ≢ NotBegun → ends_as q.end q.worker) ps qs → (k : ℕ) (w : W) (e : End)
+    → slice_get (map (λ q. q.worker) qs) k ≡ Some w → slice_get (map (λ q. q.end) qs) k ≡ Some e → e ≢ NotBegun → ends_as e w
+ended_at ends_as [] [] z k w e is ends begun = absurd (let h = is in cc)
+ended_at ends_as [] (q ∷ qs) z k w e is ends begun = absurd z
+ended_at ends_as (p ∷ ps) [] z k w e is ends begun = absurd z
+ended_at ends_as (p ∷ ps) (q ∷ qs) z zero w e is ends begun = let f = ap (λ x. unwrap_or x q.end) ends in
+    subst (λ x. ends_as x w) f (subst (ends_as q.end) (ap (λ x. unwrap_or x q.worker) is) (z.0 (λ n. begun (sym f ∙ n))))
+ended_at ends_as (p ∷ ps) (q ∷ qs) z (suc k) w e is ends begun = ended_at ends_as ps qs z.1 k w e is ends begun

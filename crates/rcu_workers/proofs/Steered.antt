@@ -1,10 +1,10 @@
 -- What control does in a run, one order and one step of the run after another.
-use Rattle.std.proofs.Common.{◌≡◌, ◌∙◌, ℕ, zero, suc, Bool, true, false, Result, Ok, Err, IfErr, ap, refl, subst, sym}
+use Rattle.std.proofs.Common.{◌≡◌, ◌∙◌, ℕ, suc, Bool, true, Result, Ok, Err, ap, subst}
 use Rattle.std.specs.Prelude.{IfOk}
 use Rattle.rcu_control.specs.declared.control.Control.{Control}
 use Rattle.rcu_parts.specs.OneOpen.{Parts}
 use Rattle.rcu_workers.specs.Faults.{IsEarly, IsLate}
-use Rattle.rcu_workers.specs.Steers.{AreSteered, EndsBy, IsOverseen, IsSteered, LooksBy, LooksIf, Oversees, RunsControl, Steers, StopsControl}
+use Rattle.rcu_workers.specs.Steers.{AreSteered, IsOverseen, IsSteered, LooksBy, LooksIf, Oversees, RunsControl, Steers, StopsControl}
 use Rattle.rcu_workers.specs.declared.fault.WorkersFault.{WorkersFault}
 use Rattle.rcu_workers.specs.declared.fault.WorkersFault.TheVariants.{Memory, OtherNumber, NoThread, NotDrained}
 use Rattle.rcu_workers.specs.declared.running.Ending.{Ending}

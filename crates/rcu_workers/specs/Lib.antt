@@ -3,6 +3,7 @@ pub mod Ends
 pub mod Faults
 pub mod Rooms
 pub mod Runs
+pub mod Says
 pub mod Stays
 pub mod Steers
 pub mod Steps

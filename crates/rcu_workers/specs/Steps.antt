@@ -11,6 +11,7 @@ use Rattle.rcu_workers.specs.declared.acting.Acted.{Acted}
 use Rattle.rcu_workers.specs.declared.acting.Acted.TheVariants as acted
 use Rattle.rcu_workers.specs.declared.post.Post.{Post}
 use Rattle.rcu_workers.specs.declared.worker.Answer.TheVariants as answer
+use Rattle.rcu_workers.specs.declared.worker.End.{End}
 use Rattle.rcu_workers.specs.declared.worker.End.TheVariants as end
 use Rattle.rcu_workers.specs.declared.worker.Step.{Step}
 use Rattle.rcu_workers.specs.declared.worker.Step.TheVariants as step
@@ -21,10 +22,13 @@ module _ {J R : Type 0} where
     pub keeps : KeepsProcessor key_of gives p q
     pub count : p.state.accepted ≤ q.state.accepted
 
-  -- The same of a processor with its worker. Where the worker made no step, both are as they were.
-  pub record PostWorks {W : Type 0} (key_of : J → ℕ) (gives : ℕ → R → Type 0) (p q : Post (Processor J R) W) : Type 0 where
+  -- The same of a processor with its worker, which is the same one. Where it made no step, both are as they were; else it is
+  -- as it said when it ended.
+  pub record PostWorks {W : Type 0} (key_of : J → ℕ) (gives : ℕ → R → Type 0) (name_of : W → ℕ) (ends_as : End → W → Type 0) (p q : Post (Processor J R) W) : Type 0 where
     pub processor : ProcessorWorks key_of gives p.processor q.processor
-    pub unbegun : q.end ≡ end.NotBegun → q ≡ p
+    pub name : name_of q.worker ≡ name_of p.worker
+    pub unbegun : q.end ≡ end.NotBegun → (q.processor ≡ p.processor) × (q.worker ≡ p.worker)
+    pub ended : q.end ≢ end.NotBegun → ends_as q.end q.worker
 
   -- Each step is that call of the processor, and what is answered is what the call answered.
   abbrev pub Does : (J → ℕ) → Step J → Acted J → Processor J R → Processor J R → Type 0

@@ -1,6 +1,6 @@
 //! One step of a worker on its processor.
 
-ghost use Rattle.std.specs.Prelude.{◌≡◌, MatchResult};
+ghost use Rattle.std.specs.Prelude.{◌≡◌, ◌≢◌, MatchResult};
 ghost use Rattle.rcu_workers.specs.Steps.{Does, ProcessorWorks};
 
 use crate::worker::{Answer, End, Step, Worker};
@@ -47,6 +47,8 @@ pub(crate) fn act<J: Job, W: Worker<J>>(
 ) -> Acted<J>
     ensures works { ProcessorWorks J.key_of J.gives processor.old processor.new }
     ensures does { Does J.key_of step result processor.old processor.new }
+    ensures name { W.name_of worker.new ≡ W.name_of worker.old }
+    ensures only_read { step ≢ Step.Read → worker.new ≡ worker.old }
 {
     match step {
         Step::Call { moment, job } => told(processor.call_rcu(moment, job)),

@@ -6,6 +6,7 @@ ghost use Rattle.rcu_runtime.specs.Runtimes.{Continues, IsDrained};
 ghost use Rattle.rcu_runtime.specs.Settled.{HasRunAll};
 ghost use Rattle.rcu_workers.specs.Faults.{IsOfRun};
 ghost use Rattle.rcu_workers.specs.Runs.{ComeBack, KeepsUnbegun};
+ghost use Rattle.rcu_workers.specs.Says.{AreSameWorkers, HaveEndedAs};
 ghost use Rattle.rcu_workers.specs.Steers.{RunsControl};
 
 use crate::running::Ending;
@@ -45,6 +46,8 @@ pub fn run_or_drop<
     ensures continues { IfOk result (λ worked. Continues runtime worked.runtime) }
     ensures workers { IfOk result (λ worked. ComeBack workers worked.workers worked.ends) }
     ensures unbegun { IfOk result (λ worked. KeepsUnbegun workers worked.workers worked.ends) }
+    ensures names { IfOk result (λ worked. AreSameWorkers W.name_of workers worked.workers) }
+    ensures ended { IfOk result (λ worked. HaveEndedAs W.ends_as worked.workers worked.ends) }
     ensures run { ending ≡ Ending.AfterBarrier → IfOk result (λ worked. HasRunAll worked.runtime) }
     ensures drained { ending ≡ Ending.Drained → IfOk result (λ worked. IsDrained worked.runtime) }
     ensures control { IfOk result (λ worked. RunsControl G.may ending runtime worked.runtime) }

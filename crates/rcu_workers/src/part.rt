@@ -1,6 +1,7 @@
 //! What the thread of a part promises.
 
 use crate::post::Post;
+use crate::worker::Worker;
 use rcu_control::Driver;
 use rcu_jobs::Job;
 use rcu_parts::{Group, Hand, Processor};
@@ -33,10 +34,10 @@ impl<J: Job> Promise<Hand<J>> for Stays<Hand<J>> {
 #[derive(Drop)]
 pub struct Works<P>(pub Snapshot<P>);
 
-impl<J: Job, W> Promise<Post<Processor<J>, W>> for Works<Post<Processor<J>, W>> {
+impl<J: Job, W: Worker<J>> Promise<Post<Processor<J>, W>> for Works<Post<Processor<J>, W>> {
     ghost use Rattle.rcu_workers.specs.Steps.{PostWorks};
 
-    ghost kept_by = { λ p q. PostWorks J.key_of J.gives p.0.value q };
+    ghost kept_by = { λ p q. PostWorks J.key_of J.gives W.name_of W.ends_as p.0.value q };
 }
 
 /// A thread that runs a part.

@@ -45,6 +45,8 @@ fn work<J: Job, W: Worker<J>, R: Wait + Clock>(
 ) -> End
     ensures works { ProcessorWorks J.key_of J.gives processor.old processor.new }
     ensures begun { result ≢ End.NotBegun }
+    ensures name { W.name_of worker.new ≡ W.name_of worker.old }
+    ensures ended { W.ends_as result worker.new }
 {
     worker.begin(processor.cpu());
     let mut answer = Answer::Began;
@@ -97,18 +99,18 @@ pub(crate) fn run_post<J: Job, W: Worker<J>, R: Wait + Clock>(
     rt: &R,
     signals: &Signals,
 ) -> Post<Processor<J>, W>
-    ensures { PostWorks J.key_of J.gives post result }
+    ensures { PostWorks J.key_of J.gives W.name_of W.ends_as post result }
 {
     let Post {
         mut processor,
         mut worker,
-        end,
+        end: _,
     } = post;
     if !may_begin(rt, signals) {
         return Post {
             processor,
             worker,
-            end,
+            end: End::NotBegun,
         };
     }
     let end = work(rt, &mut processor, &mut worker);

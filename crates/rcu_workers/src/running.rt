@@ -3,6 +3,7 @@
 ghost use Rattle.std.specs.Prelude.{◌≡◌, vec_len};
 ghost use Rattle.rcu_workers.specs.Rooms.{AreHalvesFor, IsRoomFor};
 ghost use Rattle.rcu_workers.specs.Runs.{ComeBack, HaveWorked, KeepsUnbegun};
+ghost use Rattle.rcu_workers.specs.Says.{AreSameWorkers, HaveEndedAs};
 ghost use Rattle.rcu_workers.specs.Steers.{EndsBy, Oversees, Passes};
 ghost use Rattle.rcu_control.specs.Parts.{SameControl};
 
@@ -124,7 +125,9 @@ pub(crate) fn run_parts<
     ensures parts { HaveWorked J.key_of J.gives parts result.parts }
     ensures control { Oversees G.may ending result.has_begun parts.control result.parts.control }
     ensures workers { ComeBack workers result.workers result.ends }
+    ensures names { AreSameWorkers W.name_of workers result.workers }
     ensures unbegun { KeepsUnbegun workers result.workers result.ends }
+    ensures ended { HaveEndedAs W.ends_as result.workers result.ends }
 {
     let AllParts {
         processors,

@@ -167,7 +167,8 @@ pub(crate) fn start_post<
     post: Station<J, W>,
     signals: &Arc<Signals, Global>,
 ) -> Started<Working<J, W>, Station<J, W>>
-    ensures { HasBegun (λ thread. thread.promise.0.value) (PostWorks J.key_of J.gives) post result }
+    ensures { HasBegun (λ thread. thread.promise.0.value)
+        (PostWorks J.key_of J.gives W.name_of W.ends_as) post result }
 {
     let Ok(shared) = Arc::try_clone(signals) else {
         signals.end();
@@ -177,7 +178,7 @@ pub(crate) fn start_post<
     let promise = Works(Snapshot::of(&post));
     let run = move || -> Station<J, W>
         requires { IsSend J.row × IsSend W.row × IsSend R.row × IsSend S.row }
-        ensures { PostWorks J.key_of J.gives post result }
+        ensures { PostWorks J.key_of J.gives W.name_of W.ends_as post result }
     { run_post(post, &own, &shared) };
     match thread::spawn_with(rt, promise, run) {
         Ok(thread) => Started::Running(thread),
@@ -201,8 +202,8 @@ pub(crate) fn start_posts<
     room: Room<Working<J, W>, Station<J, W>>,
 ) -> Crew<Working<J, W>, Station<J, W>>
     requires { vec_len posts ≤ room.many }
-    ensures { AllZip (HasBegun (λ thread. thread.promise.0.value) (PostWorks J.key_of J.gives))
-        posts.items result.started.items }
+    ensures { AllZip (HasBegun (λ thread. thread.promise.0.value)
+        (PostWorks J.key_of J.gives W.name_of W.ends_as)) posts.items result.started.items }
 {
     let Room {
         mut started,

@@ -7,6 +7,7 @@ ghost use Rattle.rcu_runtime.specs.Settled.{HasRunAll};
 ghost use Rattle.rcu_workers.specs.Rooms.{AreHalvesFor, IsRoomFor};
 ghost use Rattle.rcu_workers.specs.Faults.{ComesBack, HaveEnded, IsEarly, IsLate, IsWhy};
 ghost use Rattle.rcu_workers.specs.Runs.{ComeBack, KeepsUnbegun};
+ghost use Rattle.rcu_workers.specs.Says.{AreSameWorkers, HaveEndedAs};
 ghost use Rattle.rcu_workers.specs.Steers.{LooksBy, LooksIf, RunsControl, StopsControl};
 
 use crate::fault::WorkersFault;
@@ -169,6 +170,12 @@ pub fn run_workers<
     ensures unbegun { IfOk result (λ worked. KeepsUnbegun workers worked.workers worked.ends) }
     ensures unbegun_back { IfErr result (λ refused.
         KeepsUnbegun workers refused.worked.workers refused.worked.ends) }
+    ensures names { IfOk result (λ worked. AreSameWorkers W.name_of workers worked.workers) }
+    ensures names_back { IfErr result (λ refused.
+        AreSameWorkers W.name_of workers refused.worked.workers) }
+    ensures ended { IfOk result (λ worked. HaveEndedAs W.ends_as worked.workers worked.ends) }
+    ensures ended_back { IfErr result (λ refused.
+        HaveEndedAs W.ends_as refused.worked.workers refused.worked.ends) }
     ensures run { ending ≡ Ending.AfterBarrier → IfOk result (λ worked. HasRunAll worked.runtime) }
     ensures drained { ending ≡ Ending.Drained → IfOk result (λ worked. IsDrained worked.runtime) }
     ensures control { IfOk result (λ worked. RunsControl G.may ending runtime worked.runtime) }

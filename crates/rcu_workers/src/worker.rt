@@ -1,5 +1,8 @@
 //! What a program hands in for each processor: a worker, which says step by step what its processor does.
 
+ghost use Rattle.std.specs.Prelude.{◌≡◌, ℕ};
+ghost use Rattle.rcu_workers.specs.Says.{EndsAs};
+
 use rcu_jobs::{Job, Passed, Refused, Ticked, Ticket};
 use rcu_parts::{Barrier, Reading};
 
@@ -67,12 +70,28 @@ pub enum End {
 /// What a program does with one processor. A worker never has its processor: it says what that does, and is told what came
 /// of it.
 pub trait Worker<J: Job>: Send + Drop {
+    ghost use Rattle.rcu_workers.specs.declared.worker.End.{End};
+
+    // By what a worker is known again.
+    ghost name_of: { Self → ℕ };
+
+    // What a worker is when it says that it is done, and what when it gives up.
+    ghost ends_as: { End → Self → Type 0 };
+
     /// Called once in the processor's thread, before the first step: the place to pin the thread.
-    fn begin(&mut self, _cpu: u64) {}
+    fn begin(&mut self, _cpu: u64)
+        ensures { name_of self.new ≡ name_of self.old }
+    {}
 
     /// The next step, where this is what the one before came to.
-    fn step(&mut self, answer: Answer<J>) -> Step<J>;
+    ///
+    /// It has clauses of its own in each worker; `ensures { ⊤ }` where nothing is said of it.
+    fn step(&mut self, answer: Answer<J>) -> Step<J>
+        ensures name { name_of self.new ≡ name_of self.old }
+        ensures ends { EndsAs ends_as result self.new };
 
     /// Reads. While the section lives its processor reports nothing.
-    fn read(&mut self, _section: &Reading<'_, J>) {}
+    fn read(&mut self, _section: &Reading<'_, J>)
+        ensures { name_of self.new ≡ name_of self.old }
+    {}
 }

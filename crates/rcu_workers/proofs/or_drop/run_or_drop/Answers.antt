@@ -56,3 +56,9 @@ returns-in-Ok-clause-drained g c = c.in-Ok.ensures.drained
 
 pub returns-in-Ok-clause-control : goal.returns-in-Ok-clause-control
 returns-in-Ok-clause-control g c = c.in-Ok.ensures.control
+
+pub returns-in-Ok-clause-ended : goal.returns-in-Ok-clause-ended
+returns-in-Ok-clause-ended g c = c.in-Ok.ensures.ended
+
+pub returns-in-Ok-clause-names : goal.returns-in-Ok-clause-names
+returns-in-Ok-clause-names g c = c.in-Ok.ensures.names

@@ -9,11 +9,13 @@ report_until_over-requires-after_bounds g c κs within = assumption
 pub returns : goal.returns
 returns g c = record {
   processor = works_again g.J.Job.key_of g.J.Job.gives c.args.post.processor c.work-end.new.processor c.report_until_over.new.processor c.work-end.ensures.works c.report_until_over.ensures;
+  name = c.work-end.ensures.name;
   unbegun = λ none. absurd (c.work-end.ensures.begun none);
+  ended = λ _. c.work-end.ensures.ended;
 }
 
 pub returns-then-not-may_begin : goal.returns-then-not-may_begin
-returns-then-not-may_begin g c = record { processor = works_itself g.J.Job.key_of g.J.Job.gives c.args.post.processor; unbegun = λ _. refl }
+returns-then-not-may_begin g c = record { processor = works_itself g.J.Job.key_of g.J.Job.gives c.args.post.processor; name = refl; unbegun = λ _. (refl, refl); ended = λ begun. absurd (begun refl) }
 
 pub work-end-requires-send-J : goal.work-end-requires-send-J
 work-end-requires-send-J g c κs within = c.type_bounds.send-J

@@ -1,4 +1,3 @@
-use Rattle.std.proofs.Common.{refl}
 use Rattle.rcu_control.proofs.Stepping.{same_again}
 use Rattle.rcu_workers.proofs.running.oversee.Goals as goal
 

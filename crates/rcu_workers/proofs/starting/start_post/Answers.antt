@@ -50,7 +50,7 @@ pub returns-in_default : goal.returns-in_default
 returns-in_default g c = c.run_post.ensures
 
 pub spawn_with-requires-clause-keeps : goal.spawn_with-requires-clause-keeps
-spawn_with-requires-clause-keeps g c κs within = λ r kept. subst (λ x. PostWorks g.J.Job.key_of g.J.Job.gives x r) (sym c.of.ensures) kept
+spawn_with-requires-clause-keeps g c κs within = λ r kept. subst (λ x. PostWorks g.J.Job.key_of g.J.Job.gives g.W.Worker.name_of g.W.Worker.ends_as x r) (sym c.of.ensures) kept
 
 pub run-requires-after_bounds : goal.run-requires-after_bounds
 run-requires-after_bounds g c κs within = assumption
@@ -59,4 +59,4 @@ pub returns-in-Ok-spawn_with : goal.returns-in-Ok-spawn_with
 returns-in-Ok-spawn_with g c = ap (λ p. p.0.value) c.in-Ok-spawn_with.ensures.ok ∙ c.of.ensures
 
 pub returns-in-Err : goal.returns-in-Err
-returns-in-Err g c = subst (λ x. PostWorks g.J.Job.key_of g.J.Job.gives x c.run.result) (ap (λ kept. kept.0) c.in-Err.ensures.err) c.run.ensures
+returns-in-Err g c = subst (λ x. PostWorks g.J.Job.key_of g.J.Job.gives g.W.Worker.name_of g.W.Worker.ends_as x c.run.result) (ap (λ kept. kept.0) c.in-Err.ensures.err) c.run.ensures

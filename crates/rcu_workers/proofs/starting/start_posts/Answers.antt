@@ -11,7 +11,7 @@ loop-post-preserved g c = let l = c.loop-post in let i = l.invariant in let rest
       order = order_after l.yielded rest more c.args.posts.items c.in-Some.post i.order c.in-Some.ensures.steps.0;
       room = room_for_more (vec_len l.started) (vec_len c.push_reserved.new.self) (vec_capacity l.started) (vec_capacity c.push_reserved.new.self) rest more c.in-Some.post i.room c.in-Some.ensures.steps.0 c.push_reserved.ensures.len c.push_reserved.ensures.capacity;
       ended = room_for_more (vec_len l.started) (vec_len c.push_reserved.new.self) (vec_capacity c.args.room.ended) (vec_capacity c.args.room.ended) rest more c.in-Some.post i.ended c.in-Some.ensures.steps.0 c.push_reserved.ensures.len refl;
-      started = zip_pushed (HasBegun (λ thread. thread.promise.0.value) (PostWorks g.J.Job.key_of g.J.Job.gives)) l.yielded l.started.items c.push_reserved.new.self.items c.in-Some.post c.start_post.result c.push_reserved.ensures.items i.started c.start_post.ensures;
+      started = zip_pushed (HasBegun (λ thread. thread.promise.0.value) (PostWorks g.J.Job.key_of g.J.Job.gives g.W.Worker.name_of g.W.Worker.ends_as)) l.yielded l.started.items c.push_reserved.new.self.items c.in-Some.post c.start_post.result c.push_reserved.ensures.items i.started c.start_post.ensures;
     }
 
 pub invariant_of-result : goal.invariant_of-result
@@ -34,7 +34,7 @@ start_post-requires-after_bounds g c κs within = assumption
 
 pub returns : goal.returns
 returns g c = let l = c.loop-post in let rest = l.post-iterator.rest.items in let none = sym l.post-iterator.rest.ok.0 ∙ c.in-None.ensures.steps.0 in
-    all_done (HasBegun (λ thread. thread.promise.0.value) (PostWorks g.J.Job.key_of g.J.Job.gives)) l.yielded rest c.args.posts.items l.started.items l.invariant.order none l.invariant.started
+    all_done (HasBegun (λ thread. thread.promise.0.value) (PostWorks g.J.Job.key_of g.J.Job.gives g.W.Worker.name_of g.W.Worker.ends_as)) l.yielded rest c.args.posts.items l.started.items l.invariant.order none l.invariant.started
 
 pub into_iter-post-iterator-requires-room-T-Destruct : goal.into_iter-post-iterator-requires-room-T-Destruct
 into_iter-post-iterator-requires-room-T-Destruct g c κs within = assumption
@@ -54,5 +54,5 @@ loop-post-init g c = let room = c.args.room in let gives = c.into_iter-post-iter
       order = gives;
       room = room_for_all (vec_len room.started) (vec_len all) (vec_capacity room.started) room.started.items rest all.items room.started.ok.0 room.empty.0 gives all.ok.0 started;
       ended = room_for_all (vec_len room.started) (vec_len all) (vec_capacity room.ended) room.started.items rest all.items room.started.ok.0 room.empty.0 gives all.ok.0 ended;
-      started = zip_none (HasBegun (λ thread. thread.promise.0.value) (PostWorks g.J.Job.key_of g.J.Job.gives)) all.items room.started.items room.empty.0;
+      started = zip_none (HasBegun (λ thread. thread.promise.0.value) (PostWorks g.J.Job.key_of g.J.Job.gives g.W.Worker.name_of g.W.Worker.ends_as)) all.items room.started.items room.empty.0;
     }

@@ -9,5 +9,5 @@ invariant-loop-post g l = record {
   order : l.yielded ++ l.post-iterator.rest.items ≡ l.fn.posts.items;
   room : vec_len l.started + length l.post-iterator.rest.items ≤ vec_capacity l.started;
   ended : vec_len l.started + length l.post-iterator.rest.items ≤ vec_capacity l.fn.room.ended;
-  started : AllZip (HasBegun (λ thread. thread.promise.0.value) (PostWorks g.J.Job.key_of g.J.Job.gives)) l.yielded l.started.items;
+  started : AllZip (HasBegun (λ thread. thread.promise.0.value) (PostWorks g.J.Job.key_of g.J.Job.gives g.W.Worker.name_of g.W.Worker.ends_as)) l.yielded l.started.items;
 }

@@ -5,7 +5,7 @@ use Rattle.rcu_runtime.proofs.Wholes.{continues_itself}
 use Rattle.rcu_runtime.specs.Runtimes.{Continues}
 use Rattle.rcu_parts.specs.OneOpen.{processors_in}
 use Rattle.rcu_workers.specs.Faults.{ComesBack, HaveEnded, IsLate, IsWhy}
-use Rattle.rcu_workers.proofs.Backs.{all_come_back, as_many_back, continues_either, early_back, early_ends, early_why, if_err, if_err_both, if_ok, late_back, late_ends, late_why, unbegun_back, unbegun_come}
+use Rattle.rcu_workers.proofs.Backs.{all_come_back, as_many_back, continues_either, early_back, early_ends, early_why, ended_back, ended_come, if_err, if_err_both, if_ok, late_back, late_ends, late_why, named_back, named_come, none_ended, unbegun_back, unbegun_come}
 use Rattle.rcu_workers.proofs.Runs.{worked_continues, worked_whole}
 use Rattle.rcu_workers.proofs.Steered.{early_control, if_ok_both, late_control, runs_control}
 use Rattle.rcu_workers.specs.Steers.{LooksBy, LooksIf, RunsControl, StopsControl}
@@ -153,3 +153,22 @@ returns-clause-control_back g c = let may = g.G.Steering.may in let ran = c.run_
     (λ refused. StopsControl may c.args.ending refused.fault c.args.runtime refused.worked.runtime)
     (λ refused late looks. late_control may c.args.ending c.args.runtime c.take_apart-parts.result.0 ran.parts whole c.take_apart-parts.ensures.parts c.put_together-runtime.ensures ran.has_begun refused.fault refused.worked.runtime late c.run_parts-ran.ensures.control looks)
     c.answer.result c.answer.ensures.fault c.answer.ensures.looks_back
+
+pub returns-in-Err-clause-ended_back : goal.returns-in-Err-clause-ended_back
+returns-in-Err-clause-ended_back g c = none_ended g.W.Worker.ends_as c.args.workers c.new.result c.new.ensures.items
+
+pub returns-clause-ended : goal.returns-clause-ended
+returns-clause-ended g c = let ran = c.run_parts-ran in ended_come g.W.Worker.ends_as ran.result.workers ran.result.ends ran.ensures.ended (λ w. w.workers) (λ w. w.ends) c.answer.result c.answer.ensures.workers
+
+pub returns-clause-ended_back : goal.returns-clause-ended_back
+returns-clause-ended_back g c = let ran = c.run_parts-ran in
+    ended_back g.W.Worker.ends_as ran.result.workers ran.result.ends ran.ensures.ended (λ refused. refused.worked.workers) (λ refused. refused.worked.ends) c.answer.result c.answer.ensures.back c.answer.ensures.ends
+
+pub returns-in-Err-clause-names_back : goal.returns-in-Err-clause-names_back
+returns-in-Err-clause-names_back g c = refl
+
+pub returns-clause-names : goal.returns-clause-names
+returns-clause-names g c = let ran = c.run_parts-ran in named_come g.W.Worker.name_of c.args.workers ran.result.workers ran.ensures.names (λ w. w.workers) (λ w. w.ends) ran.result.ends c.answer.result c.answer.ensures.workers
+
+pub returns-clause-names_back : goal.returns-clause-names_back
+returns-clause-names_back g c = let ran = c.run_parts-ran in named_back g.W.Worker.name_of c.args.workers ran.result.workers ran.ensures.names (λ refused. refused.worked.workers) c.answer.result c.answer.ensures.back
