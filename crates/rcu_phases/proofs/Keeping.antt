@@ -1,7 +1,5 @@
 -- Parts that are left alone are the same parts, and so are parts of two steps that each leave them the same.
-use Rattle.std.proofs.Common.{◌≡◌, ℕ, List, refl, subst, sym}
-use Rattle.rcu_board.specs.declared.board.Board.{Board}
-use Rattle.rcu_board.specs.declared.board.Seat.{Seat}
+use Rattle.std.proofs.Common.{◌≡◌, ℕ, List, subst, sym}
 use Rattle.rcu_control.proofs.Stepping.{same_again, same_part}
 use Rattle.rcu_control.specs.declared.control.Control.{Control}
 use Rattle.rcu_control.specs.declared.driver.Driver.{Driver}

@@ -1,5 +1,5 @@
 -- What a step of the processors' thread does: that call of its processor, and what the call answered.
-use Rattle.std.specs.Prelude.{◌≡◌, ℕ}
+use Rattle.std.specs.Prelude.{◌≡◌, ℕ, List, slice_index_or, slice_set}
 use Rattle.rcu_jobs.specs.Refusals.{number_of}
 use Rattle.rcu_jobs.specs.declared.answers.Refused.{Refused}
 use Rattle.rcu_lists.specs.declared.pace.Kind.{Kind}
@@ -7,6 +7,7 @@ use Rattle.rcu_lists.specs.declared.pace.Kind.TheVariants.{Lazy, Plain}
 use Rattle.rcu_part_processor.specs.Calls.{IsAccepted, IsRefusedAs, KeepsAll}
 use Rattle.rcu_part_processor.specs.Processors.{view_of}
 use Rattle.rcu_part_processor.specs.Ticks.{TicksBy}
+use Rattle.rcu_part_processor.specs.declared.processor.Processor.{Processor}
 use Rattle.rcu_part_processor.specs.declared.processor.ProcessorState.{ProcessorState}
 use Rattle.rcu_part_steps.specs.Reports.{Reports}
 use Rattle.rcu_phases.specs.declared.phase.Act.{Act}
@@ -35,3 +36,11 @@ module _ {J R : Type 0} where
   Acts key_of act.Report (answer.Reported counted) p q = Reports p.cpu counted (view_of p) (view_of q) × KeepsAll p q
   Acts key_of (act.Tick moment) (answer.Ticked ticked) p q = TicksBy moment ticked p q
   Acts key_of _ _ p q = ⊥
+
+  -- It is that call of processor cpu, and the others are as they were.
+  pub record ActsAt (key_of : J → ℕ) (cpu : ℕ) (act : Act J) (answer : Answer) (old new : List (Processor J R)) : Type 0 where
+    pub before : Processor J R
+    pub after : Processor J R
+    pub is : before ≡ slice_index_or old cpu before
+    pub acts : Acts key_of act answer before.state after.state
+    pub others : new ≡ slice_set old cpu after

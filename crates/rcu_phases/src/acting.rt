@@ -1,10 +1,10 @@
 //! The thread of the processors.
 
-ghost use Rattle.std.specs.Prelude.{◌≡◌, ◌≤◌, All, IfErr, IfOk, length};
+ghost use Rattle.std.specs.Prelude.{◌≡◌, ◌<◌, ◌≤◌, All, IfErr, IfOk, length};
 ghost use Rattle.std.specs.List.{AllZip};
 ghost use Rattle.rcu_part_processor.specs.Processors.{IsSound, SameProcessor};
 ghost use Rattle.rcu_jobs.specs.Refusals.{number_of};
-ghost use Rattle.rcu_phases.specs.Acts.{Acts};
+ghost use Rattle.rcu_phases.specs.Acts.{Acts, ActsAt};
 ghost use Rattle.rcu_phases.specs.Kept.{ProcessorsKeep};
 ghost use Rattle.rcu_phases.specs.declared.phase.Answer.TheVariants.{Accepted, NoProcessor};
 
@@ -56,7 +56,10 @@ fn act_at<J: Job<Receipt = u64>>(
         processors.new.items }
     ensures sound { All (λ p. IsSound J.key_of J.gives p.state) processors.old.items
         → All (λ p. IsSound J.key_of J.gives p.state) processors.new.items }
-    ensures none { length processors.old.items ≤ cpu → result ≡ NoProcessor }
+    ensures acts { cpu < length processors.old.items
+        → ActsAt J.key_of cpu act result processors.old.items processors.new.items }
+    ensures none { length processors.old.items ≤ cpu
+        → (result ≡ NoProcessor) × (processors.new ≡ processors.old) }
 {
     if cpu >= processors.len() {
         return Answer::NoProcessor;

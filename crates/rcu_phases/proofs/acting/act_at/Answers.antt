@@ -1,4 +1,4 @@
-use Rattle.std.proofs.Common.{arith}
+use Rattle.std.proofs.Common.{arith, refl}
 use Rattle.rcu_part_group.proofs.GroupLists.{zip_same}
 use Rattle.rcu_part_processor.proofs.TickRuns.{same_processor}
 use Rattle.rcu_part_processor.specs.Processors.{IsSound, SameProcessor}
@@ -22,3 +22,12 @@ act_one-requires-after_bounds g c κs within = assumption
 
 pub returns-clause-none : goal.returns-clause-none
 returns-clause-none g c long = absurd (let z : ⊥ = omega (arith, long) in z)
+
+pub returns-clause-acts : goal.returns-clause-acts
+returns-clause-acts g c there = record { before = c.index_mut.result.now; after = c.act_one.new.processor; is = c.index_mut.ensures.value; acts = c.act_one.ensures.acts; others = refl }
+
+pub returns-then-cpu-len-clause-none : goal.returns-then-cpu-len-clause-none
+returns-then-cpu-len-clause-none g c long = (refl, refl)
+
+pub returns-then-cpu-len-clause-acts : goal.returns-then-cpu-len-clause-acts
+returns-then-cpu-len-clause-acts g c there = absurd (let z : ⊥ = omega (arith, there) in z)
