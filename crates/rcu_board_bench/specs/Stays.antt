@@ -1,5 +1,6 @@
 -- A seat that went through some steps.
-use Rattle.std.specs.Prelude.{◌≡◌}
+use Rattle.std.specs.Prelude.{◌≡◌, ℕ, ◌+◌}
+use Rattle.rcu_board.specs.Views.{tally}
 use Rattle.rcu_board.specs.Seats.{view}
 use Rattle.rcu_board.specs.declared.board.Seat.{Seat}
 
@@ -8,3 +9,7 @@ pub record StaysSeat (s t : Seat) : Type 0 where
   pub role : t.role ≡ s.role
   pub table : t.seat.table_id ≡ s.seat.table_id
   pub weight : (view t).weight ≡ (view s).weight
+
+-- it made so many steps on word i
+abbrev pub HasStepped : ℕ → ℕ → Seat → Seat → Type 0
+HasStepped i many s t = tally (view t) i ≡ tally (view s) i + many

@@ -6,7 +6,10 @@ ghost use Rattle.rcu_board.specs.declared.board.Board.{Board};
 ghost use Rattle.rcu_board.specs.declared.board.Seat.{Seat};
 ghost use Rattle.rcu_board.specs.declared.board.Role.TheVariants.{Processor, Driver, Control};
 ghost use Rattle.rcu_board.specs.Roles.{MayClaim, MayCount};
-ghost use Rattle.rcu_board_bench.specs.Stays.{StaysSeat};
+ghost use Rattle.rcu_board.specs.Roles.{cpu_of_role};
+ghost use Rattle.rcu_board.specs.Words.{accepts_word, asks_word, board_word, halt_word, needed_word, turns_word, urge_word};
+ghost use Rattle.rcu_board.specs.declared.board.Role.{Role};
+ghost use Rattle.rcu_board_bench.specs.Stays.{HasStepped, StaysSeat};
 ghost use Rattle.rcu_board.specs.Seats.{view, AtBoard, accepted_of, fresh_of};
 
 use rcu_board::{
@@ -22,19 +25,31 @@ pub(crate) trait Kind: Send + Sync {
     // What the seat needs before the round of this number.
     ghost ready: { Board → Seat → ℕ → Type 0 };
 
+    // The word on which a seat of this role steps.
+    ghost word: { Board → Role → ℕ };
+
+    // How many steps on that word a round has.
+    ghost each: { ℕ };
+
     /// Makes the step. Answers whether another can follow.
     fn step(board: &Board, seat: &mut Seat, number: u64) -> bool
         requires board { AtBoard board.now seat.old }
         requires some { 0 < board.now.processors }
         requires ready { ready board.now seat.old number }
         ensures same { StaysSeat seat.old seat.new }
-        ensures ready { IsTrue result → ready board.now seat.new (number + 1) };
+        ensures ready { IsTrue result → ready board.now seat.new (number + 1) }
+        ensures made { IsTrue result
+            → HasStepped (word board.now seat.old.role) each seat.old seat.new };
 }
 
 pub(crate) struct Look;
 
 impl Kind for Look {
     ghost ready = { λ board seat number. Unit {0} };
+
+    ghost word = { λ board role. board_word };
+
+    ghost each = { 1 };
 
     fn step(board: &Board, seat: &mut Seat, _number: u64) -> bool {
         look(board, seat);
@@ -47,6 +62,10 @@ pub(crate) struct Report;
 impl Kind for Report {
     ghost ready = { λ board seat number. seat.role ≡ Processor 0 };
 
+    ghost word = { λ board role. board_word };
+
+    ghost each = { 1 };
+
     fn step(board: &Board, seat: &mut Seat, _number: u64) -> bool {
         report(board, seat);
         true
@@ -57,6 +76,10 @@ pub(crate) struct Need;
 
 impl Kind for Need {
     ghost ready = { λ board seat number. seat.role ≡ Processor 0 };
+
+    ghost word = { λ board role. needed_word };
+
+    ghost each = { 1 };
 
     fn step(board: &Board, seat: &mut Seat, number: u64) -> bool {
         need(board, seat, number);
@@ -69,6 +92,10 @@ pub(crate) struct Needed;
 impl Kind for Needed {
     ghost ready = { λ board seat number. seat.role ≡ Driver };
 
+    ghost word = { λ board role. needed_word };
+
+    ghost each = { 1 };
+
     fn step(board: &Board, seat: &mut Seat, _number: u64) -> bool {
         needed(board, seat);
         true
@@ -80,6 +107,10 @@ pub(crate) struct Accept;
 
 impl Kind for Accept {
     ghost ready = { λ board seat number. (seat.role ≡ Processor 0) × (length (accepted_of (view seat)) ≡ number) × (fresh_of (view seat) ≡ None) };
+
+    ghost word = { λ board role. accepts_word (cpu_of_role role) };
+
+    ghost each = { 1 };
 
     fn step(board: &Board, seat: &mut Seat, number: u64) -> bool {
         if number >= NUMBERS {
@@ -96,6 +127,10 @@ pub(crate) struct Shut;
 impl Kind for Shut {
     ghost ready = { λ board seat number. seat.role ≡ Control };
 
+    ghost word = { λ board role. accepts_word 0 };
+
+    ghost each = { 1 };
+
     fn step(board: &Board, seat: &mut Seat, _number: u64) -> bool {
         shut_one(board, seat, 0);
         true
@@ -106,6 +141,10 @@ pub(crate) struct Count;
 
 impl Kind for Count {
     ghost ready = { λ board seat number. MayCount seat.role };
+
+    ghost word = { λ board role. accepts_word 0 };
+
+    ghost each = { 1 };
 
     fn step(board: &Board, seat: &mut Seat, _number: u64) -> bool {
         count_of(board, seat, 0);
@@ -118,6 +157,10 @@ pub(crate) struct Claim;
 
 impl Kind for Claim {
     ghost ready = { λ board seat number. MayClaim seat.role × ((view seat).running ≡ []) };
+
+    ghost word = { λ board role. turns_word (cpu_of_role role) };
+
+    ghost each = { 2 };
 
     fn step(board: &Board, seat: &mut Seat, number: u64) -> bool {
         if number >= NUMBERS {
@@ -136,6 +179,10 @@ pub(crate) struct Turn;
 impl Kind for Turn {
     ghost ready = { λ board seat number. MayCount seat.role };
 
+    ghost word = { λ board role. turns_word 0 };
+
+    ghost each = { 1 };
+
     fn step(board: &Board, seat: &mut Seat, _number: u64) -> bool {
         turn_of(board, seat, 0);
         true
@@ -146,6 +193,10 @@ pub(crate) struct Ask;
 
 impl Kind for Ask {
     ghost ready = { λ board seat number. seat.role ≡ Control };
+
+    ghost word = { λ board role. asks_word 0 };
+
+    ghost each = { 1 };
 
     fn step(board: &Board, seat: &mut Seat, number: u64) -> bool {
         ask(board, seat, 0, number % 2 == 0);
@@ -158,6 +209,10 @@ pub(crate) struct Asked;
 impl Kind for Asked {
     ghost ready = { λ board seat number. seat.role ≡ Processor 0 };
 
+    ghost word = { λ board role. asks_word (cpu_of_role role) };
+
+    ghost each = { 1 };
+
     fn step(board: &Board, seat: &mut Seat, _number: u64) -> bool {
         asked(board, seat);
         true
@@ -168,6 +223,10 @@ pub(crate) struct Halt;
 
 impl Kind for Halt {
     ghost ready = { λ board seat number. seat.role ≡ Control };
+
+    ghost word = { λ board role. halt_word };
+
+    ghost each = { 1 };
 
     fn step(board: &Board, seat: &mut Seat, _number: u64) -> bool {
         halt(board, seat);
@@ -180,6 +239,10 @@ pub(crate) struct Halted;
 impl Kind for Halted {
     ghost ready = { λ board seat number. seat.role ≡ Driver };
 
+    ghost word = { λ board role. halt_word };
+
+    ghost each = { 1 };
+
     fn step(board: &Board, seat: &mut Seat, _number: u64) -> bool {
         halted(board, seat);
         true
@@ -191,6 +254,10 @@ pub(crate) struct Urge;
 impl Kind for Urge {
     ghost ready = { λ board seat number. seat.role ≡ Control };
 
+    ghost word = { λ board role. urge_word board.processors };
+
+    ghost each = { 1 };
+
     fn step(board: &Board, seat: &mut Seat, _number: u64) -> bool {
         urge(board, seat);
         true
@@ -201,6 +268,10 @@ pub(crate) struct Hear;
 
 impl Kind for Hear {
     ghost ready = { λ board seat number. (seat.role ≡ Processor 0) × (owes_of board.offloadable 0 ≡ 1) };
+
+    ghost word = { λ board role. urge_word board.processors };
+
+    ghost each = { 1 };
 
     fn step(board: &Board, seat: &mut Seat, _number: u64) -> bool {
         heard(board, seat);

@@ -1,9 +1,10 @@
 //! Rounds of steps, by one thread alone and beside a second thread.
 
-ghost use Rattle.std.specs.Prelude.{◌≡◌, ◌≤◌, ◌<◌, ◌+◌, IsTrue};
+ghost use Rattle.std.specs.Prelude.{◌≡◌, ◌≤◌, ◌<◌, ◌+◌, ◌-◌, ◌*◌, IsTrue};
 ghost use Rattle.std.specs.Thread.{IsSync};
 ghost use Rattle.rcu_board.specs.Views.{sight};
-ghost use Rattle.rcu_board_bench.specs.Stays.{StaysSeat};
+ghost use Rattle.rcu_board.specs.Words.{board_word};
+ghost use Rattle.rcu_board_bench.specs.Stays.{HasStepped, StaysSeat};
 ghost use Rattle.rcu_board.specs.Seats.{view, AtBoard};
 
 use crate::kinds::{Kind, Look};
@@ -32,6 +33,8 @@ fn repeat<K: Kind>(board: &Board, seat: &mut Seat, from: u64, to: u64) -> bool
     requires rises { from ≤ to }
     ensures same { StaysSeat seat.old seat.new }
     ensures ready { IsTrue result → K.ready board.now seat.new to }
+    ensures made { IsTrue result
+        → HasStepped (K.word board.now seat.old.role) (K.each * (to - from)) seat.old seat.new }
 {
     for number in from..to {
         if !K::step(board, seat, number) {
@@ -152,6 +155,9 @@ fn repeat_grace_periods(board: &Board, driver: &mut Seat, processor: &mut Seat, 
     requires board { AtBoard board.now driver.old × AtBoard board.now processor.old }
     requires who { (driver.old.role ≡ Role.Driver) × (processor.old.role ≡ Role.Processor 0) }
     ensures same { StaysSeat driver.old driver.new × StaysSeat processor.old processor.new }
+    ensures ended { IsTrue result
+        → sight (view driver.new) ≡ sight (view driver.old) + 4 * rounds }
+    ensures reported { IsTrue result → HasStepped board_word rounds processor.old processor.new }
 {
     let mut seq = look(board, driver).seq();
     if seq % 4 != 0 {

@@ -5,7 +5,8 @@
 
 mod table;
 
-ghost use Rattle.std.specs.Prelude.{◌≡◌, ◌≢◌, ◌≤◌, ⊤};
+ghost use Rattle.std.specs.Prelude.{◌≡◌, ◌≤◌, ◌+◌, min};
+ghost use Rattle.rcu_readers.specs.Members.{Follows, MayOrder, Orders, Publishes, switch_of};
 
 use rcu_workers::{
     Answer, AnyFault, End, Ending, Order, Reading, Reply, Shape, Steering, Step, Worker, open,
@@ -53,7 +54,7 @@ impl Member {
 
     /// Publishes a version, where a place is free, and retires the one before.
     fn publish(&self) -> Step<Retired>
-        ensures { result ≢ Step.Done }
+        ensures { Publishes self.now result }
     {
         let Ok(table) = Arc::try_clone(&self.table) else {
             return self.give_up();
@@ -75,8 +76,9 @@ impl Worker<Retired> for Member {
     ghost ends_as = { λ end member. end ≡ Done → member.reads ≤ member.seen.reads };
 
     fn step(&mut self, answer: Answer<Retired>) -> Step<Retired>
-        ensures name { self.new.last ≡ self.old.last }
-        ensures done { result ≡ Step.Done → self.new.reads ≤ self.new.seen.reads }
+        ensures follows { Follows answer self.new result }
+        ensures clock { self.new
+            ≡ record self.old { moment = min (self.old.moment + 1) u64.MAX } }
     {
         self.moment = self.moment.saturating_add(1);
         let moment = self.moment;
@@ -90,7 +92,11 @@ impl Worker<Retired> for Member {
         }
     }
 
-    fn read(&mut self, section: &Reading<'_, Retired>) {
+    fn read(&mut self, section: &Reading<'_, Retired>)
+        ensures counted { self.new.seen.reads ≡ min (self.old.seen.reads + 1) u64.MAX }
+        ensures torn { self.old.seen.torn ≤ self.new.seen.torn }
+        ensures stays { self.new ≡ record self.old { seen = self.new.seen } }
+    {
         self.seen.reads = self.seen.reads.saturating_add(1);
         if !self.table.read(section) {
             self.seen.torn = self.seen.torn.saturating_add(1);
@@ -98,21 +104,36 @@ impl Worker<Retired> for Member {
     }
 }
 
-/// Gives an order once so many versions were published.
+/// Has the updater's processor switched once so many versions were published.
 #[derive(Drop)]
 struct Switcher {
     table: Arc<Table>,
     after: u64,
-    order: Order,
+    offloads: bool,
+}
+
+impl Switcher {
+    /// Its order.
+    fn switch(&self) -> Order
+        ensures { result ≡ switch_of self.now.offloads }
+    {
+        if self.offloads {
+            Order::Offload(UPDATER)
+        } else {
+            Order::Deoffload(UPDATER)
+        }
+    }
 }
 
 impl Steering for Switcher {
-    ghost may = { λ order. ⊤ };
+    ghost may = { MayOrder };
 
-    fn order(&mut self, reply: Reply) -> Order {
+    fn order(&mut self, reply: Reply) -> Order
+        ensures { Orders self.old reply result }
+    {
         match reply {
             Reply::Switched(_) => Order::Done,
-            _ if self.table.published() >= self.after => self.order,
+            _ if self.table.published() >= self.after => self.switch(),
             _ => Order::Pause,
         }
     }
@@ -141,15 +162,15 @@ fn main(rt: HostRuntime) -> Result<(), AnyFault> {
     let shape = Shape::new(UPDATER + 1, 1 << UPDATER, 2, 10, 16, 1000).ok_or(AnyFault::NoShape)?;
     let table = Arc::new(alloc, Table::new())?;
     let mut runtime = open::<Retired>(alloc, shape)?;
-    for (last, order, ending) in [
-        (VERSIONS, Order::Deoffload(UPDATER), Ending::AfterBarrier),
-        (2 * VERSIONS, Order::Offload(UPDATER), Ending::Drained),
+    for (last, offloads, ending) in [
+        (VERSIONS, false, Ending::AfterBarrier),
+        (2 * VERSIONS, true, Ending::Drained),
     ] {
         let members = members(alloc, &table, last)?;
         let mut switcher = Switcher {
             table: Arc::try_clone(&table)?,
             after: last.saturating_sub(VERSIONS / 2),
-            order,
+            offloads,
         };
         let worked = run_or_drop(&rt, alloc, runtime, members, &mut switcher, ending)?;
         if worked.ends.contains(&End::Failed) {

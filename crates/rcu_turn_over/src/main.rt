@@ -3,8 +3,8 @@
 //! threads. docs/embedding.md, "Limits", speaks of it.
 #![tactic(auto)]
 
-ghost use Rattle.std.specs.Prelude.{◌≡◌, ◌≢◌, ◌+◌, ◌<◌, ◌≤◌, ◌↔◌, IfOk, IsTrue, OnOk, drop, max, vec_len};
-ghost use Rattle.rcu_turn_over.specs.Callers.{CallsFirst, HasCalledAll, next_job};
+ghost use Rattle.std.specs.Prelude.{◌≡◌, ◌≢◌, ◌+◌, ◌↔◌, IfOk, IsTrue, OnOk, vec_len};
+ghost use Rattle.rcu_turn_over.specs.Callers.{CallsFirst, CallsNext, Follows, HasCalledAll};
 ghost use Rattle.rcu_turn_over.specs.Numbers.{AreNumberedFrom};
 ghost use Rattle.rcu_workers.specs.Ends.{HasNoneBack, LosesNone};
 
@@ -79,13 +79,7 @@ impl Caller {
 
     /// The next call, of a job that came back before a new one.
     fn call(&mut self) -> Step<Number>
-        ensures calls { next_job self.old < CALLS
-            → result ≡ Step.Call 0 (record { 0 = next_job self.old }) }
-        ensures done { CALLS ≤ next_job self.old → result ≡ Step.Done }
-        ensures back { self.new.back.items ≡ drop 1 self.old.back.items }
-        ensures next { next_job self.old < CALLS
-            → self.new.next ≡ max self.old.next (next_job self.old + 1) }
-        ensures refused { self.new.refused ≡ self.old.refused }
+        ensures { CallsNext self.old self.new result }
     {
         let job = self.back.pop_front().unwrap_or(Number(self.next));
         if job.0 >= CALLS {
@@ -105,7 +99,8 @@ impl Worker<Number> for Caller {
     ghost ends_as = { λ end caller. end ≡ Done };
 
     fn step(&mut self, answer: Answer<Number>) -> Step<Number>
-        ensures { result ≢ Step.Fail }
+        ensures follows { Follows answer self.old self.new result }
+        ensures goes_on { result ≢ Step.Fail }
     {
         match answer {
             Answer::Refused(refused) => {

@@ -1,6 +1,12 @@
-use Rattle.rcu_board_bench.specs.Stays.{StaysSeat}
+use Rattle.std.proofs.Common.{◌-◌, ◌*◌}
+use Rattle.rcu_board_bench.specs.Stays.{HasStepped, StaysSeat}
 use Rattle.rcu_board.specs.Seats.{AtBoard}
 use Rattle.rcu_board_bench.proofs.measure.repeat.Given as goal
 
 abbrev pub invariant-loop-number : goal.invariant-loop-number
-invariant-loop-number g l = AtBoard l.board l.seat × StaysSeat l.fn.seat l.seat × g.K.Kind.ready l.board l.seat l.number
+invariant-loop-number g l = record {
+  board : AtBoard l.board l.seat;
+  same : StaysSeat l.fn.seat l.seat;
+  ready : g.K.Kind.ready l.board l.seat l.number;
+  made : HasStepped (g.K.Kind.word l.board l.fn.seat.role) (g.K.Kind.each * (l.number - l.from)) l.fn.seat l.seat;
+}

@@ -1,7 +1,8 @@
-use Rattle.std.proofs.Common.{◌≡◌}
+use Rattle.std.proofs.Common.{◌≡◌, ◌+◌, ◌*◌}
 use Rattle.rcu_numbers.specs.Numbers.{IsIdle}
 use Rattle.rcu_board.specs.Views.{sight}
-use Rattle.rcu_board_bench.specs.Stays.{StaysSeat}
+use Rattle.rcu_board.specs.Words.{board_word}
+use Rattle.rcu_board_bench.specs.Stays.{HasStepped, StaysSeat}
 use Rattle.rcu_board.specs.Seats.{view, AtBoard}
 use Rattle.rcu_board_bench.proofs.measure.repeat_grace_periods.Given as goal
 
@@ -13,4 +14,6 @@ invariant-loop-round l = record {
   same_processor : StaysSeat l.fn.processor l.processor;
   seen : sight (view l.driver) ≡ l.seq;
   idle : IsIdle l.seq;
+  ended : l.seq ≡ sight (view l.fn.driver) + 4 * l._round;
+  reported : HasStepped board_word l._round l.fn.processor l.processor;
 }
