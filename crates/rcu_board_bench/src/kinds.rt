@@ -5,8 +5,7 @@ ghost use Rattle.rcu_numbers.specs.Words.{owes_of};
 ghost use Rattle.rcu_board.specs.declared.board.Board.{Board};
 ghost use Rattle.rcu_board.specs.declared.board.Seat.{Seat};
 ghost use Rattle.rcu_board.specs.declared.board.Role.TheVariants.{Processor, Driver, Control};
-ghost use Rattle.rcu_board.specs.Roles.{MayClaim, MayCount};
-ghost use Rattle.rcu_board.specs.Roles.{cpu_of_role};
+ghost use Rattle.rcu_board.specs.Roles.{MayClaim, MayCount, cpu_of_role};
 ghost use Rattle.rcu_board.specs.Words.{accepts_word, asks_word, board_word, halt_word, needed_word, turns_word, urge_word};
 ghost use Rattle.rcu_board.specs.declared.board.Role.{Role};
 ghost use Rattle.rcu_board_bench.specs.Stays.{HasStepped, StaysSeat};
@@ -29,7 +28,7 @@ pub(crate) trait Kind: Send + Sync {
     ghost word: { Board → Role → ℕ };
 
     // How many steps on that word a round has.
-    ghost each: { ℕ };
+    ghost steps: { ℕ };
 
     /// Makes the step. Answers whether another can follow.
     fn step(board: &Board, seat: &mut Seat, number: u64) -> bool
@@ -39,7 +38,7 @@ pub(crate) trait Kind: Send + Sync {
         ensures same { StaysSeat seat.old seat.new }
         ensures ready { IsTrue result → ready board.now seat.new (number + 1) }
         ensures made { IsTrue result
-            → HasStepped (word board.now seat.old.role) each seat.old seat.new };
+            → HasStepped (word board.now seat.old.role) steps seat.old seat.new };
 }
 
 pub(crate) struct Look;
@@ -49,7 +48,7 @@ impl Kind for Look {
 
     ghost word = { λ board role. board_word };
 
-    ghost each = { 1 };
+    ghost steps = { 1 };
 
     fn step(board: &Board, seat: &mut Seat, _number: u64) -> bool {
         look(board, seat);
@@ -64,7 +63,7 @@ impl Kind for Report {
 
     ghost word = { λ board role. board_word };
 
-    ghost each = { 1 };
+    ghost steps = { 1 };
 
     fn step(board: &Board, seat: &mut Seat, _number: u64) -> bool {
         report(board, seat);
@@ -79,7 +78,7 @@ impl Kind for Need {
 
     ghost word = { λ board role. needed_word };
 
-    ghost each = { 1 };
+    ghost steps = { 1 };
 
     fn step(board: &Board, seat: &mut Seat, number: u64) -> bool {
         need(board, seat, number);
@@ -94,7 +93,7 @@ impl Kind for Needed {
 
     ghost word = { λ board role. needed_word };
 
-    ghost each = { 1 };
+    ghost steps = { 1 };
 
     fn step(board: &Board, seat: &mut Seat, _number: u64) -> bool {
         needed(board, seat);
@@ -110,7 +109,7 @@ impl Kind for Accept {
 
     ghost word = { λ board role. accepts_word (cpu_of_role role) };
 
-    ghost each = { 1 };
+    ghost steps = { 1 };
 
     fn step(board: &Board, seat: &mut Seat, number: u64) -> bool {
         if number >= NUMBERS {
@@ -129,7 +128,7 @@ impl Kind for Shut {
 
     ghost word = { λ board role. accepts_word 0 };
 
-    ghost each = { 1 };
+    ghost steps = { 1 };
 
     fn step(board: &Board, seat: &mut Seat, _number: u64) -> bool {
         shut_one(board, seat, 0);
@@ -144,7 +143,7 @@ impl Kind for Count {
 
     ghost word = { λ board role. accepts_word 0 };
 
-    ghost each = { 1 };
+    ghost steps = { 1 };
 
     fn step(board: &Board, seat: &mut Seat, _number: u64) -> bool {
         count_of(board, seat, 0);
@@ -160,7 +159,7 @@ impl Kind for Claim {
 
     ghost word = { λ board role. turns_word (cpu_of_role role) };
 
-    ghost each = { 2 };
+    ghost steps = { 2 };
 
     fn step(board: &Board, seat: &mut Seat, number: u64) -> bool {
         if number >= NUMBERS {
@@ -181,7 +180,7 @@ impl Kind for Turn {
 
     ghost word = { λ board role. turns_word 0 };
 
-    ghost each = { 1 };
+    ghost steps = { 1 };
 
     fn step(board: &Board, seat: &mut Seat, _number: u64) -> bool {
         turn_of(board, seat, 0);
@@ -196,7 +195,7 @@ impl Kind for Ask {
 
     ghost word = { λ board role. asks_word 0 };
 
-    ghost each = { 1 };
+    ghost steps = { 1 };
 
     fn step(board: &Board, seat: &mut Seat, number: u64) -> bool {
         ask(board, seat, 0, number % 2 == 0);
@@ -211,7 +210,7 @@ impl Kind for Asked {
 
     ghost word = { λ board role. asks_word (cpu_of_role role) };
 
-    ghost each = { 1 };
+    ghost steps = { 1 };
 
     fn step(board: &Board, seat: &mut Seat, _number: u64) -> bool {
         asked(board, seat);
@@ -226,7 +225,7 @@ impl Kind for Halt {
 
     ghost word = { λ board role. halt_word };
 
-    ghost each = { 1 };
+    ghost steps = { 1 };
 
     fn step(board: &Board, seat: &mut Seat, _number: u64) -> bool {
         halt(board, seat);
@@ -241,7 +240,7 @@ impl Kind for Halted {
 
     ghost word = { λ board role. halt_word };
 
-    ghost each = { 1 };
+    ghost steps = { 1 };
 
     fn step(board: &Board, seat: &mut Seat, _number: u64) -> bool {
         halted(board, seat);
@@ -256,7 +255,7 @@ impl Kind for Urge {
 
     ghost word = { λ board role. urge_word board.processors };
 
-    ghost each = { 1 };
+    ghost steps = { 1 };
 
     fn step(board: &Board, seat: &mut Seat, _number: u64) -> bool {
         urge(board, seat);
@@ -271,7 +270,7 @@ impl Kind for Hear {
 
     ghost word = { λ board role. urge_word board.processors };
 
-    ghost each = { 1 };
+    ghost steps = { 1 };
 
     fn step(board: &Board, seat: &mut Seat, _number: u64) -> bool {
         heard(board, seat);

@@ -34,7 +34,7 @@ fn repeat<K: Kind>(board: &Board, seat: &mut Seat, from: u64, to: u64) -> bool
     ensures same { StaysSeat seat.old seat.new }
     ensures ready { IsTrue result → K.ready board.now seat.new to }
     ensures made { IsTrue result
-        → HasStepped (K.word board.now seat.old.role) (K.each * (to - from)) seat.old seat.new }
+        → HasStepped (K.word board.now seat.old.role) (K.steps * (to - from)) seat.old seat.new }
 {
     for number in from..to {
         if !K::step(board, seat, number) {

@@ -21,7 +21,8 @@ Publishes m step.Pause = ⊤
 Publishes m step.Fail = ⊤
 Publishes m _ = ⊥
 
--- What follows an answer: a report after a read, a call and a pause; after a report a tick; and else the work that is left.
+-- What follows an answer: a report after a read, a call and a pause; a tick after a report; nothing more where a call is
+-- refused; and else what is left to do: reads first, and then a publication or the end.
 abbrev pub Follows : Answer Retired → Member → Step Retired → Type 0
 Follows answer.WasRead m s = s ≡ step.Report
 Follows (answer.Called t) m s = s ≡ step.Report
@@ -38,6 +39,7 @@ MayOrder order.Pause = ⊤
 MayOrder order.Done = ⊤
 MayOrder _ = ⊥
 
+-- the switch to offloaded, or to local
 abbrev pub switch_of : Bool → Order
 switch_of true = order.Offload UPDATER
 switch_of false = order.Deoffload UPDATER

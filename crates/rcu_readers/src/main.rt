@@ -94,7 +94,8 @@ impl Worker<Retired> for Member {
 
     fn read(&mut self, section: &Reading<'_, Retired>)
         ensures counted { self.new.seen.reads ≡ min (self.old.seen.reads + 1) u64.MAX }
-        ensures torn { self.old.seen.torn ≤ self.new.seen.torn }
+        ensures torn { (self.old.seen.torn ≤ self.new.seen.torn)
+            × (self.new.seen.torn ≤ self.old.seen.torn + 1) }
         ensures stays { self.new ≡ record self.old { seen = self.new.seen } }
     {
         self.seen.reads = self.seen.reads.saturating_add(1);

@@ -8,5 +8,5 @@ invariant-loop-number g l = record {
   board : AtBoard l.board l.seat;
   same : StaysSeat l.fn.seat l.seat;
   ready : g.K.Kind.ready l.board l.seat l.number;
-  made : HasStepped (g.K.Kind.word l.board l.fn.seat.role) (g.K.Kind.each * (l.number - l.from)) l.fn.seat l.seat;
+  made : HasStepped (g.K.Kind.word l.board l.fn.seat.role) (g.K.Kind.steps * (l.number - l.from)) l.fn.seat l.seat;
 }
