@@ -13,3 +13,4 @@ pub mod Rows
 pub mod Facts
 pub mod Later
 pub mod Bits
+pub mod Stepping

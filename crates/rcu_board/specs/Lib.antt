@@ -8,3 +8,4 @@ pub mod Seats
 pub mod Memory
 pub mod Opened
 pub mod Claims
+pub mod Frames

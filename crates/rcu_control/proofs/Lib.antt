@@ -1,4 +1,3 @@
-pub mod Stepping
 pub mod Counting
 pub mod Tickets
 pub mod Waiting

@@ -5,7 +5,7 @@ ghost use Rattle.rcu_numbers.specs.declared.sequence.TheConstants.{GREATEST_NUMB
 ghost use Rattle.std.specs.Arc.{arc_value};
 ghost use Rattle.rcu_board.specs.Seats.{view, AtBoard};
 ghost use Rattle.rcu_board.specs.declared.board.Role.{Role};
-ghost use Rattle.rcu_control.specs.Views.{IsBare};
+ghost use Rattle.rcu_board.specs.Frames.{IsBare};
 
 use rcu_board::{Board, Role, Seat, end, halted, look, needed, start};
 use rcu_jobs::DriverTurn;

@@ -5,16 +5,15 @@ use Rattle.std.specs.Prelude.{Ok, Err}
 use Rattle.std.specs.List.{AllZip}
 use Rattle.std.proofs.Math.Seq.{take-suc}
 use Rattle.std.proofs.lemmas.List.{length-map, map-append, nil_from_length}
-use Rattle.std.proofs.lemmas.List.Elements.{All-append}
+use Rattle.std.proofs.lemmas.List.Elements.{All-append, All-cons, All-head, All-nil, All-tail, All-weaker}
 use Rattle.rcu_board.proofs.Facts.{accepted-looked}
 use Rattle.rcu_board.specs.Seats.{SawShut, accepted_of}
 use Rattle.rcu_board.specs.Views.{seen_at}
 use Rattle.rcu_board.specs.Words.{accepts_word, bits_of, words_of}
 use Rattle.rcu_board.specs.declared.view.Accepted.{Accepted as Entry}
-use Rattle.rcu_control.proofs.Stepping.{has_words, seen_here}
-use Rattle.rcu_endings.specs.Ends.{keys_of}
-use Rattle.rcu_gathering.proofs.Lists.{all_cons, all_head, all_imp, all_none, all_tail}
-use Rattle.rcu_gathering.specs.Parts.{accepted_entry, accepted_list}
+use Rattle.rcu_board.proofs.Stepping.{has_words, seen_here}
+use Rattle.rcu_places.specs.Places.{keys_of}
+use Rattle.rcu_part_steps.specs.Places.{accepted_entry, accepted_list}
 use Rattle.rcu_jobs.specs.Refusals.{job_of}
 use Rattle.rcu_jobs.specs.declared.answers.Refused.{Refused}
 use Rattle.rcu_jobs.specs.declared.answers.Refused.TheVariants.{Limit, Memory, Closed}
@@ -24,11 +23,12 @@ use Rattle.rcu_part_processor.specs.Calls.{IsAccepted, IsRefusedAs, KeepsAll}
 use Rattle.rcu_part_processor.specs.Processors.{AcceptedStays, IsSound, SameProcessor, board_of, view_of}
 use Rattle.rcu_part_processor.specs.declared.processor.Processor.{Processor}
 use Rattle.rcu_part_processor.specs.declared.processor.ProcessorState.{ProcessorState}
-use Rattle.rcu_crews.proofs.Zips.{zip_along, zip_push}
+use Rattle.rcu_crews.proofs.Zips.{zip_along}
 use Rattle.rcu_crews.specs.Calls.{AreRefusalsBy, CallsInTurn, CallsThenTurns, HasAnswered, HaveAnswered, IsRefusalBy, keys_in}
 use Rattle.rcu_crews.specs.Dealing.{AreInOrder, IsAnswer, accepted_jobs, accepted_keys, ticket, tickets_from, tickets_in}
 use Rattle.rcu_crews.specs.Parts.{ProcessorStays}
 use Rattle.rcu_crews.proofs.Tickets.{called_again, called_later, called_more, called_once, called_still, calls_none}
+use Rattle.rcu_lemmas.proofs.Zips.{zip_push}
 
 module _ {J : Type 0} where
   pub tickets-append : (as' bs : List (Result Ticket (Refused J))) → tickets_in (as' ++ bs) ≡ tickets_in as' ++ tickets_in bs
@@ -88,7 +88,7 @@ module _ {J R : Type 0} where
   answer_stays q r (Err x) same count why = refusal_stays q r x same count why
 
   pub refusals_stay : (q r : ProcessorState J R) (as' : List (Result Ticket (Refused J))) → SameProcessor q r → q.accepted ≤ r.accepted → AreRefusalsBy q as' → AreRefusalsBy r as'
-  refusals_stay q r as' same count why = all_imp (λ a. IfErr a (IsRefusalBy q)) (λ a. IfErr a (IsRefusalBy r)) as' (λ a h. answer_stays q r a same count h) why
+  refusals_stay q r as' same count why = All-weaker (λ a. IfErr a (IsRefusalBy q)) (λ a. IfErr a (IsRefusalBy r)) (λ a h. answer_stays q r a same count h) as' why
 
   -- why a call refused
   refused_by : (job : J) (x : Refused J) (p q : ProcessorState J R) → SameProcessor p q → KeepsAll p q → IsRefusedAs job x p q → IsRefusalBy q x
@@ -118,7 +118,7 @@ calls_more key_of m n (k ∷ ks) (b ∷ bs) j a p q r at before last =
 
 module _ {J R : Type 0} (key_of : J → ℕ) (gives : ℕ → R → Type 0) where
   pub answered_none : (p : Processor J R) → HasAnswered key_of gives [] [] p p
-  answered_none p = record { called = calls_none key_of gives [] p; answered = tt; numbers = refl; why = all_none (λ a. IfErr a (IsRefusalBy p.state)); keys = sym (append-nil (keys_in p)) }
+  answered_none p = record { called = calls_none key_of gives [] p; answered = tt; numbers = refl; why = All-nil (λ a. IfErr a (IsRefusalBy p.state)); keys = sym (append-nil (keys_in p)) }
 
   counted : (p : Processor J R) → length (keys_in p) ≡ p.state.accepted
   counted p = length-map (accepted_list (view_of p.state)) (λ a. a.key) ∙ (length-map (accepted_of (view_of p.state)) accepted_entry ∙ p.state.lawful.counted)
@@ -171,7 +171,7 @@ module _ {J R : Type 0} (key_of : J → ℕ) (gives : ℕ → R → Type 0) wher
         called = called_once key_of gives t [] (t ∷ []) p q refl ok.cpu ok.number ok.count same sound;
         answered = (tt, tt);
         numbers = ap (λ u. u ∷ []) (ap (λ c. ticket c t.number) ok.cpu ∙ ap (λ n. ticket s.cpu n) ok.number);
-        why = all_cons (λ a. IfErr a (IsRefusalBy q.state)) (Ok t) [] tt (all_none (λ a. IfErr a (IsRefusalBy q.state)));
+        why = All-cons (λ a. IfErr a (IsRefusalBy q.state)) (Ok t) [] tt (All-nil (λ a. IfErr a (IsRefusalBy q.state)));
         keys =
             let list = ap accepted_of ok.steps ∙ accepted-looked s.seat s.cpu (accepts_word s.cpu) (2 * s.accepted + 2) (key_of job) (bits_of ok.word) s.role in
             ap (λ (l : List Entry). keys_of (map accepted_entry l)) list ∙ (ap keys_of (map-append accepted_entry (accepted_of (view_of s)) _) ∙ map-append _ _ _);
@@ -181,7 +181,7 @@ module _ {J R : Type 0} (key_of : J → ℕ) (gives : ℕ → R → Type 0) wher
         called = called_still key_of gives [] p q keeps.count same sound;
         answered = (why.0, tt);
         numbers = refl;
-        why = all_cons (λ a. IfErr a (IsRefusalBy q.state)) (Err r) [] (refused_by job r p.state q.state same keeps refused) (all_none (λ a. IfErr a (IsRefusalBy q.state)));
+        why = All-cons (λ a. IfErr a (IsRefusalBy q.state)) (Err r) [] (refused_by job r p.state q.state same keeps refused) (All-nil (λ a. IfErr a (IsRefusalBy q.state)));
         keys = keys_still p q why.1;
       }
 
@@ -215,8 +215,8 @@ module _ {J R : Type 0} (key_of : J → ℕ) (gives : ℕ → R → Type 0) wher
     each_keys (c ∷ cs) [] h none = absurd h
     each_keys (c ∷ cs) (d ∷ ds) h none =
         let Unused = λ (x : C). (processor x).state.accepted ≡ 0 in
-        let own : keys_in (after d) ≡ map key_of (accepted_jobs (jobs c) (answers d)) = h.0.keys ∙ ap (λ l. l ++ map key_of (accepted_jobs (jobs c) (answers d))) (none_before (processor c) (all_head Unused c cs none)) in
-        ap (λ l. l ∷ map (λ q. keys_in q) (map after ds)) own ∙ ap (λ l. map key_of (accepted_jobs (jobs c) (answers d)) ∷ l) (each_keys cs ds h.1 (all_tail Unused c cs none))
+        let own : keys_in (after d) ≡ map key_of (accepted_jobs (jobs c) (answers d)) = h.0.keys ∙ ap (λ l. l ++ map key_of (accepted_jobs (jobs c) (answers d))) (none_before (processor c) (All-head Unused c cs none)) in
+        ap (λ l. l ∷ map (λ q. keys_in q) (map after ds)) own ∙ ap (λ l. map key_of (accepted_jobs (jobs c) (answers d)) ∷ l) (each_keys cs ds h.1 (All-tail Unused c cs none))
 
     -- what each says of the processor afterwards
     each_after : (P : Processor J R → List (Result Ticket (Refused J)) → Type 0) → ((c : C) (d : D) → Called c d → (processor c).state.accepted ≡ 0 → P (after d) (answers d))
@@ -226,7 +226,7 @@ module _ {J R : Type 0} (key_of : J → ℕ) (gives : ℕ → R → Type 0) wher
     each_after P f (c ∷ cs) [] h none = absurd h
     each_after P f (c ∷ cs) (d ∷ ds) h none =
         let Unused = λ (x : C). (processor x).state.accepted ≡ 0 in
-        (f c d h.0 (all_head Unused c cs none), each_after P f cs ds h.1 (all_tail Unused c cs none))
+        (f c d h.0 (All-head Unused c cs none), each_after P f cs ds h.1 (All-tail Unused c cs none))
 
     -- the tickets of a processor that had accepted nothing
     abbrev Tickets : Processor J R → List (Result Ticket (Refused J)) → Type 0

@@ -4,11 +4,10 @@ use Rattle.std.specs.Prelude.{Option, Some, None, IfSome}
 use Rattle.rcu_control.specs.Barriers.{AreCounted, IsOver, count_at}
 use Rattle.rcu_control.specs.declared.driver.Driver.{Driver}
 use Rattle.rcu_control.specs.Parts.{SameDriver}
-use Rattle.rcu_gathering.proofs.Lists.{all_imp}
 use Rattle.rcu_jobs.specs.declared.Counts.{Counts}
 use Rattle.std.specs.List.{AllZip, Contains}
 use Rattle.std.proofs.Math.Decide.{dec_lt}
-use Rattle.std.proofs.lemmas.List.Elements.{All-contains, All-contains_itself, All-head, Contains-append_left, Contains-append_right}
+use Rattle.std.proofs.lemmas.List.Elements.{All-contains, All-contains_itself, All-head, Contains-append_left, Contains-append_right, All-weaker}
 use mathlib.Core.Logic.{dite}
 use Rattle.rcu_board.proofs.BoardSteps.{seen_else}
 use Rattle.rcu_board.specs.Plays.{touched}
@@ -19,11 +18,11 @@ use Rattle.rcu_jobs.specs.declared.answers.Ticket.{Ticket}
 use Rattle.rcu_part_processor.specs.Processors.{IsSound, SameProcessor}
 use Rattle.rcu_part_processor.specs.declared.processor.Processor.{Processor}
 use Rattle.rcu_part_processor.proofs.TickRuns.{same_processor, same_processor_again}
-use Rattle.rcu_crews.proofs.Zips.{zip_chain, zip_imp, zip_pushed}
 use Rattle.rcu_crews.specs.Calls.{AreTickets, HasCalled}
 use Rattle.rcu_crews.specs.Dealing.{ticket}
 use Rattle.rcu_crews.specs.Parts.{GivesBack, ProcessorStays}
 use Rattle.rcu_crews.specs.Runs.{AreOver, HasRun}
+use Rattle.rcu_lemmas.proofs.Zips.{zip_chain, zip_pushed, zip_weaker}
 
 -- a ticket is among more of them
 tickets_more : (cpu before after : ℕ) (ts more us : List Ticket) → us ≡ ts ++ more → AreTickets cpu before after ts → AreTickets cpu before after us
@@ -100,7 +99,7 @@ module _ {J R : Type 0} (key_of : J → ℕ) (gives : ℕ → R → Type 0) wher
       → AllZip (λ t c. HasCalled key_of gives ts (of t) (to c)) done qs → AllZip (λ t c. HasCalled key_of gives us (of t) (to c)) (done ++ h ∷ []) rs
   joined_more of to done h qs rs q ts own us e pushed called before =
       zip_pushed (λ t c. HasCalled key_of gives us (of t) (to c)) done qs rs h q pushed
-      (zip_imp (λ t c. HasCalled key_of gives ts (of t) (to c)) (λ t c. HasCalled key_of gives us (of t) (to c)) (λ t c a. called_more ts own us (of t) (to c) e a) done qs before)
+      (zip_weaker (λ t c. HasCalled key_of gives ts (of t) (to c)) (λ t c. HasCalled key_of gives us (of t) (to c)) (λ t c a. called_more ts own us (of t) (to c) e a) done qs before)
       (called_later ts own us (of h) (to q) e called)
 
   -- Each processor called, and then ran until the callbacks of all tickets had run; then the halt word was set.
@@ -109,12 +108,12 @@ module _ {J R : Type 0} (key_of : J → ℕ) (gives : ℕ → R → Type 0) wher
       zip_chain (HasCalled key_of gives ts) (ProcessorStays key_of gives) (HasRun key_of gives w) (λ p q r a b. run_halted v w x p r e (has_run v ts p q r over a b)) ps qs rs called stayed
 
   pub all_halted : (v w : View) (x : ℕ) (ps rs : List (Processor J R)) → w ≡ touched halt_word x v → AllZip (HasRun key_of gives v) ps rs → AllZip (HasRun key_of gives w) ps rs
-  all_halted v w x ps rs e ran = zip_imp (HasRun key_of gives v) (HasRun key_of gives w) (λ p r h. run_halted v w x p r e h) ps rs ran
+  all_halted v w x ps rs e ran = zip_weaker (HasRun key_of gives v) (HasRun key_of gives w) (λ p r h. run_halted v w x p r e h) ps rs ran
 
 -- A barrier that counts these tickets' callbacks is over: they have run.
 pub over_tickets : (counts : Counts) (v : View) (ts : List Ticket) → IsOver counts v → AreCounted counts ts → AreOver v ts
 over_tickets counts v ts over counted =
-    all_imp (λ t. (t.cpu < counts.n) × (t.number < count_at counts t.cpu)) (λ t. 2 * (t.number + 1) ≤ seen_at v (turns_word t.cpu)) ts (λ t c. let past = over t.cpu c.0 in let low = c.1 in omega (arith, past, low)) counted
+    All-weaker (λ t. (t.cpu < counts.n) × (t.number < count_at counts t.cpu)) (λ t. 2 * (t.number + 1) ≤ seen_at v (turns_word t.cpu)) (λ t c. let past = over t.cpu c.0 in let low = c.1 in omega (arith, past, low)) ts counted
 
 -- What the driver's thread gave back is the driver that it was given.
 pub driver_kept : {H : Type 0} (of : H → Driver) (t : Option H) (d e : Driver) → IfSome t (λ h. of h ≡ d) → GivesBack of t e → SameDriver d e

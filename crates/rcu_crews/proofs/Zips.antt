@@ -4,47 +4,20 @@ use Rattle.std.specs.Prelude.{All, IfOk, IfSome, Ok, Err, Option, Result}
 use Rattle.std.specs.Result.{result_ok}
 use Rattle.std.specs.List.{AllZip}
 use Rattle.std.proofs.lemmas.List.{nil_from_length}
-use Rattle.rcu_gathering.proofs.Lists.{all_cons, all_head, all_none, all_tail}
-
-pub all_of : {X : Type 0} (xs rest all : List X) → xs ++ rest ≡ all → rest ≡ [] → xs ≡ all
-all_of xs rest all h e = sym (append-nil xs) ∙ ap (λ l. xs ++ l) (sym e) ∙ h
+use Rattle.std.proofs.lemmas.List.Elements.{All-cons, All-head, All-nil, All-tail}
+use Rattle.rcu_lemmas.proofs.Zips.{all_of, zip_chain, zip_push}
 
 -- what there is is not none
 pub some_never : {A P : Type 0} {x : A} → Some x ≡ None → P
 some_never is = absurd (cc)
 
-module _ {A B C : Type 0} where
-  -- what is said of each of two steps is said of both together
-  pub zip_chain : (P : A → B → Type 0) (Q : B → C → Type 0) (S : A → C → Type 0) → ((x : A) (y : B) (z : C) → P x y → Q y z → S x z) → (xs : List A) (ys : List B) (zs : List C) → AllZip P xs ys → AllZip Q ys zs → AllZip S xs zs
-  zip_chain P Q S f [] [] [] p q = tt
-  zip_chain P Q S f [] [] (z ∷ zs) p q = absurd q
-  zip_chain P Q S f [] (y ∷ ys) zs p q = absurd p
-  zip_chain P Q S f (x ∷ xs) [] zs p q = absurd p
-  zip_chain P Q S f (x ∷ xs) (y ∷ ys) [] p q = absurd q
-  zip_chain P Q S f (x ∷ xs) (y ∷ ys) (z ∷ zs) p q = (f x y z p.0 q.0, zip_chain P Q S f xs ys zs p.1 q.1)
-
 module _ {A B : Type 0} where
-  pub zip_imp : (P Q : A → B → Type 0) → ((x : A) (y : B) → P x y → Q x y) → (xs : List A) (ys : List B) → AllZip P xs ys → AllZip Q xs ys
-  zip_imp P Q f [] [] p = tt
-  zip_imp P Q f [] (y ∷ ys) p = absurd p
-  zip_imp P Q f (x ∷ xs) [] p = absurd p
-  zip_imp P Q f (x ∷ xs) (y ∷ ys) p = (f x y p.0, zip_imp P Q f xs ys p.1)
-
-  pub zip_push : (R : A → B → Type 0) → (xs : List A) (ys : List B) (x : A) (y : B) → AllZip R xs ys → R x y → AllZip R (xs ++ x ∷ []) (ys ++ y ∷ [])
-  zip_push R [] [] x y h r = (r, tt)
-  zip_push R [] (b ∷ bs) x y h r = absurd h
-  zip_push R (a ∷ as') [] x y h r = absurd h
-  zip_push R (a ∷ as') (b ∷ bs) x y h r = (h.0, zip_push R as' bs x y h.1 r)
-
-  pub zip_pushed : (P : A → B → Type 0) → (xs : List A) (ys zs : List B) (x : A) (y : B) → zs ≡ ys ++ y ∷ [] → AllZip P xs ys → P x y → AllZip P (xs ++ x ∷ []) zs
-  zip_pushed P xs ys zs x y pushed p q = subst (AllZip P (xs ++ x ∷ [])) (sym pushed) (zip_push P xs ys x y p q)
-
   -- what is said of each of the first is said of each of the second
   pub zip_all : (P : A → Type 0) (Q : A → B → Type 0) (S : B → Type 0) → ((x : A) (y : B) → Q x y → P x → S y) → (xs : List A) (ys : List B) → AllZip Q xs ys → All P xs → All S ys
-  zip_all P Q S f [] [] q p = all_none S
+  zip_all P Q S f [] [] q p = All-nil S
   zip_all P Q S f [] (y ∷ ys) q p = absurd q
   zip_all P Q S f (x ∷ xs) [] q p = absurd q
-  zip_all P Q S f (x ∷ xs) (y ∷ ys) q p = all_cons S y ys (f x y q.0 (all_head P x xs p)) (zip_all P Q S f xs ys q.1 (all_tail P x xs p))
+  zip_all P Q S f (x ∷ xs) (y ∷ ys) q p = All-cons S y ys (f x y q.0 (All-head P x xs p)) (zip_all P Q S f xs ys q.1 (All-tail P x xs p))
 
 -- what is said of each of two lists, once those of the first went on
 pub zip_along : {A B : Type 0} (P Q : A → B → Type 0) (S : A → A → Type 0) → ((x y : A) (z : B) → S x y → P x z → Q y z) → (xs ys : List A) (zs : List B) → AllZip S xs ys → AllZip P xs zs → AllZip Q ys zs
@@ -82,12 +55,3 @@ module _ {A H : Type 0} (of : H → A) where
 pub if_started : {H E : Type 0} (P Q : H → Type 0) (r : Result H E) (o : Option H) → o ≡ result_ok r → IfOk r P → ((h : H) → P h → Q h) → IfSome o Q
 if_started P Q (Ok h) o e p f = subst (λ x. IfSome x Q) (sym e) (f h p)
 if_started P Q (Err x) o e p f = subst (λ x. IfSome x Q) (sym e) tt
-
-module _ {X : Type 0} where
-  -- where there is room for all that is left, there is room for one
-  pub room_for_one : (n cap : ℕ) (rest more : List X) (x : X) → n + length rest ≤ cap → rest ≡ x ∷ more → n < cap
-  room_for_one n cap rest more x room step = let e = ap (λ (l : List X). length l) step in omega (arith, room, e)
-
-  -- and, once one more is in, room for all that is left then
-  pub room_for_more : (n m cap dap : ℕ) (rest more : List X) (x : X) → n + length rest ≤ cap → rest ≡ x ∷ more → m ≡ n + 1 → dap ≡ cap → m + length more ≤ dap
-  room_for_more n m cap dap rest more x room step one same = let e = ap (λ (l : List X). length l) step in omega (arith, room, e, one, same)

@@ -4,7 +4,7 @@ use Rattle.rcu_board.specs.Plays.{touched}
 use Rattle.rcu_board.specs.Words.{halt_word, turns_word}
 use Rattle.rcu_control.specs.Barriers.{IsOver, OpensBy}
 use Rattle.rcu_control.specs.Parts.{control_board, control_view}
-use Rattle.rcu_control.specs.Views.{StepsWithin}
+use Rattle.rcu_board.specs.Frames.{StepsWithin}
 use Rattle.rcu_control.specs.declared.barrier.Barrier.{Barrier}
 use Rattle.rcu_control.specs.declared.control.Control.{Control}
 use Rattle.rcu_crews.specs.declared.fault.ThreadsFault.{ThreadsFault}

@@ -2,8 +2,8 @@
 use Rattle.std.specs.Prelude.{◌≡◌, ℕ, ◌+◌, ◌<◌, ◌≤◌, List, [], ◌∷◌, ◌++◌, map, All, IfErr, MatchResult, Option, Result}
 use Rattle.std.specs.List.{AllZip, Contains}
 use Rattle.rcu_board.specs.Seats.{SawShut}
-use Rattle.rcu_endings.specs.Ends.{keys_of}
-use Rattle.rcu_gathering.specs.Parts.{accepted_list}
+use Rattle.rcu_places.specs.Places.{keys_of}
+use Rattle.rcu_part_steps.specs.Places.{accepted_list}
 use Rattle.rcu_jobs.specs.declared.answers.Refused.{Refused}
 use Rattle.rcu_jobs.specs.declared.answers.Refused.TheVariants.{Limit, Memory, Closed}
 use Rattle.rcu_jobs.specs.declared.answers.Ticket.{Ticket}

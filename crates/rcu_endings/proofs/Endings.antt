@@ -20,12 +20,12 @@ use Rattle.rcu_lanes.specs.declared.ends.Rear.{Rear}
 use Rattle.rcu_lists.specs.Parcels.{parcel_items}
 use Rattle.rcu_lists.specs.declared.parcel.Parcel.{Parcel}
 use Rattle.rcu_places.specs.Order.{Remaining, between, times}
-use Rattle.rcu_places.specs.Places.{Accepted, Move, Numbered, Placed, claimed_of, moved, numbered, put_of}
+use Rattle.rcu_places.specs.Places.{Accepted, Move, Numbered, Placed, claimed_of, moved, numbered, put_of, keys_of}
 use Rattle.rcu_places.proofs.Moves.{placed_all}
 use Rattle.rcu_places.proofs.Ordering.{begins}
 use Rattle.rcu_records.specs.Callbacks.{AreKeyed, numbered_callback, numbered_callbacks}
 use Rattle.rcu_records.specs.Records.{AreOfBoth, AreRipe, AreSeenBy, numbered_record, numbered_records}
-use Rattle.rcu_endings.specs.Ends.{AreInPlace, AreOnceBelow, EndsWith, IsEnd, IsSoundEnd, keys_of, left_of}
+use Rattle.rcu_endings.specs.Ends.{AreInPlace, AreOnceBelow, EndsWith, IsEnd, IsSoundEnd, left_of}
 use Rattle.rcu_endings.specs.Moving.{Takes, jobs_of}
 use Rattle.rcu_endings.proofs.Counting.{two_as_many}
 

@@ -5,14 +5,11 @@ use Rattle.rcu_jobs.specs.Records.{Given}
 use Rattle.rcu_jobs.specs.declared.callback.Callback.{Callback}
 use Rattle.rcu_jobs.specs.declared.callback.Record.{Record}
 use Rattle.rcu_places.specs.Order.{between, times}
-use Rattle.rcu_places.specs.Places.{Accepted, Placed, numbered}
+use Rattle.rcu_places.specs.Places.{Accepted, Placed, keys_of, numbered}
 use Rattle.rcu_records.specs.Callbacks.{AreKeyed, numbered_callbacks}
 use Rattle.rcu_records.specs.Records.{AreOfBoth, AreRipe, AreSeenBy, numbered_records}
 use Rattle.rcu_endings.specs.Moving.{jobs_of}
 use Rattle.rcu_endings.specs.declared.ended.Ended.{Ended}
-
-abbrev pub keys_of : List Accepted → List ℕ
-keys_of accepted = map (λ a. a.key) accepted
 
 -- Each number below m is that of one record of the two lists, and no other number is.
 abbrev pub AreOnceBelow : {R : Type 0} → ℕ → List (Record R) → List (Record R) → Type 0

@@ -26,10 +26,13 @@ use Rattle.rcu_records.specs.Callbacks.{numbered_callback}
 use Rattle.rcu_records.specs.Records.{AreSeenBy, numbered_record, numbered_records}
 use Rattle.rcu_gathering.specs.Closing.{Closes, ClosesAs, CpuEnd, Ends, EndsAs, HaveEnded, IsGraced, calls_left, processors_of, seats_of}
 use Rattle.rcu_gathering.specs.Gathered.{gather}
-use Rattle.rcu_gathering.specs.Parts.{HandClaims, HandPart, IsAtRest, IsSoundPart, accepted_entry, accepted_list, claim_of, hand_ran, hand_views, views_of}
+use Rattle.rcu_part_steps.specs.Places.{accepted_entry, accepted_list, claim_of}
+use Rattle.rcu_gathering.specs.Parts.{HandClaims, HandPart, IsAtRest, IsSoundPart, hand_ran, hand_views, views_of}
 use Rattle.rcu_gathering.proofs.Claims.{cpu_at, no_claims, row_at}
 use Rattle.rcu_gathering.proofs.Gathers.{gather_claims, gather_each, gather_seen, gather_sights}
-use Rattle.rcu_gathering.proofs.Lists.{all_none, all_cons, all_head, all_imp, all_both, all_left, all_map, all_mapped, all_right, all_tail, every_all}
+use Rattle.std.proofs.lemmas.List.Elements.{All-cons, All-head, All-map, All-nil, All-tail, All-weaker}
+use Rattle.rcu_lemmas.proofs.All.{All-append_left, All-append_right, All-both, All-unmap}
+use Rattle.rcu_gathering.proofs.Every.{every_all}
 
 -- ---- the grace period
 
@@ -79,7 +82,7 @@ settled_between m j = grind (arith, nat_tests)
 
 -- claims that are seen by x
 seen_records : {R : Type 0} → (x cpu : ℕ) (v : View) (ran : List (Record R)) → v.claims ≡ map (claim_of cpu) ran → Every (λ (c : Claim). c.sight ≤ x) v.claims → AreSeenBy x ran
-seen_records x cpu v ran e h = all_map (λ (c : Claim). c.sight ≤ x) (claim_of cpu) ran (subst (All (λ (c : Claim). c.sight ≤ x)) e (every_all (λ (c : Claim). c.sight ≤ x) v.claims h))
+seen_records x cpu v ran e h = All-unmap (λ (c : Claim). c.sight ≤ x) (claim_of cpu) ran (subst (All (λ (c : Claim). c.sight ≤ x)) e (every_all (λ (c : Claim). c.sight ≤ x) v.claims h))
 
 module _ {R : Type 0} where
   ran_length : (accepted : List Accepted) (m : ℕ) (ran : List (Record R)) → IsEnd accepted m ran → m ≡ length ran
@@ -89,12 +92,12 @@ module _ {R : Type 0} where
 
 module _ {J R : Type 0} where
   all_seats : (P : View → Type 0) (es : List (CpuEnd J R)) → All P (seats_of es) → All (λ (e : CpuEnd J R). All P (views_of e.part)) es
-  all_seats P [] h = all_none (λ (e : CpuEnd J R). All P (views_of e.part))
-  all_seats P (e ∷ es) h = all_cons (λ (e : CpuEnd J R). All P (views_of e.part)) e es (all_left P (views_of e.part) (seats_of es) h) (all_seats P es (all_right P (views_of e.part) (seats_of es) h))
+  all_seats P [] h = All-nil (λ (e : CpuEnd J R). All P (views_of e.part))
+  all_seats P (e ∷ es) h = All-cons (λ (e : CpuEnd J R). All P (views_of e.part)) e es (All-append_left P (views_of e.part) (seats_of es) h) (all_seats P es (All-append_right P (views_of e.part) (seats_of es) h))
 
   seen_hand : (x cpu : ℕ) (P : View → Type 0) (hand : Option (HandPart J R)) → ((v : View) → P v → Every (λ (c : Claim). c.sight ≤ x) v.claims) → HandClaims cpu hand → All P (hand_views hand) → AreSeenBy x (hand_ran hand)
-  seen_hand x cpu P None f e h = all_none (λ (r : Record R). r.ready ≤ x)
-  seen_hand x cpu P (Some y) f e h = seen_records x cpu y.view y.ran e (f y.view (all_head P y.view [] h))
+  seen_hand x cpu P None f e h = All-nil (λ (r : Record R). r.ready ≤ x)
+  seen_hand x cpu P (Some y) f e h = seen_records x cpu y.view y.ran e (f y.view (All-head P y.view [] h))
 
 module _ {J R : Type 0} where
   -- as many as were accepted ran or come back
@@ -119,13 +122,13 @@ module _ {J R : Type 0} (key_of : J → ℕ) (gives : ℕ → R → Type 0) (n x
   Stands w = Every (λ (o : Own). Reported x o.cpu o.reports) w.own × Every (λ (c : Claim). c.sight ≤ number_of x) w.claims
 
   stands : All (λ (e : CpuEnd J R). All Stands (views_of e.part)) es
-  stands = all_seats Stands es (all_right Stands (v ∷ others) (seats_of es)
+  stands = all_seats Stands es (All-append_right Stands (v ∷ others) (seats_of es)
       (gather_each (λ (o : Own). Reported x o.cpu o.reports) (λ (c : Claim). c.sight ≤ number_of x) v (others ++ seats_of es) h.settled.board.reports h.settled.board.sights))
 
   enough : All (λ (w : View). number_of x / 4 ≤ reports_of w) (processors_of es)
-  enough = all_mapped (λ (w : View). number_of x / 4 ≤ reports_of w) (λ (e : CpuEnd J R). e.part.view) es
-      (all_both Rests (λ (e : CpuEnd J R). All Stands (views_of e.part)) (λ (e : CpuEnd J R). number_of x / 4 ≤ reports_of e.part.view) es
-      (λ e r s. own_enough x e.part.cpu e.part.view.own h.settled.board.board.state r.own_cpu (all_head Stands e.part.view (hand_views e.part.hand) s).0) h.at_rest stands)
+  enough = All-map (λ (w : View). number_of x / 4 ≤ reports_of w) (λ (e : CpuEnd J R). e.part.view) es
+      (All-both Rests (λ (e : CpuEnd J R). All Stands (views_of e.part)) (λ (e : CpuEnd J R). number_of x / 4 ≤ reports_of e.part.view) es
+      (λ e r s. own_enough x e.part.cpu e.part.view.own h.settled.board.board.state r.own_cpu (All-head Stands e.part.view (hand_views e.part.hand) s).0) h.at_rest stands)
 
   -- how often all views claimed number j of the k-th processor
   claims_at : (k j : ℕ) (d : CpuEnd J R) → k < length es → total (claimed k j) Views ≡ times j (numbered_records (get_or es k d).part.own) + times j (numbered_records (hand_ran (get_or es k d).part.hand))
@@ -154,7 +157,7 @@ module _ {J R : Type 0} (key_of : J → ℕ) (gives : ℕ → R → Type 0) (n x
       let cpu : e.part.cpu ≡ k = (let z = cpu_at 0 k es d lt h.row in omega arith) in
       let rest = h.at_rest k d lt in
       let seats = stands k d lt in
-      let own = all_head Stands e.part.view (hand_views e.part.hand) seats in
+      let own = All-head Stands e.part.view (hand_views e.part.hand) seats in
       let turn = h.settled.turns k near in
       let count = h.settled.counts k near in
       let m = ran_at k near in
@@ -164,27 +167,27 @@ module _ {J R : Type 0} (key_of : J → ℕ) (gives : ℕ → R → Type 0) (n x
       let end = end_at k near d lt in
       let long : m ≡ length e.ran = ran_length (accepted_list e.part.view) m e.ran end in
       let seen : AreSeenBy number e.ran = done.seen number (seen_records number e.part.cpu e.part.view e.part.own rest.claims own.1)
-      (seen_hand number e.part.cpu Stands e.part.hand (λ w s. s.1) rest.hand_claims (all_tail Stands e.part.view (hand_views e.part.hand) seats)) in
+      (seen_hand number e.part.cpu Stands e.part.hand (λ w s. s.1) rest.hand_claims (All-tail Stands e.part.view (hand_views e.part.hand) seats)) in
       let sights = gather_sights (words_of n) (turns_word k) (omega arith) (turns_not k) v (others ++ seats_of es) h.long in
       let Counted : View → Type 0 = λ w. Every (λ (o : Own). o.cpu ≡ k → count.0 / 2 ≡ accepted_count o) w.own × Every (λ (c : Claim). c.sight ≤ number) w.claims in
-      let counted = all_right Counted (v ∷ others) (seats_of es)
+      let counted = All-append_right Counted (v ∷ others) (seats_of es)
       (gather_each (λ (o : Own). o.cpu ≡ k → count.0 / 2 ≡ accepted_count o) (λ (c : Claim). c.sight ≤ number) v (others ++ seats_of es) count.1.counts h.settled.board.sights) in
       let accepted : count.0 / 2 ≡ length (accepted_of e.part.view) = own_counted k (count.0 / 2) e.part.view.own (rest.own_cpu ∙ ap (λ (c : ℕ). c ∷ []) cpu) rest.stamped
-      (all_head Counted e.part.view (hand_views e.part.hand) (all_seats Counted es counted k d lt)).0 in
+      (All-head Counted e.part.view (hand_views e.part.hand) (all_seats Counted es counted k d lt)).0 in
       record {
         end = subst (λ (i : ℕ). IsEnd (accepted_list e.part.view) i e.ran) long end;
         records = done.records;
         jobs = done.jobs;
         left = done.left (accepted_list e.part.view) m rest.places once ∙ ap (λ (i : ℕ). drop i (numbered 0 (accepted_list e.part.view))) long;
         claims = λ j. ap (λ (p : ℕ). total (claimed p j) Views) cpu ∙ (all_claimed_at k j near ∙ ap (λ (i : ℕ). between 0 i j) long);
-        graced = all_both (λ (r : Record R). snap_of r.stamp ≤ r.ready) (λ (r : Record R). r.ready ≤ number) (IsGraced (processors_of es)) e.ran
-            (λ r ripe low. all_imp (λ (w : View). number / 4 ≤ reports_of w) (λ (w : View). (j : ℕ) × (j < reports_of w) × (r.stamp < 4 * j + 1) × (4 * j + 1 < r.ready)) (processors_of es)
-            (λ w many. graced r.stamp r.ready number (reports_of w) ripe low many) enough) end.ripe seen;
+        graced = All-both (λ (r : Record R). snap_of r.stamp ≤ r.ready) (λ (r : Record R). r.ready ≤ number) (IsGraced (processors_of es)) e.ran
+            (λ r ripe low. All-weaker (λ (w : View). number / 4 ≤ reports_of w) (λ (w : View). (j : ℕ) × (j < reports_of w) × (r.stamp < 4 * j + 1) × (4 * j + 1 < r.ready))
+            (λ w many. graced r.stamp r.ready number (reports_of w) ripe low many) (processors_of es) enough) end.ripe seen;
         turns = subst (λ (p : ℕ). All (λ (w : View). seen_at w (turns_word p) / 2 ≤ length e.ran) Views) (sym cpu)
-            (all_imp (λ (w : View). seen_at w (turns_word k) ≤ seen_at Whole (turns_word k)) (λ (w : View). seen_at w (turns_word k) / 2 ≤ length e.ran) Views (λ w low. let t = turn.1 in omega (arith, low, t, long)) sights);
+            (All-weaker (λ (w : View). seen_at w (turns_word k) ≤ seen_at Whole (turns_word k)) (λ (w : View). seen_at w (turns_word k) / 2 ≤ length e.ran) (λ w low. let t = turn.1 in omega (arith, low, t, long)) Views sights);
         shut = subst (λ (p : ℕ). All (λ (w : View). seen_at w (accepts_word p) % 2 ≡ 1 → seen_at w (accepts_word p) / 2 ≡ length (accepted_list e.part.view)) Views) (sym cpu)
-            (all_imp (λ (w : View). OddEquals k count.0 w.seen) (λ (w : View). seen_at w (accepts_word k) % 2 ≡ 1 → seen_at w (accepts_word k) / 2 ≡ length (accepted_list e.part.view)) Views
-            (λ w equal odd. ap (λ (a : ℕ). a / 2) (equal odd) ∙ (accepted ∙ sym (length-map (accepted_of e.part.view) accepted_entry)))
+            (All-weaker (λ (w : View). OddEquals k count.0 w.seen) (λ (w : View). seen_at w (accepts_word k) % 2 ≡ 1 → seen_at w (accepts_word k) / 2 ≡ length (accepted_list e.part.view))
+            (λ w equal odd. ap (λ (a : ℕ). a / 2) (equal odd) ∙ (accepted ∙ sym (length-map (accepted_of e.part.view) accepted_entry))) Views
             (gather_seen (OddEquals k count.0) v (others ++ seats_of es) count.1.final count.1.merged));
       }
 
@@ -204,5 +207,5 @@ module _ {J R : Type 0} (key_of : J → ℕ) (gives : ℕ → R → Type 0) (n x
 
   -- and of the reports of each
   pub reported : All (λ (e : CpuEnd J R). Reported x e.part.cpu (reports_of e.part.view)) es
-  reported = all_both Rests (λ (e : CpuEnd J R). All Stands (views_of e.part)) (λ (e : CpuEnd J R). Reported x e.part.cpu (reports_of e.part.view)) es
-      (λ e r s. own_reported x e.part.cpu e.part.view.own r.own_cpu (all_head Stands e.part.view (hand_views e.part.hand) s).0) h.at_rest stands
+  reported = All-both Rests (λ (e : CpuEnd J R). All Stands (views_of e.part)) (λ (e : CpuEnd J R). Reported x e.part.cpu (reports_of e.part.view)) es
+      (λ e r s. own_reported x e.part.cpu e.part.view.own r.own_cpu (All-head Stands e.part.view (hand_views e.part.hand) s).0) h.at_rest stands

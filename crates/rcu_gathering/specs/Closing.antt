@@ -13,7 +13,8 @@ use Rattle.rcu_places.specs.Places.{numbered}
 use Rattle.rcu_records.specs.Callbacks.{numbered_callbacks}
 use Rattle.rcu_records.specs.Records.{AreOfBoth}
 use Rattle.rcu_gathering.specs.Gathered.{IsSettled, gather}
-use Rattle.rcu_gathering.specs.Parts.{CpuPart, IsAtRest, accepted_list, hand_drawn, hand_ran, hand_taken, views_of}
+use Rattle.rcu_part_steps.specs.Places.{accepted_list}
+use Rattle.rcu_gathering.specs.Parts.{CpuPart, IsAtRest, hand_drawn, hand_ran, hand_taken, views_of}
 
 -- For each processor, of which this is the view, some counted report, its j-th from 0, has a number between the record's
 -- stamp and the sight by which it ran.

@@ -3,7 +3,7 @@ use Rattle.std.proofs.Common.{ℕ, All, refl}
 use Rattle.std.specs.Global.{Vec}
 use Rattle.std.specs.List.{AllZip}
 use Rattle.rcu_control.specs.Parts.{control_board, control_seat, driver_board, driver_seat}
-use Rattle.rcu_control.specs.Views.{SamePart}
+use Rattle.rcu_board.specs.Frames.{SamePart}
 use Rattle.rcu_board.specs.declared.board.Board.{Board}
 use Rattle.rcu_board.specs.declared.board.Seat.{Seat}
 use Rattle.rcu_part_group.specs.Groups.{SameGroup}
@@ -15,14 +15,14 @@ use Rattle.rcu_parts.proofs.StaySame.{stay_same}
 use Rattle.rcu_part_group.specs.declared.group.Group.{Group}
 use Rattle.rcu_part_hand.specs.declared.hand.Hand.{Hand}
 use Rattle.rcu_part_processor.specs.declared.processor.Processor.{Processor}
-use Rattle.rcu_part_group.proofs.GroupLists.{zip_same}
 use Rattle.rcu_part_group.proofs.GroupTurns.{same_group}
 use Rattle.rcu_part_hand.proofs.HandRuns.{same_hand}
 use Rattle.rcu_part_processor.proofs.TickRuns.{same_processor}
 use Rattle.rcu_memory.specs.Driven.{AreDriven}
 use Rattle.rcu_memory.specs.Works.{IsOwnKey, key_of_work}
 use Rattle.rcu_memory.specs.declared.work.Work.{Work}
-use Rattle.rcu_control.proofs.Stepping.{same_part}
+use Rattle.rcu_board.proofs.Stepping.{same_part}
+use Rattle.rcu_lemmas.proofs.Zips.{zip_same}
 
 module _ (old : Parts Work ℕ) (driven : AreDriven old) where
   all_same : AreSameParts old old

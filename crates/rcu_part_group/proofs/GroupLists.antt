@@ -79,27 +79,6 @@ module _ {A X : Type 0} where
   each_zip R S step (b ∷ answers) (w ∷ olds) (z ∷ news) e = (step b w z e.0, each_zip R S step answers olds news e.1)
 
 module _ {X : Type 0} where
-  -- what doesn't change
-  pub zip_map : {Y : Type 0} (S : X → X → Type 0) (f : X → Y) → ((x y : X) → S x y → f y ≡ f x) → (olds news : List X) → AllZip S olds news → map f news ≡ map f olds
-  zip_map S f step [] [] e = refl
-  zip_map S f step [] (z ∷ news) e = absurd e
-  zip_map S f step (w ∷ olds) [] e = absurd e
-  zip_map {Y} S f step (w ∷ olds) (z ∷ news) e = ap (λ (y : Y). y ∷ map f news) (step w z e.0) ∙ ap (λ (ys : List Y). f w ∷ ys) (zip_map S f step olds news e.1)
-
-  -- where nothing was done
-  pub zip_same : (S : X → X → Type 0) → ((x : X) → S x x) → (xs : List X) → AllZip S xs xs
-  zip_same S same [] = tt
-  zip_same S same (x ∷ xs) = (same x, zip_same S same xs)
-
-  -- over two lists of steps
-  pub zip_again : (S : X → X → Type 0) → ((x y z : X) → S x y → S y z → S x z) → (xs ys zs : List X) → AllZip S xs ys → AllZip S ys zs → AllZip S xs zs
-  zip_again S step [] [] [] e f = tt
-  zip_again S step [] [] (z ∷ zs) e f = absurd f
-  zip_again S step [] (y ∷ ys) zs e f = absurd e
-  zip_again S step (x ∷ xs) [] zs e f = absurd e
-  zip_again S step (x ∷ xs) (y ∷ ys) [] e f = absurd f
-  zip_again S step (x ∷ xs) (y ∷ ys) (z ∷ zs) e f = (step x y z e.0 f.0, zip_again S step xs ys zs e.1 f.1)
-
   -- of all elements but the first
   pub behind : (P : X → Type 0) (x : X) (xs : List X) → All P (x ∷ xs) → All P xs
   behind P x xs h = All-tail P x xs h

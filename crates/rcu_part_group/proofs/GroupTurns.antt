@@ -10,8 +10,8 @@ use Rattle.rcu_board.specs.Seats.{NeverFalls}
 use Rattle.rcu_board.specs.Views.{seen_at, sight}
 use Rattle.rcu_board.specs.Words.{needed_word}
 use Rattle.rcu_board.specs.declared.view.View.{View}
-use Rattle.rcu_control.proofs.Stepping.{same_again}
-use Rattle.rcu_control.specs.Views.{IsBare, KeepsLists}
+use Rattle.rcu_board.proofs.Stepping.{same_again}
+use Rattle.rcu_board.specs.Frames.{IsBare, KeepsLists}
 use Rattle.rcu_holdings.specs.Aims.{AreUpTo, is_up_to, aim, wanted, looked as list_looked}
 use Rattle.rcu_holdings.specs.MemberLists.{most_batches, Relay, relay, TakesIn, Gives, Loads, Hands}
 use Rattle.rcu_holdings.proofs.Aims.{up-raised, look-needed}
@@ -24,8 +24,9 @@ use Rattle.rcu_part_group.specs.GroupLaw.{AreMembers, IsLawfulGroup, relay_of}
 use Rattle.rcu_part_group.specs.Groups.{GivesTo, IsEmptyGroupMember, LooksAt, LooksAtAll, PassesOn, SameGroupMember, SameGroup, TakesFrom, held_of, members_of}
 use Rattle.rcu_part_group.specs.declared.members.GroupMember.{GroupMember}
 use Rattle.rcu_part_group.specs.declared.group.GroupState.{GroupState}
-use Rattle.rcu_part_group.proofs.GroupLists.{each_all, each_zip, greatest_upto, zip_map, zip_again, zip_same}
+use Rattle.rcu_part_group.proofs.GroupLists.{each_all, each_zip, greatest_upto}
 use Rattle.rcu_board.proofs.Facts.{same_seat}
+use Rattle.rcu_lemmas.proofs.Zips.{zip_again, zip_map, zip_same}
 
 -- what holds of each
 always : {A : Type 0} (xs : List A) → All (λ (x : A). Unit {0}) xs

@@ -5,7 +5,7 @@ use Rattle.std.specs.List.{AllPairs}
 use Rattle.rcu_board.specs.Views.{seen_at, sight}
 use Rattle.rcu_board.specs.Words.{needed_word}
 use Rattle.rcu_board.specs.declared.view.View.{View}
-use Rattle.rcu_control.specs.Views.{IsBare}
+use Rattle.rcu_board.specs.Frames.{IsBare}
 use Rattle.rcu_holdings.specs.Aims.{AreUpTo}
 use Rattle.rcu_holdings.specs.MemberLists.{Relay, relay}
 use Rattle.rcu_numbers.specs.declared.shape.TheConstants.{MOST_PROCESSORS}

@@ -6,7 +6,7 @@ ghost use Rattle.rcu_board.specs.Roles.{MayNeed};
 ghost use Rattle.rcu_board.specs.Seats.{view, AtBoard, SameSeat};
 ghost use Rattle.rcu_board.specs.Views.{seen_at, sight, tally};
 ghost use Rattle.rcu_board.specs.Words.{board_word, needed_word};
-ghost use Rattle.rcu_control.specs.Views.{KeepsLists};
+ghost use Rattle.rcu_board.specs.Frames.{KeepsLists};
 ghost use Rattle.rcu_numbers.specs.declared.sequence.TheConstants.{GREATEST_NUMBER};
 ghost use Rattle.rcu_numbers.specs.declared.shape.TheConstants.{MOST_CALLBACKS, MOST_PROCESSORS};
 ghost use Rattle.rcu_part_group.specs.Each.{IsGreatest, Sums};

@@ -4,7 +4,7 @@ use Rattle.std.proofs.lemmas.List.{map-append}
 use Rattle.std.proofs.lemmas.List.Elements.{All-append}
 use Rattle.rcu_board.specs.Views.{sight}
 use Rattle.rcu_board.specs.declared.view.View.{View}
-use Rattle.rcu_control.proofs.Stepping.{same_again}
+use Rattle.rcu_board.proofs.Stepping.{same_again}
 use Rattle.rcu_holdings.specs.Helds.{drawn_by, held_by}
 use Rattle.rcu_holdings.specs.declared.hand.Held.{Held}
 use Rattle.rcu_jobs.specs.Records.{Given}

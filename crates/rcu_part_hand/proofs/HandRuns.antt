@@ -8,7 +8,7 @@ use Rattle.rcu_board.specs.declared.board.Board.{Board}
 use Rattle.rcu_holdings.specs.Ends.{before_end}
 use Rattle.rcu_board.specs.declared.view.Claim.{Claim}
 use Rattle.rcu_board.specs.declared.view.View.{View}
-use Rattle.rcu_control.proofs.Stepping.{has_words, same_again}
+use Rattle.rcu_board.proofs.Stepping.{has_words, same_again}
 use Rattle.rcu_jobs.specs.Records.{Given}
 use Rattle.rcu_jobs.specs.declared.HandTurn.{HandTurn}
 use Rattle.rcu_jobs.specs.declared.callback.Callback.{Callback}

@@ -5,7 +5,7 @@ use Rattle.rcu_board.specs.Seats.{view}
 use Rattle.rcu_board.specs.Words.{turns_word}
 use Rattle.rcu_board.specs.declared.board.Board.{Board}
 use Rattle.rcu_board.specs.declared.view.View.{View}
-use Rattle.rcu_control.specs.Views.{SamePart}
+use Rattle.rcu_board.specs.Frames.{SamePart}
 use Rattle.rcu_holdings.specs.Helds.{front_of, drawn_by, held_by}
 use Rattle.rcu_jobs.specs.Records.{Given}
 use Rattle.rcu_jobs.specs.declared.Stop.{Stop}

@@ -12,7 +12,7 @@ use Rattle.rcu_holdings.specs.declared.hand.Held.{Held}
 use Rattle.rcu_numbers.specs.Words.{Board}
 use Rattle.rcu_numbers.specs.declared.shape.Shape.{Shape}
 use Rattle.rcu_board.specs.declared.view.View.{View}
-use Rattle.rcu_control.specs.Views.{SamePart}
+use Rattle.rcu_board.specs.Frames.{SamePart}
 use Rattle.rcu_holdings.specs.Helds.{front_of, drawn_by, held_by}
 use Rattle.rcu_jobs.specs.Records.{Given}
 use Rattle.rcu_jobs.specs.declared.HandTurn.{HandTurn}

@@ -10,9 +10,9 @@ use Rattle.rcu_board.specs.declared.board.Role.TheVariants.{Processor}
 use Rattle.rcu_board.specs.declared.board.Seat.{Seat}
 use Rattle.rcu_board.specs.declared.view.View.{View}
 use Rattle.rcu_control.specs.Barriers.{Opens, CountsItsOwn, count_at}
-use Rattle.rcu_control.specs.Views.{IsNoneOf, Untouched}
+use Rattle.rcu_board.specs.Frames.{IsNoneOf, Untouched}
 use Rattle.rcu_control.specs.declared.barrier.Barrier.{Barrier}
-use Rattle.rcu_control.proofs.Stepping.{untouched, untouched_again}
+use Rattle.rcu_board.proofs.Stepping.{untouched, untouched_again}
 use Rattle.rcu_holdings.specs.Aims.{AreUpTo}
 use Rattle.rcu_holdings.specs.ProcessorLists.{Holding, put_by}
 use Rattle.rcu_jobs.specs.declared.Counts.{Counts}

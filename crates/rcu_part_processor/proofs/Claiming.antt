@@ -8,7 +8,7 @@ use Rattle.rcu_board.specs.Views.{seen_at, sight}
 use Rattle.rcu_board.specs.Words.{needed_word}
 use Rattle.rcu_board.specs.declared.view.Accepted.{Accepted as Entry}
 use Rattle.rcu_board.specs.declared.view.View.{View}
-use Rattle.rcu_control.proofs.Stepping.{same_again}
+use Rattle.rcu_board.proofs.Stepping.{same_again}
 use Rattle.rcu_holdings.specs.Aims.{AreUpTo}
 use Rattle.rcu_holdings.specs.ProcessorLists.{Holding, held_in, put_by}
 use Rattle.rcu_holdings.proofs.Aims.{up-raised}

@@ -10,8 +10,8 @@ use Rattle.rcu_board.specs.Plays.{looked, touched, urged}
 use Rattle.rcu_board.specs.Views.{seen_at, tally}
 use Rattle.rcu_board.specs.Words.{asks_word, bits_of, board_word, needed_word, turns_word, urge_word, words_of}
 use Rattle.rcu_board.specs.declared.view.View.{View}
-use Rattle.rcu_control.specs.Views.{Untouched}
-use Rattle.rcu_control.proofs.Stepping.{HasWords, has_words, untouched, untouched_again}
+use Rattle.rcu_board.specs.Frames.{Untouched}
+use Rattle.rcu_board.proofs.Stepping.{HasWords, has_words, untouched, untouched_again}
 use Rattle.rcu_holdings.specs.Aims.{wanted, looked as after_looked}
 use Rattle.rcu_holdings.specs.ProcessorLists.{Holding, put_by}
 use Rattle.rcu_jobs.specs.Modes.{is_deoffloading, is_local, is_offloaded}

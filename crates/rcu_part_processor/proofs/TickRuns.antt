@@ -5,7 +5,7 @@ use Rattle.std.proofs.lemmas.List.Elements.{All-append, All-cons, All-head, All-
 use Rattle.std.proofs.lemmas.List.Sums.{sum_by-cons}
 use Rattle.rcu_board.specs.Views.{seen_at}
 use Rattle.rcu_board.specs.Words.{turns_word}
-use Rattle.rcu_control.proofs.Stepping.{same_again}
+use Rattle.rcu_board.proofs.Stepping.{same_again}
 use Rattle.rcu_holdings.specs.ProcessorLists.{Holding, passed_on}
 use Rattle.rcu_jobs.specs.Records.{Given}
 use Rattle.rcu_jobs.specs.declared.Ticked.{Ticked}

@@ -1,7 +1,7 @@
 -- What a processor keeps that only looks at the words of others, as it does for a barrier.
 use Rattle.std.specs.Prelude.{ℕ}
 use Rattle.std.proofs.Common.{◌∙◌, refl}
-use Rattle.rcu_control.proofs.Stepping.{same_again, same_part}
+use Rattle.rcu_board.proofs.Stepping.{same_again, same_part}
 use Rattle.rcu_part_processor.specs.Calls.{KeepsAll}
 use Rattle.rcu_part_processor.specs.Processors.{IsSound, SameProcessor, board_of}
 use Rattle.rcu_part_processor.specs.declared.processor.ProcessorState.{ProcessorState}

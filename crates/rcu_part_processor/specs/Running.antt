@@ -5,7 +5,7 @@ use Rattle.rcu_board.specs.Seats.{view}
 use Rattle.rcu_board.specs.declared.board.Board.{Board}
 use Rattle.rcu_board.specs.declared.board.Seat.{Seat}
 use Rattle.rcu_board.specs.declared.view.View.{View}
-use Rattle.rcu_control.specs.Views.{SamePart}
+use Rattle.rcu_board.specs.Frames.{SamePart}
 use Rattle.rcu_holdings.specs.ProcessorLists.{Holding, holding, passed_on, rear_of}
 use Rattle.rcu_holdings.specs.declared.limits.LaneLimits.{LaneLimits}
 use Rattle.rcu_jobs.specs.Records.{Given}

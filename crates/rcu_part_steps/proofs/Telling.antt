@@ -8,7 +8,7 @@ use Rattle.rcu_board.specs.Words.{urge_word}
 use Rattle.rcu_board.specs.declared.board.Board.{Board}
 use Rattle.rcu_board.specs.declared.view.View.{View}
 use Rattle.rcu_board.proofs.Facts.{accepted-kept, fresh-looked}
-use Rattle.rcu_control.proofs.Stepping.{untouched}
+use Rattle.rcu_board.proofs.Stepping.{untouched}
 use Rattle.rcu_numbers.specs.Words.{all_but_of, number_of}
 use Rattle.rcu_part_steps.specs.Changes.{Tells}
 

@@ -6,7 +6,7 @@ use Rattle.rcu_board.specs.Seats.{accepted_of, fresh_of, reports_of}
 use Rattle.rcu_board.specs.declared.view.Accepted.{Accepted}
 use Rattle.rcu_board.specs.declared.view.Claim.{Claim}
 use Rattle.rcu_board.specs.declared.view.View.{View}
-use Rattle.rcu_control.specs.Views.{Untouched}
+use Rattle.rcu_board.specs.Frames.{Untouched}
 
 abbrev pub entry : ℕ → ℕ → Accepted
 entry key stamp = record { key = key; stamp = stamp }

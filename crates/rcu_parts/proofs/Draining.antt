@@ -9,9 +9,9 @@ use Rattle.rcu_board.specs.declared.view.View.{View}
 use Rattle.rcu_control.specs.Barriers.{IsOver, count_at}
 use Rattle.rcu_control.specs.Parts.{control_view}
 use Rattle.rcu_gathering.proofs.Closings.{as_many_ended}
-use Rattle.rcu_gathering.proofs.Lists.{all_cons, all_head, all_map, all_mapped, all_none, all_right, all_tail}
 use Rattle.rcu_gathering.specs.Closing.{CpuEnd, EndsAs, processors_of, seats_of}
-use Rattle.rcu_gathering.specs.Parts.{CpuPart, accepted_list, hand_views, views_of}
+use Rattle.rcu_part_steps.specs.Places.{accepted_list}
+use Rattle.rcu_gathering.specs.Parts.{CpuPart, hand_views, views_of}
 use Rattle.rcu_jobs.specs.declared.Counts.{Counts}
 use Rattle.rcu_jobs.specs.declared.answers.Closed.{Closed}
 use Rattle.rcu_part_processor.specs.Processors.{SameProcessor, board_of, view_of}
@@ -21,6 +21,8 @@ use Rattle.rcu_parts.specs.AtClose.{AccountsFor, cpu_part, cpu_parts, hand_for, 
 use Rattle.rcu_parts.specs.Drained.{HasNoneBack, IsCountedFor, IsDrained, polling_views}
 use Rattle.rcu_parts.specs.OneOpen.{AreOfOneOpen, AreProcessorsFrom, Parts, hands_in, parts_board, processors_in}
 use Rattle.rcu_parts.specs.SameParts.{AreSameParts}
+use Rattle.std.proofs.lemmas.List.Elements.{All-cons, All-head, All-map, All-nil, All-tail}
+use Rattle.rcu_lemmas.proofs.All.{All-append_right, All-unmap}
 
 module _ {A : Type 0} where
   -- what some element is, of which also what all are
@@ -77,21 +79,21 @@ module _ {J R : Type 0} where
 
   -- what is said of all seats is said of the processors'
   all_own : (Q : View → Type 0) (es : List (CpuEnd J R)) (ps : List (Processor J R)) (hs : List (Hand J R)) → map (λ e. e.part) es ≡ cpu_parts ps hs → All Q (seats_of es) → All Q (map own_view ps)
-  all_own Q es [] hs same h = all_none Q
+  all_own Q es [] hs same h = All-nil Q
   all_own Q [] (p ∷ ps) hs same h = absurd (let long = ap (λ (l : List (CpuPart J R)). length l) same in omega (arith, long))
   all_own Q (e ∷ es) (p ∷ ps) hs same h =
       let first : e.part ≡ cpu_part p (hand_for p hs) = ap (λ (l : List (CpuPart J R)). get_or l 0 e.part) same in
       let rest = ap (λ (l : List (CpuPart J R)). drop 1 l) same in
-      all_cons Q (own_view p) (map own_view ps)
-      (subst Q (ap (λ (c : CpuPart J R). c.view) first) (all_head Q e.part.view (hand_views e.part.hand ++ seats_of es) h))
-      (all_own Q es ps (hands_after p hs) rest (all_right Q (views_of e.part) (seats_of es) h))
+      All-cons Q (own_view p) (map own_view ps)
+      (subst Q (ap (λ (c : CpuPart J R). c.view) first) (All-head Q e.part.view (hand_views e.part.hand ++ seats_of es) h))
+      (all_own Q es ps (hands_after p hs) rest (All-append_right Q (views_of e.part) (seats_of es) h))
 
   -- and of those that poll
   all_polling : (Q : View → Type 0) (parts : Parts J R) (es : List (CpuEnd J R)) → map (λ e. e.part) es ≡ cpu_parts (processors_in parts) (hands_in parts)
       → All Q (control_view parts.control ∷ (other_views parts ++ seats_of es)) → All Q (polling_views parts)
   all_polling Q parts es same h = let v = control_view parts.control in let others = other_views parts ++ seats_of es in
-      all_cons Q v (map own_view (processors_in parts)) (all_head Q v others h)
-      (all_own Q es (processors_in parts) (hands_in parts) same (all_right Q (other_views parts) (seats_of es) (all_tail Q v others h)))
+      All-cons Q v (map own_view (processors_in parts)) (All-head Q v others h)
+      (all_own Q es (processors_in parts) (hands_in parts) same (All-append_right Q (other_views parts) (seats_of es) (All-tail Q v others h)))
 
 module _ {J R : Type 0} (counts : Counts) (parts : Parts J R) (drained : IsDrained counts parts) where
   -- of a processor whose accepted callbacks the barrier counted no job comes back
@@ -109,20 +111,20 @@ module _ {J R : Type 0} (counts : Counts) (parts : Parts J R) (drained : IsDrain
   none_each : (k : ℕ) (b : Board) (all es : List (CpuEnd J R)) (ps : List (Processor J R)) (hs : List (Hand J R)) → map (λ x. x.part) all ≡ cpu_parts (processors_in parts) (hands_in parts) → map (λ x. x.part) es ≡ cpu_parts ps hs
       → counts.n ≡ b.processors → AreProcessorsFrom k b ps → All (EndsAs (control_view parts.control ∷ (other_views parts ++ seats_of all)) (processors_of all)) es → All (λ e. e.back ≡ []) es
   unfolding AreProcessorsFrom
-  none_each k b all [] ps hs whole same many from h = all_none (λ (e : CpuEnd J R). e.back ≡ [])
+  none_each k b all [] ps hs whole same many from h = All-nil (λ (e : CpuEnd J R). e.back ≡ [])
   none_each k b all (e ∷ es) [] hs whole same many from h = absurd (let long = ap (λ (l : List (CpuPart J R)). length l) same in omega (arith, long))
   none_each k b all (e ∷ es) (p ∷ ps) hs whole same many from h =
       let first : e.part ≡ cpu_part p (hand_for p hs) = ap (λ (l : List (CpuPart J R)). get_or l 0 e.part) same in
       let rest = ap (λ (l : List (CpuPart J R)). drop 1 l) same in
       let Ends = EndsAs (control_view parts.control ∷ (other_views parts ++ seats_of all)) (processors_of all) in
       let near : e.part.cpu < counts.n = omega (arith, ap (λ (c : CpuPart J R). c.cpu) first, p.state.there, ap (λ (c : Board). c.processors) from.0, many) in
-      all_cons (λ (x : CpuEnd J R). x.back ≡ []) e es (none_of all e whole near (all_head Ends e es h))
-      (none_each (suc k) b all es ps (hands_after p hs) whole rest many from.2 (all_tail Ends e es h))
+      All-cons (λ (x : CpuEnd J R). x.back ≡ []) e es (none_of all e whole near (All-head Ends e es h))
+      (none_each (suc k) b all es ps (hands_after p hs) whole rest many from.2 (All-tail Ends e es h))
 
   -- a drained runtime hands no job back
   pub drained_none_back : (closed : Closed J R) → AreOfOneOpen parts → AccountsFor parts closed → HasNoneBack closed
   drained_none_back closed one c =
       let None = λ (l : List J). l ≡ [] in
       let each = none_each 0 (parts_board parts) c.ends c.ends (processors_in parts) (hands_in parts) c.parts_are c.parts_are drained.many one.processors c.closes in
-      let lists : All None (map (λ (e : CpuEnd J R). e.back) c.ends) = all_mapped None (λ (e : CpuEnd J R). e.back) c.ends each in
-      all_map None (λ b. b.items) closed.back.items (subst (All None) (sym c.back) lists)
+      let lists : All None (map (λ (e : CpuEnd J R). e.back) c.ends) = All-map None (λ (e : CpuEnd J R). e.back) c.ends each in
+      All-unmap None (λ b. b.items) closed.back.items (subst (All None) (sym c.back) lists)

@@ -25,7 +25,8 @@ use Rattle.rcu_part_group.specs.declared.members.GroupMember.{GroupMember}
 use Rattle.rcu_part_group.specs.declared.group.Group.{Group as GroupPart}
 use Rattle.rcu_part_hand.specs.declared.hand.Hand.{Hand as HandPart}
 use Rattle.rcu_part_processor.specs.declared.processor.Processor.{Processor as ProcessorPart}
-use Rattle.rcu_parts.proofs.Zips.{zip_push, range_more}
+use Rattle.rcu_parts.proofs.Zips.{range_more}
+use Rattle.rcu_lemmas.proofs.Zips.{zip_push}
 
 -- the group whose seat it is
 abbrev pub group_of_role : Role → ℕ

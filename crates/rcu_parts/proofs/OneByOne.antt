@@ -3,7 +3,7 @@ use Rattle.std.proofs.Common.{◌≡◌, ◌≢◌, ℕ, suc, ◌+◌, ◌∙◌
 use Rattle.std.specs.List.{All, AllZip}
 use Rattle.std.proofs.lemmas.Bool.{cond_both}
 use Rattle.std.proofs.lemmas.List.{append_assoc, append-nil, length-append, map-append}
-use Rattle.std.proofs.lemmas.List.Elements.{All-append}
+use Rattle.std.proofs.lemmas.List.Elements.{All-append, All-cons, All-head, All-nil, All-tail}
 use Rattle.rcu_board.specs.Words.{words_of}
 use Rattle.rcu_board.specs.declared.view.View.{View}
 use Rattle.rcu_endings.specs.declared.ended.Ended.{Ended}
@@ -11,7 +11,6 @@ use Rattle.rcu_gathering.specs.Closing.{CpuEnd, InRow, WasEnded, seats_of}
 use Rattle.rcu_gathering.specs.Gathered.{gather}
 use Rattle.rcu_gathering.specs.Parts.{CpuPart, HandPart, IsAtRest, views_of}
 use Rattle.rcu_gathering.proofs.Gathers.{gather_append}
-use Rattle.rcu_gathering.proofs.Lists.{all_cons, all_head, all_none, all_tail}
 use Rattle.rcu_parts.specs.AtClose.{cpu_part, cpu_parts, first_hand, hand_for, hand_part, hands_after, other_hands}
 use Rattle.rcu_parts.specs.Ending.{AreLong, EndsEach, EndsOne, GoesOn, IsReady, MayEnd, all_back, all_ran, all_view, board_at}
 use Rattle.rcu_part_hand.specs.Hands.{hand_board}
@@ -28,7 +27,7 @@ module _ {J R : Type 0} where
 
   all_other : (P : Hand J R → Type 0) (hs : List (Hand J R)) → All P hs → All P (other_hands hs)
   all_other P [] h = h
-  all_other P (x ∷ hs) h = all_tail P x hs h
+  all_other P (x ∷ hs) h = All-tail P x hs h
 
   pub all_after : (P : Hand J R → Type 0) (p : Processor J R) (hs : List (Hand J R)) → All P hs → All P (hands_after p hs)
   all_after P p hs h = cond_both p.state.offloadable (other_hands hs) hs (All P) (λ e. all_other P hs h) (λ e. h)
@@ -90,7 +89,7 @@ module _ {J R : Type 0} where
   first_has_hand k p rest m ms left h hs others rs x i split first = (hands_split k p rest m ms left h hs others rs x i split first).0
 
   pub first_of_hands : (P : Hand J R → Type 0) (h : Hand J R) (hs others : List (Hand J R)) → hs ≡ h ∷ others → All P hs → P h
-  first_of_hands P h hs others split a = all_head P h others (subst (All P) split a)
+  first_of_hands P h hs others split a = All-head P h others (subst (All P) split a)
 
   -- there is a room for it, and where it is offloadable a member and a hand
   pub some_room : (k : ℕ) (p : Processor J R) (rest : List (Processor J R)) (ms : List (GroupMember J)) (hs : List (Hand J R)) (rs : List (Ended J R)) (x : Ending J R) → IsReady k (p ∷ rest) ms hs rs x → rs ≢ []
@@ -160,7 +159,7 @@ module _ {J R : Type 0} where
     seats_more (d ∷ es) e = ap (λ l. views_of d.part ++ l) (seats_more es e) ∙ sym (append_assoc (views_of d.part) (seats_of es) (views_of e.part))
 
     all_more : {A : Type 0} (P : A → Type 0) (xs : List A) (x : A) → All P xs → P x → All P (xs ++ x ∷ [])
-    all_more P xs x h p = All-append P xs (x ∷ []) h (all_cons P x [] p (all_none P))
+    all_more P xs x h p = All-append P xs (x ∷ []) h (All-cons P x [] p (All-nil P))
 
     pub none_ended : (ps : List (Processor J R)) (hs : List (Hand J R)) (rest : List (Processor J R)) (ms : List (GroupMember J)) (rs : List (Ended J R)) (x : Ending J R) → rest ≡ ps → IsReady 0 ps ms hs rs x → EndsSoFar ps hs rest ms hs rs x x
     unfolding InRow
@@ -170,10 +169,10 @@ module _ {J R : Type 0} where
       board = refl;
       parts = ap (λ l. cpu_parts l hs) (sym same);
       row = tt;
-      at_rest = all_none (λ (e : CpuEnd J R). IsAtRest e.part);
-      ended = all_none (WasEnded key_of gives);
+      at_rest = All-nil (λ (e : CpuEnd J R). IsAtRest e.part);
+      ended = All-nil (WasEnded key_of gives);
       view = refl;
-      long = all_none (λ (w : View). length w.seen ≡ words_of (board_at x).processors);
+      long = All-nil (λ (w : View). length w.seen ≡ words_of (board_at x).processors);
       ran = sym (append-nil (all_ran x));
       back = sym (append-nil (all_back x));
     }

@@ -13,8 +13,7 @@ use Rattle.rcu_board.specs.declared.board.Seat.{Seat}
 use Rattle.rcu_board.specs.declared.view.View.{View}
 use Rattle.rcu_endings.specs.Ends.{HasRoom}
 use Rattle.rcu_endings.specs.declared.ended.Ended.{Ended}
-use Rattle.rcu_gathering.specs.Parts.{HandPart, IsAtRest, IsSoundPart, accepted_entry, accepted_list, claim_of, hand_ran, hand_taken}
-use Rattle.rcu_gathering.proofs.Lists.{all_cons, all_head, all_none, all_tail}
+use Rattle.rcu_gathering.specs.Parts.{HandPart, IsAtRest, IsSoundPart, hand_ran, hand_taken}
 use Rattle.rcu_holdings.specs.ProcessorLists.{Holding, held_in, put_by}
 use Rattle.rcu_jobs.specs.declared.callback.Record.{Record}
 use Rattle.rcu_numbers.specs.Numbers.{snap_of}
@@ -24,13 +23,14 @@ use Rattle.rcu_parts.specs.AtClose.{cpu_part, cpu_parts, first_hand, hand_for, h
 use Rattle.rcu_parts.specs.Ending.{AreLong}
 use Rattle.rcu_part_hand.specs.Hands.{IsSoundHand}
 use Rattle.rcu_part_processor.specs.Lawful.{IsLawful}
-use Rattle.rcu_part_steps.specs.Places.{numbered_callback, numbered_callbacks}
+use Rattle.rcu_part_steps.specs.Places.{accepted_entry, accepted_list, claim_of, numbered_callback, numbered_callbacks}
 use Rattle.rcu_part_processor.specs.Processors.{IsSound, lists_of, records_of, view_of}
 use Rattle.rcu_parts.specs.Rooms.{FitsCpu}
 use Rattle.rcu_parts.proofs.OneByOne.{all_after}
 use Rattle.rcu_board.proofs.Facts.{seen-long}
 use Rattle.rcu_part_hand.specs.declared.hand.Hand.{Hand}
 use Rattle.rcu_part_processor.specs.declared.processor.Processor.{Processor}
+use Rattle.std.proofs.lemmas.List.Elements.{All-cons, All-head, All-nil, All-tail}
 
 -- nothing runs where a view joins another, and nothing runs of either
 pub still_rests : (v w all : View) → all ≡ joined v w → v.running ≡ [] → w.running ≡ [] → all.running ≡ []
@@ -41,11 +41,11 @@ pub is_long_at : (b c : Board) (s : Seat) → c ≡ b → AtBoard c s → length
 is_long_at b c s same at = subst (λ d. length (view s).seen ≡ words_of d.processors) same (seen-long c s at)
 
 pub one_long : (b c : Board) (s : Seat) → c ≡ b → AtBoard c s → AreLong b.processors (view s ∷ [])
-one_long b c s same at = all_cons (λ w. length w.seen ≡ words_of b.processors) (view s) [] (is_long_at b c s same at) (all_none (λ w. length w.seen ≡ words_of b.processors))
+one_long b c s same at = All-cons (λ w. length w.seen ≡ words_of b.processors) (view s) [] (is_long_at b c s same at) (All-nil (λ w. length w.seen ≡ words_of b.processors))
 
 pub both_long : (b c d : Board) (s t : Seat) → c ≡ b → d ≡ b → AtBoard c s → AtBoard d t → AreLong b.processors (view s ∷ view t ∷ [])
 both_long b c d s t first second at there =
-    all_cons (λ w. length w.seen ≡ words_of b.processors) (view s) (view t ∷ []) (is_long_at b c s first at) (one_long b d t second there)
+    All-cons (λ w. length w.seen ≡ words_of b.processors) (view s) (view t ∷ []) (is_long_at b c s first at) (one_long b d t second there)
 
 module _ {J R : Type 0} where
   own_cpu : (p : Processor J R) → cpus (view_of p.state).own ≡ p.state.cpu ∷ []
@@ -60,7 +60,7 @@ module _ {J R : Type 0} where
     claims = p.state.lawful.claims;
     hand_claims = tt;
     ripe = p.state.lawful.ripe;
-    hand_ripe = all_none (λ r. snap_of r.stamp ≤ r.ready);
+    hand_ripe = All-nil (λ r. snap_of r.stamp ≤ r.ready);
   }
 
   -- a processor and its hand
@@ -78,17 +78,17 @@ module _ {J R : Type 0} where
   -- ---- what they know of jobs
 
   sound_part : (key_of : J → ℕ) (gives : ℕ → R → Type 0) (p : Processor J R) (hs : List (Hand J R)) → IsSound key_of gives p.state → All (λ h. IsSoundHand key_of gives h.state) hs → IsSoundPart key_of gives (cpu_part p (first_hand hs))
-  sound_part key_of gives p [] sound hands = record { keyed = sound.keyed; own_given = sound.given; hands_given = λ keyed. all_none (λ r. gives r.key r.receipt) }
-  sound_part key_of gives p (h ∷ hs) sound hands = record { keyed = sound.keyed; own_given = sound.given; hands_given = all_head (λ h. IsSoundHand key_of gives h.state) h hs hands }
+  sound_part key_of gives p [] sound hands = record { keyed = sound.keyed; own_given = sound.given; hands_given = λ keyed. All-nil (λ r. gives r.key r.receipt) }
+  sound_part key_of gives p (h ∷ hs) sound hands = record { keyed = sound.keyed; own_given = sound.given; hands_given = All-head (λ h. IsSoundHand key_of gives h.state) h hs hands }
 
   sound_for : (key_of : J → ℕ) (gives : ℕ → R → Type 0) (p : Processor J R) (hs : List (Hand J R)) → IsSound key_of gives p.state → All (λ h. IsSoundHand key_of gives h.state) hs → IsSoundPart key_of gives (cpu_part p (hand_for p hs))
   sound_for key_of gives p hs sound hands =
-      cond_both p.state.offloadable (first_hand hs) None (λ hand. IsSoundPart key_of gives (cpu_part p hand)) (λ e. sound_part key_of gives p hs sound hands) (λ e. sound_part key_of gives p [] sound (all_none (λ h. IsSoundHand key_of gives h.state)))
+      cond_both p.state.offloadable (first_hand hs) None (λ hand. IsSoundPart key_of gives (cpu_part p hand)) (λ e. sound_part key_of gives p hs sound hands) (λ e. sound_part key_of gives p [] sound (All-nil (λ h. IsSoundHand key_of gives h.state)))
 
   pub sound_parts : (key_of : J → ℕ) (gives : ℕ → R → Type 0) (ps : List (Processor J R)) (hs : List (Hand J R)) → All (λ p. IsSound key_of gives p.state) ps → All (λ h. IsSoundHand key_of gives h.state) hs → All (IsSoundPart key_of gives) (cpu_parts ps hs)
-  sound_parts key_of gives [] hs sound hands = all_none (IsSoundPart key_of gives)
-  sound_parts key_of gives (p ∷ ps) hs sound hands = all_cons (IsSoundPart key_of gives) (cpu_part p (hand_for p hs)) (cpu_parts ps (hands_after p hs)) (sound_for key_of gives p hs (all_head (λ p. IsSound key_of gives p.state) p ps sound) hands)
-      (sound_parts key_of gives ps (hands_after p hs) (all_tail (λ p. IsSound key_of gives p.state) p ps sound) (all_after (λ h. IsSoundHand key_of gives h.state) p hs hands))
+  sound_parts key_of gives [] hs sound hands = All-nil (IsSoundPart key_of gives)
+  sound_parts key_of gives (p ∷ ps) hs sound hands = All-cons (IsSoundPart key_of gives) (cpu_part p (hand_for p hs)) (cpu_parts ps (hands_after p hs)) (sound_for key_of gives p hs (All-head (λ p. IsSound key_of gives p.state) p ps sound) hands)
+      (sound_parts key_of gives ps (hands_after p hs) (All-tail (λ p. IsSound key_of gives p.state) p ps sound) (all_after (λ h. IsSoundHand key_of gives h.state) p hs hands))
 
   -- what was accepted ran, was put on the lane, or is held
   all_counted : (cpu n : ℕ) (v : View) (ran : List (Record R)) (h : Holding J) → IsLawful cpu n v ran h → n ≡ length ran + length (put_by h) + length (held_in h)

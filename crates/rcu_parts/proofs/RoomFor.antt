@@ -14,7 +14,7 @@ use Rattle.rcu_parts.specs.Rooms.{FitsCpu}
 use Rattle.rcu_part_hand.specs.Hands.{hand_records}
 use Rattle.rcu_part_hand.specs.declared.hand.Hand.{Hand}
 use Rattle.rcu_part_processor.specs.declared.processor.Processor.{Processor}
-use Rattle.rcu_parts.proofs.Zips.{zip_push}
+use Rattle.rcu_lemmas.proofs.Zips.{zip_push}
 
 module _ {J R : Type 0} where
   others_left : (b : ℕ) (hs : List (Hand J R)) → drop (suc b) hs ≡ other_hands (drop b hs)

@@ -4,7 +4,6 @@ use Rattle.std.specs.List.{All, AllZip}
 use Rattle.std.proofs.lemmas.List.Sums.{sum_by-cons}
 use Rattle.std.proofs.lemmas.Slice.Zip.{AllZip-long}
 use Rattle.rcu_board.specs.declared.board.Board.{Board}
-use Rattle.rcu_gathering.proofs.Lists.{all_cons, all_head, all_none, all_tail}
 use Rattle.rcu_part_group.specs.Groups.{SameGroupMember, SameGroup, group_board, group_view, members_of}
 use Rattle.rcu_part_hand.specs.Hands.{SameHand, hand_board, hand_view}
 use Rattle.rcu_parts.specs.OneOpen.{AreOfOneOpen, AreProcessorsFrom, HasHand, HasMember, Parts, groups_in, hands_in, members_in, offloadable_in, parts_board, processors_in}
@@ -15,6 +14,7 @@ use Rattle.rcu_part_group.specs.declared.group.Group.{Group}
 use Rattle.rcu_part_hand.specs.declared.hand.Hand.{Hand}
 use Rattle.rcu_part_processor.specs.declared.processor.Processor.{Processor}
 use Rattle.rcu_parts.proofs.OneByOne.{counted_in, skipped}
+use Rattle.std.proofs.lemmas.List.Elements.{All-cons, All-head, All-nil, All-tail}
 
 module _ {A B : Type 0} where
   pub zip_append : (Q : A → B → Type 0) (xs us : List A) (ys vs : List B) → AllZip Q xs ys → AllZip Q us vs → AllZip Q (xs ++ us) (ys ++ vs)
@@ -26,10 +26,10 @@ module _ {A B : Type 0} where
 module _ {A : Type 0} where
   -- what is said of each of one list is said of each of the other
   all_zipped : (P S : A → Type 0) (Q : A → A → Type 0) → ((x y : A) → Q x y → P x → S y) → (xs ys : List A) → AllZip Q xs ys → All P xs → All S ys
-  all_zipped P S Q f [] [] z h = all_none S
+  all_zipped P S Q f [] [] z h = All-nil S
   all_zipped P S Q f [] (y ∷ ys) z h = absurd z
   all_zipped P S Q f (x ∷ xs) [] z h = absurd z
-  all_zipped P S Q f (x ∷ xs) (y ∷ ys) z h = all_cons S y ys (f x y z.0 (all_head P x xs h)) (all_zipped P S Q f xs ys z.1 (all_tail P x xs h))
+  all_zipped P S Q f (x ∷ xs) (y ∷ ys) z h = All-cons S y ys (f x y z.0 (All-head P x xs h)) (all_zipped P S Q f xs ys z.1 (All-tail P x xs h))
 
   sums_zipped : (f : A → ℕ) (Q : A → A → Type 0) → ((x y : A) → Q x y → f y ≡ f x) → (xs ys : List A) → AllZip Q xs ys → sum_by f ys ≡ sum_by f xs
   sums_zipped f Q e [] [] z = refl

@@ -2,7 +2,7 @@
 use Rattle.std.proofs.Common.{◌≡◌, ℕ, suc, ◌+◌, ◌≤◌, ◌∙◌, Bool, true, false, cond, Some, None, List, [], ◌∷◌, ◌++◌, map, length, sum_by, sym, ap, subst, refl, arith, vec_len, vec_capacity}
 use Rattle.std.specs.List.{All, AllZip, flat_map}
 use Rattle.std.proofs.lemmas.List.{length-map}
-use Rattle.std.proofs.lemmas.List.Elements.{All-append}
+use Rattle.std.proofs.lemmas.List.Elements.{All-append, All-cons, All-head, All-nil, All-tail}
 use Rattle.std.proofs.lemmas.List.Sums.{sum_by-cons}
 use Rattle.std.proofs.lemmas.Slice.Zip.{AllZip-long}
 use Rattle.rcu_board.specs.Laws.{Reported}
@@ -23,7 +23,6 @@ use Rattle.rcu_gathering.specs.Closing.{CpuEnd, HaveEnded, InRow, WasEnded, seat
 use Rattle.rcu_gathering.specs.Gathered.{IsSettled, gather}
 use Rattle.rcu_gathering.specs.Parts.{IsAtRest, IsSoundPart, views_of}
 use Rattle.rcu_gathering.proofs.Gathers.{gather_append, gather_weight}
-use Rattle.rcu_gathering.proofs.Lists.{all_cons, all_head, all_map, all_none, all_tail}
 use Rattle.rcu_jobs.specs.declared.answers.Closed.{Closed}
 use Rattle.rcu_parts.specs.AtClose.{Answers, cpu_part, cpu_parts, first_hand, hand_part, hands_after, other_hands, other_views}
 use Rattle.rcu_parts.specs.Ending.{AreLong, AreReportedFrom, EndsEach, IsReady, Settles, all_view, board_at}
@@ -40,6 +39,7 @@ use Rattle.rcu_part_processor.specs.declared.processor.Processor.{Processor}
 use Rattle.rcu_parts.specs.declared.room.Room.{Room}
 use Rattle.rcu_parts.proofs.OneByOne.{counted_in, skipped}
 use Rattle.rcu_parts.proofs.Resting.{is_long_at, sound_parts}
+use Rattle.rcu_lemmas.proofs.All.{All-unmap}
 
 abbrev weight : View → ℕ
 weight w = w.weight
@@ -108,7 +108,7 @@ module _ {J R : Type 0} where
   reported_from x k [] row h = tt
   reported_from x k (e ∷ es) row h =
       let P : CpuEnd J R → Type 0 = λ d. Reported x d.part.cpu (reports_of d.part.view) in
-      (subst (λ (c : ℕ). Reported x c (reports_of e.part.view)) row.0 (all_head P e es h), reported_from x (suc k) es row.1 (all_tail P e es h))
+      (subst (λ (c : ℕ). Reported x c (reports_of e.part.view)) row.0 (All-head P e es h), reported_from x (suc k) es row.1 (All-tail P e es h))
 
   length_parts : (ps : List (Processor J R)) (hs : List (Hand J R)) → length (cpu_parts ps hs) ≡ length ps
   length_parts [] hs = refl
@@ -120,15 +120,15 @@ module _ {J R : Type 0} where
   -- ---- what is known at the end
 
   no_claims_of : (gs : List (Group J R)) → All (λ (w : View). w.claims ≡ []) (map (λ g. group_view g.state) gs)
-  no_claims_of [] = all_none (λ (w : View). w.claims ≡ [])
-  no_claims_of (g ∷ gs) = all_cons (λ (w : View). w.claims ≡ []) (group_view g.state) (map (λ (h : Group J R). group_view h.state) gs) g.state.lawful.bare.claims (no_claims_of gs)
+  no_claims_of [] = All-nil (λ (w : View). w.claims ≡ [])
+  no_claims_of (g ∷ gs) = All-cons (λ (w : View). w.claims ≡ []) (group_view g.state) (map (λ (h : Group J R). group_view h.state) gs) g.state.lawful.bare.claims (no_claims_of gs)
 
   groups_long : (parts : Parts J R) (gs : List (Group J R)) → All (λ g. group_board g.state ≡ parts_board parts) gs → AreLong (parts_board parts).processors (map (λ g. group_view g.state) gs)
-  groups_long parts [] h = all_none (λ (w : View). length w.seen ≡ words_of (parts_board parts).processors)
+  groups_long parts [] h = All-nil (λ (w : View). length w.seen ≡ words_of (parts_board parts).processors)
   groups_long parts (g ∷ gs) h =
       let P : Group J R → Type 0 = λ d. group_board d.state ≡ parts_board parts in
-      all_cons (λ (w : View). length w.seen ≡ words_of (parts_board parts).processors) (group_view g.state) (map (λ (d : Group J R). group_view d.state) gs)
-      (is_long_at (parts_board parts) (group_board g.state) g.state.seat (all_head P g gs h) g.state.here) (groups_long parts gs (all_tail P g gs h))
+      All-cons (λ (w : View). length w.seen ≡ words_of (parts_board parts).processors) (group_view g.state) (map (λ (d : Group J R). group_view d.state) gs)
+      (is_long_at (parts_board parts) (group_board g.state) g.state.seat (All-head P g gs h) g.state.here) (groups_long parts gs (All-tail P g gs h))
 
   pub have_ended : (key_of : J → ℕ) (gives : ℕ → R → Type 0) (parts : Parts J R) (x : ℕ) (es : List (CpuEnd J R)) → AreOfOneOpen parts → map (λ e. e.part) es ≡ cpu_parts (processors_in parts) (hands_in parts)
       → InRow 0 es → All (λ e. IsAtRest e.part) es → All (WasEnded key_of gives) es → AreLong (parts_board parts).processors (seats_of es)
@@ -141,13 +141,13 @@ module _ {J R : Type 0} where
       let b = parts_board parts in
       record {
         settled = settled;
-        nothing = all_cons C (control_view parts.control) (other_views parts) parts.control.bare.claims (all_cons C (driver_view parts.driver) gs parts.driver.bare.claims (no_claims_of (groups_in parts)));
+        nothing = All-cons C (control_view parts.control) (other_views parts) parts.control.bare.claims (All-cons C (driver_view parts.driver) gs parts.driver.bare.claims (no_claims_of (groups_in parts)));
         all = as_many_ends (processors_in parts) (hands_in parts) es same ∙ one.as_many;
         row = row;
         at_rest = at_rest;
         ended = ended;
-        long = all_cons L (control_view parts.control) (other_views parts ++ seats_of es) (is_long_at b b (control_seat parts.control) refl parts.control.here)
-            (All-append L (other_views parts) (seats_of es) (all_cons L (driver_view parts.driver) gs (is_long_at b (driver_board parts.driver) (driver_seat parts.driver) one.driver parts.driver.here) (groups_long parts (groups_in parts) one.groups)) long);
+        long = All-cons L (control_view parts.control) (other_views parts ++ seats_of es) (is_long_at b b (control_seat parts.control) refl parts.control.here)
+            (All-append L (other_views parts) (seats_of es) (All-cons L (driver_view parts.driver) gs (is_long_at b (driver_board parts.driver) (driver_seat parts.driver) one.driver parts.driver.here) (groups_long parts (groups_in parts) one.groups)) long);
       }
 
   -- ---- the steps of a close
@@ -180,7 +180,7 @@ module _ {J R : Type 0} where
   module _ (key_of : J → ℕ) (gives : ℕ → R → Type 0) where
     -- what they know of jobs as they end, where they were sound
     pub sound_ends : (parts : Parts J R) (hs : List (Hand J R)) (es : List (CpuEnd J R)) → AreSoundParts key_of gives parts → hs ≡ hands_in parts → map (λ e. e.part) es ≡ cpu_parts (processors_in parts) hs → All (λ e. IsSoundPart key_of gives e.part) es
-    sound_ends parts hs es sound hands same = all_map (IsSoundPart key_of gives) (λ (e : CpuEnd J R). e.part) es
+    sound_ends parts hs es sound hands same = All-unmap (IsSoundPart key_of gives) (λ (e : CpuEnd J R). e.part) es
         (subst (All (IsSoundPart key_of gives)) (sym (same ∙ ap (cpu_parts (processors_in parts)) hands)) (sound_parts key_of gives (processors_in parts) (hands_in parts) sound.processors sound.hands))
 
     -- what the last loads tell, once all have ended: what is answered, and what is so of the ends

@@ -9,12 +9,6 @@ use Rattle.rcu_board.specs.Opened.{InOrder, SeatForEach}
 use Rattle.rcu_board.specs.declared.board.Seat.{Seat}
 
 module _ {A B : Type 0} (R : A → B → Type 0) where
-  pub zip_push : (xs : List A) (ys : List B) (x : A) (y : B) → AllZip R xs ys → R x y → AllZip R (xs ++ x ∷ []) (ys ++ y ∷ [])
-  zip_push [] [] x y h r = (r, tt)
-  zip_push [] (b ∷ bs) x y h r = absurd h
-  zip_push (a ∷ as') [] x y h r = absurd h
-  zip_push (a ∷ as') (b ∷ bs) x y h r = (h.0, zip_push as' bs x y h.1 r)
-
   -- what holds of each that has a partner
   pub zip_all : (P : B → Type 0) → ((x : A) (y : B) → R x y → P y) → (xs : List A) (ys : List B) → AllZip R xs ys → All P ys
   zip_all P f [] [] h = All-nil P
@@ -61,6 +55,3 @@ as_many_seats P (k ∷ ks) (x ∷ xs) h = let more = as_many_seats P ks xs h.1 i
 -- none is left
 pub seats_over : (P : ℕ → Seat → Type 0) (ks : List ℕ) (xs : List Seat) → SeatForEach P ks xs → length xs ≡ 0 → ks ≡ []
 seats_over P ks xs h e = nil_from_length ks (sym (as_many_seats P ks xs h) ∙ e)
-
-pub all_of : {X : Type 0} (xs rest all : List X) → xs ++ rest ≡ all → rest ≡ [] → xs ≡ all
-all_of xs rest all h e = sym (append-nil xs) ∙ ap (λ l. xs ++ l) (sym e) ∙ h

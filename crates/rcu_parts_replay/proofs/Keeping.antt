@@ -16,12 +16,12 @@ use Rattle.rcu_parts.specs.SameParts.{AreSameParts}
 use Rattle.rcu_part_group.specs.declared.group.Group.{Group}
 use Rattle.rcu_part_hand.specs.declared.hand.Hand.{Hand}
 use Rattle.rcu_part_processor.specs.declared.processor.Processor.{Processor}
-use Rattle.rcu_part_group.proofs.GroupLists.{zip_same}
 use Rattle.rcu_part_group.proofs.GroupTurns.{same_group}
 use Rattle.rcu_part_hand.proofs.HandRuns.{same_hand}
 use Rattle.rcu_part_processor.proofs.TickRuns.{same_processor}
 use Rattle.rcu_parts_replay.specs.Printed.{KeepsParts}
-use Rattle.rcu_control.proofs.Stepping.{same_part}
+use Rattle.rcu_board.proofs.Stepping.{same_part}
+use Rattle.rcu_lemmas.proofs.Zips.{zip_same}
 
 -- A barrier that is open stays one of this board.
 pub stays_ours : (opened : Option Barrier) (b c : Board) → c ≡ b → IfSome opened (λ x. b.processors ≡ x.counts.n) → IfSome opened (λ x. c.processors ≡ x.counts.n)

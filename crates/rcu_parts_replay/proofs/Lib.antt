@@ -1,5 +1,4 @@
 pub mod Answering
-pub mod Changing
 pub mod Keeping
 pub mod ShowingParts
 pub mod Verbs

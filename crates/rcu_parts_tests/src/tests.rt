@@ -5,7 +5,7 @@ ghost use Rattle.rcu_board.specs.Opened.{AreNew, IsNewHand, IsNewProcessor, is_o
 ghost use Rattle.rcu_board.specs.Roles.{MayNeed, cpu_of_role};
 ghost use Rattle.rcu_board.specs.Seats.{view, AtBoard};
 ghost use Rattle.rcu_board.specs.declared.board.Role.{Role};
-ghost use Rattle.rcu_control.specs.Views.{IsBare};
+ghost use Rattle.rcu_board.specs.Frames.{IsBare};
 ghost use Rattle.rcu_lanes.specs.Ends.{items_put};
 ghost use Rattle.rcu_part_processor.specs.Opened.{IsEmpty};
 

@@ -1,10 +1,9 @@
 -- Parts that are left alone are the same parts, and so are parts of two steps that each leave them the same.
 use Rattle.std.proofs.Common.{◌≡◌, ℕ, List, subst, sym}
-use Rattle.rcu_control.proofs.Stepping.{same_again, same_part}
+use Rattle.rcu_board.proofs.Stepping.{same_again, same_part}
 use Rattle.rcu_control.specs.declared.control.Control.{Control}
 use Rattle.rcu_control.specs.declared.driver.Driver.{Driver}
 use Rattle.rcu_control.specs.Parts.{SameControl, SameDriver}
-use Rattle.rcu_part_group.proofs.GroupLists.{zip_again, zip_same}
 use Rattle.rcu_part_group.proofs.GroupTurns.{same_group, same_group_again}
 use Rattle.rcu_part_hand.proofs.HandRuns.{same_hand, same_hand_again}
 use Rattle.rcu_part_processor.proofs.TickRuns.{same_processor, same_processor_again}
@@ -19,6 +18,7 @@ use Rattle.rcu_part_processor.specs.declared.processor.Processor.{Processor}
 use Rattle.rcu_phases.specs.Company.{CompanyKeeps, parts_of}
 use Rattle.rcu_phases.specs.Kept.{GroupsKeep, HandsKeep, ProcessorsKeep}
 use Rattle.rcu_phases.specs.declared.playing.Company.{Company}
+use Rattle.rcu_lemmas.proofs.Zips.{zip_again, zip_same}
 
 pub driver_none : (d : Driver) → SameDriver d d
 driver_none d = same_part _ _

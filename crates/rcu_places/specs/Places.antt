@@ -7,6 +7,10 @@ pub record Accepted : Type 0 where
   pub key : ℕ
   pub stamp : ℕ
 
+-- the keys of an accepted list
+abbrev pub keys_of : List Accepted → List ℕ
+keys_of accepted = map (λ a. a.key) accepted
+
 -- an accepted number, with its key and stamp
 pub record Numbered : Type 0 where
   pub number : ℕ

@@ -7,9 +7,9 @@ use Rattle.rcu_board.specs.Seats.{accepted_of}
 use Rattle.rcu_board.specs.declared.view.View.{View}
 use Rattle.rcu_control.specs.Parts.{control_view}
 use Rattle.rcu_gathering.proofs.Closings.{as_many_ended}
-use Rattle.rcu_gathering.proofs.Lists.{all_head, all_imp, all_map, all_mapped, all_tail}
 use Rattle.rcu_gathering.specs.Closing.{ClosesAs, CpuEnd, processors_of, seats_of}
-use Rattle.rcu_gathering.specs.Parts.{CpuPart, accepted_entry, accepted_list}
+use Rattle.rcu_part_steps.specs.Places.{accepted_entry, accepted_list}
+use Rattle.rcu_gathering.specs.Parts.{CpuPart}
 use Rattle.rcu_jobs.specs.Records.{Given}
 use Rattle.rcu_jobs.specs.declared.answers.Closed.{Closed}
 use Rattle.rcu_jobs.specs.declared.callback.Record.{Record}
@@ -20,6 +20,8 @@ use Rattle.rcu_part_hand.specs.declared.hand.Hand.{Hand}
 use Rattle.rcu_part_processor.specs.declared.processor.Processor.{Processor}
 use Rattle.rcu_runtime.specs.Ends.{HaveReceipts, back_in, ran_in}
 use Rattle.rcu_runtime.specs.Runtimes.{accepted_in}
+use Rattle.std.proofs.lemmas.List.Elements.{All-head, All-map, All-tail, All-weaker}
+use Rattle.rcu_lemmas.proofs.All.{All-unmap}
 
 -- lists of the same lengths, place by place
 summed : {A B X : Type 0} (f : A → List X) (g : B → List X) (as' : List A) (bs : List B) → map f as' ≡ map g bs → sum_by (λ a. length (f a)) as' ≡ sum_by (λ b. length (g b)) bs
@@ -51,8 +53,8 @@ module _ {J R : Type 0} (key_of : J → ℕ) (gives : ℕ → R → Type 0) wher
       let first = ap (λ (l : List (CpuPart J R)). get_or l 0 e.part) same in
       let rest = ap (λ (l : List (CpuPart J R)). drop 1 l) same in
       let Closes = ClosesAs key_of gives views processors in
-      let one = one_end views processors p (cpu_part p (hand_for p hs)) e refl first (all_head Closes e es h) in
-      let more = each_end views processors es ps (hands_after p hs) rest (all_tail Closes e es h) in
+      let one = one_end views processors p (cpu_part p (hand_for p hs)) e refl first (All-head Closes e es h) in
+      let more = each_end views processors es ps (hands_after p hs) rest (All-tail Closes e es h) in
       let ran = sum_by-cons (λ (e : CpuEnd J R). length e.ran) e es in
       let back = sum_by-cons (λ (e : CpuEnd J R). length e.back) e es in
       let accepted = sum_by-cons (λ (p : Processor J R). p.state.accepted) p ps in
@@ -73,6 +75,6 @@ module _ {J R : Type 0} (key_of : J → ℕ) (gives : ℕ → R → Type 0) wher
     have_receipts =
         let views = control_view parts.control ∷ (other_views parts ++ seats_of c.ends) in
         let P = λ (records : List (Record R)). Given gives records in
-        let each = all_imp (ClosesAs key_of gives views (processors_of c.ends)) (λ e. P e.ran) c.ends (λ e h. h.sound.given) c.closes in
-        let lists = all_mapped P (λ (e : CpuEnd J R). e.ran) c.ends each in
-        all_map P (λ v. v.items) closed.ran.items (subst (All P) (sym c.ran) lists)
+        let each = All-weaker (ClosesAs key_of gives views (processors_of c.ends)) (λ e. P e.ran) (λ e h. h.sound.given) c.ends c.closes in
+        let lists = All-map P (λ (e : CpuEnd J R). e.ran) c.ends each in
+        All-unmap P (λ v. v.items) closed.ran.items (subst (All P) (sym c.ran) lists)

@@ -1,34 +1,17 @@
 -- What the change of one item does to a whole list, and what a loop over all items leaves.
 use Rattle.std.proofs.Common.{◌≡◌, ℕ, zero, suc, ◌+◌, ◌<◌, ◌≤◌, List, [], ◌∷◌, ◌++◌, length, get_or, set, take, drop, All, arith, add-one, ap, subst, sym}
-use Rattle.std.proofs.lemmas.List.Elements.{All-get_or, All-set}
+use Rattle.std.proofs.lemmas.List.Elements.{All-get_or, All-set, All-cons, All-head, All-nil, All-tail}
 use Rattle.std.specs.List.{AllZip}
-use Rattle.rcu_gathering.proofs.Lists.{all_cons, all_head, all_none, all_tail}
-use Rattle.rcu_part_group.proofs.GroupLists.{written, zip_same}
+use Rattle.rcu_part_group.proofs.GroupLists.{written}
+use Rattle.rcu_lemmas.proofs.Zips.{zip_same}
 
 module _ {X : Type 0} where
-  -- a relation that holds of each item and itself holds place by place, where it holds of the item that changes
-  pub zip_changed : (S : X → X → Type 0) → ((x : X) → S x x) → (xs : List X) (k : ℕ) (x y : X) → k < length xs → x ≡ get_or xs k x → S x y → AllZip S xs (set xs k y)
-  zip_changed S same [] k x y there is s = absurd (let z : ⊥ = omega (arith, there) in z)
-  zip_changed S same (a ∷ xs) zero x y there is s = (subst (λ z. S z y) is s, zip_same S same xs)
-  zip_changed S same (a ∷ xs) (suc k) x y there is s = (same a, zip_changed S same xs k x y (omega (arith, there)) is s)
-
-  -- what holds of each item still does, where it is kept by the item that changes
-  pub all_changed : (P : X → Type 0) (xs : List X) (k : ℕ) (x y : X) → k < length xs → x ≡ get_or xs k x → (P x → P y) → All P xs → All P (set xs k y)
-  all_changed P xs k x y there is keeps all = All-set P xs k y (keeps (subst P (sym is) (All-get_or P xs k x there all))) all
-
-  -- a relation that says more, place by place
-  pub zip_weaker : (Q S : X → X → Type 0) → ((x y : X) → Q x y → S x y) → (xs ys : List X) → AllZip Q xs ys → AllZip S xs ys
-  zip_weaker Q S f [] [] z = tt
-  zip_weaker Q S f [] (y ∷ ys) z = absurd z
-  zip_weaker Q S f (x ∷ xs) [] z = absurd z
-  zip_weaker Q S f (x ∷ xs) (y ∷ ys) z = (f x y z.0, zip_weaker Q S f xs ys z.1)
-
   -- what is said of each of one list is said of each of the other
   pub all_along : (P : X → Type 0) (Q : X → X → Type 0) → ((x y : X) → Q x y → P x → P y) → (xs ys : List X) → AllZip Q xs ys → All P xs → All P ys
-  all_along P Q f [] [] z h = all_none P
+  all_along P Q f [] [] z h = All-nil P
   all_along P Q f [] (y ∷ ys) z h = absurd z
   all_along P Q f (x ∷ xs) [] z h = absurd z
-  all_along P Q f (x ∷ xs) (y ∷ ys) z h = all_cons P y ys (f x y z.0 (all_head P x xs h)) (all_along P Q f xs ys z.1 (all_tail P x xs h))
+  all_along P Q f (x ∷ xs) (y ∷ ys) z h = All-cons P y ys (f x y z.0 (All-head P x xs h)) (all_along P Q f xs ys z.1 (All-tail P x xs h))
 
   -- The first n items were changed, and the others are as they were.
   abbrev pub FirstsOf : (X → X → Type 0) → ℕ → List X → List X → Type 0

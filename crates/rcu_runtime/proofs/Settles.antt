@@ -12,9 +12,9 @@ use Rattle.rcu_control.specs.Parts.{SameControl, control_view}
 use Rattle.rcu_control.specs.declared.barrier.Barrier.{Barrier}
 use Rattle.rcu_control.specs.declared.control.Control.{Control}
 use Rattle.rcu_gathering.proofs.Closings.{as_many_ended}
-use Rattle.rcu_gathering.proofs.Lists.{all_cons, all_head, all_map, all_mapped, all_none, all_tail}
 use Rattle.rcu_gathering.specs.Closing.{CpuEnd, EndsAs, processors_of, seats_of}
-use Rattle.rcu_gathering.specs.Parts.{CpuPart, HandPart, accepted_entry, accepted_list}
+use Rattle.rcu_part_steps.specs.Places.{accepted_entry, accepted_list}
+use Rattle.rcu_gathering.specs.Parts.{CpuPart, HandPart}
 use Rattle.rcu_jobs.specs.declared.Counts.{Counts}
 use Rattle.rcu_jobs.specs.declared.Passed.{Passed}
 use Rattle.rcu_jobs.specs.declared.answers.Closed.{Closed}
@@ -29,6 +29,8 @@ use Rattle.rcu_runtime.specs.Calls.{AsksOnce, OnControl, Opens, Polls}
 use Rattle.rcu_runtime.specs.Runtimes.{Continues}
 use Rattle.rcu_runtime.specs.Settled.{HasPassed, HasRunAll, IsCounted}
 use Rattle.rcu_runtime.specs.declared.fault.OtherBarrier.{OtherBarrier}
+use Rattle.std.proofs.lemmas.List.Elements.{All-cons, All-head, All-map, All-nil, All-tail}
+use Rattle.rcu_lemmas.proofs.All.{All-unmap}
 
 no_longer : {X : Type 0} (l : List X) → length l ≤ 0 → l ≡ []
 no_longer [] short = refl
@@ -73,7 +75,7 @@ module _ {J R : Type 0} where
         let cpu = ap (λ (c : CpuPart J R). c.cpu) part in
         let view = ap (λ (c : CpuPart J R). c.view) part in
         let many : length (accepted_list e.part.view) ≡ p.state.accepted = ap (λ (w : View). length (accepted_list w)) view ∙ (length-map (accepted_of (view_of p.state)) accepted_entry ∙ p.state.lawful.counted) in
-        let turns : seen_at v (turns_word e.part.cpu) / 2 ≤ length e.ran = all_head (λ (w : View). seen_at w (turns_word e.part.cpu) / 2 ≤ length e.ran) v (other_views parts ++ seats_of es) h.turns in
+        let turns : seen_at v (turns_word e.part.cpu) / 2 ≤ length e.ran = All-head (λ (w : View). seen_at w (turns_word e.part.cpu) / 2 ≤ length e.ran) v (other_views parts ++ seats_of es) h.turns in
         let seen : seen_at v (turns_word e.part.cpu) ≡ seen_at v (turns_word p.state.cpu) = ap (λ k. seen_at v (turns_word k)) cpu in
         let done = over p.state.cpu low in
         no_longer e.back (omega (arith, many, turns, seen, done, counted, as_many_ended (v ∷ (other_views parts ++ seats_of es)) (processors_of es) e h))
@@ -81,22 +83,22 @@ module _ {J R : Type 0} where
     none_each : (k : ℕ) (b : Board) (all es : List (CpuEnd J R)) (ps : List (Processor J R)) (hs : List (Hand J R)) → map (λ x. x.part) es ≡ cpu_parts ps hs
         → counts.n ≡ b.processors → AreProcessorsFrom k b ps → All (IsCounted counts) ps → All (EndsAs (control_view parts.control ∷ (other_views parts ++ seats_of all)) (processors_of all)) es → All (λ e. e.back ≡ []) es
     unfolding AreProcessorsFrom
-    none_each k b all [] ps hs same many from counted h = all_none (λ (e : CpuEnd J R). e.back ≡ [])
+    none_each k b all [] ps hs same many from counted h = All-nil (λ (e : CpuEnd J R). e.back ≡ [])
     none_each k b all (e ∷ es) [] hs same many from counted h = absurd (let long = ap (λ (l : List (CpuPart J R)). length l) same in omega (arith, long))
     none_each k b all (e ∷ es) (p ∷ ps) hs same many from counted h =
         let first : e.part ≡ cpu_part p (hand_for p hs) = ap (λ (l : List (CpuPart J R)). get_or l 0 e.part) same in
         let rest = ap (λ (l : List (CpuPart J R)). drop 1 l) same in
         let near : p.state.cpu < counts.n = omega (arith, p.state.there, ap (λ (c : Board). c.processors) from.0, many) in
         let Ends = EndsAs (control_view parts.control ∷ (other_views parts ++ seats_of all)) (processors_of all) in
-        all_cons (λ (x : CpuEnd J R). x.back ≡ []) e es (none_of all e p (hand_for p hs) first near (all_head (IsCounted counts) p ps counted) (all_head Ends e es h))
-        (none_each (suc k) b all es ps (hands_after p hs) rest many from.2 (all_tail (IsCounted counts) p ps counted) (all_tail Ends e es h))
+        All-cons (λ (x : CpuEnd J R). x.back ≡ []) e es (none_of all e p (hand_for p hs) first near (All-head (IsCounted counts) p ps counted) (All-head Ends e es h))
+        (none_each (suc k) b all es ps (hands_after p hs) rest many from.2 (All-tail (IsCounted counts) p ps counted) (All-tail Ends e es h))
 
   pub run_none_back : (parts : Parts J R) (closed : Closed J R) → HasRunAll parts → AreOfOneOpen parts → AccountsFor parts closed → HasNoneBack closed
   run_none_back parts closed r one c =
       let None = λ (l : List J). l ≡ [] in
       let each = none_each r.counts parts r.over 0 (parts_board parts) c.ends c.ends (processors_in parts) (hands_in parts) c.parts_are r.many one.processors r.counted c.closes in
-      let lists : All None (map (λ (e : CpuEnd J R). e.back) c.ends) = all_mapped None (λ (e : CpuEnd J R). e.back) c.ends each in
-      all_map None (λ b. b.items) closed.back.items (subst (All None) (sym c.back) lists)
+      let lists : All None (map (λ (e : CpuEnd J R). e.back) c.ends) = All-map None (λ (e : CpuEnd J R). e.back) c.ends each in
+      All-unmap None (λ b. b.items) closed.back.items (subst (All None) (sym c.back) lists)
 
 module _ {J R : Type 0} where
   -- The counts have all that the first n processors accepted.

@@ -4,11 +4,10 @@ use Rattle.std.proofs.lemmas.List.Sums.{sum_by-cons, sum_by-set}
 use Rattle.std.specs.List.{AllZip}
 use Rattle.std.specs.Vec.{with_item}
 use Rattle.rcu_board.specs.declared.board.Board.{Board}
-use Rattle.rcu_control.proofs.Stepping.{same_again, same_part}
+use Rattle.rcu_board.proofs.Stepping.{same_again, same_part}
 use Rattle.rcu_control.specs.Parts.{SameControl, SameDriver}
 use Rattle.rcu_control.specs.declared.control.Control.{Control}
 use Rattle.rcu_control.specs.declared.driver.Driver.{Driver}
-use Rattle.rcu_part_group.proofs.GroupLists.{zip_again, zip_same}
 use Rattle.rcu_part_group.proofs.GroupTurns.{same_group, same_group_again}
 use Rattle.rcu_part_group.specs.Groups.{SameGroup}
 use Rattle.rcu_part_group.specs.declared.group.Group.{Group}
@@ -28,7 +27,9 @@ use Rattle.rcu_runtime.specs.Passing.{KeepsProcessor, PassesGroup, PassesHand, P
 use Rattle.rcu_runtime.specs.Runtimes.{Continues, IsWhole, accepted_in}
 use Rattle.rcu_runtime.specs.Turns.{GroupTurns, HandTurns, ReportsAndTicks, Ticks}
 use Rattle.rcu_jobs.specs.declared.turns.Ticked.{Ticked}
-use Rattle.rcu_runtime.proofs.Changing.{all_along, all_changed, zip_changed, zip_weaker}
+use Rattle.rcu_runtime.proofs.Changing.{all_along}
+use Rattle.rcu_lemmas.proofs.Zips.{zip_again, zip_same, zip_weaker}
+use Rattle.rcu_lemmas.proofs.Changed.{all_changed, zip_changed}
 
 pub control_itself : (c : Control) → SameControl c c
 control_itself c = same_part _ _

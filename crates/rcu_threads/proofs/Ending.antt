@@ -10,16 +10,15 @@ use Rattle.rcu_board.specs.Words.{turns_word}
 use Rattle.rcu_board.specs.declared.board.Board.{Board}
 use Rattle.rcu_board.specs.declared.view.View.{View}
 use Rattle.rcu_control.specs.Parts.{control_view}
-use Rattle.rcu_gathering.proofs.Lists.{all_cons, all_head, all_map, all_mapped, all_none, all_tail}
-use Rattle.rcu_endings.specs.Ends.{keys_of}
 use Rattle.rcu_gathering.proofs.Closings.{as_many_ended}
 use Rattle.rcu_gathering.specs.Closing.{ClosesAs, CpuEnd, processors_of, seats_of}
-use Rattle.rcu_places.specs.Places.{Accepted, Numbered, numbered}
+use Rattle.rcu_places.specs.Places.{Accepted, Numbered, numbered, keys_of}
 use Rattle.rcu_records.specs.Records.{numbered_record}
 use Rattle.rcu_jobs.specs.declared.answers.Refused.{Refused}
 use Rattle.rcu_jobs.specs.declared.answers.Ticket.{Ticket}
 use Rattle.rcu_jobs.specs.declared.callback.Record.{Record}
-use Rattle.rcu_gathering.specs.Parts.{CpuPart, accepted_entry, accepted_list}
+use Rattle.rcu_part_steps.specs.Places.{accepted_entry, accepted_list}
+use Rattle.rcu_gathering.specs.Parts.{CpuPart}
 use Rattle.rcu_jobs.specs.declared.answers.Closed.{Closed}
 use Rattle.rcu_parts.specs.AtClose.{ClosesWith, cpu_part, cpu_parts, hand_for, hands_after, other_views}
 use Rattle.rcu_part_group.specs.Groups.{SameGroup}
@@ -36,7 +35,10 @@ use Rattle.rcu_threads.specs.Ends.{AreUnused, keys_ran}
 use Rattle.rcu_crews.specs.Parts.{GroupStays, HandStays}
 use Rattle.rcu_crews.specs.Runs.{HasRun}
 use Rattle.rcu_threads.specs.Runs.{HaveRun}
-use Rattle.rcu_crews.proofs.Zips.{zip_all, zip_imp}
+use Rattle.rcu_crews.proofs.Zips.{zip_all}
+use Rattle.std.proofs.lemmas.List.Elements.{All-cons, All-head, All-map, All-nil, All-tail}
+use Rattle.rcu_lemmas.proofs.All.{All-unmap}
+use Rattle.rcu_lemmas.proofs.Zips.{zip_weaker}
 
 no_longer : {X : Type 0} (l : List X) → length l ≤ 0 → l ≡ []
 no_longer [] short = refl
@@ -56,9 +58,9 @@ module _ {J R : Type 0} (key_of : J → ℕ) (gives : ℕ → R → Type 0) wher
   all_same old new h = record {
     control = h.control;
     driver = h.driver;
-    processors = zip_imp (HasRun key_of gives (control_view new.control)) (λ p q. SameProcessor p.state q.state) (λ p q r. r.same) (processors_in old) (processors_in new) h.processors;
-    groups = zip_imp GroupStays (λ g h. SameGroup g.state h.state) (λ g h s. s.same) (groups_in old) (groups_in new) h.groups;
-    hands = zip_imp (HandStays key_of gives) _ (λ h i s. s.same) (hands_in old) (hands_in new) h.hands;
+    processors = zip_weaker (HasRun key_of gives (control_view new.control)) (λ p q. SameProcessor p.state q.state) (λ p q r. r.same) (processors_in old) (processors_in new) h.processors;
+    groups = zip_weaker GroupStays (λ g h. SameGroup g.state h.state) (λ g h s. s.same) (groups_in old) (groups_in new) h.groups;
+    hands = zip_weaker (HandStays key_of gives) _ (λ h i s. s.same) (hands_in old) (hands_in new) h.hands;
   }
 
   -- and know of their jobs what they should
@@ -78,7 +80,7 @@ module _ {J R : Type 0} (key_of : J → ℕ) (gives : ℕ → R → Type 0) wher
   -- of a processor all of whose callbacks have run no job comes back
   none_back : (v : View) (views processors : List View) (p : Processor J R) (c : CpuPart J R) (e : CpuEnd J R) → c.cpu ≡ p.state.cpu → c.view ≡ view_of p.state → e.part ≡ c → ClosesAs key_of gives (v ∷ views) processors e → AllRan v p → e.back ≡ []
   none_back v views processors p c e cpu at part h ran =
-      let turns = all_head (λ w. seen_at w (turns_word e.part.cpu) / 2 ≤ length e.ran) v views h.ends.turns in
+      let turns = All-head (λ w. seen_at w (turns_word e.part.cpu) / 2 ≤ length e.ran) v views h.ends.turns in
       let same : e.part.cpu ≡ p.state.cpu = ap (λ (x : CpuPart J R). x.cpu) part ∙ cpu in
       let seen : seen_at v (turns_word p.state.cpu) / 2 ≤ length e.ran = subst (λ k. seen_at v (turns_word k) / 2 ≤ length e.ran) same turns in
       let view : e.part.view ≡ view_of p.state = ap (λ (x : CpuPart J R). x.view) part ∙ at in
@@ -86,15 +88,15 @@ module _ {J R : Type 0} (key_of : J → ℕ) (gives : ℕ → R → Type 0) wher
       no_longer e.back (omega (arith, seen, ran, many, as_many_ended (v ∷ views) processors e h.ends))
 
   none_back_each : (v : View) (views processors : List View) (es : List (CpuEnd J R)) (ps : List (Processor J R)) (hs : List (Hand J R)) → map (λ e. e.part) es ≡ cpu_parts ps hs → All (ClosesAs key_of gives (v ∷ views) processors) es → All (AllRan v) ps → All (λ e. e.back ≡ []) es
-  none_back_each v views processors [] ps hs same h ran = all_none (λ (e : CpuEnd J R). e.back ≡ [])
+  none_back_each v views processors [] ps hs same h ran = All-nil (λ (e : CpuEnd J R). e.back ≡ [])
   none_back_each v views processors (e ∷ es) [] hs same h ran = absurd (let long = ap (λ (l : List (CpuPart J R)). length l) same in omega (arith, long))
   none_back_each v views processors (e ∷ es) (p ∷ ps) hs same h ran =
       let first = ap (λ (l : List (CpuPart J R)). get_or l 0 e.part) same in
       let rest = ap (λ (l : List (CpuPart J R)). drop 1 l) same in
       let Closed = ClosesAs key_of gives (v ∷ views) processors in
-      all_cons (λ (x : CpuEnd J R). x.back ≡ []) e es
-      (none_back v views processors p (cpu_part p (hand_for p hs)) e refl refl first (all_head Closed e es h) (all_head (AllRan v) p ps ran))
-      (none_back_each v views processors es ps (hands_after p hs) rest (all_tail Closed e es h) (all_tail (AllRan v) p ps ran))
+      All-cons (λ (x : CpuEnd J R). x.back ≡ []) e es
+      (none_back v views processors p (cpu_part p (hand_for p hs)) e refl refl first (All-head Closed e es h) (All-head (AllRan v) p ps ran))
+      (none_back_each v views processors es ps (hands_after p hs) rest (All-tail Closed e es h) (All-tail (AllRan v) p ps ran))
 
   -- where nothing had been accepted before, no job comes back
   pub none_handed_back : (old new : Parts J R) (closed : Closed J R) → HaveRun key_of gives old new → AreUnused old → ClosesWith key_of gives new closed → HasNoneBack closed
@@ -104,8 +106,8 @@ module _ {J R : Type 0} (key_of : J → ℕ) (gives : ℕ → R → Type 0) wher
       let views = other_views new ++ seats_of c.ends in
       let each = none_back_each v views (processors_of c.ends) c.ends (processors_in new) (hands_in new) c.parts_are c.closes ran in
       let None = λ (l : List J). l ≡ [] in
-      let lists : All None (map (λ (e : CpuEnd J R). e.back) c.ends) = all_mapped None (λ (e : CpuEnd J R). e.back) c.ends each in
-      all_map None (λ b. b.items) closed.back.items (subst (All None) (sym c.back) lists)
+      let lists : All None (map (λ (e : CpuEnd J R). e.back) c.ends) = All-map None (λ (e : CpuEnd J R). e.back) c.ends each in
+      All-unmap None (λ b. b.items) closed.back.items (subst (All None) (sym c.back) lists)
 
   -- of a processor all of whose callbacks have run, what ran is what it accepted
   ran_keys : (v : View) (views processors : List View) (p : Processor J R) (c : CpuPart J R) (e : CpuEnd J R) → c.cpu ≡ p.state.cpu → c.view ≡ view_of p.state → e.part ≡ c → ClosesAs key_of gives (v ∷ views) processors e → AllRan v p → map (λ (r : Record R). r.key) e.ran ≡ keys_in p
@@ -127,9 +129,9 @@ module _ {J R : Type 0} (key_of : J → ℕ) (gives : ℕ → R → Type 0) wher
       let first = ap (λ (l : List (CpuPart J R)). get_or l 0 e.part) same in
       let rest = ap (λ (l : List (CpuPart J R)). drop 1 l) same in
       let Closed = ClosesAs key_of gives (v ∷ views) processors in
-      let own = ran_keys v views processors p (cpu_part p (hand_for p hs)) e refl refl first (all_head Closed e es h) (all_head (AllRan v) p ps ran) in
+      let own = ran_keys v views processors p (cpu_part p (hand_for p hs)) e refl refl first (All-head Closed e es h) (All-head (AllRan v) p ps ran) in
       ap (λ l. l ∷ map (λ (x : CpuEnd J R). map (λ (r : Record R). r.key) x.ran) es) own
-      ∙ ap (λ l. keys_in p ∷ l) (ran_keys_each v views processors es ps (hands_after p hs) rest (all_tail Closed e es h) (all_tail (AllRan v) p ps ran))
+      ∙ ap (λ l. keys_in p ∷ l) (ran_keys_each v views processors es ps (hands_after p hs) rest (All-tail Closed e es h) (All-tail (AllRan v) p ps ran))
 
   -- where nothing had been accepted before, what ran on each processor is what it accepted
   pub all_ran_keys : (old new : Parts J R) (closed : Closed J R) → HaveRun key_of gives old new → AreUnused old → ClosesWith key_of gives new closed → keys_ran closed ≡ map (λ p. keys_in p) (processors_in new)

@@ -3,13 +3,13 @@ use Rattle.std.proofs.Common.{◌≡◌, ◌≢◌, ℕ, zero, suc, ◌+◌, ◌
 use Rattle.std.specs.List.{AllZip, slice_get}
 use Rattle.std.specs.Prelude.{unwrap_or}
 use Rattle.std.proofs.lemmas.List.{length-map, map-append, nil_from_length}
-use Rattle.rcu_parts.proofs.Zips.{all_of}
 use Rattle.rcu_workers.specs.Crews.{HasBegun, HasEnded}
 use Rattle.rcu_workers.specs.declared.crew.Started.{Started}
 use Rattle.rcu_workers.specs.declared.crew.Started.TheVariants.{Running, Back}
 use Rattle.rcu_workers.specs.declared.post.Post.{Post}
 use Rattle.rcu_workers.specs.declared.worker.End.{End}
 use Rattle.rcu_workers.specs.declared.worker.End.TheVariants.{NotBegun}
+use Rattle.rcu_lemmas.proofs.Zips.{all_of, zip_chain}
 
 module _ {A B : Type 0} (R : A → B → Type 0) where
   -- of a list of which none has come yet
@@ -21,22 +21,6 @@ module _ {A B : Type 0} (R : A → B → Type 0) where
   zip_push [] (b ∷ bs) x y h r = absurd h
   zip_push (a ∷ as') [] x y h r = absurd h
   zip_push (a ∷ as') (b ∷ bs) x y h r = (h.0, zip_push as' bs x y h.1 r)
-
-  pub zip_pushed : (xs : List A) (ys zs : List B) (x : A) (y : B) → zs ≡ ys ++ y ∷ [] → AllZip R xs ys → R x y → AllZip R (xs ++ x ∷ []) zs
-  zip_pushed xs ys zs x y pushed z r = subst (AllZip R (xs ++ x ∷ [])) (sym pushed) (zip_push xs ys x y z r)
-
-module _ {X : Type 0} where
-  -- one more is taken from the list
-  pub order_after : (done rest more all : List X) (x : X) → done ++ rest ≡ all → rest ≡ x ∷ more → done ++ x ∷ [] ++ more ≡ all
-  order_after done rest more all x order step = append_assoc done (x ∷ []) more ∙ (ap (λ l. done ++ l) (sym step) ∙ order)
-
-  -- where there is room for all that is left, there is room for one
-  pub room_for_one : (n cap : ℕ) (rest more : List X) (x : X) → n + length rest ≤ cap → rest ≡ x ∷ more → n < cap
-  room_for_one n cap rest more x room step = let e = ap (λ (l : List X). length l) step in omega (arith, room, e)
-
-  -- and, once one more is in, room for all that is left then
-  pub room_for_more : (n m cap dap : ℕ) (rest more : List X) (x : X) → n + length rest ≤ cap → rest ≡ x ∷ more → m ≡ n + 1 → dap ≡ cap → m + length more ≤ dap
-  room_for_more n m cap dap rest more x room step one same = let e = ap (λ (l : List X). length l) step in omega (arith, room, e, one, same)
 
 -- and an empty list that has room for all has it at first
 pub room_for_all : {X Y : Type 0} (n m cap : ℕ) (none : List Y) (rest all : List X) → n ≡ length none → none ≡ [] → rest ≡ all → m ≡ length all → m ≤ cap → n + length rest ≤ cap
@@ -50,16 +34,6 @@ module _ {A B : Type 0} (f : A → B) where
   -- and a list of what was taken, where one more was put to it
   pub pushed_taken : (xs : List A) (x : A) (ys zs : List B) → zs ≡ ys ++ f x ∷ [] → ys ≡ map f xs → zs ≡ map f (xs ++ x ∷ [])
   pushed_taken xs x ys zs pushed old = pushed ∙ (ap (λ l. l ++ f x ∷ []) old ∙ sym (map-append f xs (x ∷ [])))
-
-module _ {A B C : Type 0} where
-  -- what is said of each of two steps is said of both together
-  pub zip_chain : (P : A → B → Type 0) (Q : B → C → Type 0) (S : A → C → Type 0) → ((x : A) (y : B) (z : C) → P x y → Q y z → S x z) → (xs : List A) (ys : List B) (zs : List C) → AllZip P xs ys → AllZip Q ys zs → AllZip S xs zs
-  zip_chain P Q S f [] [] [] p q = tt
-  zip_chain P Q S f [] [] (z ∷ zs) p q = absurd q
-  zip_chain P Q S f [] (y ∷ ys) zs p q = absurd p
-  zip_chain P Q S f (x ∷ xs) [] zs p q = absurd p
-  zip_chain P Q S f (x ∷ xs) (y ∷ ys) [] p q = absurd q
-  zip_chain P Q S f (x ∷ xs) (y ∷ ys) (z ∷ zs) p q = (f x y z p.0 q.0, zip_chain P Q S f xs ys zs p.1 q.1)
 
 module _ {A B : Type 0} where
   pub zip_length : (P : A → B → Type 0) (xs : List A) (ys : List B) → AllZip P xs ys → length ys ≡ length xs

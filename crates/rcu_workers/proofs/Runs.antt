@@ -9,12 +9,13 @@ use Rattle.rcu_part_processor.specs.declared.processor.Processor.{Processor}
 use Rattle.rcu_parts.proofs.Draining.{stays_drained}
 use Rattle.rcu_parts.specs.OneOpen.{AreOfOneOpen, Parts, hands_in, processors_in}
 use Rattle.rcu_parts.specs.SameParts.{AreSameParts}
-use Rattle.rcu_runtime.proofs.Changing.{all_along, zip_weaker}
+use Rattle.rcu_runtime.proofs.Changing.{all_along}
 use Rattle.rcu_runtime.proofs.Wholes.{whole_kept}
 use Rattle.rcu_runtime.specs.Runtimes.{Continues, IsWhole}
 use Rattle.rcu_workers.specs.Runs.{HaveWorked}
 use Rattle.rcu_workers.specs.Stays.{HandStays}
 use Rattle.rcu_workers.specs.Steps.{ProcessorWorks}
+use Rattle.rcu_lemmas.proofs.Zips.{zip_weaker}
 
 module _ {J R : Type 0} (key_of : J → ℕ) (gives : ℕ → R → Type 0) where
   more_accepted : (ps qs : List (Processor J R)) → AllZip (ProcessorWorks key_of gives) ps qs → sum_by (λ p. p.state.accepted) ps ≤ sum_by (λ p. p.state.accepted) qs

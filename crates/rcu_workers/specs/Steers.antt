@@ -3,7 +3,7 @@ use Rattle.std.specs.Prelude.{◌≡◌, ◌≢◌, ℕ, zero, suc, Bool, true, 
 use Rattle.rcu_board.specs.Words.{turns_word}
 use Rattle.rcu_control.specs.Barriers.{IsOver}
 use Rattle.rcu_control.specs.Parts.{control_board, control_view}
-use Rattle.rcu_control.specs.Views.{StepsWithin}
+use Rattle.rcu_board.specs.Frames.{StepsWithin}
 use Rattle.rcu_control.specs.declared.barrier.Barrier.{Barrier}
 use Rattle.rcu_control.specs.declared.control.Control.{Control}
 use Rattle.rcu_jobs.specs.declared.Counts.{Counts}

@@ -3,11 +3,10 @@ use Rattle.std.specs.declared.alloc.Global.{Global}
 use Rattle.std.specs.declared.vec.Vec.{Vec}
 use Rattle.std.proofs.lemmas.List.{nil_from_length}
 use Rattle.std.specs.Vec.{vec_capacity, vec_len}
-use Rattle.rcu_crews.proofs.Zips.{all_of}
 use Rattle.rcu_crews.specs.Calls.{CallsInTurn, HasAnswered}
 use Rattle.rcu_crews.proofs.Answering.{answered_more, answered_none, calls_more}
-use Rattle.rcu_crews.proofs.Zips.{room_for_more, room_for_one}
 use Rattle.rcu_crews.proofs.calling.call_all.Goals as goal
+use Rattle.rcu_lemmas.proofs.Zips.{all_of, room_for_more, room_for_one}
 
 -- the next call's moment is its place
 next_place : {X : Type 0} (moment next top : ℕ) (done rest all : List X) (x : X) → done ++ rest ≡ all → moment ≡ length done → length all < top → next ≡ min (moment + 1) top → next ≡ length (done ++ x ∷ [])

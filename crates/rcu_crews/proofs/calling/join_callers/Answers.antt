@@ -1,13 +1,13 @@
 use Rattle.std.proofs.Common.{◌≡◌, List, ◌∷◌, ◌++◌, [], length, append_assoc, ap, sym, ◌∙◌, subst}
 use Rattle.std.specs.List.{AllZip}
 use Rattle.std.proofs.lemmas.List.{nil_from_length}
-use Rattle.rcu_crews.proofs.Zips.{all_of}
 use Rattle.rcu_crews.specs.Calls.{HasAnswered, HasCalled}
 use Rattle.rcu_crews.specs.Dealing.{tickets_in}
 use Rattle.rcu_crews.proofs.calling.join_callers.Given.{Over}
 use Rattle.rcu_crews.proofs.Tickets.{joined_more}
-use Rattle.rcu_crews.proofs.Zips.{some_never, zip_pushed}
+use Rattle.rcu_crews.proofs.Zips.{some_never}
 use Rattle.rcu_crews.proofs.calling.join_callers.Goals as goal
+use Rattle.rcu_lemmas.proofs.Zips.{all_of, zip_pushed}
 
 pub loop-thread-preserved : goal.loop-thread-preserved
 loop-thread-preserved g c = let key_of = g.J.Job.key_of in let gives = g.J.Job.gives in let i = c.loop-thread.invariant in let kept = c.in-Ok.ensures in let done = c.loop-thread.yielded in let thread = c.in-Some.thread in let more = c.next.new.self.rest.items in

@@ -1,8 +1,8 @@
 use Rattle.std.proofs.Common.{◌≡◌, [], ◌∷◌, ◌++◌, map, length, append_assoc, ap, refl, sym, ◌∙◌}
 use Rattle.std.proofs.lemmas.List.{map-append, nil_from_length}
 use Rattle.rcu_crews.proofs.Dealt.{mapped_more}
-use Rattle.rcu_crews.proofs.Zips.{all_of}
 use Rattle.rcu_crews.proofs.calling.split.Goals as goal
+use Rattle.rcu_lemmas.proofs.Zips.{all_of}
 
 pub loop-one-preserved : goal.loop-one-preserved
 loop-one-preserved g c = let l = c.loop-one in let i = l.invariant in let done = l.yielded in let x = c.in-Some.one in record {

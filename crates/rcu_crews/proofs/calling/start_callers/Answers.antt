@@ -1,7 +1,8 @@
 use Rattle.std.proofs.Common.{◌≡◌, length, rules, ap}
 use Rattle.std.specs.Vec.{vec_capacity, vec_len}
-use Rattle.rcu_crews.proofs.Zips.{all_started, room_for_more, room_for_one, started_more}
+use Rattle.rcu_crews.proofs.Zips.{all_started, started_more}
 use Rattle.rcu_crews.proofs.calling.start_callers.Goals as goal
+use Rattle.rcu_lemmas.proofs.Zips.{room_for_more, room_for_one}
 
 pub loop-caller-preserved : goal.loop-caller-preserved
 loop-caller-preserved g c = let i = c.loop-caller.invariant in

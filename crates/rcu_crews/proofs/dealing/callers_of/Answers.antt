@@ -1,8 +1,8 @@
 use Rattle.std.proofs.Common.{◌≡◌, [], ◌∷◌, ◌++◌, length, append_assoc, ap, sym, ◌∙◌}
 use Rattle.std.proofs.lemmas.List.{nil_from_length}
 use Rattle.rcu_crews.proofs.Dealt.{mapped_more, none_pushed}
-use Rattle.rcu_crews.proofs.Zips.{all_of}
 use Rattle.rcu_crews.proofs.dealing.callers_of.Goals as goal
+use Rattle.rcu_lemmas.proofs.Zips.{all_of}
 
 pub loop-processor-preserved : goal.loop-processor-preserved
 loop-processor-preserved g c = let i = c.loop-processor.invariant in let done = c.loop-processor.yielded in let p = c.in-Some.processor in

@@ -1,10 +1,10 @@
 use Rattle.std.proofs.Common.{◌≡◌, ◌<◌, length, ◌∷◌, [], ◌++◌, append_assoc, ap, map, subst, sym, ◌∙◌}
 use Rattle.std.proofs.lemmas.List.{nil_from_length}
 use Rattle.rcu_crews.specs.Dealing.{AreDealt}
-use Rattle.rcu_crews.proofs.Zips.{all_of}
 use Rattle.rcu_crews.proofs.Dealt.{deal_step, next_turn}
 use Rattle.rcu_lists.proofs.Outcomes.{if_ok_never}
 use Rattle.rcu_crews.proofs.dealing.deal.Goals as goal
+use Rattle.rcu_lemmas.proofs.Zips.{all_of}
 
 pub loop-job-preserved : goal.loop-job-preserved
 loop-job-preserved g c = let l = c.loop-job in let i = l.invariant in let done = l.yielded in let job = c.in-Some.job in

@@ -2,7 +2,7 @@ use Rattle.std.proofs.Common.{inl, inr, map, refl, subst, sym}
 use Rattle.std.proofs.lemmas.Result.{MatchResult-from_err}
 use Rattle.std.specs.List.{AllZip}
 use Rattle.rcu_control.specs.Parts.{control_view}
-use Rattle.rcu_control.proofs.Stepping.{same_again}
+use Rattle.rcu_board.proofs.Stepping.{same_again}
 use Rattle.rcu_crews.specs.Calls.{HasAnswered, HasCalled}
 use Rattle.rcu_crews.specs.Parts.{ProcessorStays}
 use Rattle.rcu_crews.specs.Runs.{AreOver}

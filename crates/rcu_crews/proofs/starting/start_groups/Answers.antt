@@ -1,7 +1,8 @@
 use Rattle.std.proofs.Common.{◌≡◌, length, ap, sym, ◌∙◌}
 use Rattle.std.specs.Vec.{vec_capacity, vec_len}
-use Rattle.rcu_crews.proofs.Zips.{all_started, room_for_more, room_for_one, started_more, some_never}
+use Rattle.rcu_crews.proofs.Zips.{all_started, started_more, some_never}
 use Rattle.rcu_crews.proofs.starting.start_groups.Goals as goal
+use Rattle.rcu_lemmas.proofs.Zips.{room_for_more, room_for_one}
 
 pub loop-group-preserved : goal.loop-group-preserved
 loop-group-preserved g c = let i = c.loop-group.invariant in

@@ -1,7 +1,8 @@
 use Rattle.std.proofs.Common.{◌≡◌, length, ap, sym, ◌∙◌}
 use Rattle.std.specs.Vec.{vec_capacity, vec_len}
-use Rattle.rcu_crews.proofs.Zips.{all_started, room_for_more, room_for_one, started_more, some_never}
+use Rattle.rcu_crews.proofs.Zips.{all_started, started_more, some_never}
 use Rattle.rcu_crews.proofs.starting.start_hands.Goals as goal
+use Rattle.rcu_lemmas.proofs.Zips.{room_for_more, room_for_one}
 
 pub loop-hand-preserved : goal.loop-hand-preserved
 loop-hand-preserved g c = let i = c.loop-hand.invariant in

@@ -1,10 +1,10 @@
 use Rattle.std.proofs.Common.{arith}
-use Rattle.rcu_part_group.proofs.GroupLists.{zip_same}
 use Rattle.rcu_part_processor.proofs.TickRuns.{same_processor}
 use Rattle.rcu_part_processor.specs.Processors.{IsSound, SameProcessor}
 use Rattle.rcu_memory.specs.Works.{IsOwnKey, key_of_work}
-use Rattle.rcu_memory.proofs.Changing.{all_changed, zip_changed}
 use Rattle.rcu_memory.proofs.parts.make_at.Goals as goal
+use Rattle.rcu_lemmas.proofs.Zips.{zip_same}
+use Rattle.rcu_lemmas.proofs.Changed.{all_changed, zip_changed}
 
 pub returns-then-place-len-clause-same : goal.returns-then-place-len-clause-same
 returns-then-place-len-clause-same c = zip_same (λ p q. SameProcessor p.state q.state) (λ p. same_processor p.state) c.args.processors.now.items

@@ -1,9 +1,10 @@
 use Rattle.std.proofs.Common.{◌∙◌, sym}
-use Rattle.rcu_part_group.proofs.GroupLists.{zip_same}
 use Rattle.rcu_part_group.proofs.GroupTurns.{same_group}
 use Rattle.rcu_part_group.specs.Groups.{SameGroup}
-use Rattle.rcu_memory.proofs.Changing.{not_none, zip_changed}
+use Rattle.rcu_memory.proofs.Nonempty.{not_none}
 use Rattle.rcu_memory.proofs.parts.turn_group.Goals as goal
+use Rattle.rcu_lemmas.proofs.Zips.{zip_same}
+use Rattle.rcu_lemmas.proofs.Changed.{zip_changed}
 
 pub returns-then-is_empty : goal.returns-then-is_empty
 returns-then-is_empty c = zip_same (λ x y. SameGroup x.state y.state) (λ x. same_group x.state) c.args.groups.now.items

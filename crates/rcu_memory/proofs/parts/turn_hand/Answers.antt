@@ -1,10 +1,11 @@
 use Rattle.std.proofs.Common.{◌∙◌, sym}
-use Rattle.rcu_part_group.proofs.GroupLists.{zip_same}
 use Rattle.rcu_part_hand.proofs.HandRuns.{same_hand}
 use Rattle.rcu_part_hand.specs.Hands.{IsSoundHand, SameHand}
 use Rattle.rcu_memory.specs.Works.{IsOwnKey, key_of_work}
-use Rattle.rcu_memory.proofs.Changing.{all_changed, not_none, zip_changed}
+use Rattle.rcu_memory.proofs.Nonempty.{not_none}
 use Rattle.rcu_memory.proofs.parts.turn_hand.Goals as goal
+use Rattle.rcu_lemmas.proofs.Zips.{zip_same}
+use Rattle.rcu_lemmas.proofs.Changed.{all_changed, zip_changed}
 
 pub returns-then-is_empty-clause-same : goal.returns-then-is_empty-clause-same
 returns-then-is_empty-clause-same c = zip_same (λ h i. SameHand h.state i.state) (λ h. same_hand h.state) c.args.hands.now.items

@@ -6,7 +6,6 @@ use Rattle.rcu_board.specs.Seats.{gathered_view}
 use Rattle.rcu_board.specs.declared.view.View.{View}
 use Rattle.rcu_gathering.specs.Gathered.{gather}
 use Rattle.rcu_gathering.proofs.Gathers.{gather_append}
-use Rattle.rcu_gathering.proofs.Lists.{all_head, all_tail}
 use Rattle.rcu_holdings.proofs.Sizes.{in_struct}
 use Rattle.rcu_parts.proofs.Passing.{all_passed, one_passed}
 use Rattle.rcu_part_group.specs.Groups.{group_board, group_view, members_of}
@@ -14,6 +13,7 @@ use Rattle.rcu_parts.specs.OneOpen.{members_in}
 use Rattle.rcu_part_group.specs.declared.group.Group.{Group}
 use Rattle.rcu_part_group.specs.contracts.group.Group as row
 use Rattle.rcu_parts.proofs.gathering.gather_groups.Goals as goal
+use Rattle.std.proofs.lemmas.List.Elements.{All-head, All-tail}
 
 pub loop-group-init : goal.loop-group-init
 loop-group-init g c =
@@ -36,7 +36,7 @@ gather_group-requires-after_bounds g c κs within =
     let e : c.loop-group.group-iterator.rest.items ≡ c.in-Some.group ∷ c.next.new.self.rest.items = c.in-Some.ensures.steps.0 in
     let B : Group g.row.J.Denot g.row.J-Receipt.Denot → Type 0 = λ h. group_board h.state ≡ c.args.board.now in
     let a = ap (λ gs. length (members_in gs)) e ∙ length-append (members_of c.in-Some.group.state) (members_in c.next.new.self.rest.items) in
-    (h, (in_struct _ _ _ (in_struct _ _ _ (in_struct _ _ _ h)), (i.at, (i.rests, (all_head B c.in-Some.group c.next.new.self.rest.items (subst (λ gs. All B gs) e i.boards), omega (arith, a, i.room))))))
+    (h, (in_struct _ _ _ (in_struct _ _ _ (in_struct _ _ _ h)), (i.at, (i.rests, (All-head B c.in-Some.group c.next.new.self.rest.items (subst (λ gs. All B gs) e i.boards), omega (arith, a, i.room))))))
 
 pub loop-group-preserved : goal.loop-group-preserved
 loop-group-preserved g c =
@@ -52,7 +52,7 @@ loop-group-preserved g c =
       rests = t.rests;
       view = t.view ∙ (ap (λ w. gather w (v c.in-Some.group ∷ [])) i.view ∙ (sym (gather_append (gathered_view c.args.all.now) (map v c.loop-group.yielded) (v c.in-Some.group ∷ []))
           ∙ ap (gather (gathered_view c.args.all.now)) (sym (map-append v c.loop-group.yielded (c.in-Some.group ∷ [])))));
-      boards = all_tail B c.in-Some.group c.next.new.self.rest.items (subst (λ gs. All B gs) e i.boards);
+      boards = All-tail B c.in-Some.group c.next.new.self.rest.items (subst (λ gs. All B gs) e i.boards);
       members = t.members ∙ (ap (λ l. l ++ members_of c.in-Some.group.state) i.members ∙ flat_map_more (λ (h : Group g.row.J.Denot g.row.J-Receipt.Denot). members_of h.state) [] c.loop-group.yielded c.in-Some.group);
       all = one_passed c.loop-group.yielded _ _ _ c.in-Some.group i.all e;
       room = omega (arith, a, i.room, t.len, t.room);

@@ -18,10 +18,11 @@ use Rattle.rcu_part_group.specs.declared.group.Group.{Group}
 use Rattle.rcu_parts.proofs.Grouped.{are_members, group_begins, group_taken}
 use Rattle.rcu_parts.proofs.Making.{empty_parts, group_made, group_of_role, grouped_more, groups_more}
 use Rattle.rcu_parts.proofs.Splitting.{AreGrouped, all_groups}
-use Rattle.rcu_parts.proofs.Zips.{all_of, seat_and_rest, seats_over}
+use Rattle.rcu_parts.proofs.Zips.{seat_and_rest, seats_over}
 use Rattle.rcu_parts.proofs.opening.open_groups.Given.{Over}
 use Rattle.rcu_lists.proofs.Outcomes.{if_ok_never}
 use Rattle.rcu_parts.proofs.opening.open_groups.Goals as goal
+use Rattle.rcu_lemmas.proofs.Zips.{all_of}
 
 group_fits : (g : Over) (c : goal.After-into_iter-seat-iterator g) → FitsInMemory (group.the_row (param 0 g.row.J) (param 1 g.row.J-Receipt))
 group_fits g c = assumption

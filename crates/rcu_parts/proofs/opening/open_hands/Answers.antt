@@ -20,11 +20,12 @@ use Rattle.rcu_part_group.specs.contracts.members.GroupMember as group_member
 use Rattle.rcu_part_hand.specs.contracts.hand.Hand as hand
 use Rattle.rcu_part_group.specs.declared.members.GroupMember.{GroupMember}
 use Rattle.rcu_parts.proofs.Making.{hands_more, made_more}
-use Rattle.rcu_parts.proofs.Zips.{all_of, seat_and_rest, seats_over}
+use Rattle.rcu_parts.proofs.Zips.{seat_and_rest, seats_over}
 use Rattle.rcu_parts.proofs.opening.open_hands.Given.{Over}
 use Rattle.rcu_lists.proofs.Outcomes.{if_ok_never}
 use Rattle.rcu_parts.proofs.Passing.{never_popped}
 use Rattle.rcu_parts.proofs.opening.open_hands.Goals as goal
+use Rattle.rcu_lemmas.proofs.Zips.{all_of}
 
 hand_fits : (g : Over) (c : goal.After-into_iter-seat-iterator g) → FitsInMemory (hand.the_row (param 0 g.row.J) (param 1 g.row.J-Receipt))
 hand_fits g c = assumption

@@ -1,9 +1,9 @@
 use Rattle.std.proofs.Common.{refl}
-use Rattle.rcu_part_group.proofs.GroupLists.{zip_same}
 use Rattle.rcu_part_group.proofs.GroupTurns.{same_group}
 use Rattle.rcu_part_group.specs.Groups.{SameGroup}
-use Rattle.rcu_parts_replay.proofs.Changing.{zip_changed}
 use Rattle.rcu_parts_replay.proofs.commands.group.Goals as goal
+use Rattle.rcu_lemmas.proofs.Zips.{zip_same}
+use Rattle.rcu_lemmas.proofs.Changed.{zip_changed}
 
 pub returns-in_default-clause-same : goal.returns-in_default-clause-same
 returns-in_default-clause-same g c = zip_same (λ x y. SameGroup x.state y.state) (λ x. same_group x.state) c.args.groups.now.items

@@ -1,10 +1,10 @@
 use Rattle.std.proofs.Common.{arith, refl}
-use Rattle.rcu_part_group.proofs.GroupLists.{zip_same}
 use Rattle.rcu_part_hand.proofs.HandRuns.{same_hand}
 use Rattle.rcu_part_hand.specs.Hands.{IsSoundHand, SameHand}
 use Rattle.rcu_parts_replay.proofs.Answering.{hand_of_local, no_hand}
-use Rattle.rcu_parts_replay.proofs.Changing.{all_changed, zip_changed}
 use Rattle.rcu_parts_replay.proofs.commands.hand.Goals as goal
+use Rattle.rcu_lemmas.proofs.Zips.{zip_same}
+use Rattle.rcu_lemmas.proofs.Changed.{all_changed, zip_changed}
 
 pub returns-then-cpu-n-clause-same : goal.returns-then-cpu-n-clause-same
 returns-then-cpu-n-clause-same g c = zip_same (λ h i. SameHand h.state i.state) (λ h. same_hand h.state) c.args.hands.now.items

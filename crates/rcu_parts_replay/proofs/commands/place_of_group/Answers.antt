@@ -2,8 +2,8 @@ use Rattle.std.proofs.Common.{◌≢◌, ◌<◌, length, ap, sym, ◌∙◌, su
 use Rattle.std.proofs.lemmas.List.{take_all}
 use Rattle.std.proofs.lemmas.List.Elements.{All-more, All-same}
 use Rattle.rcu_part_group.specs.declared.group.Group.{Group}
-use Rattle.rcu_parts_replay.proofs.Changing.{same_item}
 use Rattle.rcu_parts_replay.proofs.commands.place_of_group.Goals as goal
+use Rattle.rcu_lemmas.proofs.Changed.{same_item}
 
 pub returns-then-number-clause-found : goal.returns-then-number-clause-found
 returns-then-number-clause-found g c =

@@ -2,8 +2,8 @@ use Rattle.std.proofs.Common.{◌≢◌, ◌<◌, length, ap, sym, ◌∙◌, su
 use Rattle.std.proofs.lemmas.List.{take_all}
 use Rattle.std.proofs.lemmas.List.Elements.{All-more, All-same}
 use Rattle.rcu_part_hand.specs.declared.hand.Hand.{Hand}
-use Rattle.rcu_parts_replay.proofs.Changing.{same_item}
 use Rattle.rcu_parts_replay.proofs.commands.place_of_hand.Goals as goal
+use Rattle.rcu_lemmas.proofs.Changed.{same_item}
 
 pub returns-then-cpu-clause-found : goal.returns-then-cpu-clause-found
 returns-then-cpu-clause-found g c =

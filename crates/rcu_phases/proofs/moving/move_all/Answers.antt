@@ -1,4 +1,4 @@
-use Rattle.rcu_control.proofs.Stepping.{same_again}
+use Rattle.rcu_board.proofs.Stepping.{same_again}
 use Rattle.rcu_phases.proofs.moving.move_all.Goals as goal
 
 pub loop-next-preserved-in-Continue-1 : goal.loop-next-preserved-in-Continue-1

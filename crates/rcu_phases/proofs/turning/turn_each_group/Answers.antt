@@ -2,9 +2,9 @@ use Rattle.std.proofs.Math.ListN.{length-set}
 use Rattle.std.proofs.Common.{arith, refl, ◌∙◌}
 use Rattle.rcu_part_group.proofs.GroupTurns.{same_group}
 use Rattle.rcu_part_group.specs.Groups.{SameGroup}
-use Rattle.rcu_phases.proofs.Changing.{zip_changed}
 use Rattle.rcu_phases.proofs.Keeping.{groups_again, groups_none}
 use Rattle.rcu_phases.proofs.turning.turn_each_group.Goals as goal
+use Rattle.rcu_lemmas.proofs.Changed.{zip_changed}
 
 pub loop-place-init : goal.loop-place-init
 loop-place-init g c = record { same = groups_none c.args.groups.now.items; long = refl }

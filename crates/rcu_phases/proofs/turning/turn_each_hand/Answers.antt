@@ -2,9 +2,9 @@ use Rattle.std.proofs.Math.ListN.{length-set}
 use Rattle.std.proofs.Common.{arith, refl, ◌∙◌}
 use Rattle.rcu_part_hand.proofs.HandRuns.{same_hand}
 use Rattle.rcu_part_hand.specs.Hands.{IsSoundHand, SameHand}
-use Rattle.rcu_phases.proofs.Changing.{all_changed, zip_changed}
 use Rattle.rcu_phases.proofs.Keeping.{hands_again, hands_none}
 use Rattle.rcu_phases.proofs.turning.turn_each_hand.Goals as goal
+use Rattle.rcu_lemmas.proofs.Changed.{all_changed, zip_changed}
 
 pub loop-place-init : goal.loop-place-init
 loop-place-init g c = record { keeps = hands_none g.J.Job.key_of g.J.Job.gives c.args.hands.now.items; long = refl }

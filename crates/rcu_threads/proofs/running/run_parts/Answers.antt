@@ -3,9 +3,8 @@ use Rattle.std.specs.Prelude.{All}
 use Rattle.std.specs.List.{AllZip}
 use Rattle.std.proofs.lemmas.List.{length-map}
 use Rattle.std.proofs.lemmas.Result.{IfOk-at_ok, MatchResult-at_ok}
-use Rattle.rcu_gathering.proofs.Lists.{all_map}
 use Rattle.rcu_part_processor.specs.declared.processor.Processor.{Processor}
-use Rattle.rcu_control.proofs.Stepping.{same_again}
+use Rattle.rcu_board.proofs.Stepping.{same_again}
 use Rattle.rcu_control.specs.Parts.{control_view}
 use Rattle.rcu_crews.specs.Parts.{GroupStays, HandStays}
 use Rattle.rcu_crews.specs.Runs.{HasRun}
@@ -13,6 +12,7 @@ use Rattle.rcu_crews.proofs.Tickets.{all_halted, driver_kept}
 use Rattle.rcu_crews.proofs.Zips.{zip_kept}
 use Rattle.rcu_threads.proofs.Ending.{tickets_of_each}
 use Rattle.rcu_threads.proofs.running.run_parts.Goals as goal
+use Rattle.rcu_lemmas.proofs.All.{All-unmap}
 
 pub start_groups-groups-requires-send-J : goal.start_groups-groups-requires-send-J
 start_groups-groups-requires-send-J g c κs within = assumption
@@ -64,7 +64,7 @@ returns-clause-ran g c = let key_of = g.J.Job.key_of in let gives = g.J.Job.give
 pub returns-clause-answered : goal.returns-clause-answered
 returns-clause-answered g c = λ unused. let callers = c.in_ok-callers.callers.items in let ps = c.args.parts.processors.items in
     let Unused : Processor g.row.J.Denot ℕ → Type 0 = λ p. p.state.accepted ≡ 0 in
-    let none = all_map Unused (λ y. y.processor) callers (subst (λ l. All Unused l) (sym c.in_ok-callers.ensures.processors) unused) in
+    let none = All-unmap Unused (λ y. y.processor) callers (subst (λ l. All Unused l) (sym c.in_ok-callers.ensures.processors) unused) in
     let answered = IfOk-at_ok _ c.unwrap-answered.ensures (c.run_processors-answered.ensures.answered none) in
     let some : 0 < length ps = subst (λ n. 0 < n) c.args.parts.processors.ok.0 c.in_ok-callers.ensures.some in
     let many = ap (λ l. length l) c.in_ok-callers.ensures.processors in
@@ -83,7 +83,7 @@ returns-clause-answered g c = λ unused. let callers = c.in_ok-callers.callers.i
 pub returns-clause-refused : goal.returns-clause-refused
 returns-clause-refused g c = λ unused. let callers = c.in_ok-callers.callers.items in
     let Unused : Processor g.row.J.Denot ℕ → Type 0 = λ p. p.state.accepted ≡ 0 in
-    let none = all_map Unused (λ y. y.processor) callers (subst (λ l. All Unused l) (sym c.in_ok-callers.ensures.processors) unused) in
+    let none = All-unmap Unused (λ y. y.processor) callers (subst (λ l. All Unused l) (sym c.in_ok-callers.ensures.processors) unused) in
     let answered = IfOk-at_ok _ c.unwrap-answered.ensures (c.run_processors-answered.ensures.answered none) in answered.why
 
 pub join_all-groups-requires-room-P-Promise : goal.join_all-groups-requires-room-P-Promise

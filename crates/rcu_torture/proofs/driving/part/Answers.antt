@@ -1,7 +1,7 @@
 use Rattle.std.proofs.Common.{rules, ◌≡◌, [], ◌∷◌, ◌++◌, append_assoc, ap, sym, ◌∙◌, subst, refl}
 use Rattle.std.specs.List.{AllZip}
-use Rattle.rcu_parts.proofs.Zips.{zip_push}
 use Rattle.rcu_torture.proofs.driving.part.Goals as goal
+use Rattle.rcu_lemmas.proofs.Zips.{zip_push}
 
 pub loop-driven-preserved : goal.loop-driven-preserved
 loop-driven-preserved c =

@@ -1,12 +1,13 @@
 use Rattle.std.proofs.Common.{◌≡◌, length, subst}
 use Rattle.rcu_crews.specs.Parts.{GroupStays, HandStays}
 use Rattle.rcu_crews.proofs.Tickets.{driver_kept}
-use Rattle.rcu_crews.proofs.Zips.{zip_chain, zip_kept}
+use Rattle.rcu_crews.proofs.Zips.{zip_kept}
 use Rattle.rcu_torture.proofs.Keeping.{cpu_keeps}
 use Rattle.rcu_torture.specs.Ends.{CpuKeeps}
 use Rattle.rcu_torture.specs.Kept.{Keeps}
 use Rattle.rcu_torture.specs.Retired.{IsVersion, version_of}
 use Rattle.rcu_torture.proofs.running.run_parts.Goals as goal
+use Rattle.rcu_lemmas.proofs.Zips.{zip_chain}
 
 pub returns : goal.returns
 returns g c = let parts = c.args.parts in

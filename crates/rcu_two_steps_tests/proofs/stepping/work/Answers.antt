@@ -1,4 +1,4 @@
-use Rattle.rcu_control.proofs.Stepping.{same_again}
+use Rattle.rcu_board.proofs.Stepping.{same_again}
 use Rattle.rcu_part_processor.proofs.TickRuns.{same_processor_again}
 use Rattle.rcu_two_steps_tests.proofs.stepping.work.Goals as goal
 

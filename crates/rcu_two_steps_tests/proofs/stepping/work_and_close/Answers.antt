@@ -1,13 +1,13 @@
 use Rattle.std.proofs.Common.{refl, arith}
-use Rattle.rcu_part_group.proofs.GroupLists.{zip_same}
 use Rattle.rcu_part_group.proofs.GroupTurns.{same_group}
 use Rattle.rcu_part_hand.proofs.HandRuns.{same_hand}
 use Rattle.rcu_part_hand.specs.Hands.{SameHand}
 use Rattle.rcu_part_group.specs.Groups.{SameGroup}
 use Rattle.rcu_parts.proofs.StaySame.{stay_same}
 use Rattle.rcu_parts.specs.OneOpen.{groups_in, hands_in}
-use Rattle.rcu_control.proofs.Stepping.{same_part}
+use Rattle.rcu_board.proofs.Stepping.{same_part}
 use Rattle.rcu_two_steps_tests.proofs.stepping.work_and_close.Goals as goal
+use Rattle.rcu_lemmas.proofs.Zips.{zip_same}
 
 pub close-requires-clause-parts : goal.close-requires-clause-parts
 close-requires-clause-parts c κs = (

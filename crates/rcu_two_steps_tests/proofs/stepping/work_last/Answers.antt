@@ -1,6 +1,5 @@
 use Rattle.std.proofs.Common.{◌≡◌, ℕ, List, [], ◌∷◌, ◌++◌, append-nil, sym, ◌∙◌, subst}
 use Rattle.std.specs.List.{All, AllZip}
-use Rattle.rcu_part_group.proofs.GroupLists.{zip_same}
 use Rattle.rcu_part_processor.proofs.TickRuns.{same_processor}
 use Rattle.rcu_part_processor.specs.Processors.{IsSound, SameProcessor}
 use Rattle.rcu_part_processor.specs.declared.processor.Processor.{Processor}
@@ -9,6 +8,7 @@ use Rattle.rcu_two_steps_tests.specs.Echoes.{IsOwnKey, key_of_echo}
 use Rattle.rcu_two_steps_tests.specs.declared.echo.Echo.{Echo}
 use Rattle.rcu_two_steps_tests.proofs.Zipped.{all_kept}
 use Rattle.rcu_two_steps_tests.proofs.stepping.work_last.Goals as goal
+use Rattle.rcu_lemmas.proofs.Zips.{zip_same}
 
 abbrev Cpu : Type 0
 Cpu = Processor Echo ℕ

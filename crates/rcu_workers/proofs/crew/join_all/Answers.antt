@@ -1,8 +1,9 @@
 use Rattle.std.proofs.Common.{◌∙◌, sym}
 use Rattle.std.specs.Vec.{vec_capacity, vec_len}
 use Rattle.rcu_workers.specs.Crews.{HasEnded}
-use Rattle.rcu_workers.proofs.Crews.{all_done, order_after, room_for_all, room_for_more, room_for_one, zip_none, zip_pushed}
+use Rattle.rcu_workers.proofs.Crews.{all_done, room_for_all, zip_none}
 use Rattle.rcu_workers.proofs.crew.join_all.Goals as goal
+use Rattle.rcu_lemmas.proofs.Zips.{order_after, room_for_more, room_for_one, zip_pushed}
 
 pub loop-started-preserved : goal.loop-started-preserved
 loop-started-preserved g c = let l = c.loop-started in let i = l.invariant in let rest = l.started-iterator.rest.items in let more = c.next.new.self.rest.items in

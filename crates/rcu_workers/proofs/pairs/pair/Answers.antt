@@ -1,7 +1,8 @@
 use Rattle.std.proofs.Common.{◌∙◌, ◌++◌, ap, map, length, refl, sym, arith}
 use Rattle.std.specs.Vec.{vec_capacity, vec_len}
-use Rattle.rcu_workers.proofs.Crews.{all_came, order_after, room_for_more, room_for_one, taken_pushed}
+use Rattle.rcu_workers.proofs.Crews.{all_came, taken_pushed}
 use Rattle.rcu_workers.proofs.pairs.pair.Goals as goal
+use Rattle.rcu_lemmas.proofs.Zips.{order_after, room_for_more, room_for_one}
 
 pub push_reserved-requires : goal.push_reserved-requires
 push_reserved-requires g c = let l = c.loop-processor in room_for_one (vec_len l.posts) (vec_capacity l.posts) l.processor-iterator.rest.items c.next.new.self.rest.items c.in-Some.processor l.invariant.room c.in-Some.ensures.steps.0

@@ -1,7 +1,8 @@
 use Rattle.std.proofs.Common.{◌∙◌, ap, map, sym}
 use Rattle.std.specs.Vec.{vec_capacity, vec_len}
-use Rattle.rcu_workers.proofs.Crews.{all_came, order_after, pushed_taken, room_for_all, room_for_more, room_for_one}
+use Rattle.rcu_workers.proofs.Crews.{all_came, pushed_taken, room_for_all}
 use Rattle.rcu_workers.proofs.pairs.part.Goals as goal
+use Rattle.rcu_lemmas.proofs.Zips.{order_after, room_for_more, room_for_one}
 
 pub loop-post-init : goal.loop-post-init
 loop-post-init g c = let all = c.args.posts in let room = c.requires in let rest = c.into_iter-post-iterator.result.rest.items in let gives = c.into_iter-post-iterator.ensures.into_iter_gives.0 in record {

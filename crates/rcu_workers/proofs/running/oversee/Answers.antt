@@ -1,4 +1,4 @@
-use Rattle.rcu_control.proofs.Stepping.{same_again}
+use Rattle.rcu_board.proofs.Stepping.{same_again}
 use Rattle.rcu_workers.proofs.running.oversee.Goals as goal
 
 pub returns-clause-same : goal.returns-clause-same

@@ -1,8 +1,6 @@
 use Rattle.std.proofs.Common.{◌≡◌, ◌≢◌, ◌∙◌, Some, ap, map, subst, sym, vec_len, arith}
 use mir.Syntax.{of_param}
 use Rattle.std.specs.List.{AllZip, slice_get}
-use Rattle.rcu_part_group.proofs.GroupLists.{zip_map}
-use Rattle.rcu_runtime.proofs.Changing.{zip_weaker}
 use Rattle.rcu_workers.specs.Crews.{HasBegun, HasEnded}
 use Rattle.rcu_workers.specs.Rooms.{AreHalvesFor}
 use Rattle.rcu_workers.specs.Stays.{GroupStays, HandStays}
@@ -11,6 +9,7 @@ use Rattle.rcu_workers.proofs.Crews.{as_many, ended_at, joined_all, joined_one, 
 use Rattle.rcu_workers.specs.declared.worker.End.TheVariants.{NotBegun}
 use Rattle.rcu_workers.proofs.running.run_parts.Goals as goal
 use Rattle.rcu_control.specs.Parts.{SameDriver}
+use Rattle.rcu_lemmas.proofs.Zips.{zip_map, zip_weaker}
 
 pub returns-clause-parts : goal.returns-clause-parts
 returns-clause-parts g c = let key_of = g.J.Job.key_of in let gives = g.J.Job.gives in let name_of = g.W.Worker.name_of in let ends_as = g.W.Worker.ends_as in let parts = c.args.parts in

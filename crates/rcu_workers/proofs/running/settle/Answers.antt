@@ -1,5 +1,5 @@
 use Rattle.std.proofs.Common.{refl, subst, sym}
-use Rattle.rcu_control.proofs.Stepping.{same_again}
+use Rattle.rcu_board.proofs.Stepping.{same_again}
 use Rattle.rcu_workers.specs.Steers.{EndsBy, ShutsAndPasses}
 use Rattle.rcu_workers.specs.declared.running.Ending.{Ending}
 use Rattle.rcu_workers.proofs.running.settle.Goals as goal

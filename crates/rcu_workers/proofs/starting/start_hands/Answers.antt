@@ -2,8 +2,9 @@ use Rattle.std.proofs.Common.{◌≤◌, ◌∙◌, refl, sym, arith}
 use Rattle.std.specs.Vec.{vec_capacity, vec_len}
 use Rattle.rcu_workers.specs.Crews.{HasBegun}
 use Rattle.rcu_workers.specs.Stays.{HandStays}
-use Rattle.rcu_workers.proofs.Crews.{all_done, order_after, room_for_all, room_for_more, room_for_one, zip_none, zip_pushed}
+use Rattle.rcu_workers.proofs.Crews.{all_done, room_for_all, zip_none}
 use Rattle.rcu_workers.proofs.starting.start_hands.Goals as goal
+use Rattle.rcu_lemmas.proofs.Zips.{order_after, room_for_more, room_for_one, zip_pushed}
 
 pub loop-hand-preserved : goal.loop-hand-preserved
 loop-hand-preserved g c = let l = c.loop-hand in let i = l.invariant in let rest = l.hand-iterator.rest.items in let more = c.next.new.self.rest.items in

@@ -2,8 +2,9 @@ use Rattle.std.proofs.Common.{◌≤◌, ◌∙◌, refl, sym, arith}
 use Rattle.std.specs.Vec.{vec_capacity, vec_len}
 use Rattle.rcu_workers.specs.Crews.{HasBegun}
 use Rattle.rcu_workers.specs.Steps.{PostWorks}
-use Rattle.rcu_workers.proofs.Crews.{all_done, order_after, room_for_all, room_for_more, room_for_one, zip_none, zip_pushed}
+use Rattle.rcu_workers.proofs.Crews.{all_done, room_for_all, zip_none}
 use Rattle.rcu_workers.proofs.starting.start_posts.Goals as goal
+use Rattle.rcu_lemmas.proofs.Zips.{order_after, room_for_more, room_for_one, zip_pushed}
 
 pub loop-post-preserved : goal.loop-post-preserved
 loop-post-preserved g c = let l = c.loop-post in let i = l.invariant in let rest = l.post-iterator.rest.items in let more = c.next.new.self.rest.items in

@@ -1,5 +1,5 @@
 use Rattle.std.proofs.Common.{refl}
-use Rattle.rcu_control.proofs.Stepping.{same_again, same_part}
+use Rattle.rcu_board.proofs.Stepping.{same_again, same_part}
 use Rattle.rcu_workers.proofs.Steered.{steered_on}
 use Rattle.rcu_workers.proofs.steering.steer.Goals as goal
 

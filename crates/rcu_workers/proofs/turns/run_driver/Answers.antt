@@ -1,4 +1,4 @@
-use Rattle.rcu_control.proofs.Stepping.{same_again, same_part}
+use Rattle.rcu_board.proofs.Stepping.{same_again, same_part}
 use Rattle.rcu_workers.proofs.turns.run_driver.Goals as goal
 
 pub loop-preserved : goal.loop-preserved

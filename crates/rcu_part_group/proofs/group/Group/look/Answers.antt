@@ -11,7 +11,7 @@ use Rattle.rcu_board.specs.Seats.{view, AtBoard}
 use Rattle.rcu_board.specs.Views.{seen_at, sight, tally}
 use Rattle.rcu_board.specs.Words.{bits_of, board_word, needed_word}
 use Rattle.rcu_board.specs.declared.view.View.{View}
-use Rattle.rcu_control.specs.Views.{KeepsLists}
+use Rattle.rcu_board.specs.Frames.{KeepsLists}
 use Rattle.rcu_part_group.specs.GroupLaw.{group_members_in}
 use Rattle.rcu_part_group.proofs.GroupTurns.{looks_same, lawful_looks}
 use Rattle.rcu_board.specs.Roles.{MayNeed}

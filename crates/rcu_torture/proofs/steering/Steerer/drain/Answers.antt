@@ -1,4 +1,4 @@
-use Rattle.rcu_control.proofs.Stepping.{same_again}
+use Rattle.rcu_board.proofs.Stepping.{same_again}
 use Rattle.rcu_torture.proofs.steering.Steerer.drain.Goals as goal
 
 pub returns-clause-steers : goal.returns-clause-steers

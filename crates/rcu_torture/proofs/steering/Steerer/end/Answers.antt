@@ -1,5 +1,5 @@
 use Rattle.std.proofs.Common.{subst, sym}
-use Rattle.rcu_control.proofs.Stepping.{same_again, same_part}
+use Rattle.rcu_board.proofs.Stepping.{same_again, same_part}
 use Rattle.rcu_torture.specs.Kept.{Steers}
 use Rattle.rcu_torture.proofs.steering.Steerer.end.Goals as goal
 use Rattle.rcu_torture.proofs.steering.Steerer.end.Goals.{in-DrainThenShut, in-Shut}

@@ -1,5 +1,5 @@
 use Rattle.std.proofs.Common.{rules}
-use Rattle.rcu_control.proofs.Stepping.{same_again}
+use Rattle.rcu_board.proofs.Stepping.{same_again}
 use Rattle.rcu_torture.proofs.steering.Steerer.poll.Goals as goal
 
 pub returns-in-Some : goal.returns-in-Some

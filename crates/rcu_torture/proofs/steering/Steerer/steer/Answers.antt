@@ -1,5 +1,5 @@
 use Rattle.std.proofs.Common.{subst, sym}
-use Rattle.rcu_control.proofs.Stepping.{same_again}
+use Rattle.rcu_board.proofs.Stepping.{same_again}
 use Rattle.rcu_torture.specs.Kept.{Steers}
 use Rattle.rcu_torture.proofs.steering.Steerer.steer.Goals as goal
 use Rattle.rcu_torture.proofs.steering.Steerer.steer.Goals.{then-once_in, else-once_in}

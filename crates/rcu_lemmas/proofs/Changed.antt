@@ -3,7 +3,7 @@ use Rattle.std.proofs.Common.{◌≡◌, ℕ, zero, suc, ◌<◌, ◌∙◌, Lis
 use Rattle.std.proofs.lemmas.List.{get_or_read_under}
 use Rattle.std.proofs.lemmas.List.Elements.{All-get_or, All-set}
 use Rattle.std.specs.List.{AllZip}
-use Rattle.rcu_part_group.proofs.GroupLists.{zip_same}
+use Rattle.rcu_lemmas.proofs.Zips.{zip_same}
 
 module _ {X : Type 0} where
   -- a relation that holds of each item and itself holds place by place, where it holds of the item that changes
