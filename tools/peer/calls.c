@@ -1,4 +1,4 @@
-/* The peer of `rcu_bench`: liburcu's call_rcu (QSBR) with a callback thread for each processor. `tools/bench` builds and runs it.
+/* The peer of `bench_calls`: liburcu's call_rcu (QSBR) with a callback thread for each processor. `tools/bench` builds and runs it.
  *
  *     calls THREADS CALLS
  *

@@ -1,4 +1,4 @@
-/* The peer of `rcu_bench --latency`: how long liburcu's callbacks wait, from call_rcu to their run. `tools/bench` builds and
+/* The peer of `bench_calls --latency`: how long liburcu's callbacks wait, from call_rcu to their run. `tools/bench` builds and
  * runs it.
  *
  *     latency CALLS SPACING

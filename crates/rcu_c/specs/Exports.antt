@@ -9,19 +9,19 @@ use Rattle.rcu_c.specs.declared.words.Settings.{Settings}
 use Rattle.rcu_jobs.specs.declared.Counts.{Counts}
 use Rattle.rcu_jobs.specs.declared.DriverTurn.{DriverTurn}
 use Rattle.rcu_jobs.specs.declared.DriverTurn.TheVariants.{Spent}
-use Rattle.rcu_lending.specs.Barriers.{PollsPart}
-use Rattle.rcu_lending.specs.Faults.{fault_number}
-use Rattle.rcu_lending.specs.Gathers.{Closes, ClosesAgain, RefusesClose, RefusesEnd}
-use Rattle.rcu_lending.specs.Opens.{OpensInto, RefusesOpen}
-use Rattle.rcu_lending.specs.Others.{DriverTurnsBy}
-use Rattle.rcu_lending.specs.Refusals.{IsWhyNotClosed}
-use Rattle.rcu_lending.specs.Shows.{OnlyShows}
-use Rattle.rcu_lending.specs.Slots.{OnSlot}
-use Rattle.rcu_lending.specs.declared.fault.Fault.{Fault}
-use Rattle.rcu_lending.specs.declared.fault.Fault.TheVariants.{Memory, Shape as OfShape}
-use Rattle.rcu_lending.specs.declared.part.Part.{Part}
-use Rattle.rcu_lending.specs.declared.slot.PartSlots.{PartSlots}
-use Rattle.rcu_lending.specs.declared.slot.Slot.{Slot}
+use Rattle.rcu_c_slots.specs.Barriers.{PollsPart}
+use Rattle.rcu_c_slots.specs.Faults.{fault_number}
+use Rattle.rcu_c_slots.specs.Gathers.{Closes, ClosesAgain, RefusesClose, RefusesEnd}
+use Rattle.rcu_c_slots.specs.Opens.{OpensInto, RefusesOpen}
+use Rattle.rcu_c_slots.specs.Others.{DriverTurnsBy}
+use Rattle.rcu_c_slots.specs.Refusals.{IsWhyNotClosed}
+use Rattle.rcu_c_slots.specs.Shows.{OnlyShows}
+use Rattle.rcu_c_slots.specs.Slots.{OnSlot}
+use Rattle.rcu_c_slots.specs.declared.fault.Fault.{Fault}
+use Rattle.rcu_c_slots.specs.declared.fault.Fault.TheVariants.{Memory, Shape as OfShape}
+use Rattle.rcu_c_slots.specs.declared.part.Part.{Part}
+use Rattle.rcu_c_slots.specs.declared.slot.PartSlots.{PartSlots}
+use Rattle.rcu_c_slots.specs.declared.slot.Slot.{Slot}
 use Rattle.rcu_numbers.specs.Limits.{IsWithinLimits}
 use Rattle.rcu_numbers.specs.declared.shape.Shape.{Shape}
 use Rattle.rcu_lists.specs.declared.pace.Kind.{Kind}

@@ -8,7 +8,7 @@ use Rattle.rcu_jobs.specs.declared.Lists.TheVariants.{Cpu, Folk}
 use Rattle.rcu_jobs.specs.declared.modes.Mode.{Mode}
 use Rattle.rcu_jobs.specs.declared.modes.Mode.TheVariants.{Deoffloading, Local, Offloaded, Offloading}
 use Rattle.rcu_jobs.specs.declared.callback.Record.{Record}
-use Rattle.rcu_lending.specs.declared.job.ForeignJob.{ForeignJob}
+use Rattle.rcu_c_slots.specs.declared.job.ForeignJob.{ForeignJob}
 use Rattle.rcu_c.specs.declared.words.CountWords.{CountWords}
 use Rattle.rcu_c.specs.declared.words.DriverWords.{DriverWords}
 use Rattle.rcu_c.specs.declared.words.ListWords.{ListWords}

@@ -4,14 +4,14 @@ ghost use Rattle.std.specs.Prelude.{◌≡◌, ◌≢◌};
 ghost use Rattle.std.specs.Option.{unwrap_or};
 ghost use Rattle.rcu_c.specs.Exports.{Refuses, Tells, TellsShown, kind_of_call};
 ghost use Rattle.rcu_c.specs.Words.{AreListWords};
-ghost use Rattle.rcu_lending.specs.Processors.{CallsBy, ReportsBy};
-ghost use Rattle.rcu_lending.specs.Runs.{BeginsBy, FinishesBy};
-ghost use Rattle.rcu_lending.specs.Shows.{ShowsAccepted, ShowsLeft, ShowsLists};
-ghost use Rattle.rcu_lending.specs.declared.fault.Fault.TheVariants.{Reading};
+ghost use Rattle.rcu_c_slots.specs.Processors.{CallsBy, ReportsBy};
+ghost use Rattle.rcu_c_slots.specs.Runs.{BeginsBy, FinishesBy};
+ghost use Rattle.rcu_c_slots.specs.Shows.{ShowsAccepted, ShowsLeft, ShowsLists};
+ghost use Rattle.rcu_c_slots.specs.declared.fault.Fault.TheVariants.{Reading};
 
 use crate::words::{ListWords, TicketWords, words_of_lists};
+use rcu_c_slots::{Fault, ForeignJob, Slot};
 use rcu_jobs::Ticket;
-use rcu_lending::{Fault, ForeignJob, Slot};
 use rcu_lists::Kind;
 use std::alloc::Global;
 

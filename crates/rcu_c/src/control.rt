@@ -4,12 +4,12 @@ ghost use Rattle.std.specs.Prelude.{◌≡◌, ◌≢◌, ◌<◌, ◌≤◌};
 ghost use Rattle.std.specs.Int.{from_bool};
 ghost use Rattle.rcu_numbers.specs.declared.shape.TheConstants.{MOST_PROCESSORS};
 ghost use Rattle.rcu_c.specs.Exports.{Refuses, Tells, TellsPoll};
-ghost use Rattle.rcu_lending.specs.Barriers.{OpensPart};
-ghost use Rattle.rcu_lending.specs.Others.{HaltsBy, ShutsBy, SwitchesPart};
-ghost use Rattle.rcu_lending.specs.declared.fault.Fault.TheVariants.{Foreign};
+ghost use Rattle.rcu_c_slots.specs.Barriers.{OpensPart};
+ghost use Rattle.rcu_c_slots.specs.Others.{HaltsBy, ShutsBy, SwitchesPart};
+ghost use Rattle.rcu_c_slots.specs.declared.fault.Fault.TheVariants.{Foreign};
 
 use crate::words::{CountWords, counts_of_words, words_of_counts};
-use rcu_lending::{Fault, Slot};
+use rcu_c_slots::{Fault, Slot};
 use std::alloc::Global;
 
 /// `rcuo_offload` and `rcuo_deoffload`: asks that a processor be offloaded (`on`) or local.

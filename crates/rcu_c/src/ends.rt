@@ -3,12 +3,12 @@
 ghost use Rattle.std.specs.Prelude.{◌≡◌, ◌≢◌, None};
 ghost use Rattle.rcu_c.specs.Exports.{RefusesEndBy, TellsShown};
 ghost use Rattle.rcu_c.specs.Words.{AreRecordWords};
-ghost use Rattle.rcu_lending.specs.Gathers.{HasEnds};
-ghost use Rattle.rcu_lending.specs.Shows.{ShowsBack, ShowsRan, ShowsReports};
+ghost use Rattle.rcu_c_slots.specs.Gathers.{HasEnds};
+ghost use Rattle.rcu_c_slots.specs.Shows.{ShowsBack, ShowsRan, ShowsReports};
 
 use crate::words::RecordWords;
+use rcu_c_slots::{ForeignJob, Slot};
 use rcu_jobs::Record;
-use rcu_lending::{ForeignJob, Slot};
 use std::alloc::Global;
 
 /// `rcuo_next_ran`: the record in place `at` of those of a processor.

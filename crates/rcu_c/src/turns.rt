@@ -2,11 +2,11 @@
 
 ghost use Rattle.std.specs.Prelude.{◌≡◌, ◌≢◌};
 ghost use Rattle.rcu_c.specs.Exports.{Tells, TellsTurn};
-ghost use Rattle.rcu_lending.specs.Others.{GroupTurnsBy, ReadsHaltBy};
+ghost use Rattle.rcu_c_slots.specs.Others.{GroupTurnsBy, ReadsHaltBy};
 
 use crate::words::{DriverWords, GroupWords, words_of_driver};
+use rcu_c_slots::{Fault, Slot};
 use rcu_jobs::DriverTurn;
-use rcu_lending::{Fault, Slot};
 use std::alloc::Global;
 
 /// `rcuo_driver_turn`: a turn of the driver.

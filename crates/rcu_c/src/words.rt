@@ -3,8 +3,8 @@
 ghost use Rattle.std.specs.Prelude.{◌≡◌, ◌<◌, IfNone, IfSome};
 ghost use Rattle.rcu_c.specs.Words.{AreCountsOf, AreListWords, AreTurnWords, mode_number};
 
+use rcu_c_slots::ForeignJob;
 use rcu_jobs::{Counts, DriverTurn, Lists, Mode};
-use rcu_lending::ForeignJob;
 use rcu_numbers::MOST_PROCESSORS;
 
 /// `struct rcuo_settings`.

@@ -8,12 +8,12 @@
 mod batch;
 mod bypass;
 mod pace;
-mod packing;
 mod parcel;
+mod parcels;
 mod segments;
 
 pub use batch::{Batch, INLINE_PLACES};
 pub use bypass::{Bypass, Placed};
 pub use pace::{Kind, LAZY_MOMENTS, MOST_DIRECT, Pace};
-pub use parcel::{Parcel, Places, Room};
+pub use parcel::{Parcel, Places, SpareBlock};
 pub use segments::Segments;

@@ -31,20 +31,20 @@ pub struct Places<J> {
 /// Room on the heap for as many callbacks as stand in a batch itself, and one more: a list with no more places than a batch
 /// has itself would be moved into the batch that loads it.
 #[derive(Drop)]
-pub struct Room<J> {
+pub struct SpareBlock<J> {
     pub(crate) slots: Vec<Option<Callback<J>>>,
     ghost empty: { slots.items ≡ [] },
     ghost wide: { INLINE_PLACES ≤ vec_capacity slots },
 }
 
-impl<J: Drop> Room<J> {
+impl<J: Drop> SpareBlock<J> {
     /// Room that nothing stands in.
     ///
     /// # Errors
     ///
     /// Want of memory.
-    pub fn new(alloc: Global) -> Result<Room<J>, AllocError> {
-        Ok(Room {
+    pub fn new(alloc: Global) -> Result<SpareBlock<J>, AllocError> {
+        Ok(SpareBlock {
             slots: Vec::with_capacity(alloc, INLINE_PLACES + 1)?,
         })
     }

@@ -12,10 +12,10 @@ use Rattle.rcu_board.specs.Words.{needed_word}
 use Rattle.rcu_board.specs.declared.view.View.{View}
 use Rattle.rcu_board.proofs.Stepping.{same_again}
 use Rattle.rcu_board.specs.Frames.{IsBare, KeepsLists}
-use Rattle.rcu_holdings.specs.Aims.{AreUpTo, is_up_to, aim, wanted, looked as list_looked}
-use Rattle.rcu_holdings.specs.MemberLists.{most_batches, Relay, relay, TakesIn, Gives, Loads, Hands}
-use Rattle.rcu_holdings.proofs.Aims.{up-raised, look-needed}
-use Rattle.rcu_holdings.specs.declared.member_lists.MemberLists.{MemberLists}
+use Rattle.rcu_part_lists.specs.Aims.{AreUpTo, is_up_to, aim, wanted, looked as list_looked}
+use Rattle.rcu_part_lists.specs.MemberLists.{most_batches, Relay, relay, TakesIn, Gives, Loads, Hands}
+use Rattle.rcu_part_lists.proofs.Aims.{up-raised, look-needed}
+use Rattle.rcu_part_lists.specs.declared.member_lists.MemberLists.{MemberLists}
 use Rattle.rcu_jobs.specs.declared.callback.Callback.{Callback}
 use Rattle.rcu_lists.specs.Labels.{Labelled, Done, Bare, marked, callbacks_of, carries}
 use Rattle.rcu_numbers.specs.Words.{number_of}

@@ -6,8 +6,8 @@ use Rattle.rcu_board.specs.Views.{seen_at, sight}
 use Rattle.rcu_board.specs.Words.{needed_word}
 use Rattle.rcu_board.specs.declared.view.View.{View}
 use Rattle.rcu_board.specs.Frames.{IsBare}
-use Rattle.rcu_holdings.specs.Aims.{AreUpTo}
-use Rattle.rcu_holdings.specs.MemberLists.{Relay, relay}
+use Rattle.rcu_part_lists.specs.Aims.{AreUpTo}
+use Rattle.rcu_part_lists.specs.MemberLists.{Relay, relay}
 use Rattle.rcu_numbers.specs.declared.shape.TheConstants.{MOST_PROCESSORS}
 use Rattle.rcu_part_group.specs.declared.members.GroupMember.{GroupMember}
 use Rattle.rcu_part_group.specs.declared.members.GroupMembers.{GroupMembers}

@@ -10,8 +10,8 @@ use Rattle.rcu_board.specs.declared.board.Board.{Board as Table}
 use Rattle.rcu_board.specs.declared.board.Seat.{Seat}
 use Rattle.rcu_board.specs.declared.view.View.{View}
 use Rattle.rcu_board.specs.Frames.{SamePart}
-use Rattle.rcu_holdings.specs.Aims.{wanted}
-use Rattle.rcu_holdings.specs.MemberLists.{most_batches, front_of, rear_of, TakesIn, after_look, Gives, GivesSome, folk_lists, nothing_relayed}
+use Rattle.rcu_part_lists.specs.Aims.{wanted}
+use Rattle.rcu_part_lists.specs.MemberLists.{most_batches, front_of, rear_of, TakesIn, after_look, Gives, GivesSome, folk_lists, nothing_relayed}
 use Rattle.rcu_jobs.specs.declared.callback.Callback.{Callback}
 use Rattle.rcu_jobs.specs.declared.turns.GroupTurn.{GroupTurn}
 use Rattle.rcu_jobs.specs.declared.turns.Lists.{Lists}

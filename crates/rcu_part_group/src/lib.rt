@@ -4,9 +4,9 @@
 #![tactic(auto)]
 
 mod group;
-mod grouping;
 mod members;
 mod run;
+mod turn;
 
 pub use group::{Group, into_parts};
 pub use members::{GroupMember, GroupMembers};

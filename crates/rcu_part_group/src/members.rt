@@ -1,6 +1,6 @@
 //! The members of a group.
 
-use rcu_holdings::MemberLists;
+use rcu_part_lists::MemberLists;
 use std::alloc::{AllocError, Global};
 
 /// A member of a group: an offloadable processor, and what the group holds of it.

@@ -10,8 +10,8 @@ ghost use Rattle.rcu_part_group.specs.Groups.{SameGroup, PassesOn, group_view, m
 
 use crate::group::Group;
 use rcu_board::halted;
-use rcu_control::Pauses;
 use rcu_jobs::Job;
+use rcu_part_control::Pauses;
 use std::rt::Clock;
 use std::sync::Wait;
 

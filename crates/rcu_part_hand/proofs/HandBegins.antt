@@ -5,15 +5,15 @@ use Rattle.std.proofs.lemmas.List.Elements.{All-append}
 use Rattle.rcu_board.specs.Views.{sight}
 use Rattle.rcu_board.specs.declared.view.View.{View}
 use Rattle.rcu_board.proofs.Stepping.{same_again}
-use Rattle.rcu_holdings.specs.Helds.{drawn_by, held_by}
-use Rattle.rcu_holdings.specs.declared.hand.Held.{Held}
+use Rattle.rcu_part_lists.specs.Helds.{drawn_by, held_by}
+use Rattle.rcu_part_lists.specs.declared.hand.Held.{Held}
 use Rattle.rcu_jobs.specs.Records.{Given}
 use Rattle.rcu_jobs.specs.declared.Stop.{Stop}
 use Rattle.rcu_jobs.specs.declared.Stop.TheVariants.{Limit}
 use Rattle.rcu_jobs.specs.declared.callback.Callback.{Callback}
 use Rattle.rcu_jobs.specs.declared.callback.Record.{Record}
 use Rattle.rcu_numbers.specs.Numbers.{snap_of}
-use Rattle.rcu_records.specs.Records.{numbered_record, AreRipe}
+use Rattle.rcu_part_order.specs.Records.{numbered_record, AreRipe}
 use Rattle.rcu_part_steps.specs.Begins.{claimed_as, claim_that_runs, record_with}
 use Rattle.rcu_part_steps.specs.Changes.{Claims, Finishes}
 use Rattle.rcu_part_steps.specs.Places.{AreKeyed, numbered_callback, claim_of}
@@ -22,7 +22,7 @@ use Rattle.rcu_part_hand.specs.Begins.{KeepsHand, SameBegun, SameFinished}
 use Rattle.rcu_part_hand.specs.HandLaw.{IsLawfulHand, IsRunningHand}
 use Rattle.rcu_part_hand.specs.Hands.{Loads, SameHand, StopsAt}
 use Rattle.rcu_part_hand.specs.declared.hand.HandState.{HandState}
-use Rattle.rcu_part_hand.specs.declared.running.RunningHandState.{RunningHandState}
+use Rattle.rcu_part_hand.specs.declared.running_hand.RunningHandState.{RunningHandState}
 use Rattle.rcu_part_hand.proofs.HandRuns.{all_one, keyed_at}
 
 module _ {J : Type 0} where

@@ -5,7 +5,7 @@ use Rattle.std.proofs.lemmas.List.Elements.{All-append}
 use Rattle.std.specs.List.{All}
 use Rattle.rcu_board.specs.Views.{new_view, sight, tally}
 use Rattle.rcu_board.specs.declared.board.Board.{Board}
-use Rattle.rcu_holdings.specs.Ends.{before_end}
+use Rattle.rcu_part_lists.specs.Ends.{before_end}
 use Rattle.rcu_board.specs.declared.view.Claim.{Claim}
 use Rattle.rcu_board.specs.declared.view.View.{View}
 use Rattle.rcu_board.proofs.Stepping.{has_words, same_again}
@@ -14,8 +14,8 @@ use Rattle.rcu_jobs.specs.declared.HandTurn.{HandTurn}
 use Rattle.rcu_jobs.specs.declared.callback.Callback.{Callback}
 use Rattle.rcu_jobs.specs.declared.callback.Record.{Record}
 use Rattle.rcu_numbers.specs.Numbers.{snap_of}
-use Rattle.rcu_places.specs.Places.{Numbered}
-use Rattle.rcu_records.specs.Records.{numbered_record, AreRipe}
+use Rattle.rcu_part_order.specs.Places.{Numbered}
+use Rattle.rcu_part_order.specs.Records.{numbered_record, AreRipe}
 use Rattle.rcu_part_steps.specs.Changes.{Keeps, Claims, Finishes, StepsOnly, claim_at}
 use Rattle.rcu_board.specs.Words.{board_word, turns_word}
 use Rattle.rcu_part_steps.proofs.Turning.{steps_more}

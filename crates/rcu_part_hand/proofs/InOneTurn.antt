@@ -2,11 +2,11 @@
 use Rattle.std.proofs.Common.{◌≡◌, ℕ, ◌+◌, List, [], ◌∷◌, ◌++◌, ap, sym, ◌∙◌, subst}
 use Rattle.rcu_board.specs.Views.{sight}
 use Rattle.rcu_board.specs.Words.{turns_word}
-use Rattle.rcu_holdings.specs.Helds.{drawn_by, held_by}
-use Rattle.rcu_holdings.specs.declared.hand.Held.{Held}
+use Rattle.rcu_part_lists.specs.Helds.{drawn_by, held_by}
+use Rattle.rcu_part_lists.specs.declared.hand.Held.{Held}
 use Rattle.rcu_jobs.specs.declared.callback.Callback.{Callback}
 use Rattle.rcu_jobs.specs.declared.callback.Record.{Record}
-use Rattle.rcu_records.specs.Records.{numbered_record}
+use Rattle.rcu_part_order.specs.Records.{numbered_record}
 use Rattle.rcu_part_steps.specs.Begins.{record_with}
 use Rattle.rcu_part_steps.specs.Changes.{StepsOnly}
 use Rattle.rcu_part_steps.specs.declared.begins.ClaimedCallback.{ClaimedCallback}

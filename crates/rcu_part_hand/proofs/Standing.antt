@@ -3,8 +3,8 @@ use Rattle.std.proofs.Common.{◌≡◌, refl, sym, subst}
 use Rattle.rcu_board.specs.Seats.{AtBoard}
 use Rattle.rcu_board.specs.declared.board.Board.{Board}
 use Rattle.rcu_board.specs.declared.board.Seat.{Seat}
-use Rattle.rcu_holdings.specs.Helds.{front_of}
-use Rattle.rcu_holdings.specs.declared.hand.Held.{Held}
+use Rattle.rcu_part_lists.specs.Helds.{front_of}
+use Rattle.rcu_part_lists.specs.declared.hand.Held.{Held}
 use Rattle.rcu_lanes.specs.Ends.{SameFront}
 
 -- a seat is at its board, however the board was reached

@@ -6,7 +6,7 @@ use Rattle.rcu_board.specs.Words.{turns_word}
 use Rattle.rcu_board.specs.declared.board.Board.{Board}
 use Rattle.rcu_board.specs.declared.view.View.{View}
 use Rattle.rcu_board.specs.Frames.{SamePart}
-use Rattle.rcu_holdings.specs.Helds.{front_of, drawn_by, held_by}
+use Rattle.rcu_part_lists.specs.Helds.{front_of, drawn_by, held_by}
 use Rattle.rcu_jobs.specs.Records.{Given}
 use Rattle.rcu_jobs.specs.declared.Stop.{Stop}
 use Rattle.rcu_jobs.specs.declared.callback.Callback.{Callback}
@@ -19,7 +19,7 @@ use Rattle.rcu_part_steps.specs.Places.{AreKeyed}
 use Rattle.rcu_part_steps.specs.declared.begins.ClaimedCallback.{ClaimedCallback}
 use Rattle.rcu_part_hand.specs.Hands.{SameHand, Looks, Loads, TurnsBy, hand_board, hand_view, hand_records, hand_drawn, hand_held}
 use Rattle.rcu_part_hand.specs.declared.hand.HandState.{HandState}
-use Rattle.rcu_part_hand.specs.declared.running.RunningHandState.{RunningHandState}
+use Rattle.rcu_part_hand.specs.declared.running_hand.RunningHandState.{RunningHandState}
 
 module _ {J R : Type 0} where
   abbrev pub running_board : RunningHandState J R → Board

@@ -4,7 +4,7 @@ use Rattle.rcu_board.specs.declared.view.View.{View}
 use Rattle.rcu_jobs.specs.declared.callback.Callback.{Callback}
 use Rattle.rcu_jobs.specs.declared.callback.Record.{Record}
 use Rattle.rcu_numbers.specs.Numbers.{snap_of}
-use Rattle.rcu_records.specs.Records.{numbered_records, AreRipe}
+use Rattle.rcu_part_order.specs.Records.{numbered_records, AreRipe}
 use Rattle.rcu_part_steps.specs.Begins.{claim_that_runs, number_that_runs}
 use Rattle.rcu_part_steps.specs.Places.{numbered_callbacks, claim_of}
 use Rattle.rcu_part_steps.specs.declared.begins.ClaimedCallback.{ClaimedCallback}

@@ -8,12 +8,12 @@ use Rattle.rcu_board.specs.Plays.{looked}
 use Rattle.rcu_board.specs.Words.{bits_of, turns_word}
 use Rattle.rcu_board.specs.declared.board.Board.{Board as Table}
 use Rattle.rcu_board.specs.declared.board.Seat.{Seat}
-use Rattle.rcu_holdings.specs.declared.hand.Held.{Held}
+use Rattle.rcu_part_lists.specs.declared.hand.Held.{Held}
 use Rattle.rcu_numbers.specs.Words.{Board}
 use Rattle.rcu_numbers.specs.declared.shape.Shape.{Shape}
 use Rattle.rcu_board.specs.declared.view.View.{View}
 use Rattle.rcu_board.specs.Frames.{SamePart}
-use Rattle.rcu_holdings.specs.Helds.{front_of, drawn_by, held_by}
+use Rattle.rcu_part_lists.specs.Helds.{front_of, drawn_by, held_by}
 use Rattle.rcu_jobs.specs.Records.{Given}
 use Rattle.rcu_jobs.specs.declared.HandTurn.{HandTurn}
 use Rattle.rcu_jobs.specs.declared.Stop.{Stop}
@@ -22,7 +22,7 @@ use Rattle.rcu_jobs.specs.declared.callback.Callback.{Callback}
 use Rattle.rcu_jobs.specs.declared.callback.Record.{Record}
 use Rattle.rcu_lanes.specs.Ends.{SameFront}
 use Rattle.rcu_numbers.specs.Numbers.{snap_of}
-use Rattle.rcu_records.specs.Records.{numbered_records}
+use Rattle.rcu_part_order.specs.Records.{numbered_records}
 use Rattle.rcu_part_steps.specs.Changes.{StepsOnly}
 use Rattle.rcu_part_steps.specs.Places.{AreKeyed, numbered_callbacks}
 use Rattle.rcu_part_hand.specs.declared.hand.HandState.{HandState}

@@ -2,7 +2,7 @@
 use Rattle.std.specs.Prelude.{ℕ}
 use Rattle.rcu_part_hand.specs.Begins.{ClaimsFirst, FinishesHand, SameBegun}
 use Rattle.rcu_part_hand.specs.declared.hand.HandState.{HandState}
-use Rattle.rcu_part_hand.specs.declared.running.RunningHandState.{RunningHandState}
+use Rattle.rcu_part_hand.specs.declared.running_hand.RunningHandState.{RunningHandState}
 
 module _ {J R : Type 0} where
   -- The first callback that is held was claimed at the board sight `seen`, as a begin does after its look; its job was handed

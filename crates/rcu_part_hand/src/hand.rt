@@ -5,14 +5,14 @@ ghost use Rattle.std.specs.Arc.{arc_value};
 ghost use Rattle.rcu_numbers.specs.declared.shape.TheConstants.{MOST_CALLBACKS};
 ghost use Rattle.rcu_board.specs.Seats.{view, AtBoard};
 ghost use Rattle.rcu_board.specs.declared.board.Role.{Role};
-ghost use Rattle.rcu_holdings.specs.Helds.{taken_by};
+ghost use Rattle.rcu_part_lists.specs.Helds.{taken_by};
 ghost use Rattle.rcu_part_hand.specs.HandLaw.{IsLawfulHand};
 
-use crate::running::{RunningHand, RunningHandState};
+use crate::running_hand::{RunningHand, RunningHandState};
 use rcu_board::{Board, Role, Seat};
-use rcu_holdings::Held;
 use rcu_jobs::{Callback, Job, Record, Stop};
 use rcu_numbers::Shape;
+use rcu_part_lists::Held;
 use rcu_part_steps::{Begins, ClaimedCallback, take};
 use std::alloc::Global;
 use std::sync::Arc;
@@ -40,7 +40,7 @@ pub struct Hand<J: Job> {
 impl<J: Job> Hand<J> {
     ghost use Rattle.std.specs.Prelude.{[], length};
     ghost use Rattle.rcu_board.specs.Opened.{IsNewHand};
-    ghost use Rattle.rcu_holdings.specs.Helds.{drawn_by, held_by};
+    ghost use Rattle.rcu_part_lists.specs.Helds.{drawn_by, held_by};
     ghost use Rattle.rcu_part_hand.specs.Hands.{IsNewHandOf, hand_records};
 
     /// The hand of processor `cpu` of a shape, from its seat and the end of its done lane. It has drawn nothing.

@@ -3,13 +3,13 @@
 //! `rcu_parts` hands on `Hand` and `RunningHand`; what takes a hand apart is for its `close`.
 #![tactic(auto)]
 
-mod beginning;
+mod begin;
 mod hand;
-mod handling;
 mod laws;
 mod run;
-mod running;
+mod running_hand;
+mod turn;
 
 pub use hand::{Hand, HandState, into_state};
 pub use laws::turns_in_two_steps;
-pub use running::{RunningHand, RunningHandState};
+pub use running_hand::{RunningHand, RunningHandState};

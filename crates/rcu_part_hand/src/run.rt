@@ -9,8 +9,8 @@ ghost use Rattle.rcu_part_hand.specs.Hands.{SameHand, AddsRecords, IsSoundHand, 
 
 use crate::hand::Hand;
 use rcu_board::halted;
-use rcu_control::Pauses;
 use rcu_jobs::Job;
+use rcu_part_control::Pauses;
 use std::rt::Clock;
 use std::sync::Wait;
 

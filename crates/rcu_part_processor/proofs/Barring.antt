@@ -9,12 +9,12 @@ use Rattle.rcu_board.specs.Words.{accepts_word, board_word, needed_word, urge_wo
 use Rattle.rcu_board.specs.declared.board.Role.TheVariants.{Processor}
 use Rattle.rcu_board.specs.declared.board.Seat.{Seat}
 use Rattle.rcu_board.specs.declared.view.View.{View}
-use Rattle.rcu_control.specs.Barriers.{Opens, CountsItsOwn, count_at}
+use Rattle.rcu_part_control.specs.Barriers.{Opens, CountsItsOwn, count_at}
 use Rattle.rcu_board.specs.Frames.{IsNoneOf, Untouched}
-use Rattle.rcu_control.specs.declared.barrier.Barrier.{Barrier}
+use Rattle.rcu_part_control.specs.declared.barrier.Barrier.{Barrier}
 use Rattle.rcu_board.proofs.Stepping.{untouched, untouched_again}
-use Rattle.rcu_holdings.specs.Aims.{AreUpTo}
-use Rattle.rcu_holdings.specs.ProcessorLists.{Holding, put_by}
+use Rattle.rcu_part_lists.specs.Aims.{AreUpTo}
+use Rattle.rcu_part_lists.specs.ProcessorLists.{Holding, put_by}
 use Rattle.rcu_jobs.specs.declared.Counts.{Counts}
 use Rattle.rcu_jobs.specs.declared.callback.Record.{Record}
 use Rattle.rcu_part_steps.specs.Changes.{Tells}

@@ -3,7 +3,7 @@ use Rattle.std.proofs.Common.{◌≡◌, ℕ, true, false, ap, sym, ◌∙◌, r
 use Rattle.rcu_board.specs.Views.{seen_at}
 use Rattle.rcu_board.specs.Words.{turns_word}
 use Rattle.rcu_board.specs.declared.view.View.{View}
-use Rattle.rcu_holdings.specs.ProcessorLists.{Holding}
+use Rattle.rcu_part_lists.specs.ProcessorLists.{Holding}
 use Rattle.rcu_jobs.specs.declared.Stop.{Stop}
 use Rattle.rcu_part_steps.specs.Begins.{claimed_as}
 use Rattle.rcu_part_steps.specs.Changes.{Claims, StepsOnly}
@@ -13,7 +13,7 @@ use Rattle.rcu_part_processor.specs.Processors.{SameProcessor, view_of}
 use Rattle.rcu_part_processor.specs.Running.{running_lists, running_view}
 use Rattle.rcu_part_processor.specs.Ticks.{CatchesUp, Heeds, RanDone, Settles, StopsTick}
 use Rattle.rcu_part_processor.specs.declared.processor.ProcessorState.{ProcessorState}
-use Rattle.rcu_part_processor.specs.declared.running.RunningProcessorState.{RunningProcessorState}
+use Rattle.rcu_part_processor.specs.declared.running_processor.RunningProcessorState.{RunningProcessorState}
 use Rattle.rcu_part_processor.proofs.TickRuns.{done_more, done_none}
 
 module _ {J R : Type 0} where

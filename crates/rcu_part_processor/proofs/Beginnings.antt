@@ -10,14 +10,14 @@ use Rattle.rcu_board.specs.Views.{new_view, new_own, seen_at}
 use Rattle.rcu_board.specs.Words.{needed_word}
 use Rattle.rcu_board.specs.declared.board.Board.{Board}
 use Rattle.rcu_board.specs.declared.view.View.{View}
-use Rattle.rcu_holdings.specs.Aims.{AreUpTo, is_up_to}
-use Rattle.rcu_holdings.specs.ProcessorLists.{Holding, held_in, put_by}
+use Rattle.rcu_part_lists.specs.Aims.{AreUpTo, is_up_to}
+use Rattle.rcu_part_lists.specs.ProcessorLists.{Holding, held_in, put_by}
 use Rattle.rcu_lists.specs.Labels.{Labelled, callbacks_of}
 use Rattle.rcu_jobs.specs.declared.callback.Callback.{Callback}
 use Rattle.rcu_jobs.specs.declared.callback.Record.{Record}
-use Rattle.rcu_places.specs.Places.{Placed}
-use Rattle.rcu_places.proofs.Moves.{placed_none}
-use Rattle.rcu_records.specs.Records.{numbered_records, AreRipe}
+use Rattle.rcu_part_order.specs.Places.{Placed}
+use Rattle.rcu_part_order.proofs.Moves.{placed_none}
+use Rattle.rcu_part_order.specs.Records.{numbered_records, AreRipe}
 use Rattle.rcu_part_processor.specs.Lawful.{IsLawful}
 use Rattle.rcu_part_steps.specs.Places.{numbered_callbacks, accepted_list, claim_of}
 

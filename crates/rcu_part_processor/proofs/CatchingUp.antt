@@ -8,8 +8,8 @@ use Rattle.rcu_board.specs.declared.board.Board.{Board}
 use Rattle.rcu_board.specs.declared.board.Seat.{Seat}
 use Rattle.rcu_board.specs.declared.view.View.{View}
 use Rattle.rcu_board.proofs.Facts.{seen-touched, words-at}
-use Rattle.rcu_holdings.specs.Aims.{AreUpTo}
-use Rattle.rcu_holdings.specs.ProcessorLists.{Holding, after_look, held_in, passed_on, put_by}
+use Rattle.rcu_part_lists.specs.Aims.{AreUpTo}
+use Rattle.rcu_part_lists.specs.ProcessorLists.{Holding, after_look, held_in, passed_on, put_by}
 use Rattle.rcu_jobs.specs.declared.callback.Callback.{Callback}
 use Rattle.rcu_jobs.specs.declared.callback.Record.{Record}
 use Rattle.rcu_part_steps.specs.Changes.{Tells}

@@ -9,16 +9,16 @@ use Rattle.rcu_board.specs.Words.{needed_word}
 use Rattle.rcu_board.specs.declared.view.Accepted.{Accepted as Entry}
 use Rattle.rcu_board.specs.declared.view.View.{View}
 use Rattle.rcu_board.proofs.Stepping.{same_again}
-use Rattle.rcu_holdings.specs.Aims.{AreUpTo}
-use Rattle.rcu_holdings.specs.ProcessorLists.{Holding, held_in, put_by}
-use Rattle.rcu_holdings.proofs.Aims.{up-raised}
+use Rattle.rcu_part_lists.specs.Aims.{AreUpTo}
+use Rattle.rcu_part_lists.specs.ProcessorLists.{Holding, held_in, put_by}
+use Rattle.rcu_part_lists.proofs.Aims.{up-raised}
 use Rattle.rcu_jobs.specs.Records.{Given}
 use Rattle.rcu_jobs.specs.declared.callback.Callback.{Callback}
 use Rattle.rcu_jobs.specs.declared.callback.Record.{Record}
 use Rattle.rcu_numbers.specs.Numbers.{snap_of}
-use Rattle.rcu_places.specs.Places.{Placed, Numbered}
-use Rattle.rcu_places.proofs.Moves.{placed_claims}
-use Rattle.rcu_records.specs.Records.{numbered_record, numbered_records, AreRipe}
+use Rattle.rcu_part_order.specs.Places.{Placed, Numbered}
+use Rattle.rcu_part_order.proofs.Moves.{placed_claims}
+use Rattle.rcu_part_order.specs.Records.{numbered_record, numbered_records, AreRipe}
 use Rattle.rcu_part_steps.specs.Begins.{claimed_as, claim_that_runs, number_that_runs, record_with}
 use Rattle.rcu_part_steps.specs.Changes.{Claims, Finishes}
 use Rattle.rcu_part_steps.specs.Places.{AreKeyed, accepted_entry, accepted_list, claim_of, numbered_callback, numbered_callbacks}
@@ -27,7 +27,7 @@ use Rattle.rcu_part_processor.specs.Lawful.{IsLawful, IsRunningProcessor}
 use Rattle.rcu_part_processor.specs.Processors.{SameProcessor}
 use Rattle.rcu_part_processor.specs.Running.{SameBegun, SameFinished, SameRunning}
 use Rattle.rcu_part_processor.specs.declared.processor.ProcessorState.{ProcessorState}
-use Rattle.rcu_part_processor.specs.declared.running.RunningProcessorState.{RunningProcessorState}
+use Rattle.rcu_part_processor.specs.declared.running_processor.RunningProcessorState.{RunningProcessorState}
 
 module _ {R : Type 0} where
   -- the receipt of the one that ran is given as the others are

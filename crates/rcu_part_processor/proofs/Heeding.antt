@@ -4,10 +4,10 @@ use Rattle.std.proofs.Common.{◌≡◌, ℕ, Bool, true, false, not, inl, inr, 
 use Rattle.std.specs.Prelude.{IsTrue, ◌&&◌, ◌||◌, if◌then◌else◌}
 use Rattle.std.proofs.lemmas.Bool.{cases_Bool}
 use Rattle.std.proofs.lemmas.List.Elements.{All-nil}
-use Rattle.rcu_holdings.specs.Aims.{AreUpTo, is_up_to}
-use Rattle.rcu_holdings.specs.ProcessorLists.{Holding, put_by, Releases, AskedOn, Pours, asked_off}
+use Rattle.rcu_part_lists.specs.Aims.{AreUpTo, is_up_to}
+use Rattle.rcu_part_lists.specs.ProcessorLists.{Holding, put_by, Releases, AskedOn, Pours, asked_off}
 use Rattle.rcu_jobs.specs.Modes.{is_local, is_offloaded, is_offloading}
-use Rattle.rcu_holdings.specs.Outgoing.{Outgoing, IsReleased, is_due_in_tick, in_tick, poured}
+use Rattle.rcu_part_lists.specs.Outgoing.{Outgoing, IsReleased, is_due_in_tick, in_tick, poured}
 use Rattle.rcu_jobs.specs.declared.callback.Callback.{Callback}
 use Rattle.rcu_jobs.specs.declared.modes.Mode.TheVariants.{Deoffloading, Offloading}
 use Rattle.rcu_lists.specs.Labels.{Labelled, callbacks_of}
@@ -16,9 +16,9 @@ use Rattle.rcu_board.specs.Seats.{NeverFalls}
 use Rattle.rcu_board.specs.Views.{seen_at}
 use Rattle.rcu_board.specs.Words.{needed_word}
 use Rattle.rcu_board.specs.declared.view.View.{View}
-use Rattle.rcu_holdings.specs.ProcessorLists.{passed_on}
-use Rattle.rcu_holdings.specs.Limits.{AreBelow}
-use Rattle.rcu_holdings.proofs.Aims.{up-raised}
+use Rattle.rcu_part_lists.specs.ProcessorLists.{passed_on}
+use Rattle.rcu_part_lists.specs.Limits.{AreBelow}
+use Rattle.rcu_part_lists.proofs.Aims.{up-raised}
 use Rattle.rcu_jobs.specs.declared.callback.Record.{Record}
 use Rattle.rcu_jobs.specs.declared.modes.Mode.{Mode}
 use Rattle.rcu_part_steps.specs.Changes.{Tells}

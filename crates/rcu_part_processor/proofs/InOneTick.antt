@@ -1,11 +1,11 @@
 -- A callback run in two steps is one run of a tick.
 use Rattle.std.proofs.Common.{◌≡◌, ℕ, ◌+◌, List, [], ◌∷◌, ◌++◌, ap, sym, ◌∙◌, subst}
 use Rattle.rcu_board.specs.Words.{turns_word}
-use Rattle.rcu_holdings.specs.ProcessorLists.{Holding, holding}
-use Rattle.rcu_holdings.specs.declared.processor_lists.ProcessorLists.{ProcessorLists}
+use Rattle.rcu_part_lists.specs.ProcessorLists.{Holding, holding}
+use Rattle.rcu_part_lists.specs.declared.processor_lists.ProcessorLists.{ProcessorLists}
 use Rattle.rcu_jobs.specs.declared.callback.Record.{Record}
 use Rattle.rcu_lists.specs.Labels.{Done, marked}
-use Rattle.rcu_records.specs.Records.{numbered_record}
+use Rattle.rcu_part_order.specs.Records.{numbered_record}
 use Rattle.rcu_part_steps.specs.Begins.{record_with}
 use Rattle.rcu_part_steps.specs.Changes.{StepsOnly}
 use Rattle.rcu_part_steps.specs.declared.begins.ClaimedCallback.{ClaimedCallback}

@@ -8,14 +8,14 @@ use Rattle.rcu_board.specs.Views.{seen_at}
 use Rattle.rcu_board.specs.Words.{needed_word}
 use Rattle.rcu_board.specs.declared.view.Accepted.{Accepted as Entry}
 use Rattle.rcu_board.specs.declared.view.View.{View}
-use Rattle.rcu_holdings.specs.Aims.{AreUpTo}
-use Rattle.rcu_holdings.specs.ProcessorLists.{Holding, held_in, put_by, passed_on}
-use Rattle.rcu_holdings.proofs.Aims.{up-raised}
+use Rattle.rcu_part_lists.specs.Aims.{AreUpTo}
+use Rattle.rcu_part_lists.specs.ProcessorLists.{Holding, held_in, put_by, passed_on}
+use Rattle.rcu_part_lists.proofs.Aims.{up-raised}
 use Rattle.rcu_jobs.specs.declared.callback.Callback.{Callback}
 use Rattle.rcu_jobs.specs.declared.callback.Record.{Record}
-use Rattle.rcu_places.specs.Places.{Placed, Numbered, with_number}
-use Rattle.rcu_places.proofs.Moves.{placed_accepts, placed_all, placed_puts}
-use Rattle.rcu_records.specs.Records.{numbered_records}
+use Rattle.rcu_part_order.specs.Places.{Placed, Numbered, with_number}
+use Rattle.rcu_part_order.proofs.Moves.{placed_accepts, placed_all, placed_puts}
+use Rattle.rcu_part_order.specs.Records.{numbered_records}
 use Rattle.rcu_part_steps.specs.Begins.{number_that_runs}
 use Rattle.rcu_part_steps.specs.Changes.{Keeps, Tells, Enters, entry}
 use Rattle.rcu_part_processor.specs.Lawful.{HasPlaces, IsLawful, IsRunningProcessor}

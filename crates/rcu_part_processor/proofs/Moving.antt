@@ -11,16 +11,16 @@ use Rattle.rcu_board.specs.Words.{needed_word}
 use Rattle.rcu_board.specs.declared.view.Accepted.{Accepted as Entry}
 use Rattle.rcu_board.specs.declared.view.Claim.{Claim}
 use Rattle.rcu_board.specs.declared.view.View.{View}
-use Rattle.rcu_holdings.specs.Aims.{AreUpTo}
-use Rattle.rcu_holdings.specs.ProcessorLists.{Holding, held_in, put_by, passed_on}
-use Rattle.rcu_holdings.specs.Limits.{AreBelow}
-use Rattle.rcu_holdings.proofs.Aims.{up-raised}
+use Rattle.rcu_part_lists.specs.Aims.{AreUpTo}
+use Rattle.rcu_part_lists.specs.ProcessorLists.{Holding, held_in, put_by, passed_on}
+use Rattle.rcu_part_lists.specs.Limits.{AreBelow}
+use Rattle.rcu_part_lists.proofs.Aims.{up-raised}
 use Rattle.rcu_jobs.specs.declared.callback.Callback.{Callback}
 use Rattle.rcu_jobs.specs.declared.callback.Record.{Record}
 use Rattle.rcu_numbers.specs.Numbers.{snap_of}
-use Rattle.rcu_places.specs.Places.{Accepted, Placed, Move, Numbered, numbered, moved, put_of, with_number}
-use Rattle.rcu_places.proofs.Moves.{placed_claims, placed_puts}
-use Rattle.rcu_records.specs.Records.{numbered_record, numbered_records, AreRipe}
+use Rattle.rcu_part_order.specs.Places.{Accepted, Placed, Move, Numbered, numbered, moved, put_of, with_number}
+use Rattle.rcu_part_order.proofs.Moves.{placed_claims, placed_puts}
+use Rattle.rcu_part_order.specs.Records.{numbered_record, numbered_records, AreRipe}
 use Rattle.rcu_part_steps.specs.Changes.{Claims, Finishes, Tells, claim_at}
 use Rattle.rcu_part_processor.specs.Lawful.{IsLawful}
 use Rattle.rcu_part_steps.specs.Places.{numbered_callback, numbered_callbacks, accepted_entry, accepted_list, claim_of}

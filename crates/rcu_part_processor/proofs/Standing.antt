@@ -3,8 +3,8 @@ use Rattle.std.proofs.Common.{◌≡◌, refl, sym, subst}
 use Rattle.rcu_board.specs.Seats.{AtBoard}
 use Rattle.rcu_board.specs.declared.board.Board.{Board}
 use Rattle.rcu_board.specs.declared.board.Seat.{Seat}
-use Rattle.rcu_holdings.specs.ProcessorLists.{rear_of}
-use Rattle.rcu_holdings.specs.declared.processor_lists.ProcessorLists.{ProcessorLists}
+use Rattle.rcu_part_lists.specs.ProcessorLists.{rear_of}
+use Rattle.rcu_part_lists.specs.declared.processor_lists.ProcessorLists.{ProcessorLists}
 use Rattle.rcu_lanes.specs.Ends.{SameRear}
 
 -- a seat is at its board, however the board was reached

@@ -2,10 +2,10 @@
 use Rattle.std.proofs.Common.{◌≡◌, ℕ, zero, suc, arith, Bool, true, false, List, [], ◌∷◌, ◌++◌, append-nil, ap, sym, ◌∙◌, refl, subst, ⊎_elim}
 use Rattle.std.proofs.lemmas.List.Elements.{All-append, All-push}
 use Rattle.std.specs.Prelude.{IsTrue}
-use Rattle.rcu_holdings.specs.Aims.{AreUpTo, is_up_to}
-use Rattle.rcu_holdings.specs.ProcessorLists.{Holding, put_by, passed_on, Takes}
+use Rattle.rcu_part_lists.specs.Aims.{AreUpTo, is_up_to}
+use Rattle.rcu_part_lists.specs.ProcessorLists.{Holding, put_by, passed_on, Takes}
 use Rattle.rcu_jobs.specs.Modes.{is_offloaded}
-use Rattle.rcu_holdings.specs.Outgoing.{Outgoing, is_due_with}
+use Rattle.rcu_part_lists.specs.Outgoing.{Outgoing, is_due_with}
 use Rattle.rcu_jobs.specs.declared.callback.Callback.{Callback}
 use Rattle.rcu_lists.specs.Labels.{Bare, Labelled}
 use Rattle.rcu_lists.specs.declared.pace.Kind.{Kind}

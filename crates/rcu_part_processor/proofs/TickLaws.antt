@@ -12,15 +12,15 @@ use Rattle.rcu_board.specs.Words.{asks_word, bits_of, board_word, needed_word, t
 use Rattle.rcu_board.specs.declared.view.View.{View}
 use Rattle.rcu_board.specs.Frames.{Untouched}
 use Rattle.rcu_board.proofs.Stepping.{HasWords, has_words, untouched, untouched_again}
-use Rattle.rcu_holdings.specs.Aims.{wanted, looked as after_looked}
-use Rattle.rcu_holdings.specs.ProcessorLists.{Holding, put_by}
+use Rattle.rcu_part_lists.specs.Aims.{wanted, looked as after_looked}
+use Rattle.rcu_part_lists.specs.ProcessorLists.{Holding, put_by}
 use Rattle.rcu_jobs.specs.Modes.{is_deoffloading, is_local, is_offloaded}
-use Rattle.rcu_holdings.specs.Limits.{AreBelow}
-use Rattle.rcu_holdings.proofs.Aims.{callbacks-looked}
-use Rattle.rcu_holdings.proofs.Holdings.{no-callbacks}
+use Rattle.rcu_part_lists.specs.Limits.{AreBelow}
+use Rattle.rcu_part_lists.proofs.Aims.{callbacks-looked}
+use Rattle.rcu_part_lists.proofs.Holdings.{no-callbacks}
 use Rattle.rcu_jobs.specs.declared.callback.Callback.{Callback}
 use Rattle.rcu_lists.specs.Labels.{Done, Labelled, marked}
-use Rattle.rcu_records.specs.Records.{numbered_record}
+use Rattle.rcu_part_order.specs.Records.{numbered_record}
 use Rattle.rcu_part_steps.specs.Places.{numbered_callback}
 use Rattle.rcu_part_processor.specs.Processors.{SameProcessor, board_of, lists_of, view_of}
 use Rattle.rcu_part_processor.specs.Ticks.{Asks, CatchesUp, Heeds, Settles, RanDone, IsFresh, IsLocalOnceRun, RunsNoneOffloaded}

@@ -6,14 +6,14 @@ use Rattle.std.proofs.lemmas.List.Sums.{sum_by-cons}
 use Rattle.rcu_board.specs.Views.{seen_at}
 use Rattle.rcu_board.specs.Words.{turns_word}
 use Rattle.rcu_board.proofs.Stepping.{same_again}
-use Rattle.rcu_holdings.specs.ProcessorLists.{Holding, passed_on}
+use Rattle.rcu_part_lists.specs.ProcessorLists.{Holding, passed_on}
 use Rattle.rcu_jobs.specs.Records.{Given}
 use Rattle.rcu_jobs.specs.declared.Ticked.{Ticked}
 use Rattle.rcu_jobs.specs.declared.callback.Callback.{Callback}
 use Rattle.rcu_jobs.specs.declared.callback.Record.{Record}
 use Rattle.rcu_lists.specs.Labels.{Done, Labelled, marked, count, is_done}
-use Rattle.rcu_places.specs.Places.{Numbered}
-use Rattle.rcu_records.specs.Records.{numbered_record}
+use Rattle.rcu_part_order.specs.Places.{Numbered}
+use Rattle.rcu_part_order.specs.Records.{numbered_record}
 use Rattle.rcu_part_steps.specs.Changes.{StepsOnly}
 use Rattle.rcu_part_steps.specs.Places.{AreKeyed, numbered_callback}
 use Rattle.rcu_part_processor.specs.Processors.{AddsRecords, IsSound, SameProcessor, lists_of, records_of, view_of}

@@ -6,9 +6,9 @@ use Rattle.rcu_board.specs.Seats.{view}
 use Rattle.rcu_board.specs.Words.{accepts_word, bits_of}
 use Rattle.rcu_board.specs.declared.board.Seat.{Seat}
 use Rattle.rcu_board.specs.declared.view.View.{View}
-use Rattle.rcu_holdings.specs.ProcessorLists.{IsReady, Takes, holding}
+use Rattle.rcu_part_lists.specs.ProcessorLists.{IsReady, Takes, holding}
 use Rattle.rcu_jobs.specs.Modes.{is_offloaded}
-use Rattle.rcu_holdings.specs.declared.processor_lists.ProcessorLists.{ProcessorLists}
+use Rattle.rcu_part_lists.specs.declared.processor_lists.ProcessorLists.{ProcessorLists}
 use Rattle.rcu_jobs.specs.declared.answers.Refused.{Refused}
 use Rattle.rcu_jobs.specs.declared.answers.Refused.TheVariants.{Limit, Memory, Closed}
 use Rattle.rcu_jobs.specs.declared.answers.Ticket.{Ticket}

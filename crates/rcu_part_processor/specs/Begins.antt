@@ -12,7 +12,7 @@ use Rattle.rcu_part_processor.specs.Processors.{SameProcessor, view_of, lists_of
 use Rattle.rcu_part_processor.specs.Running.{running_view, running_lists, running_records}
 use Rattle.rcu_part_processor.specs.Ticks.{CatchesUp, Heeds, Settles, RanDone, StopsTick, TicksBy}
 use Rattle.rcu_part_processor.specs.declared.processor.ProcessorState.{ProcessorState}
-use Rattle.rcu_part_processor.specs.declared.running.RunningProcessorState.{RunningProcessorState}
+use Rattle.rcu_part_processor.specs.declared.running_processor.RunningProcessorState.{RunningProcessorState}
 
 module _ {J R : Type 0} where
   -- what may be claimed: the first callback of done, whose grace period is over at the number seen

@@ -4,13 +4,13 @@ use Rattle.rcu_board.specs.Seats.{accepted_of, fresh_of}
 use Rattle.rcu_board.specs.Views.{seen_at, sight}
 use Rattle.rcu_board.specs.Words.{needed_word}
 use Rattle.rcu_board.specs.declared.view.View.{View}
-use Rattle.rcu_holdings.specs.Aims.{AreUpTo}
-use Rattle.rcu_holdings.specs.ProcessorLists.{Holding, held_in, put_by}
+use Rattle.rcu_part_lists.specs.Aims.{AreUpTo}
+use Rattle.rcu_part_lists.specs.ProcessorLists.{Holding, held_in, put_by}
 use Rattle.rcu_jobs.specs.declared.callback.Record.{Record}
 use Rattle.rcu_jobs.specs.declared.modes.Mode.TheVariants.{Local}
 use Rattle.rcu_numbers.specs.Numbers.{snap_of}
-use Rattle.rcu_places.specs.Places.{Numbered, Placed}
-use Rattle.rcu_records.specs.Records.{numbered_records, AreRipe}
+use Rattle.rcu_part_order.specs.Places.{Numbered, Placed}
+use Rattle.rcu_part_order.specs.Records.{numbered_records, AreRipe}
 use Rattle.rcu_part_steps.specs.Begins.{claim_that_runs, number_that_runs}
 use Rattle.rcu_part_steps.specs.Places.{numbered_callbacks, accepted_list, claim_of}
 use Rattle.rcu_part_steps.specs.declared.begins.ClaimedCallback.{ClaimedCallback}

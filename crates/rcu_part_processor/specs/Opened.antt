@@ -4,9 +4,9 @@ use Rattle.rcu_numbers.specs.declared.shape.Shape.{Shape}
 use Rattle.rcu_board.specs.Opened.{is_offloadable}
 use Rattle.rcu_board.specs.declared.board.Board.{Board}
 use Rattle.rcu_board.specs.declared.board.Seat.{Seat}
-use Rattle.rcu_holdings.specs.ProcessorLists.{holding, put_by}
+use Rattle.rcu_part_lists.specs.ProcessorLists.{holding, put_by}
 use Rattle.rcu_jobs.specs.Modes.{first_mode}
-use Rattle.rcu_holdings.specs.declared.processor_lists.ProcessorLists.{ProcessorLists}
+use Rattle.rcu_part_lists.specs.declared.processor_lists.ProcessorLists.{ProcessorLists}
 use Rattle.rcu_part_processor.specs.Processors.{board_of, seat_of, records_of}
 use Rattle.rcu_part_processor.specs.declared.processor.ProcessorState.{ProcessorState}
 

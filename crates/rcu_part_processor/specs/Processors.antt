@@ -6,7 +6,7 @@ use Rattle.rcu_board.specs.declared.board.Board.{Board}
 use Rattle.rcu_board.specs.declared.board.Seat.{Seat}
 use Rattle.rcu_board.specs.declared.view.View.{View}
 use Rattle.rcu_board.specs.Frames.{SamePart}
-use Rattle.rcu_holdings.specs.ProcessorLists.{Holding, holding, passed_on, rear_of}
+use Rattle.rcu_part_lists.specs.ProcessorLists.{Holding, holding, passed_on, rear_of}
 use Rattle.rcu_jobs.specs.Records.{Given}
 use Rattle.rcu_jobs.specs.declared.callback.Record.{Record}
 use Rattle.rcu_lanes.specs.Ends.{SameRear}

@@ -6,8 +6,8 @@ use Rattle.rcu_board.specs.declared.board.Board.{Board}
 use Rattle.rcu_board.specs.declared.board.Seat.{Seat}
 use Rattle.rcu_board.specs.declared.view.View.{View}
 use Rattle.rcu_board.specs.Frames.{SamePart}
-use Rattle.rcu_holdings.specs.ProcessorLists.{Holding, holding, passed_on, rear_of}
-use Rattle.rcu_holdings.specs.declared.limits.LaneLimits.{LaneLimits}
+use Rattle.rcu_part_lists.specs.ProcessorLists.{Holding, holding, passed_on, rear_of}
+use Rattle.rcu_part_lists.specs.declared.limits.LaneLimits.{LaneLimits}
 use Rattle.rcu_jobs.specs.Records.{Given}
 use Rattle.rcu_jobs.specs.declared.answers.Refused.{Refused}
 use Rattle.rcu_jobs.specs.declared.answers.Ticket.{Ticket}
@@ -20,7 +20,7 @@ use Rattle.rcu_part_steps.specs.Places.{AreKeyed}
 use Rattle.rcu_part_processor.specs.Accepting.{Accepting, Accepts, AcceptsNone, Refuses}
 use Rattle.rcu_part_processor.specs.Processors.{board_of}
 use Rattle.rcu_part_processor.specs.declared.processor.ProcessorState.{ProcessorState}
-use Rattle.rcu_part_processor.specs.declared.running.RunningProcessorState.{RunningProcessorState}
+use Rattle.rcu_part_processor.specs.declared.running_processor.RunningProcessorState.{RunningProcessorState}
 
 -- Which part of which open it is: its seat, its lane, its number, its kind and its limits.
 pub record Identity (J : Type 0) : Type 0 where

@@ -6,18 +6,18 @@ use Rattle.rcu_board.specs.Plays.{looked, touched, urged}
 use Rattle.rcu_board.specs.Views.{seen_at, tally}
 use Rattle.rcu_board.specs.Words.{asks_word, bits_of, board_word, needed_word, turns_word, urge_word}
 use Rattle.rcu_board.specs.declared.view.View.{View}
-use Rattle.rcu_holdings.specs.Aims.{wanted}
-use Rattle.rcu_holdings.specs.ProcessorLists.{Holding, Releases, AskedOn, after_look, asked_off, put_by}
+use Rattle.rcu_part_lists.specs.Aims.{wanted}
+use Rattle.rcu_part_lists.specs.ProcessorLists.{Holding, Releases, AskedOn, after_look, asked_off, put_by}
 use Rattle.rcu_jobs.specs.Modes.{is_deoffloading, is_local, is_offloaded}
-use Rattle.rcu_holdings.specs.Modes.{settled}
-use Rattle.rcu_holdings.specs.Limits.{AreBelow}
+use Rattle.rcu_part_lists.specs.Modes.{settled}
+use Rattle.rcu_part_lists.specs.Limits.{AreBelow}
 use Rattle.rcu_jobs.specs.declared.Stop.{Stop}
 use Rattle.rcu_jobs.specs.declared.Stop.TheVariants.{Limit, Again, Empty, Turn, Memory}
 use Rattle.rcu_jobs.specs.declared.Ticked.{Ticked}
 use Rattle.rcu_jobs.specs.declared.callback.Callback.{Callback}
 use Rattle.rcu_jobs.specs.declared.callback.Record.{Record}
 use Rattle.rcu_lists.specs.Labels.{Done, Labelled, marked, count, is_done}
-use Rattle.rcu_records.specs.Records.{numbered_records}
+use Rattle.rcu_part_order.specs.Records.{numbered_records}
 use Rattle.rcu_part_steps.specs.Changes.{StepsOnly}
 use Rattle.rcu_part_steps.specs.Places.{numbered_callbacks}
 use Rattle.rcu_part_processor.specs.Processors.{SameProcessor, board_of, view_of, lists_of, records_of}

@@ -6,7 +6,7 @@ use Rattle.rcu_part_processor.specs.Begins.{ClaimsFirst, FinishesProcessor}
 use Rattle.rcu_part_processor.specs.Processors.{view_of}
 use Rattle.rcu_part_processor.specs.Running.{SameBegun}
 use Rattle.rcu_part_processor.specs.declared.processor.ProcessorState.{ProcessorState}
-use Rattle.rcu_part_processor.specs.declared.running.RunningProcessorState.{RunningProcessorState}
+use Rattle.rcu_part_processor.specs.declared.running_processor.RunningProcessorState.{RunningProcessorState}
 
 module _ {J R : Type 0} where
   -- The first callback of done was claimed at the board sight `seen`, as a begin does after its look; its job was handed out,

@@ -1,14 +1,14 @@
 //! Barriers opened by a processor, and the turn words that it reads for one.
 
 ghost use Rattle.std.specs.Prelude.{◌≡◌};
-ghost use Rattle.rcu_control.specs.Barriers.{Opens, count_at};
+ghost use Rattle.rcu_part_control.specs.Barriers.{Opens, count_at};
 ghost use Rattle.rcu_part_processor.specs.Calls.{KeepsAll};
 ghost use Rattle.rcu_part_processor.specs.Processors.{SameProcessor, board_of, view_of, KeepsSound};
 
 use crate::processor::Processor;
 use rcu_board::turn_of;
-use rcu_control::{Barrier, ReadsTurns, open_barrier};
 use rcu_jobs::Job;
+use rcu_part_control::{Barrier, ReadsTurns, open_barrier};
 
 impl<J: Job> Processor<J> {
     /// Opens a barrier for what each processor has accepted when its count is read, and then urges every processor to

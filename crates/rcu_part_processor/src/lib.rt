@@ -4,19 +4,19 @@
 //! `RunningProcessor` and `Reading`; what takes a processor apart is for its `close`.
 #![tactic(auto)]
 
-mod accepting;
+mod acceptance;
 mod barrier;
-mod beginning;
-mod calling;
+mod begin;
+mod call;
 mod laws;
+mod limits;
 mod processor;
-mod remaining;
-mod reporting;
+mod report;
 mod run;
-mod running;
-mod ticking;
+mod running_processor;
+mod tick;
 
 pub use laws::ticks_in_two_steps;
 pub use processor::{Processor, ProcessorState, into_state};
-pub use reporting::Reading;
-pub use running::{RunningProcessor, RunningProcessorState};
+pub use report::Reading;
+pub use running_processor::{RunningProcessor, RunningProcessorState};

@@ -5,15 +5,15 @@ ghost use Rattle.std.specs.Arc.{arc_value};
 ghost use Rattle.rcu_numbers.specs.declared.shape.TheConstants.{MOST_CALLBACKS};
 ghost use Rattle.rcu_board.specs.Seats.{view, AtBoard};
 ghost use Rattle.rcu_board.specs.declared.board.Role.{Role};
-ghost use Rattle.rcu_holdings.specs.ProcessorLists.{holding};
+ghost use Rattle.rcu_part_lists.specs.ProcessorLists.{holding};
 ghost use Rattle.rcu_numbers.specs.Words.{owes_of};
 ghost use Rattle.rcu_part_processor.specs.Lawful.{IsLawful, StaysLocal};
 
-use crate::running::{RunningProcessor, RunningProcessorState};
+use crate::running_processor::{RunningProcessor, RunningProcessorState};
 use rcu_board::{Board, Role, Seat};
-use rcu_holdings::ProcessorLists;
 use rcu_jobs::{Callback, Job, Record, Stop};
 use rcu_numbers::Shape;
+use rcu_part_lists::ProcessorLists;
 use rcu_part_steps::{Begins, ClaimedCallback, take};
 use std::alloc::Global;
 use std::sync::Arc;

@@ -6,12 +6,12 @@ use Rattle.rcu_board.specs.Views.{seen_at}
 use Rattle.rcu_board.specs.Words.{accepts_word, turns_word}
 use Rattle.rcu_board.specs.declared.board.Board.{Board}
 use Rattle.rcu_board.specs.declared.view.View.{View}
-use Rattle.rcu_control.specs.Barriers.{IsOver, count_at}
-use Rattle.rcu_control.specs.Parts.{control_view}
-use Rattle.rcu_gathering.proofs.Closings.{as_many_ended}
-use Rattle.rcu_gathering.specs.Closing.{CpuEnd, EndsAs, processors_of, seats_of}
+use Rattle.rcu_part_control.specs.Barriers.{IsOver, count_at}
+use Rattle.rcu_part_control.specs.Parts.{control_view}
+use Rattle.rcu_part_close.proofs.Closings.{as_many_ended}
+use Rattle.rcu_part_close.specs.Closing.{CpuEnd, EndsAs, processors_of, seats_of}
 use Rattle.rcu_part_steps.specs.Places.{accepted_list}
-use Rattle.rcu_gathering.specs.Parts.{CpuPart, hand_views, views_of}
+use Rattle.rcu_part_close.specs.Parts.{CpuPart, hand_views, views_of}
 use Rattle.rcu_jobs.specs.declared.Counts.{Counts}
 use Rattle.rcu_jobs.specs.declared.answers.Closed.{Closed}
 use Rattle.rcu_part_processor.specs.Processors.{SameProcessor, board_of, view_of}

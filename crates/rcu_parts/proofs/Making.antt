@@ -10,9 +10,9 @@ use Rattle.rcu_board.specs.declared.board.Board.{Board}
 use Rattle.rcu_board.specs.declared.board.Role.{Role}
 use Rattle.rcu_board.specs.declared.board.Role.TheVariants.{Processor, Hand, Group, Driver, Control}
 use Rattle.rcu_board.specs.declared.board.Seat.{Seat}
-use Rattle.rcu_holdings.specs.ProcessorLists.{rear_of}
-use Rattle.rcu_holdings.specs.MemberLists.{front_of}
-use Rattle.rcu_holdings.specs.declared.limits.LaneLimits.{LaneLimits}
+use Rattle.rcu_part_lists.specs.ProcessorLists.{rear_of}
+use Rattle.rcu_part_lists.specs.MemberLists.{front_of}
+use Rattle.rcu_part_lists.specs.declared.limits.LaneLimits.{LaneLimits}
 use Rattle.rcu_lanes.specs.Ends.{IsNewLane}
 use Rattle.rcu_lanes.specs.declared.ends.Front.{Front}
 use Rattle.rcu_lists.specs.declared.parcel.Parcel.{Parcel}

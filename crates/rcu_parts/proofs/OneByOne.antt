@@ -6,18 +6,18 @@ use Rattle.std.proofs.lemmas.List.{append_assoc, append-nil, length-append, map-
 use Rattle.std.proofs.lemmas.List.Elements.{All-append, All-cons, All-head, All-nil, All-tail}
 use Rattle.rcu_board.specs.Words.{words_of}
 use Rattle.rcu_board.specs.declared.view.View.{View}
-use Rattle.rcu_endings.specs.declared.ended.Ended.{Ended}
-use Rattle.rcu_gathering.specs.Closing.{CpuEnd, InRow, WasEnded, seats_of}
-use Rattle.rcu_gathering.specs.Gathered.{gather}
-use Rattle.rcu_gathering.specs.Parts.{CpuPart, HandPart, IsAtRest, views_of}
-use Rattle.rcu_gathering.proofs.Gathers.{gather_append}
+use Rattle.rcu_part_close.specs.declared.ended.ProcessorEnd.{ProcessorEnd}
+use Rattle.rcu_part_close.specs.Closing.{CpuEnd, InRow, WasEnded, seats_of}
+use Rattle.rcu_part_close.specs.Gathered.{gather}
+use Rattle.rcu_part_close.specs.Parts.{CpuPart, HandPart, IsAtRest, views_of}
+use Rattle.rcu_part_close.proofs.Gathers.{gather_append}
 use Rattle.rcu_parts.specs.AtClose.{cpu_part, cpu_parts, first_hand, hand_for, hand_part, hands_after, other_hands}
 use Rattle.rcu_parts.specs.Ending.{AreLong, EndsEach, EndsOne, GoesOn, IsReady, MayEnd, all_back, all_ran, all_view, board_at}
 use Rattle.rcu_part_hand.specs.Hands.{hand_board}
 use Rattle.rcu_parts.specs.OneOpen.{AreProcessorsFrom, HasHand, HasMember, offloadable_in}
 use Rattle.rcu_part_processor.specs.Processors.{board_of}
 use Rattle.rcu_parts.specs.Rooms.{FitsCpu}
-use Rattle.rcu_parts.specs.declared.ending.Ending.{Ending}
+use Rattle.rcu_parts.specs.declared.ends.Ending.{Ending}
 use Rattle.rcu_part_group.specs.declared.members.GroupMember.{GroupMember}
 use Rattle.rcu_part_hand.specs.declared.hand.Hand.{Hand}
 use Rattle.rcu_part_processor.specs.declared.processor.Processor.{Processor}
@@ -53,38 +53,38 @@ module _ {J R : Type 0} where
 
   -- ---- what is known of the first that is left
 
-  pub may_end : (k : ℕ) (p : Processor J R) (rest : List (Processor J R)) (ms : List (GroupMember J)) (hs : List (Hand J R)) (rs : List (Ended J R)) (x : Ending J R) → IsReady k (p ∷ rest) ms hs rs x → MayEnd x
+  pub may_end : (k : ℕ) (p : Processor J R) (rest : List (Processor J R)) (ms : List (GroupMember J)) (hs : List (Hand J R)) (rs : List (ProcessorEnd J R)) (x : Ending J R) → IsReady k (p ∷ rest) ms hs rs x → MayEnd x
   may_end k p rest ms hs rs x i = record { at = i.at; rests = i.rests; ran = (let a = i.for_ran in omega arith); back = (let a = i.for_back in omega arith) }
 
-  pub first_board : (k : ℕ) (p : Processor J R) (rest : List (Processor J R)) (ms : List (GroupMember J)) (hs : List (Hand J R)) (rs : List (Ended J R)) (x : Ending J R) → IsReady k (p ∷ rest) ms hs rs x → board_of p.state ≡ board_at x
+  pub first_board : (k : ℕ) (p : Processor J R) (rest : List (Processor J R)) (ms : List (GroupMember J)) (hs : List (Hand J R)) (rs : List (ProcessorEnd J R)) (x : Ending J R) → IsReady k (p ∷ rest) ms hs rs x → board_of p.state ≡ board_at x
   unfolding AreProcessorsFrom
   first_board k p rest ms hs rs x i = i.processors.0
 
-  pub first_cpu : (k : ℕ) (p : Processor J R) (rest : List (Processor J R)) (ms : List (GroupMember J)) (hs : List (Hand J R)) (rs : List (Ended J R)) (x : Ending J R) → IsReady k (p ∷ rest) ms hs rs x → p.state.cpu ≡ k
+  pub first_cpu : (k : ℕ) (p : Processor J R) (rest : List (Processor J R)) (ms : List (GroupMember J)) (hs : List (Hand J R)) (rs : List (ProcessorEnd J R)) (x : Ending J R) → IsReady k (p ∷ rest) ms hs rs x → p.state.cpu ≡ k
   unfolding AreProcessorsFrom
   first_cpu k p rest ms hs rs x i = i.processors.1
 
-  rooms_split : (k : ℕ) (p : Processor J R) (rest : List (Processor J R)) (ms : List (GroupMember J)) (hs : List (Hand J R)) (rs left : List (Ended J R)) (room : Ended J R) (x : Ending J R) → IsReady k (p ∷ rest) ms hs rs x → rs ≡ room ∷ left
+  rooms_split : (k : ℕ) (p : Processor J R) (rest : List (Processor J R)) (ms : List (GroupMember J)) (hs : List (Hand J R)) (rs left : List (ProcessorEnd J R)) (room : ProcessorEnd J R) (x : Ending J R) → IsReady k (p ∷ rest) ms hs rs x → rs ≡ room ∷ left
       → FitsCpu (cpu_part p (hand_for p hs)) room × AllZip FitsCpu (cpu_parts rest (hands_after p hs)) left
   rooms_split k p rest ms hs rs left room x i split = subst (λ l. AllZip FitsCpu (cpu_parts (p ∷ rest) hs) l) split i.rooms_are
 
-  pub first_room : (k : ℕ) (p : Processor J R) (rest : List (Processor J R)) (ms : List (GroupMember J)) (hs : List (Hand J R)) (rs left : List (Ended J R)) (room : Ended J R) (x : Ending J R) (hand : Option (HandPart J R)) → IsReady k (p ∷ rest) ms hs rs x → rs ≡ room ∷ left
+  pub first_room : (k : ℕ) (p : Processor J R) (rest : List (Processor J R)) (ms : List (GroupMember J)) (hs : List (Hand J R)) (rs left : List (ProcessorEnd J R)) (room : ProcessorEnd J R) (x : Ending J R) (hand : Option (HandPart J R)) → IsReady k (p ∷ rest) ms hs rs x → rs ≡ room ∷ left
       → hand_for p hs ≡ hand → FitsCpu (cpu_part p hand) room
   first_room k p rest ms hs rs left room x hand i split e = subst (λ o. FitsCpu (cpu_part p o) room) e (rooms_split k p rest ms hs rs left room x i split).0
 
-  members_split : (k : ℕ) (p : Processor J R) (rest : List (Processor J R)) (m : GroupMember J) (ms left : List (GroupMember J)) (hs : List (Hand J R)) (rs : List (Ended J R)) (x : Ending J R) → IsReady k (p ∷ rest) ms hs rs x → p.state.offloadable ≡ true → ms ≡ m ∷ left
+  members_split : (k : ℕ) (p : Processor J R) (rest : List (Processor J R)) (m : GroupMember J) (ms left : List (GroupMember J)) (hs : List (Hand J R)) (rs : List (ProcessorEnd J R)) (x : Ending J R) → IsReady k (p ∷ rest) ms hs rs x → p.state.offloadable ≡ true → ms ≡ m ∷ left
       → HasMember p m × AllZip HasMember (offloadable_in rest) left
   members_split k p rest m ms left hs rs x i e split = subst (λ l. AllZip HasMember (p ∷ offloadable_in rest) l) split (subst (λ l. AllZip HasMember l ms) (counted_in p rest e) i.members_are)
 
-  hands_split : (k : ℕ) (p : Processor J R) (rest : List (Processor J R)) (m : GroupMember J) (ms left : List (GroupMember J)) (h : Hand J R) (hs others : List (Hand J R)) (rs : List (Ended J R)) (x : Ending J R) → IsReady k (p ∷ rest) ms hs rs x → ms ≡ m ∷ left → hs ≡ h ∷ others
+  hands_split : (k : ℕ) (p : Processor J R) (rest : List (Processor J R)) (m : GroupMember J) (ms left : List (GroupMember J)) (h : Hand J R) (hs others : List (Hand J R)) (rs : List (ProcessorEnd J R)) (x : Ending J R) → IsReady k (p ∷ rest) ms hs rs x → ms ≡ m ∷ left → hs ≡ h ∷ others
       → HasHand m h × AllZip HasHand left others
   hands_split k p rest m ms left h hs others rs x i split first = subst (λ l. AllZip HasHand l (h ∷ others)) split (subst (λ l. AllZip HasHand ms l) first i.running)
 
-  pub first_member : (k : ℕ) (p : Processor J R) (rest : List (Processor J R)) (m : GroupMember J) (ms left : List (GroupMember J)) (hs : List (Hand J R)) (rs : List (Ended J R)) (x : Ending J R) → IsReady k (p ∷ rest) ms hs rs x → p.state.offloadable ≡ true → ms ≡ m ∷ left
+  pub first_member : (k : ℕ) (p : Processor J R) (rest : List (Processor J R)) (m : GroupMember J) (ms left : List (GroupMember J)) (hs : List (Hand J R)) (rs : List (ProcessorEnd J R)) (x : Ending J R) → IsReady k (p ∷ rest) ms hs rs x → p.state.offloadable ≡ true → ms ≡ m ∷ left
       → HasMember p m
   first_member k p rest m ms left hs rs x i e split = (members_split k p rest m ms left hs rs x i e split).0
 
-  pub first_has_hand : (k : ℕ) (p : Processor J R) (rest : List (Processor J R)) (m : GroupMember J) (ms left : List (GroupMember J)) (h : Hand J R) (hs others : List (Hand J R)) (rs : List (Ended J R)) (x : Ending J R) → IsReady k (p ∷ rest) ms hs rs x → ms ≡ m ∷ left → hs ≡ h ∷ others
+  pub first_has_hand : (k : ℕ) (p : Processor J R) (rest : List (Processor J R)) (m : GroupMember J) (ms left : List (GroupMember J)) (h : Hand J R) (hs others : List (Hand J R)) (rs : List (ProcessorEnd J R)) (x : Ending J R) → IsReady k (p ∷ rest) ms hs rs x → ms ≡ m ∷ left → hs ≡ h ∷ others
       → HasHand m h
   first_has_hand k p rest m ms left h hs others rs x i split first = (hands_split k p rest m ms left h hs others rs x i split first).0
 
@@ -92,18 +92,18 @@ module _ {J R : Type 0} where
   first_of_hands P h hs others split a = All-head P h others (subst (All P) split a)
 
   -- there is a room for it, and where it is offloadable a member and a hand
-  pub some_room : (k : ℕ) (p : Processor J R) (rest : List (Processor J R)) (ms : List (GroupMember J)) (hs : List (Hand J R)) (rs : List (Ended J R)) (x : Ending J R) → IsReady k (p ∷ rest) ms hs rs x → rs ≢ []
+  pub some_room : (k : ℕ) (p : Processor J R) (rest : List (Processor J R)) (ms : List (GroupMember J)) (hs : List (Hand J R)) (rs : List (ProcessorEnd J R)) (x : Ending J R) → IsReady k (p ∷ rest) ms hs rs x → rs ≢ []
   some_room k p rest ms hs rs x i none = subst (λ l. AllZip FitsCpu (cpu_parts (p ∷ rest) hs) l) none i.rooms_are
 
-  pub some_member : (k : ℕ) (p : Processor J R) (rest : List (Processor J R)) (ms : List (GroupMember J)) (hs : List (Hand J R)) (rs : List (Ended J R)) (x : Ending J R) → IsReady k (p ∷ rest) ms hs rs x → p.state.offloadable ≡ true → ms ≢ []
+  pub some_member : (k : ℕ) (p : Processor J R) (rest : List (Processor J R)) (ms : List (GroupMember J)) (hs : List (Hand J R)) (rs : List (ProcessorEnd J R)) (x : Ending J R) → IsReady k (p ∷ rest) ms hs rs x → p.state.offloadable ≡ true → ms ≢ []
   some_member k p rest ms hs rs x i e none = subst (λ l. AllZip HasMember (p ∷ offloadable_in rest) l) none (subst (λ l. AllZip HasMember l ms) (counted_in p rest e) i.members_are)
 
-  pub some_hand : (k : ℕ) (p : Processor J R) (rest : List (Processor J R)) (m : GroupMember J) (ms left : List (GroupMember J)) (hs : List (Hand J R)) (rs : List (Ended J R)) (x : Ending J R) → IsReady k (p ∷ rest) ms hs rs x → ms ≡ m ∷ left → hs ≢ []
+  pub some_hand : (k : ℕ) (p : Processor J R) (rest : List (Processor J R)) (m : GroupMember J) (ms left : List (GroupMember J)) (hs : List (Hand J R)) (rs : List (ProcessorEnd J R)) (x : Ending J R) → IsReady k (p ∷ rest) ms hs rs x → ms ≡ m ∷ left → hs ≢ []
   some_hand k p rest m ms left hs rs x i split none = subst (λ l. AllZip HasHand (m ∷ left) l) none (subst (λ l. AllZip HasHand l hs) split i.running)
 
   -- ---- and of those behind it, once it has ended
 
-  next_ready : (k : ℕ) (p : Processor J R) (rest : List (Processor J R)) (ms ms' : List (GroupMember J)) (hs hs' : List (Hand J R)) (rs rs' : List (Ended J R)) (room : Ended J R) (x y : Ending J R) → IsReady k (p ∷ rest) ms hs rs x → GoesOn x y
+  next_ready : (k : ℕ) (p : Processor J R) (rest : List (Processor J R)) (ms ms' : List (GroupMember J)) (hs hs' : List (Hand J R)) (rs rs' : List (ProcessorEnd J R)) (room : ProcessorEnd J R) (x y : Ending J R) → IsReady k (p ∷ rest) ms hs rs x → GoesOn x y
       → rs ≡ room ∷ rs' → hs' ≡ hands_after p hs → AllZip HasMember (offloadable_in rest) ms' → AllZip HasHand ms' hs' → IsReady (suc k) rest ms' hs' rs' y
   unfolding AreProcessorsFrom
   next_ready k p rest ms ms' hs hs' rs rs' room x y i g split after members running = record {
@@ -118,17 +118,17 @@ module _ {J R : Type 0} where
     for_back = (let a = i.for_back in let b = g.back.0 in let c = g.back.1 in omega arith);
   }
 
-  pub ready_alone : (k : ℕ) (p : Processor J R) (rest : List (Processor J R)) (ms : List (GroupMember J)) (hs : List (Hand J R)) (rs rs' : List (Ended J R)) (room : Ended J R) (x y : Ending J R) → IsReady k (p ∷ rest) ms hs rs x → GoesOn x y
+  pub ready_alone : (k : ℕ) (p : Processor J R) (rest : List (Processor J R)) (ms : List (GroupMember J)) (hs : List (Hand J R)) (rs rs' : List (ProcessorEnd J R)) (room : ProcessorEnd J R) (x y : Ending J R) → IsReady k (p ∷ rest) ms hs rs x → GoesOn x y
       → rs ≡ room ∷ rs' → p.state.offloadable ≡ false → IsReady (suc k) rest ms hs rs' y
   ready_alone k p rest ms hs rs rs' room x y i g split e =
       next_ready k p rest ms ms hs hs rs rs' room x y i g split (same_after p hs e) (subst (λ l. AllZip HasMember l ms) (skipped p rest e) i.members_are) i.running
 
-  pub ready_with : (k : ℕ) (p : Processor J R) (rest : List (Processor J R)) (m : GroupMember J) (ms ms' : List (GroupMember J)) (h : Hand J R) (hs hs' : List (Hand J R)) (rs rs' : List (Ended J R)) (room : Ended J R) (x y : Ending J R) → IsReady k (p ∷ rest) ms hs rs x
+  pub ready_with : (k : ℕ) (p : Processor J R) (rest : List (Processor J R)) (m : GroupMember J) (ms ms' : List (GroupMember J)) (h : Hand J R) (hs hs' : List (Hand J R)) (rs rs' : List (ProcessorEnd J R)) (room : ProcessorEnd J R) (x y : Ending J R) → IsReady k (p ∷ rest) ms hs rs x
       → GoesOn x y → rs ≡ room ∷ rs' → p.state.offloadable ≡ true → ms ≡ m ∷ ms' → hs ≡ h ∷ hs' → IsReady (suc k) rest ms' hs' rs' y
   ready_with k p rest m ms ms' h hs hs' rs rs' room x y i g split e first second =
       next_ready k p rest ms ms' hs hs' rs rs' room x y i g split (others_are p h hs hs' e second) (members_split k p rest m ms ms' hs rs x i e first).1 (hands_split k p rest m ms ms' h hs hs' rs x i first second).1
 
-  pub now_first : (k : ℕ) (now : List (Processor J R)) (p : Processor J R) (rest : List (Processor J R)) (ms : List (GroupMember J)) (hs : List (Hand J R)) (rs : List (Ended J R)) (x : Ending J R) → IsReady k now ms hs rs x → now ≡ p ∷ rest
+  pub now_first : (k : ℕ) (now : List (Processor J R)) (p : Processor J R) (rest : List (Processor J R)) (ms : List (GroupMember J)) (hs : List (Hand J R)) (rs : List (ProcessorEnd J R)) (x : Ending J R) → IsReady k now ms hs rs x → now ≡ p ∷ rest
       → IsReady k (p ∷ rest) ms hs rs x
   now_first k now p rest ms hs rs x i split = subst (λ l. IsReady k l ms hs rs x) split i
 
@@ -136,7 +136,7 @@ module _ {J R : Type 0} where
     -- ---- those that have ended
 
     -- So many have ended, and the others are ready.
-    pub record EndsSoFar (ps : List (Processor J R)) (hs : List (Hand J R)) (rest : List (Processor J R)) (ms : List (GroupMember J)) (left : List (Hand J R)) (rs : List (Ended J R)) (x y : Ending J R) : Type 0 where
+    pub record EndsSoFar (ps : List (Processor J R)) (hs : List (Hand J R)) (rest : List (Processor J R)) (ms : List (GroupMember J)) (left : List (Hand J R)) (rs : List (ProcessorEnd J R)) (x y : Ending J R) : Type 0 where
       pub ends : List (CpuEnd J R)
       pub ready : IsReady (length ends) rest ms left rs y
       pub board : board_at y ≡ board_at x
@@ -161,7 +161,7 @@ module _ {J R : Type 0} where
     all_more : {A : Type 0} (P : A → Type 0) (xs : List A) (x : A) → All P xs → P x → All P (xs ++ x ∷ [])
     all_more P xs x h p = All-append P xs (x ∷ []) h (All-cons P x [] p (All-nil P))
 
-    pub none_ended : (ps : List (Processor J R)) (hs : List (Hand J R)) (rest : List (Processor J R)) (ms : List (GroupMember J)) (rs : List (Ended J R)) (x : Ending J R) → rest ≡ ps → IsReady 0 ps ms hs rs x → EndsSoFar ps hs rest ms hs rs x x
+    pub none_ended : (ps : List (Processor J R)) (hs : List (Hand J R)) (rest : List (Processor J R)) (ms : List (GroupMember J)) (rs : List (ProcessorEnd J R)) (x : Ending J R) → rest ≡ ps → IsReady 0 ps ms hs rs x → EndsSoFar ps hs rest ms hs rs x x
     unfolding InRow
     none_ended ps hs rest ms rs x same i = record {
       ends = [];
@@ -177,7 +177,7 @@ module _ {J R : Type 0} where
       back = sym (append-nil (all_back x));
     }
 
-    pub one_more_ended : (ps : List (Processor J R)) (hs : List (Hand J R)) (p : Processor J R) (rest now : List (Processor J R)) (ms ms' : List (GroupMember J)) (left left' : List (Hand J R)) (rs rs' : List (Ended J R)) (x y z : Ending J R) → EndsSoFar ps hs now ms left rs x y
+    pub one_more_ended : (ps : List (Processor J R)) (hs : List (Hand J R)) (p : Processor J R) (rest now : List (Processor J R)) (ms ms' : List (GroupMember J)) (left left' : List (Hand J R)) (rs rs' : List (ProcessorEnd J R)) (x y z : Ending J R) → EndsSoFar ps hs now ms left rs x y
         → now ≡ p ∷ rest → ((k : ℕ) (rest : List (Processor J R)) → IsReady k (p ∷ rest) ms left rs y → IsReady (suc k) rest ms' left' rs' z) → board_at z ≡ board_at y
         → left' ≡ hands_after p left → EndsOne key_of gives (cpu_part p (hand_for p left)) y z → EndsSoFar ps hs rest ms' left' rs' x z
     one_more_ended ps hs p rest now ms ms' left left' rs rs' x y z s split next board after o =
@@ -201,7 +201,7 @@ module _ {J R : Type 0} where
           back = o.back ∙ (ap (λ l. l ++ e.back ∷ []) s.back ∙ (append_assoc (all_back x) (map (λ (d : CpuEnd J R). d.back) s.ends) (e.back ∷ []) ∙ ap (λ l. all_back x ++ l) (sym (map-append (λ (d : CpuEnd J R). d.back) s.ends (e ∷ [])))));
         }
 
-    pub all_ended : (ps : List (Processor J R)) (hs : List (Hand J R)) (rest : List (Processor J R)) (ms : List (GroupMember J)) (left : List (Hand J R)) (rs : List (Ended J R)) (x y : Ending J R) → EndsSoFar ps hs rest ms left rs x y → rest ≡ [] → EndsEach key_of gives ps hs x y
+    pub all_ended : (ps : List (Processor J R)) (hs : List (Hand J R)) (rest : List (Processor J R)) (ms : List (GroupMember J)) (left : List (Hand J R)) (rs : List (ProcessorEnd J R)) (x y : Ending J R) → EndsSoFar ps hs rest ms left rs x y → rest ≡ [] → EndsEach key_of gives ps hs x y
     all_ended ps hs rest ms left rs x y s none = record {
       ends = s.ends;
       parts = sym (s.parts ∙ (ap (λ l. map (λ (d : CpuEnd J R). d.part) s.ends ++ cpu_parts l left) none ∙ append-nil (map (λ (d : CpuEnd J R). d.part) s.ends)));

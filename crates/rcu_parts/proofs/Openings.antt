@@ -5,19 +5,19 @@ use Rattle.std.specs.Prelude.{slice_index_or, option_to_list, IsSome, All}
 use Rattle.rcu_board.specs.Opened.{IsNewHand, IsNewProcessor, is_offloadable}
 use Rattle.rcu_board.specs.declared.board.Board.{Board}
 use Rattle.rcu_board.specs.declared.board.Seat.{Seat}
-use Rattle.rcu_holdings.specs.ProcessorLists.{Holding, first_holding, holding}
-use Rattle.rcu_holdings.specs.Helds.{drawn_by, held_by}
+use Rattle.rcu_part_lists.specs.ProcessorLists.{Holding, first_holding, holding}
+use Rattle.rcu_part_lists.specs.Helds.{drawn_by, held_by}
 use Rattle.rcu_jobs.specs.Modes.{first_mode}
-use Rattle.rcu_holdings.specs.Helds.{front_of as hands_front}
-use Rattle.rcu_holdings.specs.MemberLists.{rear_of as done_rear}
-use Rattle.rcu_holdings.specs.declared.limits.LaneLimits.{LaneLimits}
+use Rattle.rcu_part_lists.specs.Helds.{front_of as hands_front}
+use Rattle.rcu_part_lists.specs.MemberLists.{rear_of as done_rear}
+use Rattle.rcu_part_lists.specs.declared.limits.LaneLimits.{LaneLimits}
 use Rattle.rcu_lanes.specs.Ends.{IsNewLane, SameLane}
 use Rattle.rcu_lanes.specs.declared.ends.Front.{Front}
 use Rattle.rcu_lanes.specs.declared.ends.Rear.{Rear}
 use Rattle.rcu_lists.specs.declared.parcel.Parcel.{Parcel}
 use Rattle.rcu_parts.specs.OneOpen.{HasHand}
-use Rattle.rcu_holdings.specs.declared.processor_lists.ProcessorLists.{ProcessorLists}
-use Rattle.rcu_holdings.specs.declared.hand.Held.{Held}
+use Rattle.rcu_part_lists.specs.declared.processor_lists.ProcessorLists.{ProcessorLists}
+use Rattle.rcu_part_lists.specs.declared.hand.Held.{Held}
 use Rattle.rcu_numbers.specs.declared.shape.Shape.{Shape}
 use Rattle.rcu_part_hand.specs.Hands.{IsNewHandOf}
 use Rattle.rcu_part_processor.specs.Opened.{IsEmpty, IsNew}

@@ -11,14 +11,14 @@ use Rattle.rcu_board.specs.Words.{words_of}
 use Rattle.rcu_board.specs.declared.board.Board.{Board}
 use Rattle.rcu_board.specs.declared.board.Seat.{Seat}
 use Rattle.rcu_board.specs.declared.view.View.{View}
-use Rattle.rcu_endings.specs.Ends.{HasRoom}
-use Rattle.rcu_endings.specs.declared.ended.Ended.{Ended}
-use Rattle.rcu_gathering.specs.Parts.{HandPart, IsAtRest, IsSoundPart, hand_ran, hand_taken}
-use Rattle.rcu_holdings.specs.ProcessorLists.{Holding, held_in, put_by}
+use Rattle.rcu_part_close.specs.Ends.{HasRoom}
+use Rattle.rcu_part_close.specs.declared.ended.ProcessorEnd.{ProcessorEnd}
+use Rattle.rcu_part_close.specs.Parts.{HandPart, IsAtRest, IsSoundPart, hand_ran, hand_taken}
+use Rattle.rcu_part_lists.specs.ProcessorLists.{Holding, held_in, put_by}
 use Rattle.rcu_jobs.specs.declared.callback.Record.{Record}
 use Rattle.rcu_numbers.specs.Numbers.{snap_of}
-use Rattle.rcu_places.proofs.Moves.{placed_all}
-use Rattle.rcu_records.specs.Records.{numbered_record, numbered_records}
+use Rattle.rcu_part_order.proofs.Moves.{placed_all}
+use Rattle.rcu_part_order.specs.Records.{numbered_record, numbered_records}
 use Rattle.rcu_parts.specs.AtClose.{cpu_part, cpu_parts, first_hand, hand_for, hand_part, hands_after}
 use Rattle.rcu_parts.specs.Ending.{AreLong}
 use Rattle.rcu_part_hand.specs.Hands.{IsSoundHand}
@@ -97,7 +97,7 @@ module _ {J R : Type 0} where
       omega (arith, all, length-map ran (numbered_record {R = R}), length-map (accepted_of v) accepted_entry, length-map (put_by h) (numbered_callback {J = J}), length-map (held_in h) (numbered_callback {J = J}), l.counted))
 
   -- room for its records and its hand's, and for as many jobs as were accepted besides
-  pub fits_cpu : (p : Processor J R) (hand : Option (HandPart J R)) (hands records jobs : ℕ) (room : Ended J R) → records ≡ vec_len p.state.ran + hands → jobs ≡ p.state.accepted - records
+  pub fits_cpu : (p : Processor J R) (hand : Option (HandPart J R)) (hands records jobs : ℕ) (room : ProcessorEnd J R) → records ≡ vec_len p.state.ran + hands → jobs ≡ p.state.accepted - records
       → HasRoom records jobs room → length (hand_ran hand) ≡ hands → length (hand_taken hand) ≡ hands → FitsCpu (cpu_part p hand) room
   fits_cpu p hand hands records jobs room all rest has ran taken =
       let n = all_counted p.state.cpu p.state.accepted (view_of p.state) (records_of p.state) (lists_of p.state) p.state.lawful in

@@ -4,11 +4,11 @@ use Rattle.std.proofs.Math.Seq.{drop-cons}
 use Rattle.std.specs.List.{AllZip}
 use Rattle.std.proofs.lemmas.List.{append_assoc, append-nil, drop_all, length-map}
 use Rattle.std.proofs.lemmas.Bool.{cond_both}
-use Rattle.rcu_endings.specs.declared.ended.Ended.{Ended}
-use Rattle.rcu_gathering.specs.Parts.{CpuPart, hand_ran, hand_taken}
+use Rattle.rcu_part_close.specs.declared.ended.ProcessorEnd.{ProcessorEnd}
+use Rattle.rcu_part_close.specs.Parts.{CpuPart, hand_ran, hand_taken}
 use Rattle.rcu_parts.specs.AtClose.{cpu_part, cpu_parts, first_hand, hand_for, hands_after, other_hands}
-use Rattle.rcu_holdings.specs.Helds.{taken_by}
-use Rattle.rcu_records.specs.Records.{numbered_record}
+use Rattle.rcu_part_lists.specs.Helds.{taken_by}
+use Rattle.rcu_part_order.specs.Records.{numbered_record}
 use Rattle.rcu_part_steps.specs.Places.{numbered_callback}
 use Rattle.rcu_parts.specs.Rooms.{FitsCpu}
 use Rattle.rcu_part_hand.specs.Hands.{hand_records}
@@ -56,15 +56,15 @@ module _ {J R : Type 0} where
   taken_ran p hs = cond_both p.state.offloadable (first_hand hs) None (λ o. length (hand_taken o) ≡ length (hand_ran o)) (λ e. first_taken hs) (λ e. refl)
 
   -- the first processors have room; and so many hands are theirs
-  pub record FitsSoFar (i next : ℕ) (ps : List (Processor J R)) (hs : List (Hand J R)) (ends : List (Ended J R)) : Type 0 where
+  pub record FitsSoFar (i next : ℕ) (ps : List (Processor J R)) (hs : List (Hand J R)) (ends : List (ProcessorEnd J R)) : Type 0 where
     pub done : List (CpuPart J R)
     pub split : cpu_parts ps hs ≡ done ++ cpu_parts (drop i ps) (drop next hs)
     pub fits : AllZip FitsCpu done ends
 
-  pub fits_none : (ps : List (Processor J R)) (hs : List (Hand J R)) (ends : List (Ended J R)) → ends ≡ [] → FitsSoFar 0 0 ps hs ends
+  pub fits_none : (ps : List (Processor J R)) (hs : List (Hand J R)) (ends : List (ProcessorEnd J R)) → ends ≡ [] → FitsSoFar 0 0 ps hs ends
   fits_none ps hs ends none = record { done = []; split = refl; fits = subst (λ l. AllZip FitsCpu [] l) (sym none) tt }
 
-  pub fits_more : (i next left : ℕ) (ps : List (Processor J R)) (hs : List (Hand J R)) (ends news : List (Ended J R)) (p : Processor J R) (room : Ended J R) → FitsSoFar i next ps hs ends
+  pub fits_more : (i next left : ℕ) (ps : List (Processor J R)) (hs : List (Hand J R)) (ends news : List (ProcessorEnd J R)) (p : Processor J R) (room : ProcessorEnd J R) → FitsSoFar i next ps hs ends
       → drop i ps ≡ p ∷ drop (i + 1) ps → drop left hs ≡ hands_after p (drop next hs) → news ≡ ends ++ room ∷ [] → FitsCpu (cpu_part p (hand_for p (drop next hs))) room → FitsSoFar (i + 1) left ps hs news
   fits_more i next left ps hs ends news p room s at after more fits =
       let c = cpu_part p (hand_for p (drop next hs)) in
@@ -74,5 +74,5 @@ module _ {J R : Type 0} where
         fits = subst (λ l. AllZip FitsCpu (s.done ++ c ∷ []) l) (sym more) (zip_push FitsCpu s.done ends c room s.fits fits);
       }
 
-  pub fits_all : (i next : ℕ) (ps : List (Processor J R)) (hs : List (Hand J R)) (ends : List (Ended J R)) → FitsSoFar i next ps hs ends → drop i ps ≡ [] → AllZip FitsCpu (cpu_parts ps hs) ends
+  pub fits_all : (i next : ℕ) (ps : List (Processor J R)) (hs : List (Hand J R)) (ends : List (ProcessorEnd J R)) → FitsSoFar i next ps hs ends → drop i ps ≡ [] → AllZip FitsCpu (cpu_parts ps hs) ends
   fits_all i next ps hs ends s none = subst (λ l. AllZip FitsCpu l ends) (sym (s.split ∙ (ap (λ l. s.done ++ cpu_parts l (drop next hs)) none ∙ append-nil s.done))) s.fits

@@ -15,14 +15,14 @@ use Rattle.rcu_board.specs.declared.board.Gathered.{Gathered}
 use Rattle.rcu_board.specs.declared.board.Seat.{Seat}
 use Rattle.rcu_board.specs.declared.view.View.{View}
 use Rattle.rcu_board.proofs.Views.{total-append}
-use Rattle.rcu_control.specs.Parts.{control_seat, control_view, driver_board, driver_seat, driver_view}
-use Rattle.rcu_control.specs.declared.control.Control.{Control}
-use Rattle.rcu_control.specs.declared.driver.Driver.{Driver}
-use Rattle.rcu_endings.specs.declared.ended.Ended.{Ended}
-use Rattle.rcu_gathering.specs.Closing.{CpuEnd, HaveEnded, InRow, WasEnded, seats_of}
-use Rattle.rcu_gathering.specs.Gathered.{IsSettled, gather}
-use Rattle.rcu_gathering.specs.Parts.{IsAtRest, IsSoundPart, views_of}
-use Rattle.rcu_gathering.proofs.Gathers.{gather_append, gather_weight}
+use Rattle.rcu_part_control.specs.Parts.{control_seat, control_view, driver_board, driver_seat, driver_view}
+use Rattle.rcu_part_control.specs.declared.control.Control.{Control}
+use Rattle.rcu_part_control.specs.declared.driver.Driver.{Driver}
+use Rattle.rcu_part_close.specs.declared.ended.ProcessorEnd.{ProcessorEnd}
+use Rattle.rcu_part_close.specs.Closing.{CpuEnd, HaveEnded, InRow, WasEnded, seats_of}
+use Rattle.rcu_part_close.specs.Gathered.{IsSettled, gather}
+use Rattle.rcu_part_close.specs.Parts.{IsAtRest, IsSoundPart, views_of}
+use Rattle.rcu_part_close.proofs.Gathers.{gather_append, gather_weight}
 use Rattle.rcu_jobs.specs.declared.answers.Closed.{Closed}
 use Rattle.rcu_parts.specs.AtClose.{Answers, cpu_part, cpu_parts, first_hand, hand_part, hands_after, other_hands, other_views}
 use Rattle.rcu_parts.specs.Ending.{AreLong, AreReportedFrom, EndsEach, IsReady, Settles, all_view, board_at}
@@ -31,12 +31,12 @@ use Rattle.rcu_part_hand.specs.Hands.{hand_board, hand_view}
 use Rattle.rcu_parts.specs.OneOpen.{AreOfOneOpen, AreProcessorsFrom, AreSoundParts, Parts, HasHand, HasMember, groups_in, hands_in, members_in, offloadable_in, parts_board, processors_in}
 use Rattle.rcu_part_processor.specs.Processors.{view_of}
 use Rattle.rcu_parts.specs.Rooms.{FitsAll, FitsCpu}
-use Rattle.rcu_parts.specs.declared.ending.Ending.{Ending}
+use Rattle.rcu_parts.specs.declared.ends.Ending.{Ending}
 use Rattle.rcu_part_group.specs.declared.members.GroupMember.{GroupMember}
 use Rattle.rcu_part_group.specs.declared.group.Group.{Group}
 use Rattle.rcu_part_hand.specs.declared.hand.Hand.{Hand}
 use Rattle.rcu_part_processor.specs.declared.processor.Processor.{Processor}
-use Rattle.rcu_parts.specs.declared.room.Room.{Room}
+use Rattle.rcu_parts.specs.declared.room.Reserved.{Reserved}
 use Rattle.rcu_parts.proofs.OneByOne.{counted_in, skipped}
 use Rattle.rcu_parts.proofs.Resting.{is_long_at, sound_parts}
 use Rattle.rcu_lemmas.proofs.All.{All-unmap}
@@ -162,7 +162,7 @@ module _ {J R : Type 0} where
   weighs_all parts last es one same e = ap weight e ∙ (gather_weight (control_view parts.control) (other_views parts ++ seats_of es) ∙ whole_weight parts es one same)
 
   -- all processors are left
-  pub first_ready : (parts : Parts J R) (room : Room J R) (ms : List (GroupMember J)) (hs : List (Hand J R)) (rs : List (Ended J R)) (x : Ending J R) → AreOfOneOpen parts → FitsAll (processors_in parts) (hands_in parts) room
+  pub first_ready : (parts : Parts J R) (room : Reserved J R) (ms : List (GroupMember J)) (hs : List (Hand J R)) (rs : List (ProcessorEnd J R)) (x : Ending J R) → AreOfOneOpen parts → FitsAll (processors_in parts) (hands_in parts) room
       → board_at x ≡ parts_board parts → GatheredAt (board_at x) x.all → (all_view x).running ≡ [] → ms ≡ members_in (groups_in parts) → hs ≡ hands_in parts → rs ≡ room.ends.items → x.ran ≡ room.ran → x.back ≡ room.back
       → IsReady 0 (processors_in parts) ms hs rs x
   first_ready parts room ms hs rs x one fits board at rests members hands rooms ran back = record {
@@ -184,7 +184,7 @@ module _ {J R : Type 0} where
         (subst (All (IsSoundPart key_of gives)) (sym (same ∙ ap (cpu_parts (processors_in parts)) hands)) (sound_parts key_of gives (processors_in parts) (hands_in parts) sound.processors sound.hands))
 
     -- what the last loads tell, once all have ended: what is answered, and what is so of the ends
-    pub answers_with : (parts : Parts J R) (closed : Closed J R) (room : Room J R) (hs : List (Hand J R)) (x y : Ending J R) (b : Board) → AreOfOneOpen parts → FitsAll (processors_in parts) (hands_in parts) room
+    pub answers_with : (parts : Parts J R) (closed : Closed J R) (room : Reserved J R) (hs : List (Hand J R)) (x y : Ending J R) (b : Board) → AreOfOneOpen parts → FitsAll (processors_in parts) (hands_in parts) room
         → x.ran ≡ room.ran → x.back ≡ room.back → hs ≡ hands_in parts → board_at x ≡ parts_board parts → b ≡ parts_board parts → (e : EndsEach key_of gives (processors_in parts) hs x y)
         → all_view y ≡ gather (control_view parts.control) (other_views parts ++ seats_of e.ends) → (s : Settles b.processors (all_view y) closed.reports.items) → closed.ran ≡ y.ran → closed.back ≡ y.back
         → ((n w : ℕ) (v : View) (others : List View) (es : List (CpuEnd J R)) → HaveEnded key_of gives n w v others es → All (λ d. Reported w d.part.cpu (reports_of d.part.view)) es)

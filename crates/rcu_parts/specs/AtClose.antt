@@ -2,10 +2,10 @@
 use Rattle.std.specs.Prelude.{◌≡◌, ℕ, Option, Some, None, List, [], ◌∷◌, cond, map}
 use Rattle.rcu_board.specs.Seats.{reports_of}
 use Rattle.rcu_board.specs.declared.view.View.{View}
-use Rattle.rcu_control.specs.Parts.{control_view, driver_view}
-use Rattle.rcu_gathering.specs.Closing.{Closes, CpuEnd, Ends}
-use Rattle.rcu_gathering.specs.Parts.{CpuPart, HandPart}
-use Rattle.rcu_holdings.specs.Helds.{taken_by}
+use Rattle.rcu_part_control.specs.Parts.{control_view, driver_view}
+use Rattle.rcu_part_close.specs.Closing.{Closes, CpuEnd, Ends}
+use Rattle.rcu_part_close.specs.Parts.{CpuPart, HandPart}
+use Rattle.rcu_part_lists.specs.Helds.{taken_by}
 use Rattle.rcu_jobs.specs.declared.answers.Closed.{Closed}
 use Rattle.rcu_part_group.specs.Groups.{group_view}
 use Rattle.rcu_part_hand.specs.Hands.{hand_drawn, hand_records, hand_view}

@@ -5,8 +5,8 @@ use Rattle.rcu_board.specs.Seats.{SawShut}
 use Rattle.rcu_board.specs.Views.{seen_at}
 use Rattle.rcu_board.specs.Words.{accepts_word}
 use Rattle.rcu_board.specs.declared.view.View.{View}
-use Rattle.rcu_control.specs.Barriers.{IsOver, count_at}
-use Rattle.rcu_control.specs.Parts.{control_view}
+use Rattle.rcu_part_control.specs.Barriers.{IsOver, count_at}
+use Rattle.rcu_part_control.specs.Parts.{control_view}
 use Rattle.rcu_jobs.specs.declared.Counts.{Counts}
 use Rattle.rcu_jobs.specs.declared.answers.Closed.{Closed}
 use Rattle.rcu_parts.specs.OneOpen.{Parts, parts_board, processors_in}

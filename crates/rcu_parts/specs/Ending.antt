@@ -7,16 +7,16 @@ use Rattle.rcu_board.specs.Seats.{GatheredAt, SameGathered, gathered_view}
 use Rattle.rcu_board.specs.Words.{words_of}
 use Rattle.rcu_board.specs.declared.board.Board.{Board}
 use Rattle.rcu_board.specs.declared.view.View.{View}
-use Rattle.rcu_endings.specs.declared.ended.Ended.{Ended}
-use Rattle.rcu_gathering.specs.Closing.{CpuEnd, InRow, WasEnded, seats_of}
-use Rattle.rcu_gathering.specs.Gathered.{IsSettled, gather}
-use Rattle.rcu_gathering.specs.Parts.{CpuPart, IsAtRest, views_of}
+use Rattle.rcu_part_close.specs.declared.ended.ProcessorEnd.{ProcessorEnd}
+use Rattle.rcu_part_close.specs.Closing.{CpuEnd, InRow, WasEnded, seats_of}
+use Rattle.rcu_part_close.specs.Gathered.{IsSettled, gather}
+use Rattle.rcu_part_close.specs.Parts.{CpuPart, IsAtRest, views_of}
 use Rattle.rcu_jobs.specs.declared.callback.Record.{Record}
 use Rattle.rcu_parts.specs.AtClose.{cpu_parts}
 use Rattle.rcu_part_hand.specs.Hands.{hand_board}
 use Rattle.rcu_parts.specs.OneOpen.{AreProcessorsFrom, HasHand, HasMember, offloadable_in}
 use Rattle.rcu_parts.specs.Rooms.{FitsCpu}
-use Rattle.rcu_parts.specs.declared.ending.Ending.{Ending}
+use Rattle.rcu_parts.specs.declared.ends.Ending.{Ending}
 use Rattle.rcu_part_group.specs.declared.members.GroupMember.{GroupMember}
 use Rattle.rcu_part_hand.specs.declared.hand.Hand.{Hand}
 use Rattle.rcu_part_processor.specs.declared.processor.Processor.{Processor}
@@ -51,7 +51,7 @@ module _ {J R : Type 0} where
   all_back x = map (λ v. v.items) x.back.items
 
   -- These processors, k, k + 1, .., are left, and these members, hands and rooms are theirs.
-  pub record IsReady (k : ℕ) (rest : List (Processor J R)) (members : List (GroupMember J)) (hands : List (Hand J R)) (rooms : List (Ended J R)) (x : Ending J R) : Type 0 where
+  pub record IsReady (k : ℕ) (rest : List (Processor J R)) (members : List (GroupMember J)) (hands : List (Hand J R)) (rooms : List (ProcessorEnd J R)) (x : Ending J R) : Type 0 where
     pub at : GatheredAt (board_at x) x.all
     pub rests : (all_view x).running ≡ []
     pub processors : AreProcessorsFrom k (board_at x) rest

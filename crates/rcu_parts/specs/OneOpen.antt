@@ -3,10 +3,10 @@ use Rattle.std.specs.Prelude.{◌≡◌, ℕ, suc, ◌+◌, List, [], ◌∷◌,
 use Rattle.std.specs.List.{AllZip, filter, flat_map}
 use Rattle.rcu_board.specs.Plays.{all_seats}
 use Rattle.rcu_board.specs.declared.board.Board.{Board}
-use Rattle.rcu_control.specs.Parts.{control_board, control_view, driver_board, driver_view}
-use Rattle.rcu_holdings.specs.ProcessorLists.{rear_of}
-use Rattle.rcu_holdings.specs.Helds.{front_of as hands_front}
-use Rattle.rcu_holdings.specs.MemberLists.{front_of, rear_of as done_rear}
+use Rattle.rcu_part_control.specs.Parts.{control_board, control_view, driver_board, driver_view}
+use Rattle.rcu_part_lists.specs.ProcessorLists.{rear_of}
+use Rattle.rcu_part_lists.specs.Helds.{front_of as hands_front}
+use Rattle.rcu_part_lists.specs.MemberLists.{front_of, rear_of as done_rear}
 use Rattle.rcu_lanes.specs.Ends.{SameLane}
 use Rattle.rcu_part_group.specs.Groups.{group_board, group_view, members_of}
 use Rattle.rcu_part_hand.specs.Hands.{IsSoundHand, hand_board, hand_view}

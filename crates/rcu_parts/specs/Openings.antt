@@ -5,10 +5,10 @@ use Rattle.rcu_board.specs.Opened.{IsNewGroup, IsNewHand, IsNewProcessor, has_of
 use Rattle.rcu_board.specs.Opened.{IsNew as IsNewSeat}
 use Rattle.rcu_board.specs.declared.board.Board.{Board}
 use Rattle.rcu_board.specs.declared.board.Role.TheVariants.{Control, Driver}
-use Rattle.rcu_control.specs.Parts.{control_seat, driver_seat, driver_view}
-use Rattle.rcu_holdings.specs.ProcessorLists.{first_holding, rear_of}
-use Rattle.rcu_holdings.specs.MemberLists.{front_of}
-use Rattle.rcu_holdings.specs.declared.limits.LaneLimits.{LaneLimits}
+use Rattle.rcu_part_control.specs.Parts.{control_seat, driver_seat, driver_view}
+use Rattle.rcu_part_lists.specs.ProcessorLists.{first_holding, rear_of}
+use Rattle.rcu_part_lists.specs.MemberLists.{front_of}
+use Rattle.rcu_part_lists.specs.declared.limits.LaneLimits.{LaneLimits}
 use Rattle.rcu_lanes.specs.Ends.{IsNewLane}
 use Rattle.rcu_lanes.specs.declared.ends.Front.{Front}
 use Rattle.rcu_lists.specs.declared.parcel.Parcel.{Parcel}

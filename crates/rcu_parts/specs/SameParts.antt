@@ -1,6 +1,6 @@
 -- Each part stays the same part of its open: docs/specification/promises.md, "Headline on the running parts", Same part.
 use Rattle.std.specs.List.{AllZip}
-use Rattle.rcu_control.specs.Parts.{SameControl, SameDriver}
+use Rattle.rcu_part_control.specs.Parts.{SameControl, SameDriver}
 use Rattle.rcu_part_group.specs.Groups.{SameGroup}
 use Rattle.rcu_part_hand.specs.Hands.{SameHand}
 use Rattle.rcu_parts.specs.OneOpen.{Parts, groups_in, hands_in, processors_in}

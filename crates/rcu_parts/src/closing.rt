@@ -4,9 +4,9 @@ ghost use Rattle.std.specs.Prelude.{◌≡◌, IfOk, IfErr};
 ghost use Rattle.rcu_parts.specs.AtClose.{AccountsFor, ClosesWith};
 ghost use Rattle.rcu_parts.specs.OneOpen.{AreOfOneOpen, AreSoundParts};
 
-use crate::ending::close_in;
+use crate::ends::close_in;
 use crate::parts::{AllParts, Parts};
-use crate::room::Room;
+use crate::room::Reserved;
 use rcu_jobs::{Closed, Job};
 use rcu_part_group::Group;
 use rcu_part_hand::Hand;
@@ -36,7 +36,7 @@ pub fn close<J: Job>(alloc: Global, parts: Parts<J>) -> Result<Closed<J>, Closin
         AreSoundParts J.key_of J.gives parts → ClosesWith J.key_of J.gives parts closed) }
     ensures left { IfErr result (λ closing. closing.parts ≡ parts) }
 {
-    let Ok(room) = Room::find(alloc, &parts.processors, &parts.hands) else {
+    let Ok(room) = Reserved::find(alloc, &parts.processors, &parts.hands) else {
         return Err(Closing { parts });
     };
     Ok(close_in(parts, room))

@@ -4,18 +4,18 @@
 #![tactic(auto)]
 
 mod closing;
-mod ending;
-mod gathering;
+mod ends;
 mod laws;
 mod opening;
 mod parts;
 mod room;
+mod seats;
 
 pub use closing::{AllClosing, Closing, close};
 pub use laws::{drained, same_parts};
 pub use opening::open;
 pub use parts::{AllParts, Parts};
-pub use rcu_control::{Barrier, Control, Driver, ReadsTurns};
+pub use rcu_part_control::{Barrier, Control, Driver, ReadsTurns};
 pub use rcu_part_group::{Group, GroupMember, GroupMembers};
 pub use rcu_part_hand::{Hand, RunningHand};
 pub use rcu_part_processor::{Processor, Reading, RunningProcessor};

@@ -4,8 +4,8 @@ ghost use Rattle.std.specs.Prelude.{◌≡◌, ◌/◌, ◌<◌, [], ◌∷◌, 
 ghost use Rattle.std.specs.Arc.{arc_value};
 ghost use Rattle.std.specs.List.{AllZip};
 ghost use Rattle.rcu_board.specs.Opened.{AreNew, InOrder, IsNewGroup, IsNewHand, IsNewProcessor, SeatForEach, has_offloadable, is_offloadable, numbers_where};
-ghost use Rattle.rcu_holdings.specs.ProcessorLists.{rear_of};
-ghost use Rattle.rcu_holdings.specs.MemberLists.{front_of};
+ghost use Rattle.rcu_part_lists.specs.ProcessorLists.{rear_of};
+ghost use Rattle.rcu_part_lists.specs.MemberLists.{front_of};
 ghost use Rattle.rcu_lanes.specs.Ends.{IsNewLane, items_drawn};
 ghost use Rattle.rcu_part_group.specs.GroupLaw.{cpus_of, group_members_in};
 ghost use Rattle.rcu_part_group.specs.Groups.{IsEmptyGroupMember};
@@ -15,14 +15,14 @@ ghost use Rattle.rcu_part_group.specs.declared.members.GroupMember.{GroupMember}
 
 use crate::parts::{AllParts, Parts};
 use rcu_board::{Board, Role, Seat, Seats, open_board};
-use rcu_control::{Control, Driver};
-use rcu_holdings::{Held, LaneLimits, MemberLists, ProcessorLists};
 use rcu_jobs::Job;
 use rcu_lanes::{Front, ruled_lane};
 use rcu_lists::Parcel;
 use rcu_numbers::Shape;
+use rcu_part_control::{Control, Driver};
 use rcu_part_group::{Group, GroupMember, GroupMembers};
 use rcu_part_hand::Hand;
+use rcu_part_lists::{Held, LaneLimits, MemberLists, ProcessorLists};
 use rcu_part_processor::Processor;
 use std::alloc::{AllocError, Global};
 use std::collections::VecDeque;

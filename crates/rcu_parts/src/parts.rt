@@ -1,6 +1,6 @@
 //! All parts of one open.
 
-use rcu_control::{Control, Driver};
+use rcu_part_control::{Control, Driver};
 use rcu_part_group::Group;
 use rcu_part_hand::Hand;
 use rcu_part_processor::Processor;

@@ -2,21 +2,21 @@
 
 ghost use Rattle.std.specs.Prelude.{◌≡◌, IfOk, Option, drop, length};
 ghost use Rattle.std.specs.List.{AllZip};
-ghost use Rattle.rcu_gathering.specs.Parts.{HandPart, hand_ran, hand_taken};
+ghost use Rattle.rcu_part_close.specs.Parts.{HandPart, hand_ran, hand_taken};
 ghost use Rattle.rcu_parts.specs.AtClose.{cpu_part, cpu_parts, hand_for, hands_after};
 ghost use Rattle.rcu_parts.specs.Rooms.{FitsAll, FitsCpu};
 
-use rcu_endings::Ended;
 use rcu_jobs::{Job, Record};
+use rcu_part_close::ProcessorEnd;
 use rcu_part_group::GroupMember;
 use rcu_part_hand::Hand;
 use rcu_part_processor::Processor;
 use std::alloc::{AllocError, Global};
 
 /// Room for what is left of all processors.
-pub(crate) struct Room<J: Job> {
+pub(crate) struct Reserved<J: Job> {
     /// Of each processor.
-    pub(crate) ends: Vec<Ended<J, J::Receipt>>,
+    pub(crate) ends: Vec<ProcessorEnd<J, J::Receipt>>,
     pub(crate) ran: Vec<Vec<Record<J::Receipt>>>,
     pub(crate) back: Vec<Vec<J>>,
     pub(crate) reports: Vec<u64>,
@@ -24,17 +24,17 @@ pub(crate) struct Room<J: Job> {
     pub(crate) members: Vec<GroupMember<J>>,
 }
 
-impl<J: Job> Room<J> {
+impl<J: Job> Reserved<J> {
     /// Room for these processors, these hands, and as many members of groups.
     pub(crate) fn find(
         alloc: Global,
         processors: &Vec<Processor<J>>,
         hands: &Vec<Hand<J>>,
-    ) -> Result<Room<J>, AllocError>
+    ) -> Result<Reserved<J>, AllocError>
         ensures { IfOk result (λ room. FitsAll processors.now.items hands.now.items room) }
     {
         let n = processors.len();
-        Ok(Room {
+        Ok(Reserved {
             ends: find_ends(alloc, processors, hands)?,
             ran: Vec::with_capacity(alloc, n)?,
             back: Vec::with_capacity(alloc, n)?,
@@ -49,7 +49,7 @@ fn find_ends<J: Job>(
     alloc: Global,
     processors: &Vec<Processor<J>>,
     hands: &Vec<Hand<J>>,
-) -> Result<Vec<Ended<J, J::Receipt>>, AllocError>
+) -> Result<Vec<ProcessorEnd<J, J::Receipt>>, AllocError>
     ensures { IfOk result (λ ends.
         AllZip FitsCpu (cpu_parts processors.now.items hands.now.items) ends.items) }
 {
@@ -89,7 +89,7 @@ fn find_end<J: Job>(
     alloc: Global,
     processor: &Processor<J>,
     hands: usize,
-) -> Result<Ended<J, J::Receipt>, AllocError>
+) -> Result<ProcessorEnd<J, J::Receipt>, AllocError>
     ensures { IfOk result (λ room.
         (hand : Option (HandPart J J.Receipt)) → length (hand_ran hand) ≡ hands
         → length (hand_taken hand) ≡ hands → FitsCpu (cpu_part processor.now hand) room) }
@@ -98,5 +98,5 @@ fn find_end<J: Job>(
         return Err(AllocError);
     };
     let jobs = (processor.accepted() as usize).saturating_sub(records);
-    Ended::with_room(alloc, records, jobs)
+    ProcessorEnd::with_room(alloc, records, jobs)
 }

@@ -5,11 +5,11 @@ use Rattle.std.proofs.lemmas.List.{length-map}
 use Rattle.std.proofs.lemmas.List.Sums.{sum_by-cons}
 use Rattle.rcu_board.specs.Seats.{accepted_of}
 use Rattle.rcu_board.specs.declared.view.View.{View}
-use Rattle.rcu_control.specs.Parts.{control_view}
-use Rattle.rcu_gathering.proofs.Closings.{as_many_ended}
-use Rattle.rcu_gathering.specs.Closing.{ClosesAs, CpuEnd, processors_of, seats_of}
+use Rattle.rcu_part_control.specs.Parts.{control_view}
+use Rattle.rcu_part_close.proofs.Closings.{as_many_ended}
+use Rattle.rcu_part_close.specs.Closing.{ClosesAs, CpuEnd, processors_of, seats_of}
 use Rattle.rcu_part_steps.specs.Places.{accepted_entry, accepted_list}
-use Rattle.rcu_gathering.specs.Parts.{CpuPart}
+use Rattle.rcu_part_close.specs.Parts.{CpuPart}
 use Rattle.rcu_jobs.specs.Records.{Given}
 use Rattle.rcu_jobs.specs.declared.answers.Closed.{Closed}
 use Rattle.rcu_jobs.specs.declared.callback.Record.{Record}

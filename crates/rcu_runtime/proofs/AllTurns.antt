@@ -6,7 +6,7 @@ use Rattle.rcu_parts.specs.OneOpen.{Parts, groups_in, hands_in, processors_in}
 use Rattle.rcu_runtime.specs.Passing.{PassesGroup, PassesHand, PassesTick}
 use Rattle.rcu_runtime.specs.Turns.{Drives, TurnsAll, TurnsDriver, TurnsGroups, TurnsHands, TurnsProcessors}
 use Rattle.rcu_runtime.proofs.Wholes.{Turned, cpus_stay, group_turns_of, groups_stay, hand_turns_of, hands_stay, ticks_of}
-use Rattle.rcu_control.specs.Parts.{SameDriver}
+use Rattle.rcu_part_control.specs.Parts.{SameDriver}
 
 module _ {J R : Type 0} (key_of : J → ℕ) (gives : ℕ → R → Type 0) where
   module _ (old parts new : Parts J R) (seen : parts ≡ old) where

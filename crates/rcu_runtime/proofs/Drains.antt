@@ -6,8 +6,8 @@ use Rattle.rcu_board.specs.Views.{seen_at}
 use Rattle.rcu_board.specs.Words.{accepts_word, urge_word}
 use Rattle.rcu_board.specs.declared.view.View.{View}
 use Rattle.rcu_board.proofs.Stepping.{untouched}
-use Rattle.rcu_control.specs.Parts.{control_view}
-use Rattle.rcu_control.specs.declared.barrier.Barrier.{Barrier}
+use Rattle.rcu_part_control.specs.Parts.{control_view}
+use Rattle.rcu_part_control.specs.declared.barrier.Barrier.{Barrier}
 use Rattle.rcu_jobs.specs.declared.BarrierFault.{BarrierFault}
 use Rattle.rcu_jobs.specs.declared.Counts.{Counts}
 use Rattle.rcu_jobs.specs.declared.Passed.{Passed}

@@ -7,14 +7,14 @@ use Rattle.rcu_board.specs.Views.{seen_at}
 use Rattle.rcu_board.specs.Words.{turns_word}
 use Rattle.rcu_board.specs.declared.board.Board.{Board}
 use Rattle.rcu_board.specs.declared.view.View.{View}
-use Rattle.rcu_control.specs.Barriers.{IsOver}
-use Rattle.rcu_control.specs.Parts.{SameControl, control_view}
-use Rattle.rcu_control.specs.declared.barrier.Barrier.{Barrier}
-use Rattle.rcu_control.specs.declared.control.Control.{Control}
-use Rattle.rcu_gathering.proofs.Closings.{as_many_ended}
-use Rattle.rcu_gathering.specs.Closing.{CpuEnd, EndsAs, processors_of, seats_of}
+use Rattle.rcu_part_control.specs.Barriers.{IsOver}
+use Rattle.rcu_part_control.specs.Parts.{SameControl, control_view}
+use Rattle.rcu_part_control.specs.declared.barrier.Barrier.{Barrier}
+use Rattle.rcu_part_control.specs.declared.control.Control.{Control}
+use Rattle.rcu_part_close.proofs.Closings.{as_many_ended}
+use Rattle.rcu_part_close.specs.Closing.{CpuEnd, EndsAs, processors_of, seats_of}
 use Rattle.rcu_part_steps.specs.Places.{accepted_entry, accepted_list}
-use Rattle.rcu_gathering.specs.Parts.{CpuPart, HandPart}
+use Rattle.rcu_part_close.specs.Parts.{CpuPart, HandPart}
 use Rattle.rcu_jobs.specs.declared.Counts.{Counts}
 use Rattle.rcu_jobs.specs.declared.Passed.{Passed}
 use Rattle.rcu_jobs.specs.declared.answers.Closed.{Closed}

@@ -5,9 +5,9 @@ use Rattle.std.specs.List.{AllZip}
 use Rattle.std.specs.Vec.{with_item}
 use Rattle.rcu_board.specs.declared.board.Board.{Board}
 use Rattle.rcu_board.proofs.Stepping.{same_again, same_part}
-use Rattle.rcu_control.specs.Parts.{SameControl, SameDriver}
-use Rattle.rcu_control.specs.declared.control.Control.{Control}
-use Rattle.rcu_control.specs.declared.driver.Driver.{Driver}
+use Rattle.rcu_part_control.specs.Parts.{SameControl, SameDriver}
+use Rattle.rcu_part_control.specs.declared.control.Control.{Control}
+use Rattle.rcu_part_control.specs.declared.driver.Driver.{Driver}
 use Rattle.rcu_part_group.proofs.GroupTurns.{same_group, same_group_again}
 use Rattle.rcu_part_group.specs.Groups.{SameGroup}
 use Rattle.rcu_part_group.specs.declared.group.Group.{Group}

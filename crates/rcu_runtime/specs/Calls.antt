@@ -1,17 +1,17 @@
 -- What a call of one part does to a runtime: that part did what its own call says, and all others are as they were.
 use Rattle.std.specs.Prelude.{◌≡◌, ℕ, ◌<◌, ◌≤◌, List, [], Option, Result, length, get_or, set}
 use Rattle.std.specs.declared.result.Result.TheVariants.{Ok}
-use Rattle.rcu_control.specs.Barriers.{OpensBy, PollsBy}
-use Rattle.rcu_control.specs.Control.{Shuts, SwitchesBy}
-use Rattle.rcu_control.specs.Parts.{control_board, control_view}
-use Rattle.rcu_control.specs.declared.control.Control.{Control}
+use Rattle.rcu_part_control.specs.Barriers.{OpensBy, PollsBy}
+use Rattle.rcu_part_control.specs.Control.{Shuts, SwitchesBy}
+use Rattle.rcu_part_control.specs.Parts.{control_board, control_view}
+use Rattle.rcu_part_control.specs.declared.control.Control.{Control}
 use Rattle.rcu_jobs.specs.declared.answers.Refused.{Refused}
 use Rattle.rcu_jobs.specs.declared.answers.Ticket.{Ticket}
 use Rattle.rcu_jobs.specs.declared.Counts.{Counts}
 use Rattle.rcu_jobs.specs.declared.BarrierFault.{BarrierFault}
 use Rattle.rcu_jobs.specs.declared.Passed.{Passed}
 use Rattle.rcu_jobs.specs.declared.SwitchFault.{SwitchFault}
-use Rattle.rcu_control.specs.declared.barrier.Barrier.{Barrier}
+use Rattle.rcu_part_control.specs.declared.barrier.Barrier.{Barrier}
 use Rattle.rcu_lists.specs.declared.pace.Kind.{Kind}
 use Rattle.rcu_lists.specs.declared.pace.Kind.TheVariants.{Lazy, Plain}
 use Rattle.rcu_part_processor.specs.Accepting.{IsLimit}

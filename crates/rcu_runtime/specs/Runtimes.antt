@@ -1,7 +1,7 @@
 -- What is said of a whole runtime, in the words of its parts: docs/embedding.md.
 use Rattle.std.specs.Prelude.{◌≡◌, ℕ, ◌<◌, ◌≤◌, sum_by, All}
 use Rattle.rcu_board.specs.Seats.{SawShut}
-use Rattle.rcu_control.specs.Parts.{control_view}
+use Rattle.rcu_part_control.specs.Parts.{control_view}
 use Rattle.rcu_jobs.specs.declared.Counts.{Counts}
 use Rattle.rcu_parts.specs.Drained as at_close
 use Rattle.rcu_parts.specs.Drained.{IsCountedFor}

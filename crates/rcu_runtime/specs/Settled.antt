@@ -1,7 +1,7 @@
 -- That what was accepted has run: docs/embedding.md, "Barrier".
 use Rattle.std.specs.Prelude.{◌≡◌, ◌≢◌, ◌≤◌, ℕ, All}
-use Rattle.rcu_control.specs.Barriers.{IsOver, count_at}
-use Rattle.rcu_control.specs.Parts.{control_view}
+use Rattle.rcu_part_control.specs.Barriers.{IsOver, count_at}
+use Rattle.rcu_part_control.specs.Parts.{control_view}
 use Rattle.rcu_jobs.specs.declared.Counts.{Counts}
 use Rattle.rcu_jobs.specs.declared.Passed.{Passed}
 use Rattle.rcu_part_processor.specs.declared.processor.Processor.{Processor}

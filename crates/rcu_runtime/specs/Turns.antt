@@ -3,9 +3,9 @@ use Rattle.std.specs.Prelude.{◌≡◌, ℕ, ◌+◌, ◌*◌, ◌≤◌, Optio
 use Rattle.std.specs.List.{AllZip}
 use Rattle.rcu_board.specs.Views.{tally}
 use Rattle.rcu_board.specs.Words.{board_word}
-use Rattle.rcu_control.specs.Driving.{DrivesBy}
-use Rattle.rcu_control.specs.Parts.{driver_board, driver_view}
-use Rattle.rcu_control.specs.declared.driver.Driver.{Driver}
+use Rattle.rcu_part_control.specs.Driving.{DrivesBy}
+use Rattle.rcu_part_control.specs.Parts.{driver_board, driver_view}
+use Rattle.rcu_part_control.specs.declared.driver.Driver.{Driver}
 use Rattle.rcu_jobs.specs.declared.turns.DriverTurn.{DriverTurn}
 use Rattle.rcu_jobs.specs.declared.turns.GroupTurn.{GroupTurn}
 use Rattle.rcu_jobs.specs.declared.turns.HandTurn.{HandTurn}

@@ -5,18 +5,18 @@
 
 mod any_fault;
 mod apart;
-mod calling;
+mod call;
 mod closing;
-mod draining;
-mod ending;
+mod control;
+mod drain;
+mod end;
 mod fault;
 mod laws;
 mod opening;
 mod runtime;
-mod seeing;
-mod settling;
-mod steering;
-mod turning;
+mod shown;
+mod turns;
+mod until_passed;
 mod whole;
 
 pub use any_fault::AnyFault;

@@ -11,7 +11,7 @@ mod limits;
 mod line;
 mod list;
 mod numbers;
-mod reading;
+mod read;
 mod setup;
 mod words;
 
@@ -22,5 +22,5 @@ pub use limits::{
 };
 pub use line::{Command, script_line};
 pub use list::cpu_list;
-pub use reading::read_setup;
+pub use read::read_setup;
 pub use setup::Setup;

@@ -9,16 +9,16 @@ use Rattle.rcu_board.specs.Views.{seen_at}
 use Rattle.rcu_board.specs.Words.{turns_word}
 use Rattle.rcu_board.specs.declared.board.Board.{Board}
 use Rattle.rcu_board.specs.declared.view.View.{View}
-use Rattle.rcu_control.specs.Parts.{control_view}
-use Rattle.rcu_gathering.proofs.Closings.{as_many_ended}
-use Rattle.rcu_gathering.specs.Closing.{ClosesAs, CpuEnd, processors_of, seats_of}
-use Rattle.rcu_places.specs.Places.{Accepted, Numbered, numbered, keys_of}
-use Rattle.rcu_records.specs.Records.{numbered_record}
+use Rattle.rcu_part_control.specs.Parts.{control_view}
+use Rattle.rcu_part_close.proofs.Closings.{as_many_ended}
+use Rattle.rcu_part_close.specs.Closing.{ClosesAs, CpuEnd, processors_of, seats_of}
+use Rattle.rcu_part_order.specs.Places.{Accepted, Numbered, numbered, keys_of}
+use Rattle.rcu_part_order.specs.Records.{numbered_record}
 use Rattle.rcu_jobs.specs.declared.answers.Refused.{Refused}
 use Rattle.rcu_jobs.specs.declared.answers.Ticket.{Ticket}
 use Rattle.rcu_jobs.specs.declared.callback.Record.{Record}
 use Rattle.rcu_part_steps.specs.Places.{accepted_entry, accepted_list}
-use Rattle.rcu_gathering.specs.Parts.{CpuPart}
+use Rattle.rcu_part_close.specs.Parts.{CpuPart}
 use Rattle.rcu_jobs.specs.declared.answers.Closed.{Closed}
 use Rattle.rcu_parts.specs.AtClose.{ClosesWith, cpu_part, cpu_parts, hand_for, hands_after, other_views}
 use Rattle.rcu_part_group.specs.Groups.{SameGroup}
@@ -29,13 +29,13 @@ use Rattle.rcu_parts.specs.SameParts.{AreSameParts}
 use Rattle.rcu_part_hand.specs.declared.hand.Hand.{Hand}
 use Rattle.rcu_part_processor.specs.declared.processor.Processor.{Processor}
 use Rattle.rcu_parts.specs.Drained.{HasNoneBack}
-use Rattle.rcu_crews.specs.Calls.{keys_in}
-use Rattle.rcu_crews.specs.Dealing.{AreInOrder, HaveAllRun, tickets_in}
+use Rattle.rcu_part_threads.specs.Calls.{keys_in}
+use Rattle.rcu_part_threads.specs.Dealing.{AreInOrder, HaveAllRun, tickets_in}
 use Rattle.rcu_threads.specs.Ends.{AreUnused, keys_ran}
-use Rattle.rcu_crews.specs.Parts.{GroupStays, HandStays}
-use Rattle.rcu_crews.specs.Runs.{HasRun}
+use Rattle.rcu_part_threads.specs.Parts.{GroupStays, HandStays}
+use Rattle.rcu_part_threads.specs.Runs.{HasRun}
 use Rattle.rcu_threads.specs.Runs.{HaveRun}
-use Rattle.rcu_crews.proofs.Zips.{zip_all}
+use Rattle.rcu_part_threads.proofs.Zips.{zip_all}
 use Rattle.std.proofs.lemmas.List.Elements.{All-cons, All-head, All-map, All-nil, All-tail}
 use Rattle.rcu_lemmas.proofs.All.{All-unmap}
 use Rattle.rcu_lemmas.proofs.Zips.{zip_weaker}

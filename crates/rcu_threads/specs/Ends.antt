@@ -1,7 +1,7 @@
 -- How a run in threads ends: docs/specification/promises.md, "Headline on the running parts", close, and program.md, "threads".
 use Rattle.std.specs.Prelude.{◌≡◌, ℕ, List, map, All, Result}
 use Rattle.std.specs.List.{AllZip}
-use Rattle.rcu_crews.specs.Calls.{AreRefusalsBy}
+use Rattle.rcu_part_threads.specs.Calls.{AreRefusalsBy}
 use Rattle.rcu_jobs.specs.declared.answers.Closed.{Closed}
 use Rattle.rcu_jobs.specs.declared.answers.Refused.{Refused}
 use Rattle.rcu_jobs.specs.declared.answers.Ticket.{Ticket}

@@ -2,12 +2,12 @@
 use Rattle.std.specs.Prelude.{◌≡◌, ℕ, Err, Result, is_ok, true}
 use Rattle.std.proofs.Common.{◌⊎◌}
 use Rattle.std.specs.List.{AllZip}
-use Rattle.rcu_control.specs.Parts.{control_view, SameControl, SameDriver}
+use Rattle.rcu_part_control.specs.Parts.{control_view, SameControl, SameDriver}
 use Rattle.rcu_parts.specs.OneOpen.{Parts, groups_in, hands_in, processors_in}
-use Rattle.rcu_crews.specs.Barriers.{HaltsAfter, PassesAndHalts}
-use Rattle.rcu_crews.specs.Parts.{GroupStays, HandStays}
-use Rattle.rcu_crews.specs.Runs.{HasRun}
-use Rattle.rcu_crews.specs.declared.fault.ThreadsFault.{ThreadsFault}
+use Rattle.rcu_part_threads.specs.Barriers.{HaltsAfter, PassesAndHalts}
+use Rattle.rcu_part_threads.specs.Parts.{GroupStays, HandStays}
+use Rattle.rcu_part_threads.specs.Runs.{HasRun}
+use Rattle.rcu_part_threads.specs.declared.fault.ThreadsFault.{ThreadsFault}
 
 module _ {J R : Type 0} where
   -- All parts are the same parts, and of each processor all callbacks have run, by what control has seen; it passed one barrier,

@@ -3,7 +3,7 @@ use Rattle.std.proofs.Common.{◌≡◌, ℕ, ◌<◌, ◌≤◌, Bool, true, fa
 use Rattle.std.proofs.lemmas.Bool.{le-ltb, lt-ltb}
 use Rattle.rcu_jobs.specs.declared.SwitchFault.{SwitchFault}
 use Rattle.rcu_jobs.specs.declared.SwitchFault.TheVariants as faults
-use Rattle.rcu_law.specs.States.{State, has, is_offloadable}
+use Rattle.rcu_world_law.specs.States.{State, has, is_offloadable}
 use Rattle.rcu_world.specs.Turns.{switch_answer}
 
 abbrev pub answer_of : ℕ → Bool → Bool → Result (Unit {0}) SwitchFault

@@ -3,12 +3,12 @@ use Rattle.std.proofs.Common.{◌≡◌, ℕ, ◌<◌, ◌≤◌, ◌&&◌, ◌+
 use Rattle.std.proofs.lemmas.Bool.{le-ltb, eq-eqb, ne_eqb}
 use Rattle.std.proofs.lemmas.List.{length-map, map-append}
 use Rattle.std.proofs.Math.Seq.{map-set_same}
-use Rattle.rcu_law.specs.declared.marks.Mark.{Mark}
-use Rattle.rcu_law.specs.declared.marks.Mark.TheVariants.{Opened}
-use Rattle.rcu_law.specs.Events.{after, is_enabled}
-use Rattle.rcu_law.specs.Events.CoreEvent.{Open}
-use Rattle.rcu_law.specs.States.{State, Barrier, barrier_at, is_open}
-use Rattle.rcu_processor.specs.Views.{seen}
+use Rattle.rcu_world_law.specs.declared.marks.Mark.{Mark}
+use Rattle.rcu_world_law.specs.declared.marks.Mark.TheVariants.{Opened}
+use Rattle.rcu_world_law.specs.Events.{after, is_enabled}
+use Rattle.rcu_world_law.specs.Events.CoreEvent.{Open}
+use Rattle.rcu_world_law.specs.States.{State, Barrier, barrier_at, is_open}
+use Rattle.rcu_world_processor.specs.Views.{seen}
 use Rattle.rcu_world.specs.declared.cores.Core.{Core}
 use Rattle.rcu_world.specs.declared.barriers.Barring.{Barring}
 use Rattle.rcu_world.specs.Barrings.{barrier}

@@ -2,15 +2,15 @@
 use Rattle.std.proofs.Common.{◌≡◌, ℕ, zero, suc, ◌+◌, ◌-◌, ◌<◌, ◌≤◌, ◌++◌, ◌∷◌, [], Bool, true, false, cond, List, length, map, take, min, refl, ap, sym, ◌∙◌, subst, arith, append_assoc, length-append, inl, inr, ◌⊎◌}
 use Rattle.std.proofs.lemmas.List.{get_or-set_same, append-nil, length-map, length-take}
 use Rattle.std.specs.Option.{option_to_list}
-use Rattle.rcu_law.specs.declared.who.Who.TheVariants as who
-use Rattle.rcu_law.specs.Calls.{Call}
-use Rattle.rcu_law.specs.LabelledLists.{Labelled, call_of}
+use Rattle.rcu_world_law.specs.declared.who.Who.TheVariants as who
+use Rattle.rcu_world_law.specs.Calls.{Call}
+use Rattle.rcu_world_law.specs.LabelledLists.{Labelled, call_of}
 use Rattle.rcu_world.specs.Worlds.{IsFit}
-use Rattle.rcu_law.specs.Places.{flattened}
-use Rattle.rcu_law.specs.States.{State, empty_cpu, cpu_at, is_member}
-use Rattle.rcu_law.specs.Steps.{given, given_count, draws}
-use Rattle.rcu_law.specs.Events.{CoreEvent, is_enabled, happens, run}
-use Rattle.rcu_law.specs.Events.CoreEvent.{Draw, Join, Give, LookGroup, Need}
+use Rattle.rcu_world_law.specs.Places.{flattened}
+use Rattle.rcu_world_law.specs.States.{State, empty_cpu, cpu_at, is_member}
+use Rattle.rcu_world_law.specs.Steps.{given, given_count, draws}
+use Rattle.rcu_world_law.specs.Events.{CoreEvent, is_enabled, happens, run}
+use Rattle.rcu_world_law.specs.Events.CoreEvent.{Draw, Join, Give, LookGroup, Need}
 use Rattle.rcu_world.specs.GroupTurns.{Draws, Gives, Made, Takes, Then, Upto, Where, WhereRoom, draw_and_join, drawn_by, given_by, look_group_events, most_batches, summed, waiting_upto}
 use Rattle.rcu_world.specs.Turns.{Leads, and_then, where_enabled}
 use Rattle.rcu_world.proofs.Leading.{leads_append, leads_nothing, leads_then}

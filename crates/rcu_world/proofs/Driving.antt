@@ -4,10 +4,10 @@ use Rattle.std.proofs.lemmas.Bool.{and_parts, eq-eqb, ne_eqb, lt-ltb, le-ltb}
 use Rattle.rcu_jobs.specs.declared.DriverTurn.{DriverTurn}
 use Rattle.rcu_jobs.specs.declared.DriverTurn.TheVariants as drivers
 use Rattle.rcu_numbers.specs.declared.sequence.TheConstants.{GREATEST_NUMBER}
-use Rattle.rcu_law.specs.Lists.{none_owes}
-use Rattle.rcu_law.specs.States.{State}
-use Rattle.rcu_law.specs.Events.{is_enabled}
-use Rattle.rcu_law.specs.Events.CoreEvent.{Start, End}
+use Rattle.rcu_world_law.specs.Lists.{none_owes}
+use Rattle.rcu_world_law.specs.States.{State}
+use Rattle.rcu_world_law.specs.Events.{is_enabled}
+use Rattle.rcu_world_law.specs.Events.CoreEvent.{Start, End}
 use Rattle.rcu_world.specs.Boards.{mask_of}
 use Rattle.rcu_world.specs.Turns.{Leads, where_enabled, driver_events, driver_answer}
 

@@ -2,14 +2,14 @@
 use Rattle.std.proofs.Common.{◌≡◌, ℕ, ◌<◌, ◌≤◌, ◌&&◌, ◌∷◌, [], nat_lt, not, cond, Bool, true, false, Option, None, Some, refl, length, get_or, set, ap, ◌∙◌, subst, sym, arith}
 use Rattle.std.proofs.lemmas.Bool.{le-ltb, lt-ltb}
 use Rattle.std.proofs.lemmas.List.{length-map, length-set, get_or-set_same}
-use Rattle.rcu_law.specs.Calls.{Call}
-use Rattle.rcu_law.specs.Events.{after, is_enabled}
-use Rattle.rcu_law.specs.Events.CoreEvent.{Accept, Stamp}
-use Rattle.rcu_law.specs.States.{State, Cpu, cpu_at, empty_cpu, has}
-use Rattle.rcu_law.specs.Lists.{is_none}
-use Rattle.rcu_law.specs.Steps.{accepts, can_accept}
-use Rattle.rcu_processor.specs.declared.processor.Processor.{Processor}
-use Rattle.rcu_processor.specs.Views.{seen}
+use Rattle.rcu_world_law.specs.Calls.{Call}
+use Rattle.rcu_world_law.specs.Events.{after, is_enabled}
+use Rattle.rcu_world_law.specs.Events.CoreEvent.{Accept, Stamp}
+use Rattle.rcu_world_law.specs.States.{State, Cpu, cpu_at, empty_cpu, has}
+use Rattle.rcu_world_law.specs.Lists.{is_none}
+use Rattle.rcu_world_law.specs.Steps.{accepts, can_accept}
+use Rattle.rcu_world_processor.specs.declared.processor.WorldProcessor.{WorldProcessor}
+use Rattle.rcu_world_processor.specs.Views.{seen}
 use Rattle.rcu_world.specs.declared.cores.Core.{Core}
 use Rattle.rcu_world.specs.Turns.{Leads}
 use Rattle.rcu_world.specs.Views.{all_seen, state}
@@ -24,7 +24,7 @@ no_fresh (Some c) e = absurd cc
 small : {n : ℕ} → n ≤ 1000000 → n < 9223372036854775808
 small h = omega arith
 
-pub accepted_fits : {J R : Type 0} (key_of : J → ℕ) (w : Core J R) (i : ℕ) (p q : Processor J R) → IsFit (state key_of w) → i < length w.processors.items → p ≡ get_or w.processors.items i p
+pub accepted_fits : {J R : Type 0} (key_of : J → ℕ) (w : Core J R) (i : ℕ) (p q : WorldProcessor J R) → IsFit (state key_of w) → i < length w.processors.items → p ≡ get_or w.processors.items i p
     → can_accept w.limit (seen key_of p) ≡ true → seen key_of q ≡ seen key_of p → ((seen key_of q).fresh ≡ None) × ((seen key_of q).count < 9223372036854775808)
 accepted_fits key_of w i p q k l e t s =
     let n = second_holds (nat_lt p.count w.limit) (is_none (seen key_of p).fresh) (second_holds (not p.shut) (nat_lt p.count w.limit && is_none (seen key_of p).fresh) t) in

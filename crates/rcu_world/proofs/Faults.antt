@@ -5,7 +5,7 @@ use Rattle.std.proofs.lemmas.List.{at_drop_more}
 use Rattle.rcu_jobs.specs.declared.Ticket.{Ticket}
 use Rattle.rcu_jobs.specs.declared.BarrierFault.{BarrierFault}
 use Rattle.rcu_jobs.specs.declared.BarrierFault.TheVariants.{NoProcessor, Ahead}
-use Rattle.rcu_law.specs.States.{State, cpu_at, has}
+use Rattle.rcu_world_law.specs.States.{State, cpu_at, has}
 use Rattle.rcu_world.specs.Turns.{barrier_fault, ticket_fault}
 
 -- the fault of one ticket, or else of those after it

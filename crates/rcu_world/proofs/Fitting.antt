@@ -3,7 +3,7 @@ use Rattle.std.proofs.Common.{ℕ, ◌+◌, ◌<◌, arith}
 use Rattle.std.specs.Mem.{FitsInMemory}
 use denote.RattleType.{RattleType}
 use prog.Memory.{up}
-use Rattle.rcu_processor.specs.contracts.processor.Processor as processor
+use Rattle.rcu_world_processor.specs.contracts.processor.WorldProcessor as processor
 use Rattle.rcu_world.specs.contracts.cores.Core as core
 use Rattle.rcu_world.specs.contracts.worlds.World as world
 use Rattle.rcu_world.proofs.Sizes.{processor_fits}

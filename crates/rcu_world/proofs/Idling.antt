@@ -1,11 +1,11 @@
 -- A processor of which nothing is fresh, and on which no claim runs
 use Rattle.std.proofs.Common.{◌≡◌, Bool, true, false, not, Option, Some, None, refl, ap, sym, ◌∙◌}
-use Rattle.rcu_law.specs.Calls.{Call}
-use Rattle.rcu_law.specs.Lists.{is_none}
-use Rattle.rcu_law.specs.States.{Cpu}
-use Rattle.rcu_law.specs.Steps.{can_finish, is_side}
-use Rattle.rcu_law.specs.declared.who.Side.{Side}
-use Rattle.rcu_law.specs.declared.who.Side.TheVariants.{Local, Hand}
+use Rattle.rcu_world_law.specs.Calls.{Call}
+use Rattle.rcu_world_law.specs.Lists.{is_none}
+use Rattle.rcu_world_law.specs.States.{Cpu}
+use Rattle.rcu_world_law.specs.Steps.{can_finish, is_side}
+use Rattle.rcu_world_law.specs.declared.who.Side.{Side}
+use Rattle.rcu_world_law.specs.declared.who.Side.TheVariants.{Local, Hand}
 use Rattle.rcu_world.specs.Turns.{IsIdle}
 
 none_fresh : (f : Option Call) → not (is_none f) ≡ false → f ≡ None

@@ -5,18 +5,18 @@ use Rattle.rcu_world.specs.declared.events.Answer.{Answer}
 use Rattle.rcu_world.specs.declared.events.Answer.TheVariants as answers
 use Rattle.rcu_world.specs.Events.{Answers, Becomes, core_event, Runs}
 use Rattle.rcu_world.specs.declared.events.Event.TheVariants as events
-use Rattle.rcu_law.specs.declared.who.Who.TheVariants as who
-use Rattle.rcu_law.specs.Events.{CoreEvent, is_enabled, after}
-use Rattle.rcu_law.specs.Events.CoreEvent.{Accept, Stamp, Put, Report, Start, End, Look, LookGroup, LookHand, Need, Draw, Join, Give, Fetch, Claim, Finish, Ask, Heed, Settle, Open, Count, Turn, Pass, Shut, Urge, Hear}
+use Rattle.rcu_world_law.specs.declared.who.Who.TheVariants as who
+use Rattle.rcu_world_law.specs.Events.{CoreEvent, is_enabled, after}
+use Rattle.rcu_world_law.specs.Events.CoreEvent.{Accept, Stamp, Put, Report, Start, End, Look, LookGroup, LookHand, Need, Draw, Join, Give, Fetch, Claim, Finish, Ask, Heed, Settle, Open, Count, Turn, Pass, Shut, Urge, Hear}
 use Rattle.rcu_jobs.specs.Modes.{is_offloaded}
-use Rattle.rcu_law.specs.States.{State, cpu_at}
-use Rattle.rcu_law.specs.declared.who.Side.TheVariants.{Local}
-use Rattle.rcu_law.proofs.Schedules.{offloaded_claims_nothing}
-use Rattle.rcu_law.specs.Invariant.{IsCore}
+use Rattle.rcu_world_law.specs.States.{State, cpu_at}
+use Rattle.rcu_world_law.specs.declared.who.Side.TheVariants.{Local}
+use Rattle.rcu_world_law.proofs.Schedules.{offloaded_claims_nothing}
+use Rattle.rcu_world_law.specs.Invariant.{IsCore}
 use Rattle.rcu_world.specs.Worlds.{IsFit}
-use Rattle.rcu_law.proofs.Keeping.{after_kept}
-use Rattle.rcu_law.proofs.Keeping.{length_after}
-use Rattle.rcu_law.proofs.NoBack.{no_back_after}
+use Rattle.rcu_world_law.proofs.Keeping.{after_kept}
+use Rattle.rcu_world_law.proofs.Keeping.{length_after}
+use Rattle.rcu_world_law.proofs.NoBack.{no_back_after}
 
 -- an event becomes what one event of the machine does
 pub becomes_with : {J : Type 0} (key_of : J → ℕ) (old : State) (e : Event J) (new : State) → Becomes key_of old e new → (poured : Bool) × (new ≡ after old (core_event key_of poured e))

@@ -1,18 +1,18 @@
 -- Lists of events that lead from one state to another
 use Rattle.std.proofs.Common.{◌≡◌, ℕ, suc, ◌+◌, Bool, true, false, cond, ◌&&◌, length, ◌<◌, get_or, List, [], ◌∷◌, ◌++◌, refl, ap, sym, ◌∙◌, subst, arith}
-use Rattle.rcu_law.specs.States.{State, cpu_at}
-use Rattle.rcu_law.specs.Events.{CoreEvent, is_enabled, after, happens, run}
+use Rattle.rcu_world_law.specs.States.{State, cpu_at}
+use Rattle.rcu_world_law.specs.Events.{CoreEvent, is_enabled, after, happens, run}
 use Rattle.rcu_world.specs.declared.events.Event.{Event}
 use Rattle.rcu_world.specs.declared.events.Event.TheVariants as events
 use Rattle.rcu_world.specs.Events.{Becomes, core_event}
 use Rattle.rcu_world.specs.Turns.{AreEnabled, Leads, IsAtRest, keeps_rest, where_enabled, and_then, upto}
 use Rattle.rcu_world.proofs.Keeping.{becomes_with, enabled_with, shape_after}
-use Rattle.rcu_law.proofs.Keeping.{length_after}
+use Rattle.rcu_world_law.proofs.Keeping.{length_after}
 use Rattle.rcu_world.proofs.Resting.{rest_after}
 use Rattle.rcu_world.proofs.Seen.{seen_at}
 use Rattle.rcu_world.specs.declared.cores.Core.{Core}
-use Rattle.rcu_processor.specs.declared.processor.Processor.{Processor}
-use Rattle.rcu_processor.specs.Views.{seen}
+use Rattle.rcu_world_processor.specs.declared.processor.WorldProcessor.{WorldProcessor}
+use Rattle.rcu_world_processor.specs.Views.{seen}
 use Rattle.rcu_world.specs.Views.{state}
 
 pub leads_nothing : (w new : State) → new ≡ w → Leads w [] new
@@ -111,7 +111,7 @@ pub shape_took : {J : Type 0} (key_of : J → ℕ) (old : State) (e : Event J) (
 shape_took key_of old e new s = let b = becomes_with key_of old e new s in ap (λ w. w.shape) b.1 ∙ shape_after old (core_event key_of b.0 e)
 
 -- a processor that is there
-pub seen_there : {J R : Type 0} (key_of : J → ℕ) (w : Core J R) (p : ℕ) (q : Processor J R) → p < length w.processors.items → q ≡ get_or w.processors.items p q → seen key_of q ≡ cpu_at (state key_of w) p
+pub seen_there : {J R : Type 0} (key_of : J → ℕ) (w : Core J R) (p : ℕ) (q : WorldProcessor J R) → p < length w.processors.items → q ≡ get_or w.processors.items p q → seen key_of q ≡ cpu_at (state key_of w) p
 seen_there key_of w p q l e = seen_at key_of w.processors.items p q l e
 
 -- the events of one more processor

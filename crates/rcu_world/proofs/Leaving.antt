@@ -3,16 +3,16 @@ use Rattle.std.proofs.Common.{◌≡◌, ℕ, zero, suc, ◌+◌, ◌<◌, ◌�
 use Rattle.std.proofs.lemmas.List.{drop_more, drop_all, take_all, take_more, length-map, map-append, append-nil}
 use Rattle.std.specs.Global.{Vec}
 use Rattle.std.specs.List.{AllByRecursion, remove}
-use Rattle.rcu_law.specs.declared.marks.Mark.{Mark}
-use Rattle.rcu_law.specs.declared.marks.Mark.TheVariants.{Back}
-use Rattle.rcu_law.specs.Places.{key_of, remaining_callbacks}
-use Rattle.rcu_law.specs.Closing.{shut_mark, shut_marks, back_marks}
-use Rattle.rcu_law.specs.States.{Cpu}
-use Rattle.rcu_law.specs.Calls.{Call}
-use Rattle.rcu_processor.specs.declared.processor.Processor.{Processor}
-use Rattle.rcu_processor.specs.Leaving.{IsCounted, left_keys}
+use Rattle.rcu_world_law.specs.declared.marks.Mark.{Mark}
+use Rattle.rcu_world_law.specs.declared.marks.Mark.TheVariants.{Back}
+use Rattle.rcu_world_law.specs.Places.{key_of, remaining_callbacks}
+use Rattle.rcu_world_law.specs.Closing.{shut_mark, shut_marks, back_marks}
+use Rattle.rcu_world_law.specs.States.{Cpu}
+use Rattle.rcu_world_law.specs.Calls.{Call}
+use Rattle.rcu_world_processor.specs.declared.processor.WorldProcessor.{WorldProcessor}
+use Rattle.rcu_world_processor.specs.Leaving.{IsCounted, left_keys}
 use Rattle.rcu_world.specs.Leaving.{HaveRoom, backs, most_marks}
-use Rattle.rcu_processor.specs.Views.{seen}
+use Rattle.rcu_world_processor.specs.Views.{seen}
 use Rattle.rcu_world.specs.Views.{all_seen}
 
 pub all_at : {X : Type 0} (P : X → Type 0) (xs : List X) (i : ℕ) (x : X) → i < length xs → x ≡ get_or xs i x → AllByRecursion P xs → P x
@@ -36,45 +36,45 @@ none_left (x ∷ xs) e = absurd (omega arith)
 
 module _ {J R : Type 0} (job_key : J → ℕ) where
   -- one more list
-  room_suc : (ps : List (Processor J R)) (vs : List (Vec J)) (i : ℕ) (p : Processor J R) (v : Vec J) → i < length ps → p ≡ get_or ps i p
+  room_suc : (ps : List (WorldProcessor J R)) (vs : List (Vec J)) (i : ℕ) (p : WorldProcessor J R) (v : Vec J) → i < length ps → p ≡ get_or ps i p
       → v.items ≡ [] → length (remaining_callbacks (seen job_key p)) ≤ vec_capacity v → HaveRoom job_key (take i ps) vs → HaveRoom job_key (take (suc i) ps) (vs ++ v ∷ [])
-  room_suc (q ∷ ps) [] zero p v l e n r h = (subst (λ (x : Processor J R). (v.items ≡ []) × (length (remaining_callbacks (seen job_key x)) ≤ vec_capacity v)) e (n, r), tt)
+  room_suc (q ∷ ps) [] zero p v l e n r h = (subst (λ (x : WorldProcessor J R). (v.items ≡ []) × (length (remaining_callbacks (seen job_key x)) ≤ vec_capacity v)) e (n, r), tt)
   room_suc (q ∷ ps) (w ∷ vs) zero p v l e n r h = absurd h
   room_suc (q ∷ ps) (w ∷ vs) (suc i) p v l e n r h = (h.0, room_suc ps vs i p v (omega arith) e n r h.1)
   room_suc (q ∷ ps) [] (suc i) p v l e n r h = absurd h
   room_suc [] vs i p v l e n r h = absurd (omega arith)
 
-  pub room_more : (ps : List (Processor J R)) (vs : List (Vec J)) (i : ℕ) (p : Processor J R) (v : Vec J) → i < length ps → p ≡ get_or ps i p
+  pub room_more : (ps : List (WorldProcessor J R)) (vs : List (Vec J)) (i : ℕ) (p : WorldProcessor J R) (v : Vec J) → i < length ps → p ≡ get_or ps i p
       → v.items ≡ [] → length (remaining_callbacks (seen job_key p)) ≤ vec_capacity v → HaveRoom job_key (take i ps) vs → HaveRoom job_key (take (i + 1) ps) (vs ++ v ∷ [])
   room_more ps vs i p v l e n r h = subst (λ j. HaveRoom job_key (take j ps) (vs ++ v ∷ [])) (let z : suc i ≡ i + 1 = omega arith in z) (room_suc ps vs i p v l e n r h)
 
-  pub room_end : (ps : List (Processor J R)) (vs : List (Vec J)) (i : ℕ) → length ps ≤ i → HaveRoom job_key (take i ps) vs → HaveRoom job_key ps vs
+  pub room_end : (ps : List (WorldProcessor J R)) (vs : List (Vec J)) (i : ℕ) → length ps ≤ i → HaveRoom job_key (take i ps) vs → HaveRoom job_key ps vs
   room_end ps vs i l h = subst (λ x. HaveRoom job_key x vs) (take_all i ps l) h
 
   -- the first one has a list
-  pub room_there : (ps : List (Processor J R)) (vs : List (Vec J)) → 0 < length ps → HaveRoom job_key ps vs → 0 < length vs
+  pub room_there : (ps : List (WorldProcessor J R)) (vs : List (Vec J)) → 0 < length ps → HaveRoom job_key ps vs → 0 < length vs
   room_there (p ∷ ps) (v ∷ vs) l h = omega arith
   room_there (p ∷ ps) [] l h = absurd h
   room_there [] vs l h = absurd (omega arith)
 
-  pub room_first : (ps : List (Processor J R)) (vs : List (Vec J)) (p : Processor J R) (v : Vec J) → 0 < length ps → p ≡ get_or ps 0 p → v ≡ get_or vs 0 v → HaveRoom job_key ps vs
+  pub room_first : (ps : List (WorldProcessor J R)) (vs : List (Vec J)) (p : WorldProcessor J R) (v : Vec J) → 0 < length ps → p ≡ get_or ps 0 p → v ≡ get_or vs 0 v → HaveRoom job_key ps vs
       → (v.items ≡ []) × (length (remaining_callbacks (seen job_key p)) ≤ vec_capacity v)
-  room_first (q ∷ ps) (w ∷ vs) p v l e f h = subst (λ (x : Processor J R). (v.items ≡ []) × (length (remaining_callbacks (seen job_key x)) ≤ vec_capacity v)) (sym e)
+  room_first (q ∷ ps) (w ∷ vs) p v l e f h = subst (λ (x : WorldProcessor J R). (v.items ≡ []) × (length (remaining_callbacks (seen job_key x)) ≤ vec_capacity v)) (sym e)
       (subst (λ (y : Vec J). (y.items ≡ []) × (length (remaining_callbacks (seen job_key q)) ≤ vec_capacity y)) (sym f) h.0)
   room_first (q ∷ ps) [] p v l e f h = absurd h
   room_first [] vs p v l e f h = absurd (omega arith)
 
-  pub room_rest : (ps : List (Processor J R)) (vs : List (Vec J)) → 0 < length ps → HaveRoom job_key ps vs → HaveRoom job_key (remove ps 0) (remove vs 0)
+  pub room_rest : (ps : List (WorldProcessor J R)) (vs : List (Vec J)) → 0 < length ps → HaveRoom job_key ps vs → HaveRoom job_key (remove ps 0) (remove vs 0)
   room_rest (p ∷ ps) (v ∷ vs) l h = h.1
   room_rest (p ∷ ps) [] l h = absurd h
   room_rest [] vs l h = absurd (omega arith)
 
   -- one more processor's marks
-  pub marks_more : (ps : List (Processor J R)) (i : ℕ) (p : Processor J R) → i < length ps → p ≡ get_or ps i p
+  pub marks_more : (ps : List (WorldProcessor J R)) (i : ℕ) (p : WorldProcessor J R) → i < length ps → p ≡ get_or ps i p
       → most_marks (all_seen job_key (drop i ps)) ≡ (1 + length (remaining_callbacks (seen job_key p))) + most_marks (all_seen job_key (drop (i + 1) ps))
   marks_more ps i p l e = ap (λ x. most_marks (all_seen job_key x)) (drop_more ps i p l ∙ ap (λ y. y ∷ drop (i + 1) ps) (sym e))
 
-  pub shuts_more : (ps : List (Processor J R)) (i : ℕ) (p : Processor J R) → i < length ps → p ≡ get_or ps i p
+  pub shuts_more : (ps : List (WorldProcessor J R)) (i : ℕ) (p : WorldProcessor J R) → i < length ps → p ≡ get_or ps i p
       → shut_marks i (all_seen job_key (drop i ps)) ≡ shut_mark i (seen job_key p) ++ shut_marks (i + 1) (all_seen job_key (drop (i + 1) ps))
   shuts_more ps i p l e = ap (λ x. shut_marks i (all_seen job_key x)) (drop_more ps i p l ∙ ap (λ y. y ∷ drop (i + 1) ps) (sym e))
 
@@ -122,18 +122,18 @@ pub marks_most : (c : Cpu) (left count i : ℕ) → IsCounted c → left ≡ len
 marks_most c left count i k e m = omega (arith, k.count, k.few)
 
 module _ {J R : Type 0} (job_key : J → ℕ) where
-  pub marks_sum : (ps : List (Processor J R)) (i : ℕ) (p : Processor J R) (left count all : ℕ) → i < length ps → p ≡ get_or ps i p → left ≡ length (remaining_callbacks (seen job_key p))
+  pub marks_sum : (ps : List (WorldProcessor J R)) (i : ℕ) (p : WorldProcessor J R) (left count all : ℕ) → i < length ps → p ≡ get_or ps i p → left ≡ length (remaining_callbacks (seen job_key p))
       → all ≡ count + most_marks (all_seen job_key (drop i ps)) → all ≡ count + (1 + left) + most_marks (all_seen job_key (drop (i + 1) ps))
   marks_sum ps i p left count all l e f h = let m = marks_more job_key ps i p l e in omega arith
 
-  pub marks_end : (ps : List (Processor J R)) (i count all : ℕ) → length ps ≤ i → all ≡ count + most_marks (all_seen job_key (drop i ps)) → count ≡ all
+  pub marks_end : (ps : List (WorldProcessor J R)) (i count all : ℕ) → length ps ≤ i → all ≡ count + most_marks (all_seen job_key (drop i ps)) → count ≡ all
   marks_end ps i count all l h = let m : most_marks (all_seen job_key (drop i ps)) ≡ 0 = ap (λ x. most_marks (all_seen job_key x)) (drop_all i ps l) in omega arith
 
   -- a Shut for each processor, and then the Backs
-  pub shuts_room : (ps : List (Processor J R)) (n len cap : ℕ) → n ≡ length ps → len + most_marks (all_seen job_key ps) ≤ cap → len + n ≤ cap
+  pub shuts_room : (ps : List (WorldProcessor J R)) (n len cap : ℕ) → n ≡ length ps → len + most_marks (all_seen job_key ps) ≤ cap → len + n ≤ cap
   shuts_room ps n len cap e m = omega (arith, most_both 0 (all_seen job_key ps), length-map ps (seen job_key))
 
-  pub last_room : (ps : List (Processor J R)) (before lists : List (Vec J)) (n len cap later grown : ℕ) → n ≡ length ps → before ≡ []
+  pub last_room : (ps : List (WorldProcessor J R)) (before lists : List (Vec J)) (n len cap later grown : ℕ) → n ≡ length ps → before ≡ []
       → map (λ (v : Vec J). map job_key v.items) lists ≡ map (λ (v : Vec J). map job_key v.items) before ++ map left_keys (all_seen job_key ps)
       → later ≤ len + n → cap ≤ grown → len + most_marks (all_seen job_key ps) ≤ cap → later + length (backs 0 (map (λ (v : Vec J). map job_key v.items) lists)) ≤ grown
   last_room ps before lists n len cap later grown e b h l c m =

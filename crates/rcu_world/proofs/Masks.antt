@@ -6,8 +6,8 @@ use Rattle.std.proofs.lemmas.Bool.{cases_Bool, cases_eq, cases_lt, eq-eqb, le-lt
 use Rattle.std.proofs.lemmas.List.{ext_get_or, get_or-replicate, get_or-set_same, get_or-set_other, get_or_past, length-replicate, length-set}
 use Rattle.std.proofs.lemmas.Nat.{pow_pos, shr-shr}
 use Rattle.std.proofs.lemmas.Nat.Bits.{bit_at-lt, bit_at-suc, bit_at-zero, bit_at_above, bit_at_lowest, bit_at_ones, bit_at_ones_above, same_from_bits}
-use Rattle.rcu_law.specs.Invariant.{owed}
-use Rattle.rcu_law.specs.Lists.{none_owes}
+use Rattle.rcu_world_law.specs.Invariant.{owed}
+use Rattle.rcu_world_law.specs.Lists.{none_owes}
 use Rattle.rcu_numbers.specs.Words.{Board, Owes, all_of, owes_of}
 use Rattle.rcu_world.specs.Boards.{IsBoardOf, bits, mask_of}
 

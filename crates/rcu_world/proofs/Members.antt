@@ -1,18 +1,18 @@
 -- a loop over all processors
 use Rattle.std.proofs.Common.{◌≡◌, ℕ, zero, suc, ◌<◌, ◌≤◌, ◌+◌, ◌/◌, ◌==◌, ◌&&◌, ◌||◌, Bool, true, false, cond, nat_lt, length, refl, subst, sym, List, [], ◌∷◌, ◌++◌, arith, get_or, ap, ◌∙◌, take, drop, set}
 use Rattle.std.proofs.lemmas.Bool.{lt-ltb}
-use Rattle.rcu_law.specs.States.{State, is_member}
-use Rattle.rcu_law.specs.Events.{any_member, most_wanted}
-use Rattle.rcu_law.specs.Lists.{needed_with}
-use Rattle.rcu_law.specs.Invariant.{IsCore}
-use Rattle.rcu_law.proofs.Room.{labelled_lists, look_group_fits}
+use Rattle.rcu_world_law.specs.States.{State, is_member}
+use Rattle.rcu_world_law.specs.Events.{any_member, most_wanted}
+use Rattle.rcu_world_law.specs.Lists.{needed_with}
+use Rattle.rcu_world_law.specs.Invariant.{IsCore}
+use Rattle.rcu_world_law.proofs.Bounds.{labelled_lists, look_group_fits}
 use Rattle.rcu_world.specs.Members.{is_any, is_in_group, any_in_group, most_in_group}
-use Rattle.rcu_processor.specs.declared.processor.Processor.{Processor}
-use Rattle.rcu_processor.specs.Views.{seen}
+use Rattle.rcu_world_processor.specs.declared.processor.WorldProcessor.{WorldProcessor}
+use Rattle.rcu_world_processor.specs.Views.{seen}
 use Rattle.rcu_world.specs.Views.{all_seen}
 use Rattle.std.proofs.lemmas.List.{drop_all, drop_more, take_more_set, drop-set-lt, append_assoc, drop-drop}
-use Rattle.rcu_law.specs.States.{Cpu, empty_cpu}
-use Rattle.rcu_law.specs.Events.{each_cpu}
+use Rattle.rcu_world_law.specs.States.{Cpu, empty_cpu}
+use Rattle.rcu_world_law.specs.Events.{each_cpu}
 use Rattle.rcu_world.specs.Members.{AreLookable, IsLookable}
 
 -- one more
@@ -66,21 +66,21 @@ each_same w g f p (c ∷ cs) l =
     ∙ ap (λ x. cond (is_member w g p) (f c) c ∷ x) (each_same w g f (p + 1) cs (omega arith))
 
 -- the next processor
-pub any_more : {J R : Type 0} (key_of : J → ℕ) (offloadable : List Bool) (stride g : ℕ) (test : Cpu → Bool) (i : ℕ) (ps : List (Processor J R)) (p : Processor J R)
+pub any_more : {J R : Type 0} (key_of : J → ℕ) (offloadable : List Bool) (stride g : ℕ) (test : Cpu → Bool) (i : ℕ) (ps : List (WorldProcessor J R)) (p : WorldProcessor J R)
     → i < length ps → p ≡ get_or ps i p
     → any_in_group offloadable stride g test i (all_seen key_of (drop i ps))
     ≡ ((is_in_group offloadable stride g i && test (seen key_of p)) || any_in_group offloadable stride g test (i + 1) (all_seen key_of (drop (i + 1) ps)))
 any_more key_of offloadable stride g test i ps p l e = ap (λ x. any_in_group offloadable stride g test i (all_seen key_of x)) (drop_more ps i p l ∙ ap (λ y. y ∷ drop (i + 1) ps) (sym e))
 
 -- a processor that fails the test, and one that meets it
-pub any_fails : {J R : Type 0} (key_of : J → ℕ) (offloadable : List Bool) (stride g : ℕ) (test : Cpu → Bool) (i : ℕ) (ps : List (Processor J R)) (p : Processor J R) (b : Bool)
+pub any_fails : {J R : Type 0} (key_of : J → ℕ) (offloadable : List Bool) (stride g : ℕ) (test : Cpu → Bool) (i : ℕ) (ps : List (WorldProcessor J R)) (p : WorldProcessor J R) (b : Bool)
     → i < length ps → p ≡ get_or ps i p → b ≡ is_in_group offloadable stride g i → (b && test (seen key_of p)) ≡ false
     → any_in_group offloadable stride g test i (all_seen key_of (drop i ps)) ≡ any_in_group offloadable stride g test (i + 1) (all_seen key_of (drop (i + 1) ps))
 any_fails key_of offloadable stride g test i ps p b l e m f = any_more key_of offloadable stride g test i ps p l e
     ∙ ap (λ x. (x && test (seen key_of p)) || any_in_group offloadable stride g test (i + 1) (all_seen key_of (drop (i + 1) ps))) (sym m)
     ∙ ap (λ x. x || any_in_group offloadable stride g test (i + 1) (all_seen key_of (drop (i + 1) ps))) f
 
-pub any_meets : {J R : Type 0} (key_of : J → ℕ) (offloadable : List Bool) (stride g : ℕ) (test : Cpu → Bool) (i : ℕ) (ps : List (Processor J R)) (p : Processor J R) (b : Bool)
+pub any_meets : {J R : Type 0} (key_of : J → ℕ) (offloadable : List Bool) (stride g : ℕ) (test : Cpu → Bool) (i : ℕ) (ps : List (WorldProcessor J R)) (p : WorldProcessor J R) (b : Bool)
     → i < length ps → p ≡ get_or ps i p → b ≡ is_in_group offloadable stride g i → (b && test (seen key_of p)) ≡ true
     → any_in_group offloadable stride g test i (all_seen key_of (drop i ps)) ≡ true
 any_meets key_of offloadable stride g test i ps p b l e m f = any_more key_of offloadable stride g test i ps p l e
@@ -96,15 +96,15 @@ and_true : (b : Bool) → (b && true) ≡ b
 and_true true = refl
 and_true false = refl
 
-pub member_fails : {J R : Type 0} (key_of : J → ℕ) (offloadable : List Bool) (stride g i : ℕ) (ps : List (Processor J R)) (b : Bool) → i < length ps → b ≡ is_in_group offloadable stride g i → b ≡ false
+pub member_fails : {J R : Type 0} (key_of : J → ℕ) (offloadable : List Bool) (stride g i : ℕ) (ps : List (WorldProcessor J R)) (b : Bool) → i < length ps → b ≡ is_in_group offloadable stride g i → b ≡ false
     → any_in_group offloadable stride g is_any i (all_seen key_of (drop i ps)) ≡ any_in_group offloadable stride g is_any (i + 1) (all_seen key_of (drop (i + 1) ps))
 member_fails key_of offloadable stride g i ps b l m f = let p = some_at ps i l in any_fails key_of offloadable stride g is_any i ps p.0 b l p.1 m (and_true b ∙ f)
 
-pub member_meets : {J R : Type 0} (key_of : J → ℕ) (offloadable : List Bool) (stride g i : ℕ) (ps : List (Processor J R)) (b : Bool) → i < length ps → b ≡ is_in_group offloadable stride g i → b ≡ true
+pub member_meets : {J R : Type 0} (key_of : J → ℕ) (offloadable : List Bool) (stride g i : ℕ) (ps : List (WorldProcessor J R)) (b : Bool) → i < length ps → b ≡ is_in_group offloadable stride g i → b ≡ true
     → any_in_group offloadable stride g is_any i (all_seen key_of (drop i ps)) ≡ true
 member_meets key_of offloadable stride g i ps b l m f = let p = some_at ps i l in any_meets key_of offloadable stride g is_any i ps p.0 b l p.1 m (and_true b ∙ f)
 
-pub most_more : {J R : Type 0} (key_of : J → ℕ) (offloadable : List Bool) (stride g d i : ℕ) (ps : List (Processor J R)) (p : Processor J R) (b : Bool) (e : ℕ)
+pub most_more : {J R : Type 0} (key_of : J → ℕ) (offloadable : List Bool) (stride g d i : ℕ) (ps : List (WorldProcessor J R)) (p : WorldProcessor J R) (b : Bool) (e : ℕ)
     → i < length ps → p ≡ get_or ps i p → b ≡ is_in_group offloadable stride g i → e ≡ cond b (needed_with d (seen key_of p).group_wanted) d
     → most_in_group offloadable stride g d i (all_seen key_of (drop i ps)) ≡ most_in_group offloadable stride g e (i + 1) (all_seen key_of (drop (i + 1) ps))
 most_more key_of offloadable stride g d i ps p b e l h m n =
@@ -112,10 +112,10 @@ most_more key_of offloadable stride g d i ps p b e l h m n =
     ∙ ap (λ x. most_in_group offloadable stride g x (i + 1) (all_seen key_of (drop (i + 1) ps))) (ap (λ x. cond x (needed_with d (seen key_of p).group_wanted) d) (sym m) ∙ sym n)
 
 -- no processor is left
-pub any_end : {J R : Type 0} (key_of : J → ℕ) (offloadable : List Bool) (stride g : ℕ) (test : Cpu → Bool) (i : ℕ) (ps : List (Processor J R)) → length ps ≤ i
+pub any_end : {J R : Type 0} (key_of : J → ℕ) (offloadable : List Bool) (stride g : ℕ) (test : Cpu → Bool) (i : ℕ) (ps : List (WorldProcessor J R)) → length ps ≤ i
     → any_in_group offloadable stride g test i (all_seen key_of (drop i ps)) ≡ false
 any_end key_of offloadable stride g test i ps l = ap (λ x. any_in_group offloadable stride g test i (all_seen key_of x)) (drop_all i ps l)
 
-pub most_end : {J R : Type 0} (key_of : J → ℕ) (offloadable : List Bool) (stride g d i : ℕ) (ps : List (Processor J R)) → length ps ≤ i
+pub most_end : {J R : Type 0} (key_of : J → ℕ) (offloadable : List Bool) (stride g d i : ℕ) (ps : List (WorldProcessor J R)) → length ps ≤ i
     → most_in_group offloadable stride g d i (all_seen key_of (drop i ps)) ≡ d
 most_end key_of offloadable stride g d i ps l = ap (λ x. most_in_group offloadable stride g d i (all_seen key_of x)) (drop_all i ps l)

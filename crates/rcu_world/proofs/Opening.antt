@@ -2,11 +2,11 @@
 use Rattle.std.proofs.Common.{◌≡◌, ℕ, zero, suc, ◌+◌, ◌-◌, ◌<◌, ◌≤◌, ◌%◌, ◌/◌, ◌==◌, List, [], ◌∷◌, ◌++◌, length, map, replicate, refl, ap, sym, ◌∙◌, arith, append_assoc, get_or, Bool, false}
 use Rattle.std.proofs.lemmas.List.{append-nil}
 use Rattle.std.specs.List.{AllByRecursion}
-use Rattle.rcu_law.specs.declared.marks.Mark.{Mark}
-use Rattle.rcu_law.specs.States.{Shape, Barrier, Cpu, opening, empty_cpu, opening_cpu, opening_cpus}
+use Rattle.rcu_world_law.specs.declared.marks.Mark.{Mark}
+use Rattle.rcu_world_law.specs.States.{Shape, Barrier, Cpu, opening, empty_cpu, opening_cpu, opening_cpus}
 use Rattle.rcu_numbers.specs.declared.Shape.{Shape as Limits}
 use Rattle.rcu_numbers.specs.Limits.{IsWithinLimits}
-use Rattle.rcu_law.proofs.Opening.{opening_kept, length_opening}
+use Rattle.rcu_world_law.proofs.Opening.{opening_kept, length_opening}
 use Rattle.rcu_world.specs.Turns.{IsIdle, IsAtRest}
 use Rattle.rcu_world.specs.Boards.{GracePeriod, bits}
 use Rattle.rcu_world.specs.Worlds.{IsFit, plan}

@@ -2,12 +2,12 @@
 use Rattle.std.proofs.Common.{◌≡◌, ℕ, zero, suc, ◌<◌, ◌++◌, ◌∷◌, [], Bool, true, false, cond, not, nat_lt, List, length, Some, get_or, refl, ap, sym, ◌∙◌, subst, arith}
 use Rattle.std.proofs.lemmas.Bool.{and_parts, ltb-true}
 use Rattle.std.proofs.lemmas.List.{get_or-set_same, length-set}
-use Rattle.rcu_law.specs.declared.marks.Mark.TheVariants.{Passed}
-use Rattle.rcu_law.specs.Events.{CoreEvent, is_enabled, after}
-use Rattle.rcu_law.specs.Events.CoreEvent.{Turn, Pass}
-use Rattle.rcu_law.specs.Lists.{all_of, value_or}
-use Rattle.rcu_law.specs.States.{State, no_barrier, barrier_at, is_open}
-use Rattle.rcu_law.specs.Invariant.{IsCore}
+use Rattle.rcu_world_law.specs.declared.marks.Mark.TheVariants.{Passed}
+use Rattle.rcu_world_law.specs.Events.{CoreEvent, is_enabled, after}
+use Rattle.rcu_world_law.specs.Events.CoreEvent.{Turn, Pass}
+use Rattle.rcu_world_law.specs.Lists.{all_of, value_or}
+use Rattle.rcu_world_law.specs.States.{State, no_barrier, barrier_at, is_open}
+use Rattle.rcu_world_law.specs.Invariant.{IsCore}
 use Rattle.rcu_world.specs.Polls.{AreTaken, HasKept, is_seen, turns_for}
 use Rattle.rcu_world.proofs.Leading.{leads_nothing}
 use Rattle.rcu_world.specs.Turns.{Leads, where_enabled}

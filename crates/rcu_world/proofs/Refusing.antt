@@ -1,11 +1,11 @@
 -- Why a call is refused
 use Rattle.std.proofs.Common.{◌≡◌, ℕ, ◌<◌, Bool, true, false, not, ◌&&◌, None, length, refl, ap, sym, ◌∙◌}
 use Rattle.std.proofs.lemmas.Bool.{lt-ltb}
-use Rattle.rcu_law.specs.Events.{is_enabled}
-use Rattle.rcu_law.specs.Events.CoreEvent.{Accept}
-use Rattle.rcu_law.specs.Lists.{is_none}
-use Rattle.rcu_law.specs.States.{State, Cpu, cpu_at}
-use Rattle.rcu_law.specs.Steps.{can_accept}
+use Rattle.rcu_world_law.specs.Events.{is_enabled}
+use Rattle.rcu_world_law.specs.Events.CoreEvent.{Accept}
+use Rattle.rcu_world_law.specs.Lists.{is_none}
+use Rattle.rcu_world_law.specs.States.{State, Cpu, cpu_at}
+use Rattle.rcu_world_law.specs.Steps.{can_accept}
 
 closes : (b : Bool) → (not b && true) ≡ false → b ≡ true
 closes true e = refl

@@ -4,14 +4,14 @@ use Rattle.std.proofs.lemmas.List.{get_or-set_same, get_or-set_other}
 use Rattle.std.proofs.lemmas.Bool.{cases_eq, ltb-true, and_parts}
 use Rattle.rcu_jobs.specs.declared.modes.Mode.{Mode}
 use Rattle.rcu_jobs.specs.declared.modes.Mode.TheVariants.{Local, Offloading, Offloaded, Deoffloading}
-use Rattle.rcu_law.specs.declared.who.Who.TheVariants as who
-use Rattle.rcu_law.specs.Lists.{is_nil, needed_with}
+use Rattle.rcu_world_law.specs.declared.who.Who.TheVariants as who
+use Rattle.rcu_world_law.specs.Lists.{is_nil, needed_with}
 use Rattle.rcu_jobs.specs.Modes.{is_offloaded}
-use Rattle.rcu_law.specs.States.{State, Cpu, empty_cpu, cpu_at, has, with_cpu, is_member}
-use Rattle.rcu_law.specs.Releases.{Pace, pace_after_stamp, pace_after_put}
-use Rattle.rcu_law.specs.Steps.{accepts, stamps, stamps_into, with_pace, puts, looks, group_looks, hand_looks, draws, joins, gives, fetches, finishes, leaves, heeds, heeds_mode, settles}
-use Rattle.rcu_law.specs.Events.{CoreEvent, is_enabled, after, each_cpu, most_wanted}
-use Rattle.rcu_law.specs.Events.CoreEvent.{Accept, Stamp, Put, Report, Start, End, Look, LookGroup, LookHand, Need, Draw, Join, Give, Fetch, Claim, Finish, Ask, Heed, Settle, Open, Count, Turn, Pass, Shut, Urge, Hear}
+use Rattle.rcu_world_law.specs.States.{State, Cpu, empty_cpu, cpu_at, has, with_cpu, is_member}
+use Rattle.rcu_world_law.specs.Releases.{Pace, pace_after_stamp, pace_after_put}
+use Rattle.rcu_world_law.specs.Steps.{accepts, stamps, stamps_into, with_pace, puts, looks, group_looks, hand_looks, draws, joins, gives, fetches, finishes, leaves, heeds, heeds_mode, settles}
+use Rattle.rcu_world_law.specs.Events.{CoreEvent, is_enabled, after, each_cpu, most_wanted}
+use Rattle.rcu_world_law.specs.Events.CoreEvent.{Accept, Stamp, Put, Report, Start, End, Look, LookGroup, LookHand, Need, Draw, Join, Give, Fetch, Claim, Finish, Ask, Heed, Settle, Open, Count, Turn, Pass, Shut, Urge, Hear}
 use Rattle.rcu_world.specs.Turns.{IsIdle, IsAtRest, IsAtRestBut, keeps_rest}
 
 at_set : (P : Cpu → Type 0) (cs : List Cpu) (p q : ℕ) (c : Cpu) → P c → P (get_or cs q empty_cpu) → P (get_or (set cs p c) q empty_cpu)

@@ -4,15 +4,15 @@ use Rattle.std.proofs.lemmas.List.{get_or-set_same, length-set}
 use Rattle.std.proofs.lemmas.Bool.{lt-ltb, and_parts, eq-eqb, ne_eqb}
 use Rattle.rcu_jobs.specs.declared.Stop.{Stop}
 use Rattle.rcu_jobs.specs.declared.Stop.TheVariants as stops
-use Rattle.rcu_law.specs.declared.who.Side.{Side}
-use Rattle.rcu_law.specs.declared.who.Side.TheVariants.{Local, Hand}
-use Rattle.rcu_law.specs.Calls.{Call}
-use Rattle.rcu_law.specs.LabelledLists.{Labelled, done_count, is_done}
-use Rattle.rcu_law.specs.States.{State, Cpu, empty_cpu, cpu_at}
-use Rattle.rcu_law.specs.Steps.{can_claim, can_claim_own, can_claim_held, claims, can_finish, finishes}
-use Rattle.rcu_law.specs.Events.{CoreEvent, is_enabled, after}
-use Rattle.rcu_law.specs.Events.CoreEvent.{Claim, Finish}
-use Rattle.rcu_processor.specs.Turns.{has_none}
+use Rattle.rcu_world_law.specs.declared.who.Side.{Side}
+use Rattle.rcu_world_law.specs.declared.who.Side.TheVariants.{Local, Hand}
+use Rattle.rcu_world_law.specs.Calls.{Call}
+use Rattle.rcu_world_law.specs.LabelledLists.{Labelled, done_count, is_done}
+use Rattle.rcu_world_law.specs.States.{State, Cpu, empty_cpu, cpu_at}
+use Rattle.rcu_world_law.specs.Steps.{can_claim, can_claim_own, can_claim_held, claims, can_finish, finishes}
+use Rattle.rcu_world_law.specs.Events.{CoreEvent, is_enabled, after}
+use Rattle.rcu_world_law.specs.Events.CoreEvent.{Claim, Finish}
+use Rattle.rcu_world_processor.specs.Turns.{has_none}
 use Rattle.rcu_world.specs.Turns.{IsIdle, IsAtRest, Leads, where_enabled, run_events, stop_of}
 use Rattle.rcu_world.proofs.Leading.{leads_append, leads_one}
 

@@ -4,26 +4,26 @@ use Rattle.std.proofs.lemmas.Bool.{le-ltb, lt-ltb}
 use Rattle.std.proofs.lemmas.List.{map-set, get_or-map, get_or_default, length-map}
 use Rattle.std.proofs.Math.Seq.{map-set_same}
 use Rattle.std.specs.List.{AllByRecursion}
-use Rattle.rcu_law.specs.States.{State, Barrier, no_barrier, Cpu, empty_cpu, cpu_at, has}
-use Rattle.rcu_law.specs.Lists.{is_none}
-use Rattle.rcu_law.specs.declared.marks.Mark.{Mark}
+use Rattle.rcu_world_law.specs.States.{State, Barrier, no_barrier, Cpu, empty_cpu, cpu_at, has}
+use Rattle.rcu_world_law.specs.Lists.{is_none}
+use Rattle.rcu_world_law.specs.declared.marks.Mark.{Mark}
 use Rattle.rcu_numbers.specs.declared.sequence.TheConstants.{GREATEST_NUMBER}
-use Rattle.rcu_law.specs.States.{barrier_at, is_open, with_barrier, added, with_mark, with_cpu}
-use Rattle.rcu_law.specs.Lists.{needed_with}
-use Rattle.rcu_law.specs.Invariant.{IsCore}
-use Rattle.rcu_law.proofs.Room.{turn_fits}
-use Rattle.rcu_law.proofs.Room.{look_fits, labelled_lists}
-use Rattle.rcu_law.proofs.Looks.{all_left}
-use Rattle.rcu_law.specs.Calls.{Call}
-use Rattle.rcu_law.specs.Invariant.{IsStamped}
-use Rattle.rcu_law.specs.Steps.{front}
+use Rattle.rcu_world_law.specs.States.{barrier_at, is_open, with_barrier, added, with_mark, with_cpu}
+use Rattle.rcu_world_law.specs.Lists.{needed_with}
+use Rattle.rcu_world_law.specs.Invariant.{IsCore}
+use Rattle.rcu_world_law.proofs.Bounds.{turn_fits}
+use Rattle.rcu_world_law.proofs.Bounds.{look_fits, labelled_lists}
+use Rattle.rcu_world_law.proofs.Looks.{all_left}
+use Rattle.rcu_world_law.specs.Calls.{Call}
+use Rattle.rcu_world_law.specs.Invariant.{IsStamped}
+use Rattle.rcu_world_law.specs.Steps.{front}
 use Rattle.rcu_world.specs.Members.{IsLookable}
 use Rattle.rcu_world.proofs.Leaving.{all_at}
-use Rattle.rcu_processor.specs.declared.processor.Processor.{Processor}
+use Rattle.rcu_world_processor.specs.declared.processor.WorldProcessor.{WorldProcessor}
 use Rattle.rcu_world.specs.declared.cores.Core.{Core}
 use Rattle.rcu_world.specs.declared.barriers.Barring.{Barring}
 use Rattle.rcu_world.specs.Barrings.{barrier}
-use Rattle.rcu_processor.specs.Views.{seen, mark_of, AreGiven}
+use Rattle.rcu_world_processor.specs.Views.{seen, mark_of, AreGiven}
 use Rattle.rcu_world.specs.Worlds.{IsFit}
 use Rattle.rcu_world.specs.Views.{all_seen, state, AllGiven}
 
@@ -37,21 +37,21 @@ held_fits w p k l = front_fits (length w.cpus) w.history p w.number (cpu_at w p)
 
 module _ {J R : Type 0} (key_of : J → ℕ) where
   -- a processor that is there
-  pub seen_at : (ps : List (Processor J R)) (i : ℕ) (p : Processor J R) → i < length ps → p ≡ get_or ps i p → seen key_of p ≡ get_or (all_seen key_of ps) i empty_cpu
+  pub seen_at : (ps : List (WorldProcessor J R)) (i : ℕ) (p : WorldProcessor J R) → i < length ps → p ≡ get_or ps i p → seen key_of p ≡ get_or (all_seen key_of ps) i empty_cpu
   seen_at ps i p l e = ap (seen key_of) e ∙ sym (get_or-map (seen key_of) ps i p empty_cpu l)
 
   -- a processor that looks as before
-  pub same_at : (ps : List (Processor J R)) (i : ℕ) (p q : Processor J R) → p ≡ get_or ps i p → seen key_of q ≡ seen key_of p → all_seen key_of (set ps i q) ≡ all_seen key_of ps
+  pub same_at : (ps : List (WorldProcessor J R)) (i : ℕ) (p q : WorldProcessor J R) → p ≡ get_or ps i p → seen key_of q ≡ seen key_of p → all_seen key_of (set ps i q) ≡ all_seen key_of ps
   same_at ps i p q e s = map-set_same (seen key_of) ps i q p (s ∙ ap (seen key_of) e)
 
   -- the test of an event at processor i
-  pub tested : (w : Core J R) (i : ℕ) (p : Processor J R) (test : Cpu → Bool) (b : Bool) → i < length w.processors.items → p ≡ get_or w.processors.items i p
+  pub tested : (w : Core J R) (i : ℕ) (p : WorldProcessor J R) (test : Cpu → Bool) (b : Bool) → i < length w.processors.items → p ≡ get_or w.processors.items i p
       → test (seen key_of p) ≡ b → (has (state key_of w) i && test (cpu_at (state key_of w) i)) ≡ b
   tested w i p test b l e t =
       let h : has (state key_of w) i ≡ true = lt-ltb i (length (all_seen key_of w.processors.items)) (omega (arith, length-map w.processors.items (seen key_of))) in
       ap (λ x. x && test (cpu_at (state key_of w) i)) h ∙ ap test (sym (seen_at w.processors.items i p l e)) ∙ t
 
-  pub test_at : (w : Core J R) (i : ℕ) (p : Processor J R) (test : Cpu → Bool) (b : Bool) → i < length w.processors.items → p ≡ get_or w.processors.items i p
+  pub test_at : (w : Core J R) (i : ℕ) (p : WorldProcessor J R) (test : Cpu → Bool) (b : Bool) → i < length w.processors.items → p ≡ get_or w.processors.items i p
       → test (seen key_of p) ≡ b → test (cpu_at (state key_of w) i) ≡ b
   test_at w i p test b l e t = ap test (sym (seen_at w.processors.items i p l e)) ∙ t
 
@@ -60,12 +60,12 @@ module _ {J R : Type 0} (key_of : J → ℕ) where
   absent w i test l = ap (λ b. b && test) (le-ltb i (length (all_seen key_of w.processors.items)) (omega (arith, length-map w.processors.items (seen key_of))))
 
   -- an event that the test of processor i skips
-  pub skipped : (w : Core J R) (i : ℕ) (p : Processor J R) (test : Cpu → Bool) → i < length w.processors.items → p ≡ get_or w.processors.items i p → test (seen key_of p) ≡ false
+  pub skipped : (w : Core J R) (i : ℕ) (p : WorldProcessor J R) (test : Cpu → Bool) → i < length w.processors.items → p ≡ get_or w.processors.items i p → test (seen key_of p) ≡ false
       → ((has (state key_of w) i && test (cpu_at (state key_of w) i)) ≡ false) × (record (state key_of w) { cpus = all_seen key_of (set w.processors.items i p) } ≡ state key_of w)
   skipped w i p test l e t = (tested w i p test false l e t, ap {B = State} (λ x. record (state key_of w) { cpus = x }) (same_at w.processors.items i p p e refl))
 
   -- an event that does f to processor i, and adds a mark
-  pub stepped : (w : Core J R) (i : ℕ) (p q : Processor J R) (test : Cpu → Bool) (f : Cpu → Cpu) (mark : Cpu → Option Mark) (h : List Mark)
+  pub stepped : (w : Core J R) (i : ℕ) (p q : WorldProcessor J R) (test : Cpu → Bool) (f : Cpu → Cpu) (mark : Cpu → Option Mark) (h : List Mark)
       → i < length w.processors.items → p ≡ get_or w.processors.items i p → test (seen key_of p) ≡ true → seen key_of q ≡ f (seen key_of p) → h ≡ added w.history.items (mark (seen key_of p))
       → ((has (state key_of w) i && test (cpu_at (state key_of w) i)) ≡ true)
       × (record (state key_of w) { cpus = all_seen key_of (set w.processors.items i q); history = h }
@@ -82,7 +82,7 @@ module _ {J R : Type 0} (key_of : J → ℕ) where
       )
 
   -- an event that found no room
-  pub refused : (w : Core J R) (i : ℕ) (p q : Processor J R) (test : Cpu → Bool) (h : List Mark)
+  pub refused : (w : Core J R) (i : ℕ) (p q : WorldProcessor J R) (test : Cpu → Bool) (h : List Mark)
       → i < length w.processors.items → p ≡ get_or w.processors.items i p → test (seen key_of p) ≡ true → seen key_of q ≡ seen key_of p → h ≡ w.history.items
       → ((has (state key_of w) i && test (cpu_at (state key_of w) i)) ≡ true)
       × (record (state key_of w) { cpus = all_seen key_of (set w.processors.items i q); history = h } ≡ state key_of w)
@@ -92,31 +92,31 @@ module _ {J R : Type 0} (key_of : J → ℕ) where
   )
 
   -- the room that its numbers have
-  pub fits_at : (w : Core J R) (i : ℕ) (p : Processor J R) → IsFit (state key_of w) → i < length w.processors.items → p ≡ get_or w.processors.items i p
+  pub fits_at : (w : Core J R) (i : ℕ) (p : WorldProcessor J R) → IsFit (state key_of w) → i < length w.processors.items → p ≡ get_or w.processors.items i p
       → (p.turn ≤ 2000000) × (p.count ≤ 1000000)
   fits_at w i p k l e = turn_fits (state key_of w) i (seen key_of p) k.core k.limit (omega (arith, length-map w.processors.items (seen key_of)))
       (seen_at w.processors.items i p l e ∙ get_or_default (all_seen key_of w.processors.items) i empty_cpu (seen key_of p) (omega (arith, length-map w.processors.items (seen key_of))))
 
   -- what a look asks of its own list holds
-  pub lookable_at : (w : Core J R) (i : ℕ) (p : Processor J R) → IsCore (state key_of w) → i < length w.processors.items → p ≡ get_or w.processors.items i p → IsLookable w.board.number (seen key_of p).own
+  pub lookable_at : (w : Core J R) (i : ℕ) (p : WorldProcessor J R) → IsCore (state key_of w) → i < length w.processors.items → p ≡ get_or w.processors.items i p → IsLookable w.board.number (seen key_of p).own
   lookable_at w i p k l e =
       let n : i < length (all_seen key_of w.processors.items) = omega (arith, length-map w.processors.items (seen key_of)) in
       subst (λ x. IsLookable w.board.number x.own) (sym (seen_at w.processors.items i p l e)) (record { small = look_fits (state key_of w) i k n; may = (labelled_lists (state key_of w) i k n).own_accelerates })
 
   -- the first stamp that a hand holds isn't too great
-  pub held_fits_at : (w : Core J R) (i : ℕ) (p : Processor J R) → IsCore (state key_of w) → i < length w.processors.items → p ≡ get_or w.processors.items i p → (front (seen key_of p).held).stamp ≤ GREATEST_NUMBER
+  pub held_fits_at : (w : Core J R) (i : ℕ) (p : WorldProcessor J R) → IsCore (state key_of w) → i < length w.processors.items → p ≡ get_or w.processors.items i p → (front (seen key_of p).held).stamp ≤ GREATEST_NUMBER
   held_fits_at w i p k l e = subst (λ x. (front x.held).stamp ≤ GREATEST_NUMBER) (sym (seen_at w.processors.items i p l e))
       (held_fits (state key_of w) i k (omega (arith, length-map w.processors.items (seen key_of))))
 
   -- an event of any processor that is there
-  pub happened : (w : Core J R) (i : ℕ) (p q : Processor J R) (f : Cpu → Cpu) → i < length w.processors.items → p ≡ get_or w.processors.items i p → seen key_of q ≡ f (seen key_of p)
+  pub happened : (w : Core J R) (i : ℕ) (p q : WorldProcessor J R) (f : Cpu → Cpu) → i < length w.processors.items → p ≡ get_or w.processors.items i p → seen key_of q ≡ f (seen key_of p)
       → (has (state key_of w) i ≡ true) × (record (state key_of w) { cpus = all_seen key_of (set w.processors.items i q) } ≡ with_cpu (state key_of w) i (f (cpu_at (state key_of w) i))) × (false ≡ false)
   happened w i p q f l e d =
       let r = stepped w i p q (λ x. true) f (λ x. None) w.history.items l e refl d refl in
       (lt-ltb i (length (all_seen key_of w.processors.items)) (omega (arith, length-map w.processors.items (seen key_of))), r.1, refl)
 
   -- what a processor wants is asked for
-  pub needed_at : (w : Core J R) (i : ℕ) (p q : Processor J R) (s n : ℕ) → i < length w.processors.items → p ≡ get_or w.processors.items i p → p.wanted ≡ Some s
+  pub needed_at : (w : Core J R) (i : ℕ) (p q : WorldProcessor J R) (s n : ℕ) → i < length w.processors.items → p ≡ get_or w.processors.items i p → p.wanted ≡ Some s
       → seen key_of q ≡ record (seen key_of p) { wanted = None } → n ≡ max w.needed s
       → ((has (state key_of w) i && not (is_none (cpu_at (state key_of w) i).wanted)) ≡ true)
       × (record (state key_of w) { needed = n; cpus = all_seen key_of (set w.processors.items i q) }
@@ -134,12 +134,12 @@ kept_at P (z ∷ xs) (suc i) x y l e h a = (a.0, kept_at P xs i x y (omega arith
 kept_at P [] i x y l e h a = absurd (omega arith)
 
 -- an event of one processor keeps what the law doesn't see
-pub given_at : {J R : Type 0} (gives : ℕ → R → Type 0) (w : Core J R) (i : ℕ) (p q : Processor J R) → i < length w.processors.items → p ≡ get_or w.processors.items i p
+pub given_at : {J R : Type 0} (gives : ℕ → R → Type 0) (w : Core J R) (i : ℕ) (p q : WorldProcessor J R) → i < length w.processors.items → p ≡ get_or w.processors.items i p
     → ((mark : ℕ) → AreGiven gives mark p → AreGiven gives mark q) → AllGiven gives w → AllByRecursion (AreGiven gives w.qhimark) (set w.processors.items i q)
 given_at gives w i p q l e h a = kept_at (AreGiven gives w.qhimark) w.processors.items i p q l e (h w.qhimark) a
 
 -- the length at which a processor's bypass list is released
-pub mark_at : {J R : Type 0} (gives : ℕ → R → Type 0) (w : Core J R) (i : ℕ) (p : Processor J R) → i < length w.processors.items → p ≡ get_or w.processors.items i p → AllGiven gives w → mark_of p ≡ w.qhimark
+pub mark_at : {J R : Type 0} (gives : ℕ → R → Type 0) (w : Core J R) (i : ℕ) (p : WorldProcessor J R) → i < length w.processors.items → p ≡ get_or w.processors.items i p → AllGiven gives w → mark_of p ≡ w.qhimark
 mark_at gives w i p l e a = (all_at (AreGiven gives w.qhimark) w.processors.items i p l e a).1
 
 -- a barrier that is there

@@ -5,20 +5,20 @@ use Rattle.std.proofs.lemmas.Grind.{flat_map-append}
 use Rattle.std.specs.Global.{Vec}
 use Rattle.std.specs.List.{flat_map, All, AllByRecursion}
 use Rattle.rcu_jobs.specs.declared.Record.{Record}
-use Rattle.rcu_law.specs.declared.marks.Mark.{Mark}
-use Rattle.rcu_law.specs.declared.marks.Mark.TheVariants.{Shut, Back}
-use Rattle.rcu_law.specs.Law.{accepted, ran, back, key_accepted, key_ran, HasNoBack}
-use Rattle.rcu_law.specs.Calls.{Call}
-use Rattle.rcu_law.specs.States.{State, Cpu, cpu_at, empty_cpu}
-use Rattle.rcu_law.specs.Places.{key_of, remaining_callbacks}
-use Rattle.rcu_law.specs.Invariant.{AreRecords, IsCore}
-use Rattle.rcu_law.specs.Closing.{closing, shut_mark, shut_marks, back_marks}
-use Rattle.rcu_law.proofs.Closing.{closed}
-use Rattle.rcu_processor.specs.declared.processor.Processor.{Processor}
+use Rattle.rcu_world_law.specs.declared.marks.Mark.{Mark}
+use Rattle.rcu_world_law.specs.declared.marks.Mark.TheVariants.{Shut, Back}
+use Rattle.rcu_world_law.specs.Law.{accepted, ran, back, key_accepted, key_ran, HasNoBack}
+use Rattle.rcu_world_law.specs.Calls.{Call}
+use Rattle.rcu_world_law.specs.States.{State, Cpu, cpu_at, empty_cpu}
+use Rattle.rcu_world_law.specs.Places.{key_of, remaining_callbacks}
+use Rattle.rcu_world_law.specs.Invariant.{AreRecords, IsCore}
+use Rattle.rcu_world_law.specs.Closing.{closing, shut_mark, shut_marks, back_marks}
+use Rattle.rcu_world_law.proofs.Closing.{closed}
+use Rattle.rcu_world_processor.specs.declared.processor.WorldProcessor.{WorldProcessor}
 use Rattle.rcu_world.specs.declared.cores.Core.{Core}
-use Rattle.rcu_processor.specs.Leaving.{IsCounted, left_keys}
+use Rattle.rcu_world_processor.specs.Leaving.{IsCounted, left_keys}
 use Rattle.rcu_world.specs.Leaving.{AreCounted, AreHandedBack, AreRecorded, AreRunsOf, runs_in}
-use Rattle.rcu_processor.specs.Views.{records_of, run, seen, AreGiven}
+use Rattle.rcu_world_processor.specs.Views.{records_of, run, seen, AreGiven}
 use Rattle.rcu_world.specs.Worlds.{IsFit}
 use Rattle.rcu_world.specs.Views.{all_seen, state}
 
@@ -73,7 +73,7 @@ is_counted w p k l =
       few = omega (arith, (k.core.cpu p l).bounded, k.limit);
     }
 
-all_given : {J R : Type 0} (gives : ℕ → R → Type 0) (mark : ℕ) (ps : List (Processor J R)) → AllByRecursion (AreGiven gives mark) ps → AllByRecursion (λ (v : Vec (Record R)). All (λ r. gives r.key r.receipt) v.items) (map records_of ps)
+all_given : {J R : Type 0} (gives : ℕ → R → Type 0) (mark : ℕ) (ps : List (WorldProcessor J R)) → AllByRecursion (AreGiven gives mark) ps → AllByRecursion (λ (v : Vec (Record R)). All (λ r. gives r.key r.receipt) v.items) (map records_of ps)
 all_given gives mark [] a = tt
 all_given gives mark (p ∷ ps) a = (a.0.0, all_given gives mark ps a.1)
 
@@ -88,7 +88,7 @@ module _ {J R : Type 0} (job_key : J → ℕ) (w : Core J R) (k : IsCore (state 
     len = sym (length-map lists (λ (v : Vec J). map job_key v.items)) ∙ ap length e ∙ length-map (all_seen job_key w.processors.items) left_keys;
   }
 
-  run_lists : (ps : List (Processor J R)) (p : ℕ) → p < length ps → get_or (map (λ (v : Vec (Record R)). map run v.items) (map records_of ps)) p [] ≡ (get_or (all_seen job_key ps) p empty_cpu).runs
+  run_lists : (ps : List (WorldProcessor J R)) (p : ℕ) → p < length ps → get_or (map (λ (v : Vec (Record R)). map run v.items) (map records_of ps)) p [] ≡ (get_or (all_seen job_key ps) p empty_cpu).runs
   run_lists (q ∷ ps) zero l = refl
   run_lists (q ∷ ps) (suc p) l = run_lists ps p (omega arith)
   run_lists [] p l = absurd (omega arith)

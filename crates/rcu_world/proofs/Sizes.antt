@@ -3,7 +3,7 @@ use Rattle.std.proofs.Common.{ℕ, max, ◌+◌, ◌<◌, ◌≤◌, Bool, true,
 use Rattle.std.specs.Mem.{FitsInMemory}
 use denote.RattleType.{RattleType}
 use prog.Memory.{up}
-use Rattle.rcu_processor.specs.contracts.processor.Processor as processor
+use Rattle.rcu_world_processor.specs.contracts.processor.WorldProcessor as processor
 use Rattle.rcu_world.specs.contracts.cores.Core as core
 
 in_struct : (a off x : ℕ) → up a (off + x) < 9223372036854775808 → x < 9223372036854775808

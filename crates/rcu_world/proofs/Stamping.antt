@@ -1,8 +1,8 @@
 -- The events of a stamp, and of the release that may follow it
 use Rattle.std.proofs.Common.{◌≡◌, ℕ, ◌&&◌, Bool, true, false, cond, None, [], ◌∷◌, ap, sym, ◌∙◌, subst}
-use Rattle.rcu_law.specs.States.{State}
-use Rattle.rcu_law.specs.Events.{is_enabled, after}
-use Rattle.rcu_law.specs.Events.CoreEvent.{Put, Stamp}
+use Rattle.rcu_world_law.specs.States.{State}
+use Rattle.rcu_world_law.specs.Events.{is_enabled, after}
+use Rattle.rcu_world_law.specs.Events.CoreEvent.{Put, Stamp}
 use Rattle.rcu_world.specs.Turns.{Leads, is_released, stamp_events, where_enabled}
 use Rattle.rcu_world.proofs.Leading.{leads_append}
 

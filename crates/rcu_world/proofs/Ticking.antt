@@ -1,11 +1,11 @@
 -- The stages of a tick
 use Rattle.std.proofs.Common.{◌≡◌, ℕ, ◌<◌, Bool, true, false, cond, ◌&&◌, None, Option, [], length, get_or, ap, sym, ◌∙◌, subst, refl}
 use Rattle.std.proofs.lemmas.Bool.{lt-ltb}
-use Rattle.rcu_law.specs.Releases.{releases_in_tick, moment_of_tick}
+use Rattle.rcu_world_law.specs.Releases.{releases_in_tick, moment_of_tick}
 use Rattle.rcu_jobs.specs.Modes.{is_offloaded}
-use Rattle.rcu_law.specs.States.{State, cpu_at, has, is_offloadable}
-use Rattle.rcu_law.specs.Events.CoreEvent.{Hear, Put, Heed, Settle}
-use Rattle.rcu_processor.specs.Turns.{is_switching}
+use Rattle.rcu_world_law.specs.States.{State, cpu_at, has, is_offloadable}
+use Rattle.rcu_world_law.specs.Events.CoreEvent.{Hear, Put, Heed, Settle}
+use Rattle.rcu_world_processor.specs.Turns.{is_switching}
 use Rattle.rcu_world.specs.Turns.{Leads, Rooms, where_enabled, and_then, put_in_tick, release_events, put_after_pouring, switch_events, offloadable_events}
 use Rattle.rcu_world.proofs.Leading.{leads_then, chosen, not_chosen, where_true, where_false}
 

@@ -1,8 +1,8 @@
 -- loops that have come to their end
 use Rattle.std.proofs.Common.{◌≡◌, ℕ, List, Result, Ok, Err, IsErr, IfOk, subst}
 use Rattle.std.specs.Result.{OnErr}
-use Rattle.rcu_law.specs.States.{State}
-use Rattle.rcu_law.specs.Events.{CoreEvent}
+use Rattle.rcu_world_law.specs.States.{State}
+use Rattle.rcu_world_law.specs.Events.{CoreEvent}
 use Rattle.rcu_world.specs.GroupTurns.{Made, Upto}
 use Rattle.rcu_world.specs.Turns.{Leads, upto}
 

@@ -1,7 +1,7 @@
 -- The board of the core, as contracts see it. docs/specification/rules.md, "Quiescent reports"
 use Rattle.std.specs.Prelude.{ℕ, zero, suc, ◌+◌, ◌*◌, ◌%◌, ◌/◌, ◌==◌, ◌<◌, ◌≤◌, Bool, List, [], ◌∷◌}
 use Rattle.rcu_numbers.specs.declared.shape.TheConstants.{MOST_PROCESSORS}
-use Rattle.rcu_law.specs.Invariant.{owed}
+use Rattle.rcu_world_law.specs.Invariant.{owed}
 use Rattle.rcu_numbers.specs.Words.{Board, Owes}
 
 -- the grace-period number, and of each processor whether it owes a report

@@ -1,14 +1,14 @@
--- The events and answers of the code against the machine of rcu_law. docs/specification/definitions.md, "The core"; docs/specification/surface.md, "rcu_world"
+-- The events and answers of the code against the machine of rcu_world_law. docs/specification/definitions.md, "The core"; docs/specification/surface.md, "rcu_world"
 use Rattle.std.specs.Prelude.{ℕ, ◌≡◌, Bool, true, false, ◌&&◌, Option, Some, None, List, [], ◌∷◌}
 use Rattle.rcu_world.specs.declared.events.Event.{Event}
 use Rattle.rcu_world.specs.declared.events.Event.TheVariants as events
 use Rattle.rcu_world.specs.declared.events.Answer.{Answer}
 use Rattle.rcu_world.specs.declared.events.Answer.TheVariants as answers
 use Rattle.rcu_jobs.specs.Modes.{is_offloaded}
-use Rattle.rcu_law.specs.States.{State, cpu_at, owes}
-use Rattle.rcu_law.specs.Events.{CoreEvent, is_enabled, after}
-use Rattle.rcu_law.specs.Releases.{releases}
-use Rattle.rcu_law.specs.Events.CoreEvent.{Accept, Stamp, Put, Report, Start, End, Look, LookGroup, LookHand, Need, Draw, Join, Give, Fetch, Claim, Finish, Ask, Heed, Settle, Open, Count, Turn, Pass, Shut, Urge, Hear}
+use Rattle.rcu_world_law.specs.States.{State, cpu_at, owes}
+use Rattle.rcu_world_law.specs.Events.{CoreEvent, is_enabled, after}
+use Rattle.rcu_world_law.specs.Releases.{releases}
+use Rattle.rcu_world_law.specs.Events.CoreEvent.{Accept, Stamp, Put, Report, Start, End, Look, LookGroup, LookHand, Need, Draw, Join, Give, Fetch, Claim, Finish, Ask, Heed, Settle, Open, Count, Turn, Pass, Shut, Urge, Hear}
 
 -- The event of the machine, with the key of its job in place of the job. `poured` says whether Heed had room to pour, which is the machine's to choose.
 abbrev pub core_event : {J : Type 0} → (J → ℕ) → Bool → Event J → CoreEvent

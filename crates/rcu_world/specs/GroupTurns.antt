@@ -1,11 +1,11 @@
 -- `group_turn`. docs/specification/rules.md, "The calls, step by step". Several lists of events may be those of a turn, as no turn can know beforehand which growths find room.
 use Rattle.std.specs.Prelude.{ℕ, ◌≡◌, ◌+◌, Bool, true, false, if◌then◌else◌, List, [], ◌∷◌, ◌++◌, length, ◌⊎◌, zero, suc}
-use Rattle.rcu_law.specs.declared.who.Who.TheVariants as who
-use Rattle.rcu_law.specs.Lists.{first_batch}
-use Rattle.rcu_law.specs.States.{State, cpu_at, is_member}
-use Rattle.rcu_law.specs.Steps.{given}
-use Rattle.rcu_law.specs.Events.{CoreEvent, is_enabled, happens, run}
-use Rattle.rcu_law.specs.Events.CoreEvent.{Draw, Join, Give, LookGroup, Need}
+use Rattle.rcu_world_law.specs.declared.who.Who.TheVariants as who
+use Rattle.rcu_world_law.specs.Lists.{first_batch}
+use Rattle.rcu_world_law.specs.States.{State, cpu_at, is_member}
+use Rattle.rcu_world_law.specs.Steps.{given}
+use Rattle.rcu_world_law.specs.Events.{CoreEvent, is_enabled, happens, run}
+use Rattle.rcu_world_law.specs.Events.CoreEvent.{Draw, Join, Give, LookGroup, Need}
 use Rattle.rcu_world.specs.Turns.{Leads, and_then, where_enabled}
 
 -- the events of F, and then those of G, from where they led

@@ -3,17 +3,17 @@ use Rattle.std.specs.Prelude.{◌≡◌, ℕ, ◌+◌, ◌≤◌, ◌<◌, List,
 use Rattle.std.specs.Global.{Vec}
 use Rattle.std.specs.List.{AllByRecursion}
 use Rattle.rcu_jobs.specs.declared.Record.{Record}
-use Rattle.rcu_law.specs.declared.marks.Mark.{Mark}
-use Rattle.rcu_law.specs.declared.marks.Mark.TheVariants.{Back}
-use Rattle.rcu_law.specs.Law.{back}
-use Rattle.rcu_law.specs.States.{State, Cpu, Run, cpu_at}
-use Rattle.rcu_law.specs.Places.{remaining_callbacks}
-use Rattle.rcu_law.specs.Invariant.{AreRecords, reports}
-use Rattle.rcu_processor.specs.declared.processor.Processor.{Processor}
-use Rattle.rcu_processor.specs.Leaving.{IsCounted}
+use Rattle.rcu_world_law.specs.declared.marks.Mark.{Mark}
+use Rattle.rcu_world_law.specs.declared.marks.Mark.TheVariants.{Back}
+use Rattle.rcu_world_law.specs.Law.{back}
+use Rattle.rcu_world_law.specs.States.{State, Cpu, Run, cpu_at}
+use Rattle.rcu_world_law.specs.Places.{remaining_callbacks}
+use Rattle.rcu_world_law.specs.Invariant.{AreRecords, reports}
+use Rattle.rcu_world_processor.specs.declared.processor.WorldProcessor.{WorldProcessor}
+use Rattle.rcu_world_processor.specs.Leaving.{IsCounted}
 use Rattle.rcu_world.specs.declared.cores.Core.{Core}
-use Rattle.rcu_world.specs.declared.ending.Room.{Room}
-use Rattle.rcu_processor.specs.Views.{run, seen}
+use Rattle.rcu_world.specs.declared.end.Reserved.{Reserved}
+use Rattle.rcu_world_processor.specs.Views.{run, seen}
 use Rattle.rcu_world.specs.Views.{all_seen}
 
 -- a Shut, and a Back for each callback that is left
@@ -27,18 +27,18 @@ backs p [] = []
 backs p (keys ∷ rest) = map (λ key. Back p key) keys ++ backs (p + 1) rest
 
 module _ {J R : Type 0} (job_key : J → ℕ) where
-  abbrev pub AreCounted : List (Processor J R) → Type 0
+  abbrev pub AreCounted : List (WorldProcessor J R) → Type 0
   AreCounted ps = AllByRecursion (λ p. IsCounted (seen job_key p)) ps
 
   -- an empty list for each processor, with room for what is left of it
-  abbrev pub HaveRoom : List (Processor J R) → List (Vec J) → Type 0
+  abbrev pub HaveRoom : List (WorldProcessor J R) → List (Vec J) → Type 0
   HaveRoom [] [] = Unit {0}
   HaveRoom (p ∷ ps) (v ∷ vs) = ((v.items ≡ []) × (length (remaining_callbacks (seen job_key p)) ≤ vec_capacity v)) × HaveRoom ps vs
   HaveRoom [] (v ∷ vs) = ⊥
   HaveRoom (p ∷ ps) [] = ⊥
 
 -- the room that a close needs: the history with room for the last marks, and lists for what is left, for what ran, and for the counts of reports
-pub record IsRoomFor {J R : Type 0} (job_key : J → ℕ) (w : Core J R) (room : Room J R) : Type 0 where
+pub record IsRoomFor {J R : Type 0} (job_key : J → ℕ) (w : Core J R) (room : Reserved J R) : Type 0 where
   pub marks : room.marks.items ≡ w.history.items
   pub more : vec_len room.marks + most_marks (all_seen job_key w.processors.items) ≤ vec_capacity room.marks
   pub jobs : HaveRoom job_key w.processors.items room.jobs.items

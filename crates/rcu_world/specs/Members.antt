@@ -1,12 +1,12 @@
 -- The members of a group, as its loops see them. docs/specification/rules.md, "Groups"
 use Rattle.std.specs.Prelude.{ℕ, ◌+◌, Bool, true, false, List, [], ◌∷◌, length, ◌||◌, ◌&&◌, ◌==◌, ◌/◌, ◌<◌, ◌≤◌, slice_index_or, if◌then◌else◌}
-use Rattle.rcu_law.specs.States.{Cpu, empty_cpu}
-use Rattle.rcu_law.specs.Steps.{group_looks}
-use Rattle.rcu_law.specs.Lists.{needed_with}
-use Rattle.rcu_law.specs.LabelledLists.{Labelled, MayAccelerate, advance, newest}
+use Rattle.rcu_world_law.specs.States.{Cpu, empty_cpu}
+use Rattle.rcu_world_law.specs.Steps.{group_looks}
+use Rattle.rcu_world_law.specs.Lists.{needed_with}
+use Rattle.rcu_world_law.specs.LabelledLists.{Labelled, MayAccelerate, advance, newest}
 use Rattle.rcu_numbers.specs.Numbers.{snap_of}
 use Rattle.rcu_numbers.specs.declared.sequence.TheConstants.{GREATEST_NUMBER}
-use Rattle.rcu_processor.specs.Members.{forgets}
+use Rattle.rcu_world_processor.specs.Members.{forgets}
 
 -- whether processor p is a member of group g
 abbrev pub is_in_group : List Bool → ℕ → ℕ → ℕ → Bool

@@ -1,11 +1,11 @@
 -- `poll`: each Turn not yet seen, in rising order of the processors, then Pass where all are seen. docs/specification/rules.md, "On the core"
 use Rattle.std.specs.Prelude.{ℕ, ◌≡◌, ◌<◌, Bool, false, if◌then◌else◌, List, [], ◌∷◌, ◌++◌, length, Option, None, Some, slice_index, slice_index_or}
 use Rattle.rcu_jobs.specs.declared.Passed.{Passed}
-use Rattle.rcu_law.specs.declared.marks.Mark.TheVariants as marks
-use Rattle.rcu_law.specs.Events.{CoreEvent}
-use Rattle.rcu_law.specs.Events.CoreEvent.{Turn, Pass}
-use Rattle.rcu_law.specs.States.{State, Barrier, barrier_at, count_at}
-use Rattle.rcu_law.specs.Lists.{value_or}
+use Rattle.rcu_world_law.specs.declared.marks.Mark.TheVariants as marks
+use Rattle.rcu_world_law.specs.Events.{CoreEvent}
+use Rattle.rcu_world_law.specs.Events.CoreEvent.{Turn, Pass}
+use Rattle.rcu_world_law.specs.States.{State, Barrier, barrier_at, count_at}
+use Rattle.rcu_world_law.specs.Lists.{value_or}
 use Rattle.rcu_world.specs.Turns.{and_then, upto, where_enabled}
 
 -- whether a barrier has seen that a processor ran all that was counted

@@ -2,18 +2,18 @@
 use Rattle.std.specs.Prelude.{ℕ, ◌≡◌, ◌+◌, ◌≤◌, Bool, true, false, slice_index_or}
 use Rattle.rcu_jobs.specs.declared.Refused.{Refused}
 use Rattle.rcu_jobs.specs.declared.Refused.TheVariants.{Limit, Memory, Closed}
-use Rattle.rcu_law.specs.States.{State, cpu_at}
-use Rattle.rcu_law.specs.Steps.{can_accept}
+use Rattle.rcu_world_law.specs.States.{State, cpu_at}
+use Rattle.rcu_world_law.specs.Steps.{can_accept}
 use Rattle.rcu_world.specs.declared.events.Answer.{Answer}
 use Rattle.rcu_world.specs.declared.events.Answer.TheVariants as answers
 use Rattle.rcu_world.specs.declared.events.Event.{Event}
 use Rattle.rcu_world.specs.declared.events.Event.TheVariants as events
-use Rattle.rcu_processor.specs.declared.processor.Processor.{Processor}
+use Rattle.rcu_world_processor.specs.declared.processor.WorldProcessor.{WorldProcessor}
 use Rattle.rcu_world.specs.declared.cores.Core.{Core}
-use Rattle.rcu_processor.specs.Ready.{IsReady}
+use Rattle.rcu_world_processor.specs.Ready.{IsReady}
 
 abbrev pub IsReadyAt : {J R : Type 0} → Core J R → ℕ → Type 0
-IsReadyAt {J} {R} w cpu = (p : Processor J R) → p ≡ slice_index_or w.processors.items cpu p → IsReady p
+IsReadyAt {J} {R} w cpu = (p : WorldProcessor J R) → p ≡ slice_index_or w.processors.items cpu p → IsReady p
 
 abbrev pub is_done : {J : Type 0} → Answer J → Bool
 is_done answers.Done = true

@@ -2,9 +2,9 @@
 use Rattle.std.specs.Prelude.{ℕ, zero, suc, ◌+◌, ◌%◌, ◌≡◌, Bool, true, false, not, ◌&&◌, ◌==◌, nat_lt, if◌then◌else◌, Option, Some, None, nat_le, ◌<◌, ◌⊎◌, slice_index, List, [], ◌∷◌, ◌++◌, length}
 use Rattle.rcu_jobs.specs.declared.Stop.{Stop}
 use Rattle.rcu_jobs.specs.declared.Stop.TheVariants as stops
-use Rattle.rcu_law.specs.declared.who.Side.{Side}
-use Rattle.rcu_law.specs.declared.who.Side.TheVariants.{Local, Hand}
-use Rattle.rcu_law.specs.declared.who.Who.TheVariants as who
+use Rattle.rcu_world_law.specs.declared.who.Side.{Side}
+use Rattle.rcu_world_law.specs.declared.who.Side.TheVariants.{Local, Hand}
+use Rattle.rcu_world_law.specs.declared.who.Who.TheVariants as who
 use Rattle.rcu_jobs.specs.declared.DriverTurn.{DriverTurn}
 use Rattle.rcu_jobs.specs.declared.DriverTurn.TheVariants as drivers
 use Rattle.rcu_jobs.specs.declared.SwitchFault.{SwitchFault}
@@ -14,17 +14,17 @@ use Rattle.rcu_jobs.specs.declared.Ticket.{Ticket}
 use Rattle.rcu_jobs.specs.declared.BarrierFault.{BarrierFault}
 use Rattle.rcu_jobs.specs.declared.BarrierFault.TheVariants as barriers
 use Rattle.rcu_numbers.specs.declared.sequence.TheConstants.{GREATEST_NUMBER}
-use Rattle.rcu_law.specs.Lists.{none_owes}
+use Rattle.rcu_world_law.specs.Lists.{none_owes}
 use Rattle.rcu_jobs.specs.Modes.{is_offloaded}
-use Rattle.rcu_law.specs.States.{State, Cpu, cpu_at, has, is_offloadable}
-use Rattle.rcu_law.specs.Steps.{can_claim}
-use Rattle.rcu_processor.specs.Turns.{has_none, is_switching}
-use Rattle.rcu_law.specs.Releases.{releases, releases_in_tick, moment_of_tick}
-use Rattle.rcu_law.specs.Events.{CoreEvent, is_enabled, happens, run}
+use Rattle.rcu_world_law.specs.States.{State, Cpu, cpu_at, has, is_offloadable}
+use Rattle.rcu_world_law.specs.Steps.{can_claim}
+use Rattle.rcu_world_processor.specs.Turns.{has_none, is_switching}
+use Rattle.rcu_world_law.specs.Releases.{releases, releases_in_tick, moment_of_tick}
+use Rattle.rcu_world_law.specs.Events.{CoreEvent, is_enabled, happens, run}
 use Rattle.rcu_world.specs.Boards.{mask_of}
 use Rattle.rcu_world.specs.Views.{state}
 use Rattle.rcu_world.specs.declared.cores.Core.{Core}
-use Rattle.rcu_law.specs.Events.CoreEvent.{Accept, Stamp, Put, Start, End, Look, Need, Claim, Finish, Heed, Settle, Hear, LookHand, Fetch, Shut, Open, Count, Urge}
+use Rattle.rcu_world_law.specs.Events.CoreEvent.{Accept, Stamp, Put, Start, End, Look, Need, Claim, Finish, Heed, Settle, Hear, LookHand, Fetch, Shut, Open, Count, Urge}
 
 -- every event of the list is enabled, one after another
 abbrev pub AreEnabled : List CoreEvent → State → Type 0

@@ -1,13 +1,13 @@
 -- the state of the code, as the law sees it
 use Rattle.std.specs.Prelude.{◌≡◌, ℕ, List, length, map}
 use Rattle.std.specs.List.{AllByRecursion}
-use Rattle.rcu_law.specs.States.{Cpu, State}
-use Rattle.rcu_processor.specs.declared.processor.Processor.{Processor}
-use Rattle.rcu_processor.specs.Views.{seen, AreGiven}
+use Rattle.rcu_world_law.specs.States.{Cpu, State}
+use Rattle.rcu_world_processor.specs.declared.processor.WorldProcessor.{WorldProcessor}
+use Rattle.rcu_world_processor.specs.Views.{seen, AreGiven}
 use Rattle.rcu_world.specs.Barrings.{barrier}
 use Rattle.rcu_world.specs.declared.cores.Core.{Core}
 
-abbrev pub all_seen : {J R : Type 0} → (J → ℕ) → List (Processor J R) → List Cpu
+abbrev pub all_seen : {J R : Type 0} → (J → ℕ) → List (WorldProcessor J R) → List Cpu
 all_seen key_of cs = map (seen key_of) cs
 
 abbrev pub state : {J R : Type 0} → (J → ℕ) → Core J R → State

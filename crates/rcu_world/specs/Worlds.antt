@@ -2,9 +2,9 @@
 use Rattle.std.specs.Prelude.{ℕ, ◌≤◌, length}
 use Rattle.rcu_numbers.specs.declared.shape.TheConstants.{MOST_CALLBACKS, MOST_PROCESSORS}
 use Rattle.rcu_numbers.specs.declared.Shape.{Shape}
-use Rattle.rcu_law.specs.States.{State, Shape as Plan}
-use Rattle.rcu_law.specs.Invariant.{IsCore}
-use Rattle.rcu_law.specs.Law.{HasNoBack}
+use Rattle.rcu_world_law.specs.States.{State, Shape as Plan}
+use Rattle.rcu_world_law.specs.Invariant.{IsCore}
+use Rattle.rcu_world_law.specs.Law.{HasNoBack}
 use Rattle.rcu_world.specs.declared.cores.Core.{Core}
 use Rattle.rcu_world.specs.Boards.{bits}
 use Rattle.rcu_world.specs.Views.{state, AllGiven}

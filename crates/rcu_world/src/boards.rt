@@ -2,7 +2,7 @@
 
 ghost use Rattle.std.specs.Prelude.{◌≡◌, ◌+◌, ◌<◌, ◌≤◌, ◌%◌, false, true, length, replicate, slice_index_or, slice_set};
 ghost use Rattle.rcu_numbers.specs.declared.shape.TheConstants.{MOST_PROCESSORS};
-ghost use Rattle.rcu_law.specs.Lists.{none_owes};
+ghost use Rattle.rcu_world_law.specs.Lists.{none_owes};
 ghost use Rattle.rcu_numbers.specs.declared.sequence.TheConstants.{GREATEST_NUMBER};
 ghost use Rattle.rcu_world.specs.Boards.{mask_of};
 

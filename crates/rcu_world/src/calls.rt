@@ -1,9 +1,9 @@
 //! The calls that take a job on: `call_rcu` and `call_rcu_lazy` (docs/specification/rules.md, "The calls, step by step").
 
 ghost use Rattle.std.specs.Prelude.{◌≡◌, ◌∷◌, [], ◌<◌, Bool, true, false, length, IfOk, IfErr, OnOk, OnErr, if◌then◌else◌};
-ghost use Rattle.rcu_law.specs.Events.{is_enabled};
-ghost use Rattle.rcu_law.specs.Events.CoreEvent.{Accept, Stamp};
-ghost use Rattle.rcu_law.specs.States.{cpu_at};
+ghost use Rattle.rcu_world_law.specs.Events.{is_enabled};
+ghost use Rattle.rcu_world_law.specs.Events.CoreEvent.{Accept, Stamp};
+ghost use Rattle.rcu_world_law.specs.States.{cpu_at};
 ghost use Rattle.rcu_world.specs.Ready.{IsReadyAt, IsRefusal};
 ghost use Rattle.rcu_world.specs.Turns.{IsAtRest, IsAtRestBut, Leads, call_events, stamp_events};
 ghost use Rattle.rcu_world.specs.Views.{state, AsManyProcessors, SameState};

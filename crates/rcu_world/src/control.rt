@@ -1,7 +1,7 @@
 //! The calls of control: `shut` and `barrier` (docs/specification/rules.md, "On the core").
 
-ghost use Rattle.rcu_law.specs.Events.{is_enabled};
-ghost use Rattle.rcu_law.specs.Events.CoreEvent.{Shut};
+ghost use Rattle.rcu_world_law.specs.Events.{is_enabled};
+ghost use Rattle.rcu_world_law.specs.Events.CoreEvent.{Shut};
 ghost use Rattle.std.specs.Prelude.{◌≡◌, ◌<◌, ◌≤◌, ℕ, true, length, IfOk, OnOk, OnErr, Option, None, Some};
 ghost use Rattle.rcu_numbers.specs.declared.shape.TheConstants.{MOST_PROCESSORS};
 ghost use Rattle.rcu_world.specs.Turns.{AreCounts, IsAtRest, IsBarrierAnswer, Leads, barrier_events, barrier_fault, counts_for, shuts, ticket_fault, upto, KeepsRest};

@@ -1,7 +1,7 @@
 //! The state of the core, and its events.
 
 ghost use Rattle.std.specs.Prelude.{◌≡◌, IfOk};
-ghost use Rattle.rcu_law.specs.States.{opening};
+ghost use Rattle.rcu_world_law.specs.States.{opening};
 ghost use Rattle.rcu_world.specs.Worlds.{IsFit, plan};
 ghost use Rattle.rcu_world.specs.Events.{Answers};
 ghost use Rattle.rcu_world.specs.Ready.{LeavesRoom, UsesRoom};
@@ -11,10 +11,10 @@ use crate::barriers::Barring;
 use crate::boards::Board;
 use crate::events::{Answer, Event};
 use rcu_jobs::Job;
-use rcu_law::marks::Mark;
-use rcu_law::who::Who;
 use rcu_numbers::Shape;
-use rcu_processor::Processor;
+use rcu_world_law::marks::Mark;
+use rcu_world_law::who::Who;
+use rcu_world_processor::WorldProcessor;
 use std::alloc::{AllocError, Global};
 use std::mem::ManuallyDrop;
 
@@ -29,12 +29,12 @@ pub struct Core<J, R> {
     pub(crate) limit: u64,
     pub(crate) board: Board,
     pub(crate) needed: u64,
-    pub(crate) processors: Vec<Processor<J, R>>,
+    pub(crate) processors: Vec<WorldProcessor<J, R>>,
     pub(crate) barriers: Vec<Barring>,
     pub(crate) history: Vec<Mark>,
     /// Always None, so nothing is left undropped in it. A list on the heap says nothing of the size of its items, and a call
     /// of a processor asks that a processor fits in memory: that follows from this place for one, which lies in the core itself.
-    pub(crate) spare: ManuallyDrop<Option<Processor<J, R>>>,
+    pub(crate) spare: ManuallyDrop<Option<WorldProcessor<J, R>>>,
 }
 
 impl<J: Job> Core<J, J::Receipt> {
@@ -95,7 +95,7 @@ impl<J: Job> Core<J, J::Receipt> {
         for _cpu in 0..shape.processors {
             let is_offloadable = mask % 2 == 1;
             offloadable.push(is_offloadable)?;
-            processors.push(Processor::new(alloc, is_offloadable, shape.qhimark))?;
+            processors.push(WorldProcessor::new(alloc, is_offloadable, shape.qhimark))?;
             mask /= 2;
         }
         Ok(Core {

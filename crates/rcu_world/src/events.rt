@@ -1,6 +1,6 @@
 //! The events of the core, and what comes of one (docs/specification/tables.md, "Events of the core").
 
-use rcu_law::who::{Side, Who};
+use rcu_world_law::who::{Side, Who};
 
 /// One atomic step. Processors, groups and barriers are named by their numbers.
 #[derive(Drop)]

@@ -2,15 +2,15 @@
 
 ghost use Rattle.std.specs.Prelude.{◌≡◌, ℕ, ◌≤◌};
 ghost use Rattle.std.specs.List.{AllByRecursion};
-ghost use Rattle.rcu_law.specs.Events.{each_cpu};
-ghost use Rattle.rcu_processor.specs.Members.{is_wanting};
+ghost use Rattle.rcu_world_law.specs.Events.{each_cpu};
+ghost use Rattle.rcu_world_processor.specs.Members.{is_wanting};
 ghost use Rattle.rcu_world.specs.Members.{is_in_group, is_any, any_in_group, most_in_group, group_step, forget_step, AreLookable};
-ghost use Rattle.rcu_processor.specs.Views.{AreGiven};
+ghost use Rattle.rcu_world_processor.specs.Views.{AreGiven};
 ghost use Rattle.rcu_world.specs.Views.{all_seen};
 
-use crate::switching::is_set;
+use crate::modes::is_set;
 use rcu_jobs::Job;
-use rcu_processor::Processor;
+use rcu_world_processor::WorldProcessor;
 
 /// Whether processor `i` is a member of the group.
 pub(crate) fn is_member_of(offloadable: &Vec<bool>, stride: u64, group: u64, i: usize) -> bool
@@ -22,7 +22,7 @@ pub(crate) fn is_member_of(offloadable: &Vec<bool>, stride: u64, group: u64, i: 
 
 /// Whether the group has a member.
 pub(crate) fn has_member<J: Job>(
-    processors: &Vec<Processor<J, J::Receipt>>,
+    processors: &Vec<WorldProcessor<J, J::Receipt>>,
     offloadable: &Vec<bool>,
     stride: u64,
     group: u64,
@@ -42,7 +42,7 @@ pub(crate) fn has_member<J: Job>(
 
 /// Whether a grace period is wanted for a member of the group.
 pub(crate) fn wants_member<J: Job>(
-    processors: &Vec<Processor<J, J::Receipt>>,
+    processors: &Vec<WorldProcessor<J, J::Receipt>>,
     offloadable: &Vec<bool>,
     stride: u64,
     group: u64,
@@ -63,7 +63,7 @@ pub(crate) fn wants_member<J: Job>(
 
 /// The greatest of `needed` and what is wanted for the members of the group.
 pub(crate) fn most_wanted<J: Job>(
-    processors: &Vec<Processor<J, J::Receipt>>,
+    processors: &Vec<WorldProcessor<J, J::Receipt>>,
     offloadable: &Vec<bool>,
     stride: u64,
     group: u64,
@@ -84,7 +84,7 @@ pub(crate) fn most_wanted<J: Job>(
 
 /// What is wanted for the members of the group is asked for.
 pub(crate) fn forget_members<J: Job>(
-    processors: &mut Vec<Processor<J, J::Receipt>>,
+    processors: &mut Vec<WorldProcessor<J, J::Receipt>>,
     offloadable: &Vec<bool>,
     stride: u64,
     group: u64,
@@ -105,7 +105,7 @@ pub(crate) fn forget_members<J: Job>(
 
 /// Each member's list is looked at.
 pub(crate) fn look_members<J: Job>(
-    processors: &mut Vec<Processor<J, J::Receipt>>,
+    processors: &mut Vec<WorldProcessor<J, J::Receipt>>,
     offloadable: &Vec<bool>,
     stride: u64,
     group: u64,

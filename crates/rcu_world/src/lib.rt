@@ -1,25 +1,25 @@
-//! The deterministic core: a state machine over events that one caller drives, over the law of rcu_law.
+//! The deterministic core: a state machine over events that one caller drives, over the law of rcu_world_law.
 #![tactic(auto)]
 
-mod accepting;
+mod acceptance;
+mod barrier_events;
 mod barriers;
-mod barring;
-mod boarding;
+mod board_events;
 mod boards;
 mod calls;
-mod claiming;
+mod claims;
+mod conditions;
 mod control;
 mod cores;
-mod ending;
+mod end;
 mod events;
-mod grouping;
+mod group_turn;
 mod groups;
-mod looking;
-mod moving;
-mod polling;
-mod showing;
-mod switching;
-mod testing;
+mod looks;
+mod modes;
+mod moves;
+mod poll;
+mod shown;
 mod turns;
 mod worlds;
 

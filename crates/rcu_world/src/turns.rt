@@ -1,20 +1,20 @@
 //! The turn calls of a world: each is a list of events (docs/specification/rules.md, "On the core").
 
 ghost use Rattle.std.specs.Prelude.{◌≡◌, ◌∷◌, [], ◌<◌, ◌≤◌, Bool, true, false, length, Some, None, IfOk, IsOk, OnOk, OnErr, if◌then◌else◌, ◌%◌, ◌==◌};
-ghost use Rattle.rcu_law.specs.Events.{is_enabled};
-ghost use Rattle.rcu_law.specs.Events.CoreEvent.{Ask, Put, Report};
-ghost use Rattle.rcu_law.specs.States.{cpu_at, is_offloadable, owes};
-ghost use Rattle.rcu_law.specs.declared.who.Side.TheVariants.{Local, Hand};
+ghost use Rattle.rcu_world_law.specs.Events.{is_enabled};
+ghost use Rattle.rcu_world_law.specs.Events.CoreEvent.{Ask, Put, Report};
+ghost use Rattle.rcu_world_law.specs.States.{cpu_at, is_offloadable, owes};
+ghost use Rattle.rcu_world_law.specs.declared.who.Side.TheVariants.{Local, Hand};
 ghost use Rattle.rcu_world.specs.Events.{core_event, needs_room};
 ghost use Rattle.rcu_world.specs.Turns.{IsAtRest, Leads, Rooms, driver_answer, driver_events, hand_events, keeps_rest, look_events, offloadable_events, release_events, run_events, stop_of, switch_answer, switch_events, tick_events, where_enabled, KeepsRest};
 ghost use Rattle.rcu_world.specs.Views.{state, AsManyProcessors, SameShape, SameState};
 ghost use Rattle.rcu_world.specs.Worlds.{IsWorld};
 
 use crate::events::{Answer, Event};
-use crate::switching::is_set;
+use crate::modes::is_set;
 use crate::worlds::World;
 use rcu_jobs::{DriverTurn, HandTurn, Job, Stop, SwitchFault, Ticked};
-use rcu_law::who::{Side, Who};
+use rcu_world_law::who::{Side, Who};
 use std::alloc::AllocError;
 
 impl<J: Job> World<J> {

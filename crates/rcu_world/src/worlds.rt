@@ -1,8 +1,8 @@
 //! The core as its users see it.
 
 ghost use Rattle.std.specs.Prelude.{◌≡◌, ℕ, length, true, IfOk, IfErr, None};
-ghost use Rattle.rcu_law.specs.Law.{IsClosed, IsLawful};
-ghost use Rattle.rcu_law.specs.Closing.{closing};
+ghost use Rattle.rcu_world_law.specs.Law.{IsClosed, IsLawful};
+ghost use Rattle.rcu_world_law.specs.Closing.{closing};
 ghost use Rattle.rcu_world.specs.Leaving.{AreHandedBack, AreRecorded, AreReported, AreRunsOf};
 ghost use Rattle.rcu_world.specs.Events.{Answers, Runs};
 ghost use Rattle.rcu_world.specs.Ready.{LeavesRoom, UsesRoom};
@@ -10,16 +10,16 @@ ghost use Rattle.rcu_world.specs.Turns.{IsAtRest};
 ghost use Rattle.rcu_world.specs.Views.{state};
 ghost use Rattle.rcu_world.specs.Worlds.{IsWorld, plan};
 ghost use Rattle.rcu_jobs.specs.Modes.{is_offloaded};
-ghost use Rattle.rcu_law.specs.States.{cpu_at, opening};
-ghost use Rattle.rcu_law.specs.declared.who.Side.TheVariants.{Local};
+ghost use Rattle.rcu_world_law.specs.States.{cpu_at, opening};
+ghost use Rattle.rcu_world_law.specs.declared.who.Side.TheVariants.{Local};
 ghost use Rattle.rcu_world.specs.declared.events.Answer.TheVariants as answers;
 ghost use Rattle.rcu_world.specs.declared.events.Event.TheVariants as events;
 
 use crate::cores::Core;
 use crate::events::{Answer, Event};
 use rcu_jobs::{Closed, Job};
-use rcu_law::marks::Mark;
 use rcu_numbers::Shape;
+use rcu_world_law::marks::Mark;
 use std::alloc::{AllocError, Global};
 
 /// The core: its history is lawful.

@@ -7,12 +7,12 @@ use Rattle.rcu_jobs.specs.declared.answers.Ticket.{Ticket}
 use Rattle.rcu_parts.specs.Drained.{HasNoneBack}
 use Rattle.rcu_parts.specs.OneOpen.{Parts}
 use Rattle.rcu_parts.specs.Openings.{IsOpened}
-use Rattle.rcu_script.specs.Faults.{IsFaultOfOutput}
-use Rattle.rcu_script.specs.Lines.{whole_totals}
-use Rattle.rcu_script.specs.declared.fault.Fault.{Fault}
-use Rattle.rcu_script.specs.declared.fault.Fault.TheVariants.{CannotRun}
+use Rattle.rcuo_script.specs.Faults.{IsFaultOfOutput}
+use Rattle.rcuo_script.specs.Lines.{whole_totals}
+use Rattle.rcuo_script.specs.declared.fault.Fault.{Fault}
+use Rattle.rcuo_script.specs.declared.fault.Fault.TheVariants.{CannotRun}
 use Rattle.rcu_setup.specs.declared.setup.Setup.{Setup}
-use Rattle.rcu_crews.specs.Dealing.{HaveAllRun}
+use Rattle.rcu_part_threads.specs.Dealing.{HaveAllRun}
 use Rattle.rcu_threads.specs.Ends.{ClosesSame, keys_ran}
 
 -- A run in threads of jobs like these prints this text: all parts of the setup's shape are opened, the same parts are closed,

@@ -6,19 +6,19 @@ ghost use Rattle.std.specs.Prelude.{◌≡◌};
 
 #[cfg(test)]
 mod tests_threads;
-mod threading;
+mod threaded;
 
 use rcu_jobs::BoxedJob;
-use rcu_parts_replay::replay;
-use rcu_plan::{Plan, Refusal, Subcommand, read_plan, versions};
-use rcu_script::{Fault, write_fault};
-use rcu_versions::Retired;
+use rcuo_plan::{Plan, Refusal, Subcommand, read_plan, versions};
+use rcuo_replay::replay;
+use rcuo_script::{Fault, write_fault};
+use rcuo_versions::Retired;
 use std::io;
 use std::process::ExitCode;
 use std::rt::Clock;
 use std::sync::Wait;
 use std::thread::Threads;
-use threading::threads;
+use threaded::threads;
 
 /// Why the words of the command line can't be read.
 fn unread(error: &io::Error) -> Refusal {

@@ -2,9 +2,9 @@
 
 ghost use Rattle.std.specs.Prelude.{◌≡◌};
 
-use crate::threading::threads;
+use crate::threaded::threads;
 use rcu_jobs::BoxedJob;
-use rcu_plan::read_plan;
+use rcuo_plan::read_plan;
 use std::alloc::{AllocError, Global};
 use std::io::Cursor;
 use std::sync::Arc;

@@ -11,8 +11,8 @@ use Rattle.rcu_board.specs.declared.board.Board.{Board}
 use Rattle.rcu_board.specs.declared.board.Role.TheVariants.{Control, Driver}
 use Rattle.rcu_board.specs.declared.board.Seat.{Seat}
 use Rattle.rcu_board.specs.declared.view.View.{View}
-use Rattle.rcu_control.specs.Parts.{control_board}
-use Rattle.rcu_holdings.proofs.Sizes.{in_struct}
+use Rattle.rcu_part_control.specs.Parts.{control_board}
+use Rattle.rcu_part_lists.proofs.Sizes.{in_struct}
 use Rattle.rcu_parts.specs.OneOpen.{HasHand, members_in}
 use Rattle.rcu_parts.specs.Openings.{AreFirstGroups, AreFirstHands, AreFirstProcessors}
 use Rattle.rcu_part_group.specs.contracts.group.Group as group

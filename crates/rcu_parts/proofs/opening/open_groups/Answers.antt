@@ -6,7 +6,7 @@ use denote.Param.{param}
 use Rattle.std.proofs.lemmas.List.{length-map, nil_from_length}
 use Rattle.rcu_board.specs.Opened.{IsNewGroup, SeatForEach, has_offloadable, numbers_where}
 use Rattle.rcu_board.specs.declared.board.Board.{Board}
-use Rattle.rcu_holdings.proofs.Sizes.{in_struct}
+use Rattle.rcu_part_lists.proofs.Sizes.{in_struct}
 use Rattle.rcu_part_group.specs.GroupLaw.{cpus_of, group_members_in}
 use Rattle.rcu_parts.specs.OneOpen.{members_in}
 use Rattle.rcu_parts.specs.Openings.{IsFirstGroup, is_member}

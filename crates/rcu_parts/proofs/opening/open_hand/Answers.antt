@@ -3,7 +3,7 @@ use Rattle.rcu_board.specs.Opened.{IsNewHand}
 use Rattle.rcu_board.specs.declared.board.Board.{Board}
 use Rattle.std.specs.Mem.{FitsInMemory}
 use denote.Param.{param}
-use Rattle.rcu_holdings.proofs.Sizes.{in_struct}
+use Rattle.rcu_part_lists.proofs.Sizes.{in_struct}
 use Rattle.rcu_part_hand.specs.contracts.hand.Hand as row
 use Rattle.rcu_lists.proofs.Outcomes.{if_ok_never}
 use Rattle.rcu_parts.proofs.Openings.{first_of_hands, has_hand}

@@ -9,7 +9,7 @@ use Rattle.std.proofs.lemmas.List.Elements.{All-head, All-nil, All-push, All-tai
 use Rattle.rcu_board.specs.Opened.{IsNewHand, SeatForEach, is_offloadable, numbers_where}
 use Rattle.rcu_board.specs.Roles.{cpu_of_role}
 use Rattle.rcu_board.specs.declared.board.Seat.{Seat}
-use Rattle.rcu_holdings.specs.declared.limits.LaneLimits.{LaneLimits}
+use Rattle.rcu_part_lists.specs.declared.limits.LaneLimits.{LaneLimits}
 use Rattle.rcu_lanes.specs.Ends.{items_drawn}
 use Rattle.rcu_lanes.specs.declared.ends.Front.{Front}
 use Rattle.rcu_lists.specs.declared.parcel.Parcel.{Parcel}

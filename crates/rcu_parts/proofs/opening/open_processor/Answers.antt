@@ -4,9 +4,9 @@ use Rattle.std.specs.Mem.{FitsInMemory}
 use denote.Param.{param}
 use Rattle.rcu_board.specs.Opened.{IsNewProcessor, is_offloadable}
 use Rattle.rcu_board.specs.declared.board.Board.{Board}
-use Rattle.rcu_holdings.proofs.Sizes.{in_struct}
-use Rattle.rcu_holdings.specs.ProcessorLists.{rear_of}
-use Rattle.rcu_holdings.specs.declared.processor_lists.ProcessorLists.{ProcessorLists}
+use Rattle.rcu_part_lists.proofs.Sizes.{in_struct}
+use Rattle.rcu_part_lists.specs.ProcessorLists.{rear_of}
+use Rattle.rcu_part_lists.specs.declared.processor_lists.ProcessorLists.{ProcessorLists}
 use Rattle.rcu_lanes.specs.Ends.{IsNewLane}
 use Rattle.rcu_part_processor.specs.contracts.processor.Processor as row
 use Rattle.rcu_part_processor.proofs.Beginnings.{offloads_at}

@@ -1,7 +1,7 @@
 use Rattle.std.proofs.Common.{◌≡◌, ◌∙◌, ◌-◌, ap, Option, length, arith}
 use Rattle.std.proofs.lemmas.Result.{IfOk-weaker}
-use Rattle.rcu_endings.specs.Ends.{HasRoom}
-use Rattle.rcu_gathering.specs.Parts.{HandPart, hand_ran, hand_taken}
+use Rattle.rcu_part_close.specs.Ends.{HasRoom}
+use Rattle.rcu_part_close.specs.Parts.{HandPart, hand_ran, hand_taken}
 use Rattle.rcu_parts.specs.AtClose.{cpu_part}
 use Rattle.rcu_parts.specs.Rooms.{FitsCpu}
 use Rattle.rcu_parts.proofs.Resting.{fits_cpu}

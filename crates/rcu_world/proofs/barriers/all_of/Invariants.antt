@@ -1,5 +1,5 @@
 use Rattle.std.proofs.Common.{◌≡◌, drop}
-use Rattle.rcu_law.specs.Lists.{all_of}
+use Rattle.rcu_world_law.specs.Lists.{all_of}
 use Rattle.rcu_world.proofs.barriers.all_of.Given as goal
 
 abbrev pub invariant-loop-b : goal.invariant-loop-b

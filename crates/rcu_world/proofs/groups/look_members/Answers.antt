@@ -1,9 +1,9 @@
 use Rattle.std.proofs.Common.{◌<◌, ◌≡◌, length, arith, subst, sym, ap, ◌∙◌, drop, take, ◌+◌, ◌++◌, set, cond}
 use Rattle.std.proofs.lemmas.List.{length-set, drop-set-lt, length-map, map-set}
-use Rattle.rcu_law.specs.Steps.{group_looks}
-use Rattle.rcu_law.specs.Events.{each_cpu}
+use Rattle.rcu_world_law.specs.Steps.{group_looks}
+use Rattle.rcu_world_law.specs.Events.{each_cpu}
 use Rattle.rcu_world.specs.Members.{group_step}
-use Rattle.rcu_processor.specs.Views.{seen, AreGiven}
+use Rattle.rcu_world_processor.specs.Views.{seen, AreGiven}
 use Rattle.rcu_world.specs.Views.{all_seen}
 use Rattle.rcu_world.proofs.Seen.{seen_at, kept_at}
 use Rattle.rcu_world.proofs.Members.{each_more, lookable_at, drop_again}

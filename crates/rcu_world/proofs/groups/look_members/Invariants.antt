@@ -1,8 +1,8 @@
 use Rattle.std.proofs.Common.{◌≡◌, ℕ, take, drop, ◌++◌, length}
 use Rattle.std.specs.List.{AllByRecursion}
-use Rattle.rcu_law.specs.Events.{each_cpu}
+use Rattle.rcu_world_law.specs.Events.{each_cpu}
 use Rattle.rcu_world.specs.Members.{group_step}
-use Rattle.rcu_processor.specs.Views.{AreGiven}
+use Rattle.rcu_world_processor.specs.Views.{AreGiven}
 use Rattle.rcu_world.specs.Views.{all_seen}
 use Rattle.rcu_world.proofs.groups.look_members.Given as goal
 

@@ -1,5 +1,5 @@
 use Rattle.std.proofs.Common.{◌∙◌, sym, arith, ◌<◌, ◌≤◌, refl, subst}
-use Rattle.rcu_processor.specs.Members.{is_wanting}
+use Rattle.rcu_world_processor.specs.Members.{is_wanting}
 use Rattle.rcu_world.proofs.Members.{any_end, any_fails, any_meets}
 use Rattle.rcu_world.proofs.Places.{steps_on}
 use Rattle.rcu_world.proofs.groups.wants_member.Goals as goal

@@ -1,5 +1,5 @@
 use Rattle.std.proofs.Common.{◌≡◌, drop}
-use Rattle.rcu_processor.specs.Members.{is_wanting}
+use Rattle.rcu_world_processor.specs.Members.{is_wanting}
 use Rattle.rcu_world.specs.Members.{any_in_group}
 use Rattle.rcu_world.specs.Views.{all_seen}
 use Rattle.rcu_world.proofs.groups.wants_member.Given as goal

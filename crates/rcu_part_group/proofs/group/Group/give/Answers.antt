@@ -1,7 +1,7 @@
 use Rattle.std.proofs.Common.{refl}
 use Rattle.std.specs.Mem.{FitsInMemory}
 use denote.Param.{param}
-use Rattle.rcu_holdings.proofs.Sizes.{in_struct}
+use Rattle.rcu_part_lists.proofs.Sizes.{in_struct}
 use Rattle.rcu_part_group.specs.contracts.group.Group as row
 use Rattle.rcu_board.specs.Seats.{view}
 use Rattle.rcu_part_group.specs.GroupLaw.{group_members_in}

@@ -3,7 +3,7 @@ use Rattle.std.specs.Mem.{FitsInMemory}
 use denote.Param.{param}
 use Rattle.std.specs.Arc.{arc_value}
 use Rattle.rcu_board.proofs.Facts.{steps-touched, words-at, same_seat_again}
-use Rattle.rcu_holdings.proofs.Sizes.{in_struct}
+use Rattle.rcu_part_lists.proofs.Sizes.{in_struct}
 use Rattle.rcu_numbers.specs.declared.sequence.TheConstants.{GREATEST_NUMBER}
 use Rattle.rcu_part_group.specs.contracts.group.Group as row
 use Rattle.rcu_board.specs.Plays.{looked}

@@ -1,6 +1,6 @@
 use Rattle.std.specs.Mem.{FitsInMemory}
 use denote.Param.{param}
-use Rattle.rcu_holdings.proofs.Sizes.{in_struct}
+use Rattle.rcu_part_lists.proofs.Sizes.{in_struct}
 use Rattle.rcu_part_group.specs.contracts.group.Group as row
 use Rattle.rcu_part_group.specs.Groups.{members_of}
 use Rattle.rcu_part_group.proofs.GroupTurns.{same_group_again, takes_places, looks_places, gives_places, places_again, within_same}

@@ -1,8 +1,8 @@
 use Rattle.std.proofs.Common.{refl, subst, sym}
 use Rattle.std.specs.Mem.{FitsInMemory}
 use denote.Param.{param}
-use Rattle.rcu_holdings.proofs.Sizes.{in_struct}
-use Rattle.rcu_holdings.specs.MemberLists.{relay, front_of}
+use Rattle.rcu_part_lists.proofs.Sizes.{in_struct}
+use Rattle.rcu_part_lists.specs.MemberLists.{relay, front_of}
 use Rattle.rcu_lanes.specs.Ends.{SameFront}
 use Rattle.rcu_part_group.proofs.GroupTurns.{gives_few, gives_within}
 use Rattle.rcu_part_group.specs.contracts.members.GroupMember as row

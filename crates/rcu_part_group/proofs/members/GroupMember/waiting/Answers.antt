@@ -1,8 +1,8 @@
 use Rattle.std.proofs.Common.{◌++◌, ap, length, length-append, arith}
 use Rattle.std.specs.Mem.{FitsInMemory}
 use denote.Param.{param}
-use Rattle.rcu_holdings.proofs.Sizes.{in_struct}
-use Rattle.rcu_holdings.specs.MemberLists.{relay}
+use Rattle.rcu_part_lists.proofs.Sizes.{in_struct}
+use Rattle.rcu_part_lists.specs.MemberLists.{relay}
 use Rattle.rcu_lists.specs.Labels.{callbacks_of}
 use Rattle.rcu_part_group.specs.contracts.members.GroupMember as row
 use Rattle.rcu_part_group.proofs.members.GroupMember.waiting.Goals as goal

@@ -1,6 +1,6 @@
 use Rattle.std.specs.Mem.{FitsInMemory}
 use denote.Param.{param}
-use Rattle.rcu_holdings.proofs.Sizes.{in_struct}
+use Rattle.rcu_part_lists.proofs.Sizes.{in_struct}
 use Rattle.rcu_part_group.specs.contracts.members.GroupMembers as row
 use Rattle.rcu_part_group.proofs.members.GroupMembers.drop.Goals as goal
 

@@ -2,7 +2,7 @@ use Rattle.std.proofs.Common.{◌≡◌, ◌<◌, ◌≤◌, ℕ, zero, ◌+◌,
 use Rattle.std.specs.Mem.{FitsInMemory}
 use borrow.Author.Rules.{scaled_Fits}
 use denote.Param.{param}
-use Rattle.rcu_holdings.proofs.Sizes.{in_struct}
+use Rattle.rcu_part_lists.proofs.Sizes.{in_struct}
 use Rattle.rcu_part_group.specs.Each.{Each}
 use Rattle.rcu_part_group.specs.GroupLaw.{relay_of}
 use Rattle.rcu_part_group.specs.Groups.{LooksAt}

@@ -1,6 +1,6 @@
 use Rattle.std.specs.Mem.{FitsInMemory}
 use denote.Param.{param}
-use Rattle.rcu_holdings.proofs.Sizes.{in_struct}
+use Rattle.rcu_part_lists.proofs.Sizes.{in_struct}
 use borrow.Author.Rules.{scaled_Fits}
 use Rattle.std.proofs.Common.{◌≡◌, ◌<◌, List, length, ◌∙◌, ap, sym, subst, arith}
 use Rattle.rcu_part_group.specs.Each.{Sums}

@@ -1,6 +1,6 @@
 use Rattle.std.specs.Mem.{FitsInMemory}
 use denote.Param.{param}
-use Rattle.rcu_holdings.proofs.Sizes.{in_struct}
+use Rattle.rcu_part_lists.proofs.Sizes.{in_struct}
 use Rattle.std.proofs.Common.{length, ap, arith}
 use Rattle.rcu_part_group.specs.Groups.{waiting_of}
 use Rattle.rcu_part_group.proofs.GroupLists.{sum_next, sum_behind}

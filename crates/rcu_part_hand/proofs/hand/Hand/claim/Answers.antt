@@ -1,12 +1,12 @@
 use Rattle.std.proofs.Common.{◌≡◌, ℕ, ◌≤◌, ◌++◌, inr, ◌∙◌, ap, sym, subst, refl, arith}
 use Rattle.rcu_part_hand.specs.contracts.hand.Hand as row
-use Rattle.rcu_holdings.proofs.Sizes.{in_struct}
+use Rattle.rcu_part_lists.proofs.Sizes.{in_struct}
 use denote.Param.{param}
 use Rattle.std.specs.Mem.{FitsInMemory}
 use Rattle.rcu_board.specs.Roles.{MayClaim, cpu_of_role}
 use Rattle.rcu_board.specs.Seats.{view}
-use Rattle.rcu_holdings.specs.Helds.{drawn_by, held_by, taken_by}
-use Rattle.rcu_holdings.specs.Lanes.{drawn_calls}
+use Rattle.rcu_part_lists.specs.Helds.{drawn_by, held_by, taken_by}
+use Rattle.rcu_part_lists.specs.Lanes.{drawn_calls}
 use Rattle.rcu_jobs.specs.declared.Stop.TheVariants.{Limit, Turn}
 use Rattle.rcu_jobs.specs.declared.callback.Callback.{Callback}
 use Rattle.rcu_numbers.specs.Numbers.{snap_of}

@@ -1,7 +1,7 @@
 use Rattle.std.proofs.Common.{◌∙◌, ap}
 use Rattle.rcu_board.specs.Seats.{view}
 use Rattle.rcu_board.specs.declared.view.View.{View}
-use Rattle.rcu_holdings.specs.Helds.{taken_by}
+use Rattle.rcu_part_lists.specs.Helds.{taken_by}
 use Rattle.rcu_part_hand.proofs.HandRuns.{hand_watched}
 use Rattle.rcu_part_hand.proofs.hand.Hand.is_halted.Goals as goal
 

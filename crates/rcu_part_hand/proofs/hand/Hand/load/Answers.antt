@@ -1,10 +1,10 @@
 use Rattle.std.proofs.Common.{◌≡◌, ◌∙◌, sym, refl, List, subst}
 use Rattle.rcu_part_hand.specs.contracts.hand.Hand as row
-use Rattle.rcu_holdings.proofs.Sizes.{in_struct}
+use Rattle.rcu_part_lists.proofs.Sizes.{in_struct}
 use denote.Param.{param}
 use Rattle.std.specs.Mem.{FitsInMemory}
-use Rattle.rcu_holdings.specs.Helds.{drawn_by, held_by}
-use Rattle.rcu_holdings.specs.declared.fetched.Fetched.TheVariants.{Got, Empty, Again}
+use Rattle.rcu_part_lists.specs.Helds.{drawn_by, held_by}
+use Rattle.rcu_part_lists.specs.declared.fetched.Fetched.TheVariants.{Got, Empty, Again}
 use Rattle.rcu_part_hand.proofs.HandRuns.{fetched, hand_sound_drawn}
 use Rattle.rcu_board.specs.Seats.{view}
 use Rattle.rcu_jobs.specs.declared.callback.Callback.{Callback}

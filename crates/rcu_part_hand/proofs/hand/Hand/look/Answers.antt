@@ -1,6 +1,6 @@
 use Rattle.std.proofs.Common.{◌∙◌}
 use Rattle.rcu_board.specs.Seats.{view}
-use Rattle.rcu_holdings.specs.Helds.{taken_by}
+use Rattle.rcu_part_lists.specs.Helds.{taken_by}
 use Rattle.rcu_part_hand.proofs.HandRuns.{hand_watched}
 use Rattle.rcu_part_hand.proofs.hand.Hand.look.Goals as goal
 

@@ -1,6 +1,6 @@
 use Rattle.std.specs.Arc.{arc_value}
 use Rattle.rcu_board.specs.Seats.{view}
-use Rattle.rcu_holdings.specs.Helds.{drawn_by, held_by}
+use Rattle.rcu_part_lists.specs.Helds.{drawn_by, held_by}
 use Rattle.rcu_part_hand.proofs.HandRuns.{first_hand}
 use Rattle.rcu_part_hand.proofs.hand.Hand.new.Goals as goal
 

@@ -1,11 +1,11 @@
 use Rattle.std.proofs.Common.{◌≡◌, List, inl, sym, subst, refl, arith}
 use Rattle.rcu_board.proofs.Facts.{same_seat}
 use Rattle.rcu_part_hand.specs.contracts.hand.Hand as row
-use Rattle.rcu_holdings.proofs.Sizes.{in_struct}
+use Rattle.rcu_part_lists.proofs.Sizes.{in_struct}
 use denote.Param.{param}
 use Rattle.std.specs.Mem.{FitsInMemory}
 use Rattle.rcu_board.specs.Seats.{view}
-use Rattle.rcu_holdings.specs.Helds.{drawn_by, taken_by}
+use Rattle.rcu_part_lists.specs.Helds.{drawn_by, taken_by}
 use Rattle.rcu_jobs.specs.declared.Stop.TheVariants.{Limit, Empty, Turn, Memory}
 use Rattle.rcu_jobs.specs.declared.callback.Record.{Record}
 use Rattle.rcu_part_hand.specs.HandLaw.{IsLawfulHand}

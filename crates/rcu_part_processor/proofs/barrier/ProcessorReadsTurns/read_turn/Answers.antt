@@ -4,7 +4,7 @@ use Rattle.rcu_board.specs.Roles.{MayCount}
 use Rattle.rcu_board.specs.declared.board.Board.{Board}
 use Rattle.rcu_board.specs.Seats.{view}
 use Rattle.rcu_board.specs.Words.{turns_word}
-use Rattle.rcu_holdings.specs.ProcessorLists.{holding}
+use Rattle.rcu_part_lists.specs.ProcessorLists.{holding}
 use Rattle.rcu_part_processor.proofs.Keeping.{kept_by_tells}
 use Rattle.rcu_part_processor.proofs.Standing.{stands}
 use Rattle.rcu_part_steps.proofs.Telling.{tells_touched}

@@ -1,12 +1,12 @@
 use Rattle.std.proofs.Common.{◌∙◌, ap, arith, sym, refl, subst}
 use Rattle.rcu_board.specs.Seats.{view}
 use Rattle.rcu_board.specs.declared.board.Board.{Board}
-use Rattle.rcu_holdings.specs.ProcessorLists.{holding}
+use Rattle.rcu_part_lists.specs.ProcessorLists.{holding}
 use Rattle.rcu_part_processor.proofs.Barring.{opens_law, own_is_exact}
 use Rattle.std.specs.Arc.{arc_value}
 use Rattle.rcu_part_processor.proofs.Standing.{stands}
 use Rattle.rcu_board.specs.Roles.{MayCount}
-use Rattle.rcu_control.specs.Barriers.{Opens}
+use Rattle.rcu_part_control.specs.Barriers.{Opens}
 use Rattle.rcu_part_processor.proofs.processor.Processor.barrier.Goals as goal
 
 pub invariant_of-state : goal.invariant_of-state

@@ -2,9 +2,9 @@ use Rattle.std.proofs.Common.{◌∙◌, refl}
 use Rattle.std.specs.Mem.{FitsInMemory}
 use denote.Param.{param}
 use Rattle.rcu_board.specs.Seats.{view}
-use Rattle.rcu_holdings.specs.ProcessorLists.{holding}
-use Rattle.rcu_holdings.proofs.Sizes.{in_struct}
-use Rattle.rcu_records.specs.Records.{numbered_records}
+use Rattle.rcu_part_lists.specs.ProcessorLists.{holding}
+use Rattle.rcu_part_lists.proofs.Sizes.{in_struct}
+use Rattle.rcu_part_order.specs.Records.{numbered_records}
 use Rattle.rcu_part_processor.specs.contracts.processor.Processor as row
 use Rattle.rcu_part_processor.specs.Accepting.{pieces}
 use Rattle.rcu_part_processor.proofs.CallPieces.{accepts_none_with, accepts_with, refuses_with}

@@ -7,10 +7,10 @@ use Rattle.rcu_board.specs.Seats.{view}
 use Rattle.rcu_board.specs.Views.{seen_at}
 use Rattle.rcu_board.specs.Words.{bits_of, needed_word}
 use Rattle.rcu_board.specs.declared.view.View.{View}
-use Rattle.rcu_holdings.specs.Aims.{wanted}
-use Rattle.rcu_holdings.specs.ProcessorLists.{Holding, holding}
-use Rattle.rcu_holdings.proofs.Aims.{up-raised}
-use Rattle.rcu_holdings.proofs.Sizes.{in_struct}
+use Rattle.rcu_part_lists.specs.Aims.{wanted}
+use Rattle.rcu_part_lists.specs.ProcessorLists.{Holding, holding}
+use Rattle.rcu_part_lists.proofs.Aims.{up-raised}
+use Rattle.rcu_part_lists.proofs.Sizes.{in_struct}
 use Rattle.rcu_part_processor.specs.contracts.processor.Processor as row
 use Rattle.rcu_part_processor.proofs.CatchingUp.{asked_for, asks_none, asks_one, caught_law, caught_local, caught_passes}
 use Rattle.rcu_part_processor.proofs.Taking.{sound_moved}

@@ -6,9 +6,9 @@ use Rattle.std.proofs.lemmas.List.Elements.{All-rest}
 use denote.Param.{param}
 use Rattle.rcu_board.specs.Roles.{MayClaim, cpu_of_role}
 use Rattle.rcu_board.specs.Seats.{NeverFalls, view}
-use Rattle.rcu_holdings.specs.Aims.{AreUpTo, is_up_to}
-use Rattle.rcu_holdings.specs.ProcessorLists.{Holding, held_in, holding, put_by}
-use Rattle.rcu_holdings.proofs.Sizes.{in_struct}
+use Rattle.rcu_part_lists.specs.Aims.{AreUpTo, is_up_to}
+use Rattle.rcu_part_lists.specs.ProcessorLists.{Holding, held_in, holding, put_by}
+use Rattle.rcu_part_lists.proofs.Sizes.{in_struct}
 use Rattle.rcu_jobs.specs.declared.Stop.TheVariants.{Limit, Turn}
 use Rattle.rcu_lists.specs.Labels.{Done, Labelled}
 use Rattle.rcu_numbers.specs.Numbers.{snap_of}

@@ -1,7 +1,7 @@
 use Rattle.std.proofs.Common.{◌≡◌, ℕ, ◌∙◌, ap, sym, subst}
 use Rattle.rcu_board.specs.Views.{sight}
 use Rattle.rcu_board.specs.declared.view.View.{View}
-use Rattle.rcu_holdings.specs.ProcessorLists.{Holding}
+use Rattle.rcu_part_lists.specs.ProcessorLists.{Holding}
 use Rattle.rcu_part_steps.proofs.Beginning.{runs_map, stops_both, stops_map}
 use Rattle.rcu_part_steps.specs.declared.begins.ClaimedCallback.{ClaimedCallback}
 use Rattle.rcu_part_processor.specs.Begins.{ClaimsFirst, ClaimsNone, IsNext}

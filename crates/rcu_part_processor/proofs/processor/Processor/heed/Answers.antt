@@ -14,8 +14,8 @@ use Rattle.rcu_board.specs.Words.{asks_word, urge_word}
 use Rattle.rcu_board.specs.declared.board.Role.{Role}
 use Rattle.rcu_board.specs.declared.view.View.{View}
 use Rattle.rcu_board.proofs.Facts.{never_falls_again, same_seat_again}
-use Rattle.rcu_holdings.specs.ProcessorLists.{holding}
-use Rattle.rcu_holdings.proofs.Sizes.{in_struct}
+use Rattle.rcu_part_lists.specs.ProcessorLists.{holding}
+use Rattle.rcu_part_lists.proofs.Sizes.{in_struct}
 use Rattle.rcu_part_processor.specs.contracts.processor.Processor as row
 use Rattle.rcu_part_processor.proofs.Heeding.{heeding, shifts_below, shifts_law, shifts_release}
 use Rattle.rcu_part_processor.proofs.Taking.{sound_moved}

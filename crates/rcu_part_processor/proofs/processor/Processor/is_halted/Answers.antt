@@ -2,7 +2,7 @@ use Rattle.std.proofs.Common.{◌∙◌, sym, refl, subst}
 use Rattle.std.specs.Int.{from_bool}
 use Rattle.rcu_board.specs.Seats.{view}
 use Rattle.rcu_board.specs.Words.{halt_word}
-use Rattle.rcu_holdings.specs.ProcessorLists.{holding}
+use Rattle.rcu_part_lists.specs.ProcessorLists.{holding}
 use Rattle.rcu_part_processor.proofs.Keeping.{kept_by_tells}
 use Rattle.rcu_part_steps.proofs.Telling.{tells_touched}
 use Rattle.std.specs.Arc.{arc_value}

@@ -3,7 +3,7 @@ use Rattle.std.specs.Arc.{arc_value}
 use Rattle.rcu_board.specs.Seats.{view}
 use Rattle.rcu_board.specs.declared.board.Board.{Board}
 use Rattle.rcu_numbers.specs.Words.{owes_of}
-use Rattle.rcu_holdings.specs.ProcessorLists.{holding}
+use Rattle.rcu_part_lists.specs.ProcessorLists.{holding}
 use Rattle.rcu_jobs.specs.Modes.{first_mode}
 use Rattle.rcu_part_processor.proofs.Beginnings.{first_law, offloads_at}
 use Rattle.rcu_part_processor.proofs.processor.Processor.new.Goals as goal

@@ -2,8 +2,8 @@ use Rattle.std.proofs.Common.{◌≡◌, List, sym, subst, refl, arith}
 use Rattle.std.specs.Mem.{FitsInMemory}
 use denote.Param.{param}
 use Rattle.rcu_board.specs.Seats.{view}
-use Rattle.rcu_holdings.specs.ProcessorLists.{holding}
-use Rattle.rcu_holdings.proofs.Sizes.{in_struct}
+use Rattle.rcu_part_lists.specs.ProcessorLists.{holding}
+use Rattle.rcu_part_lists.proofs.Sizes.{in_struct}
 use Rattle.rcu_jobs.specs.declared.Stop.TheVariants.{Limit, Empty, Memory}
 use Rattle.rcu_jobs.specs.declared.callback.Record.{Record}
 use Rattle.rcu_part_processor.specs.Lawful.{IsLawful}

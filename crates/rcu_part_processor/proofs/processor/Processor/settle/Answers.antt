@@ -7,11 +7,11 @@ use Rattle.rcu_board.specs.Views.{seen_at}
 use Rattle.rcu_board.specs.Words.{turns_word}
 use Rattle.rcu_board.specs.declared.view.View.{View}
 use Rattle.rcu_board.proofs.Facts.{seen-touched, words-of-processor, same_seat}
-use Rattle.rcu_holdings.specs.ProcessorLists.{Holding, holding, passed_on, put_by}
+use Rattle.rcu_part_lists.specs.ProcessorLists.{Holding, holding, passed_on, put_by}
 use Rattle.rcu_jobs.specs.Modes.{is_deoffloading}
-use Rattle.rcu_holdings.specs.Modes.{settled}
-use Rattle.rcu_holdings.specs.Limits.{AreBelow}
-use Rattle.rcu_holdings.proofs.Sizes.{in_struct}
+use Rattle.rcu_part_lists.specs.Modes.{settled}
+use Rattle.rcu_part_lists.specs.Limits.{AreBelow}
+use Rattle.rcu_part_lists.proofs.Sizes.{in_struct}
 use Rattle.rcu_part_processor.specs.contracts.processor.Processor as row
 use Rattle.rcu_part_processor.proofs.Heeding.{settled_law}
 use Rattle.rcu_part_processor.proofs.Taking.{sound_moved}

@@ -1,5 +1,5 @@
 use Rattle.std.proofs.Common.{◌≡◌, ◌+◌, ap, sym, subst, true}
-use Rattle.rcu_law.specs.Lists.{none_owes}
+use Rattle.rcu_world_law.specs.Lists.{none_owes}
 use Rattle.rcu_world.specs.Boards.{GracePeriod, IsBoardOf}
 use Rattle.rcu_world.proofs.Masks.{ended, none_board}
 use Rattle.rcu_world.proofs.boards.Board.end.Goals as goal

@@ -1,7 +1,7 @@
 use Rattle.std.proofs.Common.{refl, ◌∙◌, arith, ap, sym, map, ◌++◌, ◌∷◌, []}
 use Rattle.std.proofs.lemmas.List.{map-append}
-use Rattle.rcu_law.specs.States.{opening_cpu}
-use Rattle.rcu_processor.specs.Views.{AreGiven, seen}
+use Rattle.rcu_world_law.specs.States.{opening_cpu}
+use Rattle.rcu_world_processor.specs.Views.{AreGiven, seen}
 use Rattle.rcu_world.specs.Barrings.{barrier}
 use Rattle.rcu_world.specs.Worlds.{plan}
 use Rattle.rcu_world.proofs.Opening.{bits_start, all_more, at_rest, bits_next, bits_end, opening_bits}

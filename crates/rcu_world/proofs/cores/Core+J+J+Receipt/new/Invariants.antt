@@ -1,7 +1,7 @@
 use Rattle.std.proofs.Common.{◌≡◌, ◌-◌, ◌++◌, map}
 use Rattle.std.specs.List.{AllByRecursion}
-use Rattle.rcu_law.specs.States.{opening_cpu}
-use Rattle.rcu_processor.specs.Views.{AreGiven}
+use Rattle.rcu_world_law.specs.States.{opening_cpu}
+use Rattle.rcu_world_processor.specs.Views.{AreGiven}
 use Rattle.rcu_world.specs.Views.{all_seen}
 use Rattle.rcu_world.specs.Boards.{bits}
 use Rattle.rcu_world.proofs.cores.Core+J+J+Receipt.new.Given as goal

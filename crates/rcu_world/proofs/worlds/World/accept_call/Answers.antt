@@ -1,8 +1,8 @@
 use Rattle.rcu_world.proofs.Leading.{leads_event, length_took, seen_there}
 use Rattle.std.proofs.Common.{refl, ◌≡◌, ◌<◌, ◌∙◌, ap, arith, length, subst, sym}
 use Rattle.std.proofs.lemmas.List.{length-map}
-use Rattle.rcu_law.specs.States.{cpu_at, has}
-use Rattle.rcu_processor.specs.Views.{seen}
+use Rattle.rcu_world_law.specs.States.{cpu_at, has}
+use Rattle.rcu_world_processor.specs.Views.{seen}
 use Rattle.rcu_world.specs.Views.{state}
 use Rattle.rcu_world.specs.declared.events.Event.TheVariants.{Accept}
 use Rattle.rcu_world.specs.Turns.{IsAtRestBut}

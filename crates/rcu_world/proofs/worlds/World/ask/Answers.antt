@@ -1,6 +1,6 @@
 use Rattle.std.proofs.Common.{◌∙◌, arith, refl, sym}
 use Rattle.std.proofs.lemmas.List.{length-map}
-use Rattle.rcu_processor.specs.Views.{seen}
+use Rattle.rcu_world_processor.specs.Views.{seen}
 use Rattle.rcu_world.specs.Views.{state}
 use Rattle.rcu_world.proofs.Asking.{none_asked, local_asked, switch_asked}
 use Rattle.rcu_world.proofs.worlds.World.ask.Goals as goal

@@ -1,5 +1,5 @@
 use Rattle.std.proofs.Common.{length, subst, refl, ◌∙◌, sym, inl, inr}
-use Rattle.rcu_law.specs.Events.CoreEvent.{Open, Urge}
+use Rattle.rcu_world_law.specs.Events.CoreEvent.{Open, Urge}
 use Rattle.rcu_world.specs.Turns.{IsAtRest, Leads, where_enabled, and_then, upto, counts_for}
 use Rattle.rcu_world.specs.Views.{state}
 use Rattle.rcu_world.proofs.Leading.{leads_then}

@@ -1,11 +1,11 @@
 use Rattle.std.proofs.Common.{◌∷◌, [], ◌<◌, ◌∙◌, ap, arith, refl, subst, sym}
-use Rattle.rcu_law.specs.Events.CoreEvent.{Accept}
+use Rattle.rcu_world_law.specs.Events.CoreEvent.{Accept}
 use Rattle.rcu_world.specs.Turns.{IsAtRest, stamp_events}
 use Rattle.rcu_world.proofs.Leading.{leads_then, seen_there}
 use denote.Param.{param}
 use Rattle.rcu_world.proofs.Fitting.{fits_there}
 use Rattle.std.proofs.lemmas.List.{length-map}
-use Rattle.rcu_processor.specs.Views.{seen}
+use Rattle.rcu_world_processor.specs.Views.{seen}
 use Rattle.rcu_world.proofs.Entering.{fresh_after}
 use Rattle.rcu_world.proofs.Wholes.{if_ok_never, on_err}
 use Rattle.rcu_world.proofs.worlds.World.call.Goals as goal

@@ -1,9 +1,9 @@
 use Rattle.std.proofs.Common.{◌∙◌, length, subst, sym}
 use Rattle.std.proofs.lemmas.List.{length-map}
-use Rattle.rcu_law.specs.Law.{IsClosed}
-use Rattle.rcu_law.proofs.Closing.{closed}
+use Rattle.rcu_world_law.specs.Law.{IsClosed}
+use Rattle.rcu_world_law.proofs.Closing.{closed}
 use Rattle.rcu_world.specs.Leaving.{AreHandedBack, AreRecorded, AreReported}
-use Rattle.rcu_processor.specs.Views.{seen}
+use Rattle.rcu_world_processor.specs.Views.{seen}
 use Rattle.rcu_world.specs.Views.{state, all_seen}
 use Rattle.rcu_world.proofs.Settling.{handed_back, recorded, runs_of}
 use denote.Param.{param}

@@ -2,7 +2,7 @@ use Rattle.std.proofs.Common.{◌∙◌, refl, arith}
 use Rattle.rcu_world.specs.Turns.{counts_for}
 use Rattle.rcu_world.proofs.Leading.{leads_upto}
 use Rattle.std.proofs.lemmas.List.{length-map}
-use Rattle.rcu_processor.specs.Views.{seen}
+use Rattle.rcu_world_processor.specs.Views.{seen}
 use Rattle.rcu_world.proofs.Wholes.{leads_all}
 use Rattle.rcu_world.proofs.worlds.World.count_all.Goals as goal
 

@@ -1,8 +1,8 @@
 use Rattle.std.proofs.Common.{ℕ, ◌∙◌, ◌<◌, ap, arith, length, subst}
 use Rattle.std.proofs.lemmas.List.{length-map, length-set, length-replicate}
 use denote.Param.{param}
-use Rattle.rcu_law.specs.States.{cpu_at}
-use Rattle.rcu_processor.specs.Views.{seen}
+use Rattle.rcu_world_law.specs.States.{cpu_at}
+use Rattle.rcu_world_processor.specs.Views.{seen}
 use Rattle.rcu_world.specs.Views.{state}
 use Rattle.rcu_world.proofs.Fitting.{fits_there}
 use Rattle.rcu_world.proofs.Leading.{seen_there}

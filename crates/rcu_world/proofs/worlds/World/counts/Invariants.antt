@@ -1,6 +1,6 @@
 use Rattle.std.proofs.Common.{◌≡◌, ◌<◌, ℕ, length}
 use Rattle.std.specs.Prelude.{slice_index}
-use Rattle.rcu_law.specs.States.{cpu_at}
+use Rattle.rcu_world_law.specs.States.{cpu_at}
 use Rattle.rcu_world.specs.Views.{state}
 use Rattle.rcu_world.proofs.worlds.World.counts.Given as goal
 

@@ -1,7 +1,7 @@
 use Rattle.std.proofs.Common.{◌∙◌, ◌<◌, ap, arith, refl, sym, subst, length}
 use Rattle.std.proofs.lemmas.List.{length-map}
-use Rattle.rcu_law.specs.States.{Cpu}
-use Rattle.rcu_processor.specs.Views.{seen}
+use Rattle.rcu_world_law.specs.States.{Cpu}
+use Rattle.rcu_world_processor.specs.Views.{seen}
 use Rattle.rcu_world.specs.Views.{state}
 use Rattle.rcu_world.proofs.Drawing.{drawn_all, drawn_empty, drawn_none, drawn_one, drawn_waits, few_drawn, joins_where, waits_where}
 use Rattle.rcu_world.proofs.Leading.{seen_there}

@@ -1,5 +1,5 @@
 use Rattle.std.proofs.Common.{◌∙◌, ◌<◌, ◌≤◌, ap, refl, sym, subst}
-use Rattle.rcu_law.specs.Events.CoreEvent.{Start, End}
+use Rattle.rcu_world_law.specs.Events.CoreEvent.{Start, End}
 use Rattle.rcu_world.specs.Views.{state}
 use Rattle.rcu_world.proofs.Driving.{driver_ends, driver_starts, answers_ended, answers_waits, answers_started, answers_spent, answers_idle}
 use Rattle.rcu_world.proofs.Passing.{leads_same}

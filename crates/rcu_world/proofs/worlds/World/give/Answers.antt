@@ -1,7 +1,7 @@
 use Rattle.std.proofs.Common.{refl, ◌∙◌, ◌<◌, ap, arith, sym, subst, length}
 use Rattle.std.proofs.lemmas.List.{length-map}
-use Rattle.rcu_law.specs.Steps.{given}
-use Rattle.rcu_processor.specs.Views.{seen}
+use Rattle.rcu_world_law.specs.Steps.{given}
+use Rattle.rcu_world_processor.specs.Views.{seen}
 use Rattle.rcu_world.specs.Views.{state}
 use Rattle.rcu_world.proofs.Drawing.{gives_made, gives_nothing, gives_none, gives_refused, few_given}
 use Rattle.rcu_world.proofs.Leading.{seen_there}

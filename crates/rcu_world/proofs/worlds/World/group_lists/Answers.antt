@@ -1,6 +1,6 @@
 use Rattle.std.proofs.Common.{◌∙◌, ◌<◌, ◌&&◌, ap, arith, cond, false, get_or, length, None, Some, sym}
-use Rattle.rcu_law.specs.States.{cpu_at}
-use Rattle.rcu_processor.specs.Shown.{folk_lists}
+use Rattle.rcu_world_law.specs.States.{cpu_at}
+use Rattle.rcu_world_processor.specs.Shown.{folk_lists}
 use Rattle.rcu_world.specs.Views.{state}
 use Rattle.rcu_world.proofs.Entering.{not_there}
 use Rattle.rcu_world.proofs.Leading.{seen_there}

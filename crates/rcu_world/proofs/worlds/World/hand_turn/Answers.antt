@@ -1,10 +1,10 @@
-use Rattle.rcu_law.specs.declared.who.Side.TheVariants.{Hand}
-use Rattle.rcu_law.specs.Events.CoreEvent.{LookHand, Fetch}
+use Rattle.rcu_world_law.specs.declared.who.Side.TheVariants.{Hand}
+use Rattle.rcu_world_law.specs.Events.CoreEvent.{LookHand, Fetch}
 use Rattle.rcu_world.specs.Turns.{where_enabled, run_events, and_then}
 use Rattle.rcu_world.proofs.Leading.{leads_then}
 use Rattle.std.proofs.Common.{◌<◌, ◌∙◌, subst, sym, refl, length}
 use Rattle.std.proofs.lemmas.Bool.{and_parts, ltb-true}
-use Rattle.rcu_law.specs.States.{has}
+use Rattle.rcu_world_law.specs.States.{has}
 use Rattle.rcu_world.specs.Views.{state}
 use Rattle.rcu_world.proofs.worlds.World.hand_turn.Goals as goal
 

@@ -1,6 +1,6 @@
 use Rattle.std.proofs.Common.{◌∙◌, ap, arith, false, get_or, refl, sym}
 use Rattle.std.proofs.lemmas.List.{get_or_past, length-map}
-use Rattle.rcu_law.specs.States.{Barrier, no_barrier}
+use Rattle.rcu_world_law.specs.States.{Barrier, no_barrier}
 use Rattle.rcu_world.specs.Barrings.{barrier}
 use Rattle.rcu_world.proofs.Seen.{barrier_seen}
 use Rattle.rcu_world.specs.declared.barriers.Barring.{Barring}

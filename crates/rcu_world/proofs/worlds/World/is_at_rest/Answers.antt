@@ -2,8 +2,8 @@ use Rattle.std.proofs.Common.{◌≡◌, ◌∙◌, arith, inl, inr, refl, subst
 use Rattle.std.proofs.lemmas.Bool.{cases_lt}
 use Rattle.std.proofs.lemmas.List.{get_or_past, length-map}
 use denote.Param.{param}
-use Rattle.rcu_law.specs.States.{cpu_at, empty_cpu}
-use Rattle.rcu_processor.specs.Views.{seen}
+use Rattle.rcu_world_law.specs.States.{cpu_at, empty_cpu}
+use Rattle.rcu_world_processor.specs.Views.{seen}
 use Rattle.rcu_world.specs.Turns.{IsIdle}
 use Rattle.rcu_world.specs.Views.{all_seen, state}
 use Rattle.rcu_world.proofs.Fitting.{fits_there}

@@ -1,5 +1,5 @@
 use Rattle.std.proofs.Common.{ℕ, ◌<◌}
-use Rattle.rcu_law.specs.States.{cpu_at}
+use Rattle.rcu_world_law.specs.States.{cpu_at}
 use Rattle.rcu_world.specs.Turns.{IsIdle}
 use Rattle.rcu_world.specs.Views.{state}
 use Rattle.rcu_world.proofs.worlds.World.is_at_rest.Given as goal

@@ -1,6 +1,6 @@
 use Rattle.std.proofs.Common.{◌∙◌, ◌<◌, ◌&&◌, ◌==◌, ◌/◌, ap, false, get_or, length, subst, sym}
 use Rattle.std.proofs.lemmas.List.{length-map}
-use Rattle.rcu_processor.specs.Views.{seen}
+use Rattle.rcu_world_processor.specs.Views.{seen}
 use Rattle.rcu_world.proofs.Seen.{has_at}
 use Rattle.rcu_world.proofs.worlds.World.is_member.Goals as goal
 

@@ -1,12 +1,12 @@
 use Rattle.std.proofs.Common.{◌∙◌, ap, arith, length, refl, ℕ}
 use Rattle.std.proofs.lemmas.List.{length-map, length-set, length-replicate}
-use Rattle.rcu_law.specs.Lists.{value_or}
-use Rattle.rcu_law.specs.States.{barrier_at, count_at}
+use Rattle.rcu_world_law.specs.Lists.{value_or}
+use Rattle.rcu_world_law.specs.States.{barrier_at, count_at}
 use Rattle.rcu_world.specs.Barrings.{barrier}
 use Rattle.rcu_world.specs.Views.{state}
 use Rattle.rcu_world.proofs.Seen.{barrier_seen}
 use Rattle.rcu_world.proofs.Counting.{counts_more}
-use Rattle.rcu_processor.specs.Views.{seen}
+use Rattle.rcu_world_processor.specs.Views.{seen}
 use Rattle.rcu_world.proofs.Places.{few_in_vec, in_vec, steps_on}
 use Rattle.rcu_world.proofs.worlds.World.kept_counts.Goals as goal
 

@@ -1,5 +1,5 @@
 use Rattle.std.proofs.Common.{◌≡◌, length}
-use Rattle.rcu_law.specs.States.{barrier_at}
+use Rattle.rcu_world_law.specs.States.{barrier_at}
 use Rattle.rcu_world.specs.Polls.{HasKept}
 use Rattle.rcu_world.specs.Views.{state}
 use Rattle.rcu_world.proofs.worlds.World.kept_counts.Given as goal

@@ -1,7 +1,7 @@
 use Rattle.std.proofs.Common.{◌∙◌, ◌<◌, ap, subst}
 use Rattle.std.proofs.lemmas.List.{length-map}
-use Rattle.rcu_processor.specs.Shown.{cpu_lists}
-use Rattle.rcu_processor.specs.Views.{seen}
+use Rattle.rcu_world_processor.specs.Shown.{cpu_lists}
+use Rattle.rcu_world_processor.specs.Views.{seen}
 use Rattle.rcu_world.proofs.Leading.{seen_there}
 use denote.Param.{param}
 use Rattle.rcu_world.proofs.Fitting.{fits_there}

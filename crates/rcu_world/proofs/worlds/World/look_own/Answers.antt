@@ -1,5 +1,5 @@
-use Rattle.rcu_law.specs.declared.who.Who.TheVariants as who
-use Rattle.rcu_law.specs.Events.CoreEvent.{Look, Need}
+use Rattle.rcu_world_law.specs.declared.who.Who.TheVariants as who
+use Rattle.rcu_world_law.specs.Events.CoreEvent.{Look, Need}
 use Rattle.rcu_world.specs.Turns.{where_enabled}
 use Rattle.rcu_world.proofs.Leading.{leads_then}
 use Rattle.std.proofs.Common.{refl}

@@ -1,8 +1,8 @@
 use Rattle.std.proofs.Common.{◌∙◌, ◌≡◌, true, ap, sym, refl, length, ◌++◌, ◌∷◌, []}
-use Rattle.rcu_law.specs.Events.{is_enabled}
-use Rattle.rcu_law.specs.Events.CoreEvent.{Pass}
+use Rattle.rcu_world_law.specs.Events.{is_enabled}
+use Rattle.rcu_world_law.specs.Events.CoreEvent.{Pass}
 use Rattle.rcu_world.proofs.Wholes.{on_err}
-use Rattle.rcu_law.specs.declared.marks.Mark.TheVariants.{Passed}
+use Rattle.rcu_world_law.specs.declared.marks.Mark.TheVariants.{Passed}
 use Rattle.rcu_world.specs.Polls.{turns_for}
 use Rattle.rcu_world.specs.Turns.{upto, where_enabled}
 use Rattle.rcu_world.specs.Views.{state}

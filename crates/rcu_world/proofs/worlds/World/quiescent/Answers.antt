@@ -1,7 +1,7 @@
 use Rattle.std.proofs.Common.{length, refl, true, ◌≡◌, ◌∙◌, ℕ, Bool, Option, Some, None, cond, ap, sym}
 use Rattle.std.proofs.lemmas.Bool.{lt-ltb}
-use Rattle.rcu_law.specs.Events.CoreEvent.{Report}
-use Rattle.rcu_law.specs.States.{owes}
+use Rattle.rcu_world_law.specs.Events.CoreEvent.{Report}
+use Rattle.rcu_world_law.specs.States.{owes}
 use Rattle.rcu_world.specs.Views.{state}
 use Rattle.rcu_world.proofs.Wholes.{on_err}
 use Rattle.rcu_world.proofs.Leading.{leads_one}

@@ -1,7 +1,7 @@
 use Rattle.std.proofs.Common.{arith, refl, ◌∙◌, ◌<◌, ap, sym, subst}
 use Rattle.std.proofs.lemmas.List.{length-map}
-use Rattle.rcu_law.specs.Releases.{releases_in_tick, moment_of_tick}
-use Rattle.rcu_processor.specs.Views.{seen}
+use Rattle.rcu_world_law.specs.Releases.{releases_in_tick, moment_of_tick}
+use Rattle.rcu_world_processor.specs.Views.{seen}
 use Rattle.rcu_world.proofs.Leading.{seen_there}
 use Rattle.rcu_world.proofs.Ticking.{release_skipped, release_put}
 use denote.Param.{param}

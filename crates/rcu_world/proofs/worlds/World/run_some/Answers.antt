@@ -1,11 +1,11 @@
 use Rattle.std.proofs.Common.{◌≡◌, true, false, cond, [], ◌∷◌, ◌∙◌, ◌<◌, ◌≤◌, ap, arith, refl, sym, subst}
 use Rattle.std.proofs.lemmas.List.{length-map}
 use Rattle.rcu_jobs.specs.declared.Stop.TheVariants as stops
-use Rattle.rcu_law.specs.Events.{is_enabled, run}
-use Rattle.rcu_law.specs.Events.CoreEvent.{Claim}
-use Rattle.rcu_law.specs.States.{cpu_at}
-use Rattle.rcu_processor.specs.Turns.{has_none}
-use Rattle.rcu_processor.specs.Views.{seen}
+use Rattle.rcu_world_law.specs.Events.{is_enabled, run}
+use Rattle.rcu_world_law.specs.Events.CoreEvent.{Claim}
+use Rattle.rcu_world_law.specs.States.{cpu_at}
+use Rattle.rcu_world_processor.specs.Turns.{has_none}
+use Rattle.rcu_world_processor.specs.Views.{seen}
 use Rattle.rcu_world.specs.Turns.{IsAtRest, Leads, run_events, stop_of}
 use Rattle.rcu_world.specs.Views.{state}
 use Rattle.rcu_world.proofs.Leading.{leads_nothing, seen_there}

@@ -3,7 +3,7 @@ use Rattle.rcu_world.specs.Polls.{turns_for}
 use Rattle.rcu_world.proofs.Leading.{leads_none, leads_upto}
 use Rattle.rcu_world.proofs.Passing.{history_turned, seen_skipped, seen_turned}
 use Rattle.std.proofs.lemmas.List.{length-map}
-use Rattle.rcu_processor.specs.Views.{seen}
+use Rattle.rcu_world_processor.specs.Views.{seen}
 use Rattle.rcu_world.proofs.Wholes.{leads_all}
 use Rattle.rcu_world.proofs.worlds.World.see_all.Goals as goal
 

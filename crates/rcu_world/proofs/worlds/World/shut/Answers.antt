@@ -1,10 +1,10 @@
 use Rattle.std.proofs.Common.{◌∙◌, ◌≡◌, true, ap, refl, arith, subst, sym, ℕ}
-use Rattle.rcu_law.specs.Events.{is_enabled}
-use Rattle.rcu_law.specs.Events.CoreEvent.{Shut}
+use Rattle.rcu_world_law.specs.Events.{is_enabled}
+use Rattle.rcu_world_law.specs.Events.CoreEvent.{Shut}
 use Rattle.rcu_world.specs.Turns.{IsAtRest, shuts, Leads, upto}
 use Rattle.rcu_world.proofs.Leading.{leads_none, leads_upto}
 use Rattle.std.proofs.lemmas.List.{length-map}
-use Rattle.rcu_processor.specs.Views.{seen}
+use Rattle.rcu_world_processor.specs.Views.{seen}
 use Rattle.rcu_world.specs.Views.{state}
 use Rattle.rcu_world.proofs.Wholes.{if_ok_never, leads_all, on_err}
 use Rattle.rcu_world.proofs.worlds.World.shut.Goals as goal

@@ -1,8 +1,8 @@
 use Rattle.std.proofs.Common.{arith, refl, true, ◌∙◌, ◌<◌, ap, sym, subst}
 use Rattle.std.proofs.lemmas.List.{length-map}
 use Rattle.rcu_jobs.specs.Modes.{is_offloaded}
-use Rattle.rcu_processor.specs.Turns.{is_switching}
-use Rattle.rcu_processor.specs.Views.{seen}
+use Rattle.rcu_world_processor.specs.Turns.{is_switching}
+use Rattle.rcu_world_processor.specs.Views.{seen}
 use Rattle.rcu_world.proofs.Leading.{seen_there, where_false}
 use Rattle.rcu_world.proofs.Ticking.{switch_heeded, switch_put}
 use denote.Param.{param}

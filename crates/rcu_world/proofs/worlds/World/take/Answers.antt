@@ -1,5 +1,5 @@
 use Rattle.std.proofs.Common.{◌∙◌, arith, sym}
-use Rattle.rcu_law.specs.Events.CoreEvent.{Join}
+use Rattle.rcu_world_law.specs.Events.CoreEvent.{Join}
 use Rattle.rcu_world.specs.GroupTurns.{Draws, WhereRoom, most_batches}
 use Rattle.rcu_world.proofs.Drawing.{joined_made, takes_made, takes_none, then_made}
 use Rattle.rcu_world.proofs.worlds.World.take.Goals as goal

@@ -3,7 +3,7 @@ use Rattle.rcu_world.specs.GroupTurns.{Takes}
 use Rattle.rcu_world.specs.Views.{state}
 use Rattle.rcu_world.proofs.Drawing.{upto_more, upto_none}
 use Rattle.std.proofs.lemmas.List.{length-map}
-use Rattle.rcu_processor.specs.Views.{seen}
+use Rattle.rcu_world_processor.specs.Views.{seen}
 use Rattle.rcu_world.proofs.Wholes.{made_all}
 use Rattle.rcu_world.proofs.Places.{steps_on}
 use Rattle.rcu_world.proofs.worlds.World.take_all.Goals as goal

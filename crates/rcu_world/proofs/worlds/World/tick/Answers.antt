@@ -1,4 +1,4 @@
-use Rattle.rcu_law.specs.declared.who.Side.TheVariants.{Local}
+use Rattle.rcu_world_law.specs.declared.who.Side.TheVariants.{Local}
 use Rattle.rcu_world.specs.Turns.{look_events, offloadable_events, run_events, and_then}
 use Rattle.rcu_world.proofs.Leading.{leads_then}
 use Rattle.std.proofs.Common.{◌<◌, ◌∙◌, subst, sym}

@@ -1,7 +1,7 @@
 use Rattle.std.proofs.Common.{◌∙◌, ◌<◌, ◌≡◌, ap, arith, sym, subst, length}
 use Rattle.std.proofs.lemmas.List.{length-map}
-use Rattle.rcu_law.specs.States.{Cpu, cpu_at}
-use Rattle.rcu_processor.specs.Views.{seen}
+use Rattle.rcu_world_law.specs.States.{Cpu, cpu_at}
+use Rattle.rcu_world_processor.specs.Views.{seen}
 use Rattle.rcu_world.specs.Views.{state}
 use Rattle.rcu_world.specs.GroupTurns.{waiting_upto}
 use Rattle.rcu_world.proofs.Drawing.{few_drawn, waits_more, waits_none, waits_other}

@@ -1,0 +1,160 @@
+//! Measures the running parts: what a call costs the thread that makes it, how many callbacks run a second until a barrier
+//! has passed, and how long a single callback waits. `tools/bench` runs it beside a peer.
+//!
+//! With `--times` it prints the times, in nanoseconds: of calls one line, of waiting a line for each callback. Without it
+//! it says how many callbacks ran, of how many calls, which is the same in each run.
+#![tactic(auto)]
+
+ghost use Rattle.std.specs.Prelude.{◌≡◌};
+ghost use Rattle.bench_calls.specs.declared.Fault.TheVariants.{CannotRun, Refused, Write};
+
+mod calls;
+mod figures;
+mod jobs;
+mod latency;
+mod plan;
+
+use figures::{Figures, measure};
+use jobs::Work;
+use latency::wait_times;
+use plan::{Plan, Refusal, read_plan};
+use rcu_parts::open;
+use std::alloc::AllocError;
+use std::io;
+use std::process::ExitCode;
+use std::rt::Clock;
+use std::sync::Wait;
+use std::thread::Threads;
+
+/// Why the program can't end with its figures.
+#[derive(Drop)]
+enum Fault {
+    /// The words of the command line were refused.
+    Refused(Refusal),
+    /// The numbers are outside a runtime's limits.
+    NoShape,
+    /// A thread could not be made, or want of memory.
+    CannotRun,
+    /// The figures could not be written.
+    Write(io::Error),
+}
+
+impl From<Refusal> for Fault {
+    ghost from_gives = { λ refusal fault. fault ≡ Refused refusal };
+
+    fn from(refusal: Refusal) -> Fault {
+        Fault::Refused(refusal)
+    }
+}
+
+impl From<AllocError> for Fault {
+    ghost from_gives = { λ _ fault. fault ≡ CannotRun };
+
+    fn from(_error: AllocError) -> Fault {
+        Fault::CannotRun
+    }
+}
+
+impl From<io::Error> for Fault {
+    ghost from_gives = { λ error fault. fault ≡ Write error };
+
+    fn from(error: io::Error) -> Fault {
+        Fault::Write(error)
+    }
+}
+
+/// The words of the command line after the program's name.
+fn words(rt: &HostRuntime) -> Result<Vec<String>, Refusal> {
+    let mut words = Vec::new(rt.alloc());
+    let given = match std::env::args(rt) {
+        Ok(given) => given,
+        Err(error) if error.kind() == io::ErrorKind::OutOfMemory => return Err(Refusal::Memory),
+        Err(_) => return Err(Refusal::NoText),
+    };
+    for word in given.skip(1) {
+        let Ok(()) = words.push(word) else {
+            return Err(Refusal::Memory);
+        };
+    }
+    Ok(words)
+}
+
+/// Prints what calls took, or how many callbacks ran.
+fn print_figures(rt: &impl Print, plan: &Plan, figures: &Figures) -> io::Result<()> {
+    let Figures {
+        ran,
+        called,
+        own,
+        whole,
+    } = figures;
+    if plan.times {
+        println!(rt; "ran {ran} called_ns {called} own_ns {own} whole_ns {whole}")
+    } else {
+        println!(rt; "ran {ran} of {}", plan.calls.saturating_mul(plan.threads))
+    }
+}
+
+/// Prints how long each callback waited, or how many ran.
+fn print_times(rt: &impl Print, plan: &Plan, times: &[u64]) -> io::Result<()> {
+    if !plan.times {
+        let ran = times.iter().filter(|time| **time > 0).count();
+        return println!(rt; "ran {ran} of {}", plan.calls);
+    }
+    for time in times {
+        println!(rt; "{time}")?;
+    }
+    Ok(())
+}
+
+/// Runs what the words say.
+fn run<R: Threads + Wait + Clock + Copy + Send + 'static>(
+    host: &HostRuntime,
+    rt: &R,
+) -> Result<(), Fault> {
+    let alloc = host.alloc();
+    let words = words(host)?;
+    let plan = read_plan(alloc, words.as_slice())?;
+    let Some(shape) = plan.shape() else {
+        return Err(Fault::NoShape);
+    };
+    let parts = open::<Work>(alloc, shape)?;
+    if plan.latency {
+        let times = wait_times(host, rt, alloc, parts, &plan)?;
+        print_times(host, &plan, times.as_slice())?;
+    } else {
+        let Some(figures) = measure(rt, alloc, parts, plan) else {
+            return Err(Fault::CannotRun);
+        };
+        print_figures(host, &plan, &figures)?;
+    }
+    Ok(())
+}
+
+/// Says why the program ends without its figures. Answers its status.
+fn tell(rt: &impl Eprint, fault: Fault) -> io::Result<u8> {
+    match fault {
+        Fault::Refused(Refusal::Words(error)) => rt.eprint(&error)?,
+        Fault::Refused(Refusal::NoText) => eprintln!(rt;
+            "error: a word of the command line is no text"
+        )?,
+        Fault::NoShape => eprintln!(rt;
+            "error: a runtime has 1 to 32 processors, and limits of at most 1000000"
+        )?,
+        Fault::Refused(Refusal::Memory) | Fault::CannotRun => {
+            eprintln!(rt; "error: no memory, or a thread can't be made")?;
+            return Ok(1);
+        }
+        Fault::Write(error) => {
+            eprintln!(rt; "error: {error}")?;
+            return Ok(1);
+        }
+    }
+    Ok(2)
+}
+
+fn main(rt: HostRuntime) -> ExitCode {
+    match run(&rt, &rt) {
+        Ok(()) => ExitCode::SUCCESS,
+        Err(fault) => ExitCode::from(tell(&rt, fault).unwrap_or(1)),
+    }
+}

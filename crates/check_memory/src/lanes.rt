@@ -1,0 +1,107 @@
+//! The scenarios of a lane and of a board.
+
+ghost use Rattle.std.specs.Prelude.{IfErr, IfOk};
+ghost use Rattle.rcu_lanes.specs.Ends.{SameLane, SameRear};
+ghost use Rattle.check_memory.specs.Faults.{IsBroken};
+
+use crate::growth::{Fault, Growth, Refusals, stands};
+use crate::machine::shape;
+use rcu_board::open_board;
+use rcu_lanes::{Draw, Front, Rear, Rest, lane, rest};
+use std::alloc::Global;
+
+/// How many items are put: more than a lane begins with places.
+const ITEMS: u64 = 100;
+
+/// How many are drawn by the other end.
+const DRAWN: u64 = 10;
+
+/// A new lane.
+fn open_lane(alloc: Global, refusals: &mut Refusals) -> Result<(Front<u64>, Rear<u64>), Fault>
+    ensures lane { IfOk result (λ ends. SameLane ends.0 ends.1) }
+    ensures broken { IfErr result IsBroken }
+{
+    if let Ok(ends) = lane(alloc) {
+        return Ok(ends);
+    }
+    refusals.note(Growth::Lane)?;
+    match lane(alloc) {
+        Ok(ends) => Ok(ends),
+        Err(_) => Err(Fault::Broken(Growth::Lane, "refused again")),
+    }
+}
+
+/// Puts an item, again where it came back.
+fn put(refusals: &mut Refusals, rear: &mut Rear<u64>, item: u64) -> Result<(), Fault>
+    ensures lane { SameRear rear.old rear.new }
+    ensures broken { IfErr result IsBroken }
+{
+    let Err(back) = rear.put(item) else {
+        return Ok(());
+    };
+    refusals.note(Growth::LanePut)?;
+    stands(back == item, Growth::LanePut, "another item came back")?;
+    stands(rear.put(back).is_ok(), Growth::LanePut, "refused again")
+}
+
+/// Puts all items, in order.
+fn put_all(refusals: &mut Refusals, mut rear: Rear<u64>) -> Result<Rear<u64>, Fault>
+    ensures lane { IfOk result (SameRear rear) }
+    ensures broken { IfErr result IsBroken }
+{
+    for item in 0..ITEMS {
+        put(refusals, &mut rear, item)?;
+    }
+    Ok(rear)
+}
+
+/// The lane still has the items from `DRAWN` on, in order.
+fn check_left(mut left: Rest<u64>) -> Result<(), Fault>
+    ensures broken { IfErr result IsBroken }
+{
+    for item in DRAWN..ITEMS {
+        stands(
+            left.take() == Some(item),
+            Growth::LanePut,
+            "an item isn't in its place",
+        )?;
+    }
+    stands(
+        left.take().is_none(),
+        Growth::LanePut,
+        "an item is there twice",
+    )
+}
+
+/// The scenario of a lane: items put, some drawn, and the rest taken.
+pub fn play_lanes(alloc: Global) -> Result<Refusals, Fault>
+    ensures broken { IfErr result IsBroken }
+{
+    let mut refusals = Refusals::new();
+    let (mut front, rear) = open_lane(alloc, &mut refusals)?;
+    let rear = put_all(&mut refusals, rear)?;
+    for item in 0..DRAWN {
+        let drawn = front.draw();
+        stands(
+            drawn == Draw::Got(item),
+            Growth::LanePut,
+            "an item isn't in its place",
+        )?;
+    }
+    check_left(rest(front, rear))?;
+    Ok(refusals)
+}
+
+/// The scenario of a board.
+pub fn play_board(alloc: Global) -> Result<Refusals, Fault>
+    ensures broken { IfErr result IsBroken }
+{
+    let mut refusals = Refusals::new();
+    let shape = shape().ok_or(Fault::Broken(Growth::OpenBoard, "no shape"))?;
+    if open_board(alloc, shape).is_err() {
+        refusals.note(Growth::OpenBoard)?;
+        let again = open_board(alloc, shape);
+        stands(again.is_ok(), Growth::OpenBoard, "refused again")?;
+    }
+    Ok(refusals)
+}

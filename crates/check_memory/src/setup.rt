@@ -1,0 +1,113 @@
+//! The scenario of a setup's text.
+
+ghost use Rattle.std.specs.Prelude.{IfErr};
+ghost use Rattle.check_memory.specs.Faults.{IsBroken};
+
+use crate::growth::{Fault, Growth, Refusals, stands};
+use rcu_setup::{Command, Setup, SetupFault, read_setup, script_line};
+use std::alloc::Global;
+
+const TEXT: &str =
+    "processors = 2\nnocbs = \"1\"\nroutes = [\"a=1\", \"b=2\"]\nscript = [\"call 0 0 a 1\", \"lazy 1 0 c 2\"]\n";
+
+const UNKNOWN_KEY: &str = "cpus = 1\nprocessors = 2\n";
+
+const BAD_LINE: &str = "processors = 2\nscript = [\"show\", \"shown\"]\n";
+
+const NO_TOML: &str = "processors = 2\nroutes = [\"a=1\", \n";
+
+/// Each text with the test of its answer.
+const TEXTS: [(&str, Expected); 4] = [
+    (TEXT, Expected::Setup),
+    (UNKNOWN_KEY, Expected::UnknownKey),
+    (BAD_LINE, Expected::BadLine),
+    (NO_TOML, Expected::NotToml),
+];
+
+/// What a text gives where there is memory.
+#[derive(Clone, Copy)]
+enum Expected {
+    Setup,
+    UnknownKey,
+    BadLine,
+    NotToml,
+}
+
+/// Whether it is the setup of `TEXT`.
+fn is_whole(setup: &Setup) -> bool {
+    let routes = match setup.routes.as_slice() {
+        [(a, first), (b, second)] => {
+            a.as_str() == "a" && b.as_str() == "b" && (*first, *second) == (1, 2)
+        }
+        _ => false,
+    };
+    let calls = match setup.script.as_slice() {
+        [Command::Call { name: a, .. }, Command::Lazy { name: c, .. }] => {
+            a.as_str() == "a" && c.as_str() == "c"
+        }
+        _ => false,
+    };
+    routes && calls && (setup.shape.processors, setup.shape.offloadable) == (2, 0b10)
+}
+
+/// Whether an answer is the expected one.
+fn is_expected(expected: Expected, answer: &Result<Setup, SetupFault>) -> bool {
+    match (expected, answer) {
+        (Expected::Setup, Ok(setup)) => is_whole(setup),
+        (Expected::UnknownKey, Err(SetupFault::UnknownKey(key))) => key.as_str() == "cpus",
+        (Expected::BadLine, Err(SetupFault::BadLine(line))) => *line == 2,
+        (Expected::NotToml, Err(SetupFault::NotToml)) => true,
+        _ => false,
+    }
+}
+
+/// Reads a text, again where memory was wanted.
+fn read(alloc: Global, refusals: &mut Refusals, text: &str, expected: Expected) -> Result<(), Fault>
+    ensures broken { IfErr result IsBroken }
+{
+    let mut answer = read_setup(alloc, text);
+    if matches!(answer, Err(SetupFault::Memory)) {
+        refusals.note(Growth::ReadSetup)?;
+        answer = read_setup(alloc, text);
+    }
+    stands(
+        is_expected(expected, &answer),
+        Growth::ReadSetup,
+        "another answer",
+    )
+}
+
+/// Reads a line of a script, again where memory was wanted.
+fn read_line(alloc: Global, refusals: &mut Refusals) -> Result<(), Fault>
+    ensures broken { IfErr result IsBroken }
+{
+    let mut answer = script_line(alloc, "call 1 5 abc 7");
+    if matches!(answer, Err(SetupFault::Memory)) {
+        refusals.note(Growth::ScriptLine)?;
+        answer = script_line(alloc, "call 1 5 abc 7");
+    }
+    let whole = match &answer {
+        Ok(
+            Command::Call {
+                cpu,
+                moment,
+                name,
+                hop,
+            },
+        ) => { (*cpu, *moment, *hop) == (1, 5, 7) && name.as_str() == "abc" }
+        _ => false,
+    };
+    stands(whole, Growth::ScriptLine, "another answer")
+}
+
+/// The scenario: a text that is a setup, texts with faults, a line of a script.
+pub fn play_setup(alloc: Global) -> Result<Refusals, Fault>
+    ensures broken { IfErr result IsBroken }
+{
+    let mut refusals = Refusals::new();
+    for (text, expected) in TEXTS {
+        read(alloc, &mut refusals, text, expected)?;
+    }
+    read_line(alloc, &mut refusals)?;
+    Ok(refusals)
+}

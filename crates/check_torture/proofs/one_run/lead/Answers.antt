@@ -1,0 +1,5 @@
+use Rattle.rcu_board.proofs.Stepping.{same_again}
+use Rattle.check_torture.proofs.one_run.lead.Goals as goal
+
+pub returns : goal.returns
+returns g c = same_again _ _ _ _ _ _ c.lead-farewell.ensures c.finish.ensures.same

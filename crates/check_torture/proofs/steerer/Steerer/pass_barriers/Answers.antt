@@ -1,0 +1,12 @@
+use Rattle.rcu_board.proofs.Stepping.{same_again}
+use Rattle.check_torture.proofs.steerer.Steerer.pass_barriers.Goals as goal
+
+pub returns-in_default-handed : goal.returns-in_default-handed
+returns-in_default-handed g c = same_again _ _ _ _ _ _ c.open_barrier.ensures.steers c.poll.ensures
+
+pub returns-then-handed-own : goal.returns-then-handed-own
+returns-then-handed-own g c =
+    same_again _ _ _ _ _ _ (same_again _ _ _ _ _ _ c.open_barrier.ensures.steers c.poll.ensures) c.poll-then-handed-own.ensures
+
+pub returns-else-handed-own : goal.returns-else-handed-own
+returns-else-handed-own g c = same_again _ _ _ _ _ _ c.open_barrier.ensures.steers c.poll.ensures

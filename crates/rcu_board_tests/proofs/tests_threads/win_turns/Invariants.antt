@@ -1,7 +1,0 @@
-use Rattle.std.proofs.Common.{◌≡◌, []}
-use Rattle.rcu_board_tests.specs.Stays.{StaysSeat}
-use Rattle.rcu_board.specs.Seats.{view, AtBoard}
-use Rattle.rcu_board_tests.proofs.tests_threads.win_turns.Given as goal
-
-abbrev pub invariant-loop : goal.invariant-loop
-invariant-loop g l = AtBoard l.board l.seat × StaysSeat l.fn.seat l.seat × ((view l.seat).running ≡ []) × (goal.iterator-loop g).can_next l.iterator' × (goal.iterator-loop g).is_finite l.iterator'

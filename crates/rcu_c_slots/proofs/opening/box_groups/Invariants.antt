@@ -1,0 +1,6 @@
+use Rattle.std.proofs.Common.{◌≡◌, ◌++◌}
+use Rattle.rcu_c_slots.specs.Opens.{boxed, lent_groups}
+use Rattle.rcu_c_slots.proofs.opening.box_groups.Given as goal
+
+abbrev pub invariant-loop-part : goal.invariant-loop-part
+invariant-loop-part l = boxed l.boxes.items ++ lent_groups l.opening l.part-iterator.rest.items ≡ lent_groups l.opening l.fn.parts.items

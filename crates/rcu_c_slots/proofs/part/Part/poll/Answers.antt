@@ -1,0 +1,10 @@
+use Rattle.std.proofs.Common.{refl, subst, sym}
+use Rattle.rcu_c_slots.specs.Barriers.{PollsPart}
+use Rattle.rcu_c_slots.specs.declared.part.Part.TheVariants as part
+use Rattle.rcu_c_slots.proofs.part.Part.poll.Goals as goal
+
+pub returns-in-Control : goal.returns-in-Control
+returns-in-Control c = let d = c.poll_control.new.control in subst (λ old. PollsPart c.args.counts c.poll_control.result old (part.Control d)) (sym c.in-Control.is) (d, refl, c.poll_control.ensures)
+
+pub returns-in-Processor : goal.returns-in-Processor
+returns-in-Processor c = let q = c.poll_processor.new.processor in subst (λ old. PollsPart c.args.counts c.poll_processor.result old (part.Processor q)) (sym c.in-Processor.is) (q, refl, c.poll_processor.ensures)

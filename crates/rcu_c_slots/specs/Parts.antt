@@ -1,0 +1,84 @@
+-- Parts of any kind, and what a call on one does.
+use Rattle.std.specs.Prelude.{◌≡◌, Bool, true, false, Result}
+use Rattle.std.specs.declared.result.Result.TheVariants.{Err, Ok}
+use Rattle.rcu_c_slots.specs.declared.fault.Fault.{Fault}
+use Rattle.rcu_c_slots.specs.declared.fault.Fault.TheVariants.{Empty, NotRunning, Other, Running}
+use Rattle.rcu_c_slots.specs.declared.part.Part.{Part}
+use Rattle.rcu_c_slots.specs.declared.part.PartKind.{PartKind}
+use Rattle.rcu_c_slots.specs.declared.part.PartKind.TheVariants as kind
+use Rattle.rcu_c_slots.specs.declared.part.Part.TheVariants.{Processor, RunningProcessor, Hand, RunningHand, Group, Driver, Control, Closing, Closed, Nothing}
+
+-- what a call answers that isn't one of this kind of part
+abbrev pub wrong_kind : Part → Fault
+wrong_kind (Processor p) = Other
+wrong_kind (RunningProcessor b) = Other
+wrong_kind (Hand h) = Other
+wrong_kind (RunningHand b) = Other
+wrong_kind (Group g) = Other
+wrong_kind (Driver d) = Other
+wrong_kind (Control c) = Other
+wrong_kind (Closing c) = Other
+wrong_kind (Closed c) = Other
+wrong_kind Nothing = Empty
+
+-- what a call answers that wants a part of which no callback runs, or one of which one runs
+abbrev pub not_resting : Part → Fault
+not_resting (Processor p) = Other
+not_resting (RunningProcessor b) = Running
+not_resting (Hand h) = Other
+not_resting (RunningHand b) = Running
+not_resting (Group g) = Other
+not_resting (Driver d) = Other
+not_resting (Control c) = Other
+not_resting (Closing c) = Other
+not_resting (Closed c) = Other
+not_resting Nothing = Empty
+
+abbrev pub not_running : Part → Fault
+not_running (Processor p) = NotRunning
+not_running (RunningProcessor b) = Other
+not_running (Hand h) = NotRunning
+not_running (RunningHand b) = Other
+not_running (Group g) = Other
+not_running (Driver d) = Other
+not_running (Control c) = Other
+not_running (Closing c) = Other
+not_running (Closed c) = Other
+not_running Nothing = Empty
+
+abbrev pub kind_of : Part → PartKind
+kind_of (Processor p) = kind.Processor
+kind_of (RunningProcessor b) = kind.Running
+kind_of (Hand h) = kind.Hand
+kind_of (RunningHand b) = kind.Running
+kind_of (Group g) = kind.Group
+kind_of (Driver d) = kind.Driver
+kind_of (Control c) = kind.Control
+kind_of (Closing c) = kind.Closing
+kind_of (Closed c) = kind.Other
+kind_of Nothing = kind.Other
+
+-- whether it is what is left of a runtime
+abbrev pub is_closed : Part → Bool
+is_closed (Processor p) = false
+is_closed (RunningProcessor b) = false
+is_closed (Hand h) = false
+is_closed (RunningHand b) = false
+is_closed (Group g) = false
+is_closed (Driver d) = false
+is_closed (Control c) = false
+is_closed (Closing c) = false
+is_closed (Closed c) = true
+is_closed Nothing = false
+
+-- A call was made on a part of this kind, which stays of that kind, and it gave this answer.
+pub record Gives {A X : Type 0} (kind : X → Part) (Does : A → X → X → Type 0) (result : Result A Fault) (before : X) (new : Part) : Type 0 where
+  pub answer : A
+  pub after : X
+  pub result_is : result ≡ Ok answer
+  pub new_is : new ≡ kind after
+  pub does : Does answer before after
+
+-- No call was made, for this reason, and the part stays as it was.
+abbrev pub IsRefused : {A : Type 0} → Fault → Result A Fault → Part → Part → Type 0
+IsRefused fault result old new = (result ≡ Err fault) × (new ≡ old)

@@ -1,0 +1,27 @@
+//! Parts of a runtime that a program in another language keeps: each in a slot of its own, as a box whose pointer the
+//! program stores (docs/c.md). The exports over this crate stand in `rcu_c`.
+#![tactic(auto)]
+
+mod barriers;
+mod calls;
+mod checks;
+mod closing;
+mod fault;
+mod job;
+mod laws;
+mod opening;
+mod others;
+mod part;
+mod processors;
+mod runs;
+mod shown;
+mod slot;
+mod taken;
+
+pub use closing::close_from;
+pub use fault::{Fault, fault_of_refusal, fault_of_stop, fault_of_switch};
+pub use job::ForeignJob;
+pub use laws::opened_slots;
+pub use opening::open_into;
+pub use part::{BegunHand, BegunProcessor, Lent, Opening, Part, PartKind};
+pub use slot::{LoosePart, PartSlots, Slot, may_change_threads};

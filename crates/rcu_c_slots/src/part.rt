@@ -1,0 +1,135 @@
+//! What a slot's box has: a part, and where it belongs.
+
+ghost use Rattle.std.specs.Prelude.{◌≡◌};
+ghost use Rattle.rcu_c_slots.specs.declared.part.Part.TheVariants as kind;
+ghost use Rattle.rcu_c_slots.specs.Parts.{kind_of, not_resting, not_running, wrong_kind};
+
+use crate::fault::Fault;
+use crate::job::ForeignJob;
+use rcu_jobs::Closed;
+use rcu_parts::{Closing, Control, Driver, Group, Hand, Processor, RunningHand, RunningProcessor};
+use std::mem::{forget, replace};
+
+/// An open, by its number, and how many parts of each kind it made.
+#[derive(Clone, Copy, Debug, PartialEq, Eq)]
+pub struct Opening {
+    pub number: u64,
+    pub processors: u64,
+    pub groups: u64,
+    pub hands: u64,
+}
+
+/// A processor of which a callback runs, with the job that was handed out.
+#[derive(Drop)]
+pub struct BegunProcessor {
+    pub processor: RunningProcessor<ForeignJob>,
+    pub job: ForeignJob,
+}
+
+/// A hand of which a callback runs, with the job that was handed out.
+#[derive(Drop)]
+pub struct BegunHand {
+    pub hand: RunningHand<ForeignJob>,
+    pub job: ForeignJob,
+}
+
+/// A part of any kind, for jobs of another language; or what is left of all of them.
+#[derive(Drop)]
+pub enum Part {
+    Processor(Processor<ForeignJob>),
+    /// A processor of which a callback runs.
+    RunningProcessor(BegunProcessor),
+    Hand(Hand<ForeignJob>),
+    /// A hand of which a callback runs.
+    RunningHand(BegunHand),
+    Group(Group<ForeignJob>),
+    Driver(Driver),
+    Control(Control),
+    /// All parts, which could not be closed for want of memory.
+    Closing(Closing<ForeignJob>),
+    /// What is left of all parts.
+    Closed(Closed<ForeignJob>),
+    /// No part, in the midst of a call.
+    Nothing,
+}
+
+/// The kinds of parts.
+#[derive(Clone, Copy, Debug, PartialEq, Eq)]
+pub enum PartKind {
+    Processor,
+    Hand,
+    /// A processor or a hand of which a callback runs.
+    Running,
+    Group,
+    Driver,
+    Control,
+    Closing,
+    /// What is left of a runtime, or nothing.
+    Other,
+}
+
+impl Part {
+    /// Puts a part where none is.
+    pub fn fill(&mut self, part: Part)
+        requires none { self.old ≡ kind.Nothing }
+        ensures { self.new ≡ part }
+    {
+        forget(replace(self, part));
+    }
+
+    /// Its kind.
+    pub fn kind(&self) -> PartKind
+        ensures { result ≡ kind_of self.now }
+    {
+        match self {
+            Part::Processor(_) => PartKind::Processor,
+            Part::Hand(_) => PartKind::Hand,
+            Part::RunningProcessor(_) | Part::RunningHand(_) => PartKind::Running,
+            Part::Group(_) => PartKind::Group,
+            Part::Driver(_) => PartKind::Driver,
+            Part::Control(_) => PartKind::Control,
+            Part::Closing(_) => PartKind::Closing,
+            _ => PartKind::Other,
+        }
+    }
+
+    /// What a call answers that isn't one of this kind of part.
+    pub fn wrong_kind(&self) -> Fault
+        ensures { result ≡ wrong_kind self.now }
+    {
+        match self {
+            Part::Nothing => Fault::Empty,
+            _ => Fault::Other,
+        }
+    }
+
+    /// What a call answers that wants a part of which no callback runs.
+    pub fn not_resting(&self) -> Fault
+        ensures { result ≡ not_resting self.now }
+    {
+        match self {
+            Part::Nothing => Fault::Empty,
+            Part::RunningProcessor(_) | Part::RunningHand(_) => Fault::Running,
+            _ => Fault::Other,
+        }
+    }
+
+    /// What a call answers that wants a part of which a callback runs.
+    pub fn not_running(&self) -> Fault
+        ensures { result ≡ not_running self.now }
+    {
+        match self {
+            Part::Nothing => Fault::Empty,
+            Part::Processor(_) | Part::Hand(_) => Fault::NotRunning,
+            _ => Fault::Other,
+        }
+    }
+}
+
+/// A part with its open, and its place among the open's parts of its kind.
+#[derive(Drop)]
+pub struct Lent {
+    pub opening: Opening,
+    pub at: u64,
+    pub part: Part,
+}

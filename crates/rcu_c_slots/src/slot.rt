@@ -1,0 +1,146 @@
+//! Where the program keeps a part.
+
+ghost use Rattle.std.specs.Prelude.{◌≡◌, ◌≢◌, true, false, None, Some, IfSome, IfNone, is_some};
+ghost use Rattle.std.specs.Coded.{coded_option};
+ghost use Rattle.std.specs.declared.option.Option.{Option};
+ghost use Rattle.rcu_c_slots.specs.Holding.{holds};
+ghost use Rattle.rcu_c_slots.specs.contracts.part.Lent.{the_row as lent_row};
+ghost use Rattle.rcu_c_slots.specs.declared.part.Lent.{Lent as TheLent};
+
+use crate::part::Lent;
+use rcu_c_box::Loose;
+use std::alloc::Global;
+use std::marker::{Model, Send};
+use std::mem::replace;
+use std::ptr::null_mut;
+
+/// A boxed part by its pointer, or nothing.
+#[repr(C)]
+#[derive(Drop)]
+pub struct LoosePart {
+    at: *mut (),
+    alloc: Global,
+    pub ghost value: { Option TheLent } by { coded_option lent_row.coded },
+}
+
+impl Model for LoosePart {
+    ghost also_owns = { λ h. holds h.alloc h.at h.value };
+}
+
+impl LoosePart {
+    /// The pointer of a boxed part.
+    pub fn of(loose: Loose<Lent, Global>) -> LoosePart
+        ensures { result.value ≡ Some loose.value }
+    {
+        let Loose { at, alloc } = loose;
+        LoosePart {
+            at: at as *mut (),
+            alloc,
+        }
+    }
+
+    /// Nothing.
+    pub fn empty(alloc: Global) -> LoosePart
+        ensures { result.value ≡ None }
+    {
+        LoosePart {
+            at: null_mut(),
+            alloc,
+        }
+    }
+
+    /// The boxed part again.
+    pub fn into_loose(self) -> Loose<Lent, Global>
+        requires { self.value ≢ None }
+        ensures { self.value ≡ Some result.value }
+    {
+        let LoosePart { at, alloc } = self;
+        Loose {
+            at: at as *mut Lent,
+            alloc,
+        }
+    }
+}
+
+// What it points to is a boxed part, which may go to another thread.
+unsafe impl Send for LoosePart {}
+
+fn is_send<T: Send>(_value: &T) {}
+
+/// A boxed part may go to another thread, and so may the slots that keep parts.
+pub fn may_change_threads(lent: &Box<Lent, Global>, slots: &PartSlots) {
+    is_send(lent);
+    is_send(slots);
+}
+
+/// A place for a part, which the program keeps. All zero it is empty.
+#[repr(C)]
+#[derive(Drop)]
+pub struct Slot {
+    full: bool,
+    pub held: LoosePart,
+    /// How many read sections are open, where the program counts them.
+    pub reading: u64,
+    /// So that two slots share no line of a cache.
+    filling: [u64; 5],
+    ghost fits: { full ≡ is_some held.value },
+}
+
+impl Slot {
+    /// Takes the part out.
+    pub fn take(&mut self, alloc: Global) -> Option<Box<Lent, Global>>
+        ensures taken { IfSome result (λ boxed. self.old.held.value ≡ Some boxed.value) }
+        ensures none { IfNone result (self.old.held.value ≡ None) }
+        ensures empty { self.new.held.value ≡ None }
+        ensures reading { self.new.reading ≡ self.old.reading }
+    {
+        let reading = self.reading;
+        let whole = replace(
+            self,
+            Slot {
+                full: false,
+                held: LoosePart::empty(alloc),
+                reading,
+                filling: [0; 5],
+            },
+        );
+        if !whole.full {
+            return None;
+        }
+        let Slot { held, .. } = whole;
+        Some(held.into_loose().into_box())
+    }
+
+    /// Puts a part in.
+    pub fn put(&mut self, lent: Box<Lent, Global>)
+        ensures full { self.new.held.value ≡ Some lent.value }
+        ensures reading { self.new.reading ≡ self.old.reading }
+    {
+        let reading = self.reading;
+        *self = Slot {
+            full: true,
+            held: LoosePart::of(Loose::of(lent)),
+            reading,
+            filling: [0; 5],
+        };
+    }
+
+    /// Whether there is a part.
+    pub fn is_full(&self) -> bool
+        ensures full { result ≡ true → self.now.held.value ≢ None }
+        ensures empty { result ≡ false → self.now.held.value ≡ None }
+    {
+        self.full
+    }
+}
+
+/// The slots of a runtime: `struct rcuo_parts`.
+#[repr(C)]
+#[derive(Drop)]
+pub struct PartSlots {
+    pub control: Slot,
+    pub driver: Slot,
+    pub processors: [Slot; 32],
+    pub groups: [Slot; 32],
+    pub hands: [Slot; 32],
+}

@@ -1,9 +1,0 @@
-//! A script over the core: each command is a turn call of one `World`, and prints the line of what that call answers. The
-//! program `rcuo` runs its scripts over the running parts, and `rcuo_core` over the core by this crate; both must write the
-//! same (docs/specification/program.md, "replay").
-#![tactic(auto)]
-
-mod commands;
-mod replaying;
-
-pub use replaying::{answer, replay};

@@ -1,7 +1,0 @@
-use Rattle.rcu_crews.proofs.calling.fn.start_caller.call.Goals as goal
-
-pub call_all-requires-send-J : goal.call_all-requires-send-J
-call_all-requires-send-J g c κs within = assumption
-
-pub call_all-requires-after_bounds : goal.call_all-requires-after_bounds
-call_all-requires-after_bounds g c κs within = assumption

@@ -1,7 +1,0 @@
-use Rattle.rcu_crews.proofs.starting.fn.start_hand.run.Goals as goal
-
-pub run_hand-requires-send-J : goal.run_hand-requires-send-J
-run_hand-requires-send-J g c κs within = record { owned = c.requires.0.owned; leaving = c.requires.0.leaving }
-
-pub run_hand-requires-after_bounds : goal.run_hand-requires-after_bounds
-run_hand-requires-after_bounds g c κs within = assumption

@@ -1,7 +1,0 @@
-use Rattle.rcu_crews.proofs.starting.run_processor.Goals as goal
-
-pub run-requires-send-J : goal.run-requires-send-J
-run-requires-send-J g c κs within = assumption
-
-pub run-requires-after_bounds : goal.run-requires-after_bounds
-run-requires-after_bounds g c κs within = assumption

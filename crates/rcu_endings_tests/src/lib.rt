@@ -1,8 +1,0 @@
-//! Tests of `rcu_endings` and `rcu_records` through their public calls, in a crate of their own, so that the functions of those are
-//! proved once, and not with their tests once more.
-#![tactic(auto)]
-
-#[cfg(test)]
-mod tests;
-#[cfg(test)]
-mod tests_records;

@@ -1,9 +1,0 @@
-use Rattle.std.proofs.Common.{◌≡◌, ◌≤◌, length, take}
-use Rattle.rcu_history.specs.Kinds.{keys}
-use Rattle.rcu_history.proofs.counting.many_of.Given as goal
-
-abbrev pub invariant-loop-mark : goal.invariant-loop-mark
-invariant-loop-mark l = record {
-  many : l.many ≡ length (keys l.kind l.p (take l.mark-index l.history));
-  few : l.many ≤ l.mark-index;
-}

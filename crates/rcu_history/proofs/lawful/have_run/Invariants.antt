@@ -1,5 +1,0 @@
-use Rattle.rcu_history.specs.Fits.{HaveRun}
-use Rattle.rcu_history.proofs.lawful.have_run.Given as goal
-
-abbrev pub invariant-loop-place : goal.invariant-loop-place
-invariant-loop-place l = HaveRun l.history l.place l.ran

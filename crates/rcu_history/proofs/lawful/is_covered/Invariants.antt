@@ -1,6 +1,0 @@
-use Rattle.std.proofs.Common.{ℕ, ◌<◌}
-use Rattle.rcu_history.specs.Fits.{HasReported}
-use Rattle.rcu_history.proofs.lawful.is_covered.Given as goal
-
-abbrev pub invariant-loop-q : goal.invariant-loop-q
-invariant-loop-q l = (q : ℕ) → q < l.q → HasReported l.history l.after q

@@ -1,5 +1,0 @@
-use Rattle.rcu_law.proofs.Schedules.{every_offloaded}
-use Rattle.rcu_law.proofs.offloaded_runs_nothing.Goals as goal
-
-pub returns : goal.returns
-returns c = every_offloaded

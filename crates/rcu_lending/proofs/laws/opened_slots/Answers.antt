@@ -1,5 +1,0 @@
-use Rattle.rcu_lending.proofs.Opened.{opened_of_the_open}
-use Rattle.rcu_lending.proofs.laws.opened_slots.Goals as goal
-
-pub returns : goal.returns
-returns c = λ shape number slots o. opened_of_the_open shape number slots o

@@ -1,6 +1,0 @@
-use Rattle.std.proofs.Common.{◌≡◌, [], take}
-use Rattle.rcu_lending.specs.Gathers.{held_in, lents}
-use Rattle.rcu_lending.proofs.opening.are_empty.Given as goal
-
-abbrev pub invariant-loop-place : goal.invariant-loop-place
-invariant-loop-place l = lents (take l.place (held_in l.fn.slots)) ≡ []

@@ -1,6 +1,0 @@
-use Rattle.std.proofs.Common.{◌≡◌, ◌++◌}
-use Rattle.rcu_lending.specs.Opens.{boxed, lent_processors}
-use Rattle.rcu_lending.proofs.opening.box_processors.Given as goal
-
-abbrev pub invariant-loop-part : goal.invariant-loop-part
-invariant-loop-part l = boxed l.boxes.items ++ lent_processors l.opening l.part-iterator.rest.items ≡ lent_processors l.opening l.fn.parts.items

@@ -1,5 +1,0 @@
-use Rattle.rcu_board.proofs.Stepping.{same_again}
-use Rattle.rcu_memory.proofs.parts.open_barrier.Goals as goal
-
-pub returns : goal.returns
-returns c = same_again _ _ _ _ _ _ c.barrier.ensures.same c.poll.ensures.same

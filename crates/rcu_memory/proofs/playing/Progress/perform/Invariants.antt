@@ -1,4 +1,0 @@
-use Rattle.rcu_memory.proofs.playing.Progress.perform.Given as goal
-
-abbrev pub invariant-loop-times : goal.invariant-loop-times
-invariant-loop-times g l = g.M.Machine.holds l.machine

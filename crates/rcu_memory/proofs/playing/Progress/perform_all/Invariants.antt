@@ -1,4 +1,0 @@
-use Rattle.rcu_memory.proofs.playing.Progress.perform_all.Given as goal
-
-abbrev pub invariant-loop-steps : goal.invariant-loop-steps
-invariant-loop-steps g l = g.M.Machine.holds l.machine

@@ -1,4 +1,0 @@
-use Rattle.rcu_memory.proofs.playing.Progress.repeat.Given as goal
-
-abbrev pub invariant-loop : goal.invariant-loop
-invariant-loop g l = g.M.Machine.holds l.machine

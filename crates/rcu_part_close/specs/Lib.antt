@@ -1,0 +1,5 @@
+pub mod Moving
+pub mod Ends
+pub mod Gathered
+pub mod Parts
+pub mod Closing

@@ -1,0 +1,41 @@
+//! Laws over plain data, which have no code.
+
+ghost use Rattle.std.specs.Prelude.{◌≡◌, ◌<◌, ◌≤◌, ◌∷◌, ◌++◌, ℕ, List, All, false, length};
+ghost use Rattle.rcu_board.specs.Laws.{Reported};
+ghost use Rattle.rcu_board.specs.Seats.{reports_of};
+ghost use Rattle.rcu_board.specs.Views.{claimed, seen_at, tally, total};
+ghost use Rattle.rcu_board.specs.Words.{is_asks};
+ghost use Rattle.rcu_board.specs.declared.view.View.{View};
+ghost use Rattle.rcu_part_close.specs.Closing.{Closes, CpuEnd, Ends, HaveEnded};
+ghost use Rattle.rcu_part_close.specs.Gathered.{gather};
+ghost use Rattle.rcu_part_close.specs.Parts.{IsSoundPart};
+
+use rcu_jobs::Job;
+
+/// What a view knows that took in others, one after another: the weights, the claims and the tallies add up, and its sight
+/// of a word that only grows is at least that of each.
+pub fn gathering()
+    ensures weights { (v : View) (ws : List View)
+        → (gather v ws).weight ≡ total (λ w. w.weight) (v ∷ ws) }
+    ensures claims { (p j : ℕ) (v : View) (ws : List View)
+        → claimed p j (gather v ws) ≡ total (claimed p j) (v ∷ ws) }
+    ensures tallies { (i : ℕ) (v : View) (ws : List View)
+        → tally (gather v ws) i ≡ total (λ w. tally w i) (v ∷ ws) }
+    ensures sights { (n i : ℕ) (v : View) (ws : List View) → i < n → is_asks i ≡ false
+        → All (λ w. length w.seen ≡ n) (v ∷ ws)
+        → All (λ w. seen_at w i ≤ seen_at (gather v ws) i) (v ∷ ws) }
+{}
+
+/// Where the parts of one open have ended, each processor and its hand by [`rcu_part_close::end_offloadable`] or
+/// [`rcu_part_close::end_local`], the last loads say of each what `close` promises, also of its jobs where these were sound, and
+/// the last board word how many counted reports it made (see [`crate::reports_by`]).
+pub fn closing<J: Job>()
+    ensures ends { (n x : ℕ) (v : View) (others : List View) (es : List (CpuEnd J J.Receipt))
+        → HaveEnded J.key_of J.gives n x v others es → Ends v others es }
+    ensures closes { (n x : ℕ) (v : View) (others : List View) (es : List (CpuEnd J J.Receipt))
+        → HaveEnded J.key_of J.gives n x v others es
+        → All (λ e. IsSoundPart J.key_of J.gives e.part) es → Closes J.key_of J.gives v others es }
+    ensures reports { (n x : ℕ) (v : View) (others : List View) (es : List (CpuEnd J J.Receipt))
+        → HaveEnded J.key_of J.gives n x v others es
+        → All (λ e. Reported x e.part.cpu (reports_of e.part.view)) es }
+{}

@@ -1,0 +1,15 @@
+//! The running parts that hold no callbacks: the driver, which starts and ends all grace periods, and control, which asks
+//! for switches, shuts, opens barriers and halts (docs/specification/surface.md, "rcu_parts"). Each call is the list of
+//! steps that docs/specification/rules.md, "The calls, step by step" has for it, and nothing else.
+#![tactic(auto)]
+
+mod barrier;
+mod control;
+mod driver;
+mod loops;
+mod pause;
+
+pub use barrier::{Barrier, ReadsTurns, open_barrier};
+pub use control::Control;
+pub use driver::Driver;
+pub use pause::Pauses;

@@ -1,0 +1,120 @@
+//! The turn of a hand.
+
+ghost use Rattle.std.specs.Prelude.{◌≡◌, ◌≢◌, ◌+◌, ◌≤◌, ℕ, [], IfNone, IfSome};
+ghost use Rattle.rcu_board.specs.Views.{sight, tally};
+ghost use Rattle.rcu_board.specs.Words.{board_word};
+ghost use Rattle.rcu_jobs.specs.declared.Stop.TheVariants.{Limit, Again};
+ghost use Rattle.rcu_numbers.specs.declared.sequence.TheConstants.{GREATEST_NUMBER};
+ghost use Rattle.rcu_part_hand.specs.Hands.{SameHand, KeepsSoundHand, Looks, Loads, Ran, StopsAt, TurnsBy, hand_held, hand_view};
+ghost use Rattle.rcu_part_steps.specs.Stops.{StopsInTime};
+
+use crate::hand::Hand;
+use rcu_jobs::{HandTurn, Job, Stop};
+use rcu_numbers::snap;
+use rcu_part_lists::Fetched;
+use rcu_part_steps::{look_at_number, run_claimed, take};
+
+impl<J: Job> Hand<J> {
+    // Runs the first of what it holds, or says why not. The number `seen` is that of the turn's look.
+    fn run_one(&mut self, seen: u64) -> Option<Stop>
+        requires seen { sight (hand_view self.old.state) ≡ seen }
+        requires small { seen ≤ GREATEST_NUMBER }
+        ensures same { SameHand self.old.state self.new.state }
+        ensures ran { IfNone result (Ran 1 1 seen self.old.state self.new.state) }
+        ensures counts { IfSome result (λ stop. (stop ≢ Limit) × (stop ≢ Again)) }
+        ensures not { IfSome result (λ stop.
+            (tried : ℕ) × Ran 0 tried seen self.old.state self.new.state
+            × ((n : ℕ) → StopsAt stop n (n + tried) seen self.new.state)) }
+        ensures sound { KeepsSoundHand J.key_of J.gives self.old.state self.new.state }
+    {
+        let state = &mut self.state;
+        let Some(first) = state.held.first() else {
+            return Some(Stop::Empty);
+        };
+        let number = first.number;
+        if snap(first.stamp) > seen {
+            return Some(Stop::Turn);
+        }
+        let Ok(()) = state.ran.reserve(1) else {
+            return Some(Stop::Memory);
+        };
+        if !take(&state.board, &mut state.seat, state.cpu, number) {
+            return Some(Stop::Turn);
+        }
+        let Some(callback) = state.held.take() else {
+            unreachable!()
+        };
+        let record = run_claimed(&state.board, &mut state.seat, callback, seen);
+        state.ran.push_reserved(record);
+        None
+    }
+
+    // Runs the first ones of what it holds, at most `blimit`.
+    fn run_held(&mut self, seen: u64) -> HandTurn
+        requires seen { sight (hand_view self.old.state) ≡ seen }
+        requires small { seen ≤ GREATEST_NUMBER }
+        ensures same { SameHand self.old.state self.new.state }
+        ensures ran { (tried : ℕ) × Ran result.ran tried seen self.old.state self.new.state
+            × StopsAt result.stop result.ran tried seen self.new.state }
+        ensures first { StopsInTime result.stop result.ran self.old.state.blimit }
+        ensures goes_on { result.stop ≢ Again }
+        ensures few { result.ran ≤ self.old.state.blimit }
+        ensures sound { KeepsSoundHand J.key_of J.gives self.old.state self.new.state }
+    {
+        let blimit = self.state.blimit;
+        for ran in 0..blimit {
+            if let Some(stop) = self.run_one(seen) {
+                return HandTurn { ran, stop };
+            }
+        }
+        HandTurn {
+            ran: blimit,
+            stop: Stop::Limit,
+        }
+    }
+
+    // The turn's look.
+    pub(crate) fn look(&mut self) -> u64
+        ensures same { SameHand self.old.state self.new.state }
+        ensures looks { Looks result self.old.state self.new.state }
+        ensures small { result ≤ GREATEST_NUMBER }
+        ensures sound { KeepsSoundHand J.key_of J.gives self.old.state self.new.state }
+    {
+        let state = &mut self.state;
+        look_at_number(&state.board, &mut state.seat).seq()
+    }
+
+    // Draws a batch where none is held. Answers why nothing can run, if so.
+    pub(crate) fn load(&mut self) -> Option<Stop>
+        ensures same { SameHand self.old.state self.new.state }
+        ensures loads { Loads self.old.state self.new.state }
+        ensures none { IfSome result (λ stop. (n seen : ℕ) → StopsAt stop n n seen self.new.state) }
+        ensures sound { KeepsSoundHand J.key_of J.gives self.old.state self.new.state }
+    {
+        match self.state.held.fetch() {
+            Fetched::Got => None,
+            Fetched::Empty => Some(Stop::Empty),
+            Fetched::Again => Some(Stop::Again),
+        }
+    }
+
+    /// A turn: one look; where no batch is held, one is drawn; then the first callbacks are run, at most `blimit`, each where
+    /// its wait is over at the number of the look, room for its record was found, and its claim was won. It stops at the
+    /// first that can't run.
+    pub fn turn(&mut self) -> HandTurn
+        ensures same { SameHand self.old.state self.new.state }
+        ensures turn { TurnsBy result self.old.state self.new.state }
+        ensures few { result.ran ≤ self.old.state.blimit }
+        ensures first { StopsInTime result.stop result.ran self.old.state.blimit }
+        ensures again { result.stop ≡ Again → (hand_held self.old.state ≡ []) × (result.ran ≡ 0) }
+        ensures fresh { tally (hand_view self.new.state) board_word
+            ≡ tally (hand_view self.old.state) board_word + 1 }
+        ensures sound { KeepsSoundHand J.key_of J.gives self.old.state self.new.state }
+    {
+        let seen = self.look();
+        if let Some(stop) = self.load() {
+            return HandTurn { ran: 0, stop };
+        }
+        self.run_held(seen)
+    }
+}

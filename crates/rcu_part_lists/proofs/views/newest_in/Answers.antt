@@ -1,0 +1,12 @@
+use Rattle.std.proofs.Common.{◌≡◌, ◌∙◌, max, ap, sym, rules, None, Some}
+use Rattle.rcu_lists.specs.Labels.{callbacks_of}
+use Rattle.rcu_lists.specs.Segments.{labelled}
+use Rattle.rcu_lists.specs.Stamps.{greater, newest_of}
+use Rattle.rcu_part_lists.proofs.views.newest_in.Goals as goal
+
+pub returns-in-None : goal.returns-in-None
+returns-in-None g c = let e : newest_of (callbacks_of (labelled c.args.list.now)) ≡ None = search rules in ap (greater c.args.seen) (sym e)
+
+pub returns-in-Some : goal.returns-in-Some
+returns-in-Some g c = let e : newest_of (callbacks_of (labelled c.args.list.now)) ≡ Some c.in-Some.stamp = search rules in
+    let m : c.max.result ≡ max c.args.seen c.in-Some.stamp = search rules in m ∙ ap (greater c.args.seen) (sym e)

@@ -1,0 +1,4 @@
+pub mod Moves
+pub mod Passing
+pub mod Ordering
+pub mod Turns

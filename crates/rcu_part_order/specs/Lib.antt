@@ -1,0 +1,5 @@
+pub mod Places
+pub mod Order
+pub mod Passing
+pub mod Records
+pub mod Callbacks

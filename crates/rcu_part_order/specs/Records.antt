@@ -1,0 +1,29 @@
+-- Records by their numbers: docs/specification/definitions.md, "Places".
+use Rattle.std.specs.Prelude.{ℕ, ◌≤◌, ◌==◌, ◌⊎◌, Bool, Contains, false, List, [], ◌∷◌, map, All}
+use Rattle.rcu_jobs.specs.declared.callback.Record.{Record}
+use Rattle.rcu_numbers.specs.Numbers.{snap_of}
+use Rattle.rcu_part_order.specs.Places.{Numbered}
+
+-- a record without what its job gave
+abbrev pub numbered_record : {R : Type 0} → Record R → Numbered
+numbered_record r = record { number = r.number; key = r.key; stamp = r.stamp }
+
+abbrev pub numbered_records : {R : Type 0} → List (Record R) → List Numbered
+numbered_records rs = map numbered_record rs
+
+-- the wait of each was over
+abbrev pub AreRipe : {R : Type 0} → List (Record R) → Type 0
+AreRipe rs = All (λ r. snap_of r.stamp ≤ r.ready) rs
+
+-- none was claimed at a board sight above x
+abbrev pub AreSeenBy : {R : Type 0} → ℕ → List (Record R) → Type 0
+AreSeenBy x rs = All (λ r. r.ready ≤ x) rs
+
+-- each of these is a record of one of the two lists, whole
+abbrev pub AreOfBoth : {R : Type 0} → List (Record R) → List (Record R) → List (Record R) → Type 0
+AreOfBoth own hands rs = All (λ r. Contains own r ⊎ Contains hands r) rs
+
+-- the first record has this number
+abbrev pub is_next : {R : Type 0} → ℕ → List (Record R) → Bool
+is_next number [] = false
+is_next number (r ∷ rs) = r.number == number

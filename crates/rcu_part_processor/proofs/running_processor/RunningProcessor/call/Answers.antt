@@ -1,0 +1,67 @@
+use Rattle.std.proofs.Common.{[], ◌∷◌, ◌++◌, ◌∙◌, refl}
+use Rattle.std.specs.Mem.{FitsInMemory}
+use denote.Param.{param}
+use Rattle.rcu_board.specs.Seats.{view}
+use Rattle.rcu_part_lists.specs.ProcessorLists.{holding}
+use Rattle.rcu_part_lists.proofs.Sizes.{in_struct}
+use Rattle.rcu_part_order.specs.Records.{numbered_records}
+use Rattle.rcu_part_steps.specs.Begins.{number_that_runs}
+use Rattle.rcu_part_processor.specs.contracts.running_processor.RunningProcessor as row
+use Rattle.rcu_part_processor.specs.Accepting.{pieces}
+use Rattle.rcu_part_processor.proofs.CallPieces.{accepts_none_with, accepts_with, refuses_with}
+use Rattle.rcu_part_processor.proofs.Keeping.{few_placed, runs_by_places}
+use Rattle.rcu_part_processor.proofs.Standing.{stands}
+use Rattle.std.specs.Arc.{arc_value}
+use Rattle.rcu_part_processor.proofs.running_processor.RunningProcessor.call.Goals as goal
+
+pub invariant_of-state : goal.invariant_of-state
+invariant_of-state g c = let s = c.args.self.now.state in let e = c.accept_job.ensures in record {
+  here = e.same.table ∙ s.here;
+  role = e.same.role ∙ s.role;
+  there = s.there;
+  bit = s.bit;
+  local = e.local s.offloadable s.local;
+  small = (e.small, s.small.1);
+  below = s.below;
+  room = s.room;
+  lawful = runs_by_places s.cpu s.accepted _ s.claimed (view s.seat) (view c.accept_job.new.seat) s.ran.items (holding s.lists) (holding c.accept_job.new.lists) e.claims.0 e.claims.1
+      (e.places (numbered_records s.ran.items ++ number_that_runs s.claimed ∷ []) s.lawful.has) s.lawful;
+}
+
+pub accept_job-requires-after_bounds : goal.accept_job-requires-after_bounds
+accept_job-requires-after_bounds g c κs within =
+    let h : FitsInMemory (row.the_row (param 0 g.row.J) (param 1 g.row.J-Receipt)) = assumption in
+    let s = c.args.self.now.state in (
+      in_struct _ _ _ (in_struct _ _ _ h),
+      (
+        stands (arc_value s.board) c.deref.result.now s.seat c.deref.ensures s.here,
+        (s.role, (s.small, (s.lawful.has.counted, (s.lawful.has.stamped, few_placed s.accepted (view s.seat) (numbered_records s.ran.items ++ number_that_runs s.claimed ∷ []) (holding s.lists) s.lawful.has)))),
+      ),
+    )
+
+pub returns-clause-same : goal.returns-clause-same
+returns-clause-same g c = let e = c.accept_job.ensures in record { part = record { board = refl; seat = e.same }; lane = e.lane; cpu = refl; offloadable = refl; limit = refl; blimit = refl }
+
+pub returns-clause-ok : goal.returns-clause-ok
+returns-clause-ok g c = let s = c.args.self.now.state in
+    accepts_with s.ran.items c.args.moment c.args.kind (g.J.Job.key_of c.args.job) c.args.job
+    (pieces s.cpu s.limit s.accepted s.seat s.lists) (pieces s.cpu s.limit c.accept_job.new.accepted c.accept_job.new.seat c.accept_job.new.lists) c.accept_job.result c.accept_job.ensures.ok
+
+pub returns-clause-err : goal.returns-clause-err
+returns-clause-err g c = let s = c.args.self.now.state in
+    accepts_none_with s.ran.items
+    (pieces s.cpu s.limit s.accepted s.seat s.lists) (pieces s.cpu s.limit c.accept_job.new.accepted c.accept_job.new.seat c.accept_job.new.lists) c.accept_job.result c.accept_job.ensures.err
+
+pub returns-clause-refused : goal.returns-clause-refused
+returns-clause-refused g c = let s = c.args.self.now.state in
+    refuses_with s.ran.items c.args.job
+    (pieces s.cpu s.limit s.accepted s.seat s.lists) (pieces s.cpu s.limit c.accept_job.new.accepted c.accept_job.new.seat c.accept_job.new.lists) c.accept_job.result c.accept_job.ensures.refused
+
+pub returns-clause-closed : goal.returns-clause-closed
+returns-clause-closed g c = c.accept_job.ensures.closed
+
+pub returns-clause-full : goal.returns-clause-full
+returns-clause-full g c = c.accept_job.ensures.full
+
+pub returns-clause-sound : goal.returns-clause-sound
+returns-clause-sound g c = λ sound. record { keyed = c.accept_job.ensures.keyed sound.keyed; given = sound.given }

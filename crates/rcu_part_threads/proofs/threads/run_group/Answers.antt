@@ -1,0 +1,7 @@
+use Rattle.rcu_part_threads.proofs.threads.run_group.Goals as goal
+
+pub run-requires-send-J : goal.run-requires-send-J
+run-requires-send-J g c κs within = assumption
+
+pub run-requires-after_bounds : goal.run-requires-after_bounds
+run-requires-after_bounds g c κs within = assumption

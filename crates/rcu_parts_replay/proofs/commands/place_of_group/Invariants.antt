@@ -1,6 +1,0 @@
-use Rattle.std.proofs.Common.{◌≢◌, take}
-use Rattle.std.specs.List.{All}
-use Rattle.rcu_parts_replay.proofs.commands.place_of_group.Given as goal
-
-abbrev pub invariant-loop-place : goal.invariant-loop-place
-invariant-loop-place g l = All (λ x. x.state.group ≢ l.number) (take l.place l.groups.items)

@@ -1,5 +1,0 @@
-use Rattle.std.proofs.Common.{refl}
-use Rattle.rcu_parts_replay.proofs.commands.poll.Goals as goal
-
-pub returns-in-None-clause-line : goal.returns-in-None-clause-line
-returns-in-None-clause-line c = (c.in-Some.barrier, c.in-Some.is, refl, c.in-None.ensures.polls)

@@ -1,9 +1,0 @@
-//! A script over the running parts: each command is one call of one part, and prints the line of what that call answers. The
-//! program `rcuo` runs its scripts by this crate; `rcu_core_replay` runs them over the deterministic core, and both must write
-//! the same (docs/specification/program.md, "replay").
-#![tactic(auto)]
-
-mod commands;
-mod replaying;
-
-pub use replaying::replay;

@@ -1,5 +1,0 @@
-use Rattle.rcu_phases.specs.Kept.{ProcessorsKeep}
-use Rattle.rcu_phases.proofs.acting.act_all.Given as goal
-
-abbrev pub invariant-loop-step : goal.invariant-loop-step
-invariant-loop-step g l = ProcessorsKeep g.J.Job.key_of g.J.Job.gives l.fn.callers.processors.items l.processors.items

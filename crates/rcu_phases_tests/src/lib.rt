@@ -1,8 +1,0 @@
-//! Tests of `rcu_phases` through its public calls, in a crate of their own, so that its functions are proved once, and not with
-//! its tests once more.
-#![tactic(auto)]
-
-#[cfg(test)]
-mod tests;
-#[cfg(test)]
-mod tests_cut;

@@ -1,9 +1,0 @@
--- What the jobs of a picture promise: each answers its key.
-use Rattle.std.specs.Prelude.{◌≡◌, ℕ}
-use Rattle.rcu_picture.specs.declared.playing.KeyJob.{KeyJob}
-
-abbrev pub key_in : KeyJob → ℕ
-key_in job = job.key
-
-abbrev pub IsKey : ℕ → ℕ → Type 0
-IsKey key receipt = receipt ≡ key

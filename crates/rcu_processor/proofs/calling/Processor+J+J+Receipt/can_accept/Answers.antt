@@ -1,6 +1,0 @@
-use Rattle.std.proofs.Common.{◌∙◌, ◌&&◌, not, ap}
-use Rattle.std.specs.Prelude.{nat_lt}
-use Rattle.rcu_processor.proofs.calling.Processor+J+J+Receipt.can_accept.Goals as goal
-
-pub returns : goal.returns
-returns g c = let p = c.args.self.now in c.may_accept.ensures ∙ ap (λ b. not p.shut && (nat_lt p.count c.args.limit && b)) c.is_vacant.ensures

@@ -1,5 +1,0 @@
-use Rattle.rcu_processor.proofs.Sizes.{bypass_fits}
-use Rattle.rcu_processor.proofs.moving.Processor+J+J+Receipt.can_put.Goals as goal
-
-pub is_clear-requires-after_bounds : goal.is_clear-requires-after_bounds
-is_clear-requires-after_bounds g c κs within = bypass_fits g.row.J g.row.J-Receipt assumption

@@ -1,7 +1,0 @@
-use Rattle.std.proofs.Common.{◌∙◌}
-use Rattle.rcu_lists.specs.Segments.{labelled}
-use Rattle.rcu_processor.proofs.Waits.{numbers_of_as}
-use Rattle.rcu_processor.proofs.showing.numbers_of.Goals as goal
-
-pub returns : goal.returns
-returns g c = c.numbers.ensures.numbers ∙ numbers_of_as g.J.Job.key_of (labelled c.args.list.now)

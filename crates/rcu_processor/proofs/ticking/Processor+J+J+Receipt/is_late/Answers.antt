@@ -1,5 +1,0 @@
-use Rattle.rcu_processor.proofs.Sizes.{bypass_fits}
-use Rattle.rcu_processor.proofs.ticking.Processor+J+J+Receipt.is_late.Goals as goal
-
-pub is_late-requires-after_bounds : goal.is_late-requires-after_bounds
-is_late-requires-after_bounds g c κs within = bypass_fits g.row.J g.row.J-Receipt assumption

@@ -1,4 +1,0 @@
-pub mod Counting
-pub mod Jobs
-pub mod Written
-pub mod Scripts

@@ -1,5 +1,0 @@
-pub mod Calls
-pub mod FaultLines
-pub mod Faults
-pub mod Lines
-pub mod Scripts

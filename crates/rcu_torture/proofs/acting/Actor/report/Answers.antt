@@ -1,9 +1,0 @@
-use Rattle.std.proofs.Common.{rules}
-use Rattle.rcu_torture.proofs.acting.Actor.report.Goals as goal
-
-pub returns-clause-reports : goal.returns-clause-reports
-returns-clause-reports c = record {
-  counted = c.quiescent.result;
-  reports = c.quiescent.ensures.reports;
-  told = search rules;
-}

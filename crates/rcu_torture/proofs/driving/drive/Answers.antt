@@ -1,8 +1,0 @@
-use Rattle.std.proofs.Common.{ℕ, List, length, subst}
-use Rattle.rcu_torture.specs.Kept.{Cpu, Keeps}
-use Rattle.rcu_torture.proofs.driving.drive.Goals as goal
-
-pub returns : goal.returns
-returns g c = let end = c.go_on.result in let n = length end.log.keys.items in
-    subst (λ (p : Cpu). Keeps 0 n p end.processor) c.new-actor.ensures.processor
-    (subst (λ (l : List ℕ). Keeps (length l) n c.new-actor.result.processor end.processor) c.new-actor.ensures.keys c.go_on.ensures)

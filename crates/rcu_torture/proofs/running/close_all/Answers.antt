@@ -1,4 +1,0 @@
-use Rattle.rcu_torture.proofs.running.close_all.Goals as goal
-
-pub returns-in-Ok-clause-closes : goal.returns-in-Ok-clause-closes
-returns-in-Ok-clause-closes c = c.in-Ok.ensures.closes c.requires.sound

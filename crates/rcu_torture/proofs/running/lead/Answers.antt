@@ -1,5 +1,0 @@
-use Rattle.rcu_board.proofs.Stepping.{same_again}
-use Rattle.rcu_torture.proofs.running.lead.Goals as goal
-
-pub returns : goal.returns
-returns g c = same_again _ _ _ _ _ _ c.lead-farewell.ensures c.finish.ensures.same

@@ -1,9 +1,0 @@
-use Rattle.rcu_torture.specs.Kept.{Steers}
-use Rattle.rcu_torture.proofs.steering.Steerer.steer.Given as goal
-
-abbrev pub invariant-loop : goal.invariant-loop
-invariant-loop g l = record {
-  next : (goal.iterator-loop g).can_next l.iterator';
-  finite : (goal.iterator-loop g).is_finite l.iterator';
-  steers : Steers l.fn.self l.self;
-}

@@ -1,0 +1,55 @@
+use Rattle.std.proofs.Common.{◌<◌, ◌∙◌, ◌++◌, ◌∷◌, [], false, true, length, subst, ap, arith, refl, sym}
+use Rattle.std.proofs.lemmas.List.{length-map}
+use Rattle.rcu_world_law.specs.declared.marks.Mark.TheVariants.{Reported}
+use Rattle.rcu_world_law.specs.States.{State}
+use Rattle.rcu_world_processor.specs.Views.{seen}
+use Rattle.rcu_world.specs.declared.cores.Core.{Core}
+use Rattle.rcu_world.specs.Views.{state, AllGiven}
+use Rattle.rcu_world.proofs.Entering.{not_there}
+use Rattle.rcu_world.proofs.Reporting.{reported}
+use Rattle.rcu_world.proofs.Seen.{has_at}
+use Rattle.rcu_world.proofs.board_events.Core+J+J+Receipt.report.Goals as goal
+use Rattle.rcu_world.proofs.board_events.Core+J+J+Receipt.report.Goals.{then-owes+in-Ok, else-owes}
+
+pub returns-then-i-len-clause-answers : goal.returns-then-i-len-clause-answers
+returns-then-i-len-clause-answers g c = (not_there g.J.Job.key_of c.args.self.now c.args.cpu (omega (arith, c.args.self.now.processors.ok.0)), refl, refl)
+
+pub returns-in-Err-clause-answers : goal.returns-in-Err-clause-answers
+returns-in-Err-clause-answers g c = (
+  has_at g.J.Job.key_of c.args.self.now c.args.cpu (omega (arith, c.args.self.now.processors.ok.0)),
+  ap {B = State} (λ x. record (state g.J.Job.key_of c.args.self.now) { history = x }) c.reserve.ensures.items,
+  refl,
+  sym c.owes.ensures ∙ c.if-owes.true,
+)
+
+pub report-requires : goal.report-requires
+report-requires g c =
+    let there : c.args.cpu < length c.args.self.now.board.owing = omega (arith, c.requires.core.board.size, length-map c.args.self.now.processors.items (seen g.J.Job.key_of), c.args.self.now.processors.ok.0) in
+    elim c.if-owes.branch [
+      | then-owes+in-Ok w ↦ rw w.self-is there
+      | else-owes w ↦ rw w.self-is there
+    ]
+
+pub returns-clause-answers : goal.returns-clause-answers
+returns-clause-answers g c =
+    let old = state g.J.Job.key_of c.args.self.now in
+    let there = has_at g.J.Job.key_of c.args.self.now c.args.cpu (omega (arith, c.args.self.now.processors.ok.0)) in
+    elim c.if-owes.branch [
+      | then-owes+in-Ok w ↦ (
+        there,
+        rw (c.report.ensures, w.self-is)
+            (reported old c.args.cpu true w.push_reserved.new.self.items (sym c.owes.ensures ∙ w.if-owes.true) (w.push_reserved.ensures.items ∙ ap (λ h. h ++ Reported c.args.cpu ∷ []) w.reserve.ensures.items)),
+        refl,
+      )
+      | else-owes w ↦ (
+        there,
+        rw (c.report.ensures, w.self-is) (reported old c.args.cpu false c.args.self.now.history.items (sym c.owes.ensures ∙ w.if-owes.false) refl),
+        refl,
+      )
+    ]
+
+pub returns-clause-given : goal.returns-clause-given
+returns-clause-given g c = elim c.if-owes.branch [
+  | then-owes+in-Ok w ↦ subst (λ (s : Core g.row.J.Denot g.row.J-Receipt.Denot). AllGiven g.J.Job.gives s) (sym w.self-is)
+  | else-owes w ↦ subst (λ (s : Core g.row.J.Denot g.row.J-Receipt.Denot). AllGiven g.J.Job.gives s) (sym w.self-is)
+]

@@ -1,9 +1,0 @@
-use Rattle.std.proofs.Common.{◌∙◌, ◌<◌, subst, sym}
-use Rattle.std.proofs.lemmas.Bool.{and_parts, ltb-true}
-use Rattle.rcu_numbers.specs.declared.sequence.TheConstants.{GREATEST_NUMBER}
-use Rattle.rcu_world.proofs.boarding.Core+J+J+Receipt.start.Goals as goal
-
-pub start-requires : goal.start-requires
-start-requires g c =
-    let enabled = and_parts _ _ (and_parts _ _ (sym c.may_start.ensures ∙ c.if-not-may_start.false)).1 in
-    subst (λ n. n < GREATEST_NUMBER) c.number.ensures (ltb-true c.number.result GREATEST_NUMBER enabled.1)

@@ -1,0 +1,8 @@
+use Rattle.rcu_world_processor.proofs.Sizes.{batch_fits}
+use Rattle.rcu_world_processor.proofs.moves.WorldProcessor+J+J+Receipt.can_draw.Goals as goal
+
+pub is_bare-requires-after_bounds : goal.is_bare-requires-after_bounds
+is_bare-requires-after_bounds g c κs within = batch_fits g.row.J g.row.J-Receipt assumption
+
+pub is_spent-requires-after_bounds : goal.is_spent-requires-after_bounds
+is_spent-requires-after_bounds g c κs within = batch_fits g.row.J g.row.J-Receipt assumption

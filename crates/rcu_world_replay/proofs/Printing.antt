@@ -1,0 +1,28 @@
+-- What a command prints, as it is written.
+use Rattle.std.proofs.Common.{◌≡◌, ℕ, ◌++◌, true, false, codes, List, Option, OnOk, Result, length, refl, sym, subst}
+use Rattle.std.proofs.lemmas.Result.{on_ok_weaker}
+use Rattle.std.specs.Io.KnownBytes.{Appends}
+use Rattle.rcu_world_law.specs.States.{State}
+use Rattle.rcu_setup.specs.declared.line.Command.{Command}
+use Rattle.rcu_world.specs.GroupTurns.{Where}
+use Rattle.rcuo_script.specs.declared.lines.Line.{Line}
+use Rattle.rcuo_script.specs.Calls.{is_barrier, is_show}
+use Rattle.rcuo_script.specs.Lines.{line_text}
+use Rattle.rcu_world_replay.specs.Outcomes.{shown}
+use Rattle.rcu_world_replay.specs.Printed.{IsAnswer, Prints, PrintsLine, PrintsLists}
+
+module _ {J E : Type 0} (key_of : J → ℕ) (old : State) (opened : Option ℕ) (c : Command) (job : Option J) (result : Result (Unit {0}) E) (a b : Option (List ℕ)) where
+  pub lists_written : is_show c ≡ true → OnOk result (Appends a b (shown (length old.cpus) old)) → OnOk result ((text : List ℕ) × Prints key_of old opened c job text old opened × Appends a b text)
+  lists_written shows h =
+      let text = shown (length old.cpus) old in
+      let prints : Prints key_of old opened c job text old opened =
+      subst (λ t. Where t (PrintsLists key_of old opened text old opened) (PrintsLine key_of old opened c job text old opened)) (sym shows) (refl, refl, refl) in
+      on_ok_weaker {Q = (text : List ℕ) × Prints key_of old opened c job text old opened × Appends a b text} result (λ written. (text, prints, written)) h
+
+  pub line_written : (new : State) (still : Option ℕ) (l : Line) → is_show c ≡ false → IsAnswer key_of old opened c job l new still → (is_barrier c ≡ false → still ≡ opened)
+      → OnOk result (Appends a b (line_text l ++ codes "\n")) → OnOk result ((text : List ℕ) × Prints key_of old opened c job text new still × Appends a b text)
+  line_written new still l other answers keeps h =
+      let text = line_text l ++ codes "\n" in
+      let prints : Prints key_of old opened c job text new still =
+      subst (λ t. Where t (PrintsLists key_of old opened text new still) (PrintsLine key_of old opened c job text new still)) (sym other) (l, answers, keeps, refl) in
+      on_ok_weaker {Q = (text : List ℕ) × Prints key_of old opened c job text new still × Appends a b text} result (λ written. (text, prints, written)) h

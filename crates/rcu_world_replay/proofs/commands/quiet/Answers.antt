@@ -1,0 +1,29 @@
+use Rattle.std.proofs.Common.{◌<◌, ◌≤◌, refl, subst, sym}
+use Rattle.rcu_world.specs.Views.{state}
+use Rattle.rcu_world.proofs.Wholes.{if_ok_never}
+use Rattle.rcu_world_replay.specs.Outcomes.{IsQuiet}
+use Rattle.rcu_world_replay.proofs.commands.quiet.Goals as goal
+
+pub processors-requires-send-J : goal.processors-requires-send-J
+processors-requires-send-J g c κs within = c.type_bounds.send-J
+
+pub processors-requires-send-J-Receipt : goal.processors-requires-send-J-Receipt
+processors-requires-send-J-Receipt g c κs within = c.type_bounds.send-J-Receipt
+
+pub quiescent-requires-send-J : goal.quiescent-requires-send-J
+quiescent-requires-send-J g c κs within = c.type_bounds.send-J
+
+pub quiescent-requires-send-J-Receipt : goal.quiescent-requires-send-J-Receipt
+quiescent-requires-send-J-Receipt g c κs within = c.type_bounds.send-J-Receipt
+
+pub processors-requires-after_bounds : goal.processors-requires-after_bounds
+processors-requires-after_bounds g c κs within = assumption
+
+pub quiescent-requires-after_bounds : goal.quiescent-requires-after_bounds
+quiescent-requires-after_bounds g c κs within = (assumption, (c.requires.world, (subst (λ n. c.args.cpu < n) c.processors.ensures c.if-cpu-processors.false, c.requires.rest)))
+
+pub returns-then-cpu-processors-clause-line : goal.returns-then-cpu-processors-clause-line
+returns-then-cpu-processors-clause-line g c = subst (λ l. IsQuiet (state g.J.Job.key_of c.args.world.now.core) c.args.cpu l (state g.J.Job.key_of c.args.world.now.core)) (sym c.no_such.ensures) (subst (λ n. n ≤ c.args.cpu) c.processors.ensures c.if-cpu-processors.true, refl, refl)
+
+pub returns-in_err-seq-clause-line : goal.returns-in_err-seq-clause-line
+returns-in_err-seq-clause-line g c = if_ok_never _ _ c.from_residual.ensures

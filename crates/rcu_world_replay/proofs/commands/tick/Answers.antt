@@ -1,0 +1,29 @@
+use Rattle.std.proofs.Common.{◌<◌, ◌≤◌, refl, subst, sym}
+use Rattle.rcu_world.specs.Views.{state}
+use Rattle.rcu_world.proofs.Wholes.{if_ok_never}
+use Rattle.rcu_world_replay.specs.Outcomes.{IsTick}
+use Rattle.rcu_world_replay.proofs.commands.tick.Goals as goal
+
+pub processors-requires-send-J : goal.processors-requires-send-J
+processors-requires-send-J g c κs within = c.type_bounds.send-J
+
+pub processors-requires-send-J-Receipt : goal.processors-requires-send-J-Receipt
+processors-requires-send-J-Receipt g c κs within = c.type_bounds.send-J-Receipt
+
+pub tick-requires-send-J : goal.tick-requires-send-J
+tick-requires-send-J g c κs within = c.type_bounds.send-J
+
+pub tick-requires-send-J-Receipt : goal.tick-requires-send-J-Receipt
+tick-requires-send-J-Receipt g c κs within = c.type_bounds.send-J-Receipt
+
+pub processors-requires-after_bounds : goal.processors-requires-after_bounds
+processors-requires-after_bounds g c κs within = assumption
+
+pub tick-requires-after_bounds : goal.tick-requires-after_bounds
+tick-requires-after_bounds g c κs within = (assumption, (c.requires.world, (subst (λ n. c.args.cpu < n) c.processors.ensures c.if-cpu-processors.false, c.requires.rest)))
+
+pub returns-then-cpu-processors-clause-line : goal.returns-then-cpu-processors-clause-line
+returns-then-cpu-processors-clause-line g c = subst (λ l. IsTick (state g.J.Job.key_of c.args.world.now.core) c.args.cpu c.args.moment l (state g.J.Job.key_of c.args.world.now.core)) (sym c.no_such.ensures) (subst (λ n. n ≤ c.args.cpu) c.processors.ensures c.if-cpu-processors.true, refl, refl)
+
+pub returns-in_err-ticked-clause-line : goal.returns-in_err-ticked-clause-line
+returns-in_err-ticked-clause-line g c = if_ok_never _ _ c.from_residual.ensures

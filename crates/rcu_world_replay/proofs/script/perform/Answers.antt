@@ -1,0 +1,20 @@
+use Rattle.std.proofs.Common.{◌≡◌, ◌∙◌, sym, inr}
+use Rattle.std.proofs.lemmas.Result.{IfErr-weaker}
+use Rattle.rcuo_script.specs.Faults.{IsFaultOfOutput}
+use Rattle.rcuo_script.specs.declared.fault.Fault.TheVariants.{CannotWrite}
+use Rattle.rcu_world.specs.Views.{state}
+use Rattle.rcu_world_replay.proofs.Printing.{line_written, lists_written}
+use Rattle.rcu_world_replay.proofs.script.perform.Goals as goal
+
+pub returns-then-is_show-clause-prints : goal.returns-then-is_show-clause-prints
+returns-then-is_show-clause-prints g c =
+    lists_written g.J.Job.key_of (state g.J.Job.key_of c.args.world.now.core) c.args.opened.now c.args.command.now c.args.job c.show.result (g.W.Write.contents c.args.writer.now) (g.W.Write.contents c.show.new.writer)
+    (sym c.is_show.ensures ∙ c.if-is_show.true) c.show.ensures.shows
+
+pub returns-clause-prints : goal.returns-clause-prints
+returns-clause-prints g c =
+    line_written g.J.Job.key_of (state g.J.Job.key_of c.args.world.now.core) c.args.opened.now c.args.command.now c.args.job c.write_line.result (g.W.Write.contents c.args.writer.now) (g.W.Write.contents c.write_line.new.writer)
+    (state g.J.Job.key_of c.answer.new.world.core) c.answer.new.opened c.in_ok-line.line (sym c.is_show.ensures ∙ c.if-is_show.false) c.in_ok-line.ensures.line c.answer.ensures.barrier c.write_line.ensures.writes
+
+pub returns-clause-why : goal.returns-clause-why
+returns-clause-why g c = IfErr-weaker c.write_line.result (λ fault. fault ≡ CannotWrite) IsFaultOfOutput (λ fault why. inr why) c.write_line.ensures.why

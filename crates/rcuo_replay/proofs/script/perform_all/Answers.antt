@@ -1,0 +1,50 @@
+use Rattle.std.proofs.Common.{◌≡◌, ◌≤◌, ap, arith, count_by, length, take}
+use Rattle.std.proofs.lemmas.List.{take_all}
+use Rattle.std.specs.VecDeque.{deque_len}
+use Rattle.rcu_parts.proofs.StaySame.{stay_same}
+use Rattle.rcuo_script.proofs.Scripts.{printed_more, printed_none, printed_whole}
+use Rattle.rcuo_script.proofs.Counting.{less_one, one_more}
+use Rattle.rcuo_script.specs.Calls.{is_call}
+use Rattle.rcuo_replay.specs.Printed.{Prints}
+use Rattle.rcuo_replay.proofs.script.perform_all.Goals as goal
+
+pub loop-command-init : goal.loop-command-init
+loop-command-init g c = record {
+  one = λ one. one;
+  sound = λ sound. sound;
+  its = tt;
+  printed = printed_none (Prints g.J.Job.key_of) c.args.parts.now c.args.setup.now.script.items c.args.jobs.items (g.W.Write.contents c.args.writer.now) c.from_vec-left.result.items c.from_vec-left.ensures.items;
+  jobs = omega (arith, c.from_vec-left.ensures.len, c.requires.jobs);
+}
+
+pub job_for-job-requires : goal.job_for-job-requires
+job_for-job-requires g c = λ is_so. one_more is_call _ _ c.loop-command.command-index c.command-item.result c.deref-command-items.ensures.value c.loop-command-test.true c.command-item.is
+    (deque_len c.loop-command.left) is_so c.loop-command.invariant.jobs
+
+pub loop-command-preserved : goal.loop-command-preserved
+loop-command-preserved g c = record {
+  one = λ one. stay_same c.loop-command.parts c.perform.new.parts c.perform.ensures.kept.same (c.loop-command.invariant.one one);
+  sound = λ sound. c.perform.ensures.kept.sound (c.loop-command.invariant.sound sound);
+  its = c.perform.ensures.ours;
+  printed = let w = c.in_ok-perform.ensures.prints in let l = c.loop-command in
+      printed_more (Prints g.J.Job.key_of) c.args.parts.now c.args.setup.now.script.items c.args.jobs.items l.left.items c.job_for-job.new.jobs.items
+      (g.W.Write.contents c.args.writer.now) (g.W.Write.contents l.writer) (g.W.Write.contents c.perform.new.writer) l.command-index l.parts c.perform.new.parts l.opened c.perform.new.opened
+      c.command-item.result c.job_for-job.result w.0 (rw c.deref-command-items.ensures.value at c.loop-command-test.true) (rw c.deref-command-items.ensures.value at c.command-item.is)
+      c.job_for-job.ensures.first w.1 w.2 l.invariant.printed;
+  jobs = less_one is_call _ _ c.loop-command.command-index c.command-item.result c.deref-command-items.ensures.value c.loop-command-test.true c.command-item.is
+      (deque_len c.loop-command.left) (deque_len c.job_for-job.new.jobs) c.job_for-job.ensures.left c.loop-command.invariant.jobs;
+}
+
+pub returns-in_err-perform-clause-one : goal.returns-in_err-perform-clause-one
+returns-in_err-perform-clause-one g c = λ one. stay_same c.loop-command.parts c.perform.new.parts c.perform.ensures.kept.same (c.loop-command.invariant.one one)
+
+pub returns-in_err-perform-clause-sound : goal.returns-in_err-perform-clause-sound
+returns-in_err-perform-clause-sound g c = λ sound. c.perform.ensures.kept.sound (c.loop-command.invariant.sound sound)
+
+pub returns-clause-prints : goal.returns-clause-prints
+returns-clause-prints g c = let l = c.loop-command in let cs = c.args.setup.now.script.items in
+    let all : length cs ≤ l.command-index = rw c.deref-command-items.ensures.value at c.loop-command-test.false in
+    let counted : count_by is_call (take l.command-index cs) ≡ count_by is_call cs = ap (count_by is_call) (take_all l.command-index cs all) in
+    let none_left : length l.left.items ≡ 0 = omega (arith, counted, l.invariant.jobs, l.left.ok.0) in
+    printed_whole (Prints g.J.Job.key_of) c.args.parts.now cs c.args.jobs.items (g.W.Write.contents c.args.writer.now) l.left.items (g.W.Write.contents l.writer) l.command-index l.parts l.opened
+    all none_left l.invariant.printed

@@ -1,0 +1,6 @@
+pub mod Counting
+pub mod Jobs
+pub mod Written
+pub mod Scripts
+pub mod Known
+pub mod Whole

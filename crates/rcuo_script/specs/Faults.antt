@@ -1,0 +1,14 @@
+-- Which fault a run may end with: docs/specification/tables.md, "Fault lines".
+use Rattle.std.specs.Prelude.{◌≡◌}
+use Rattle.std.proofs.Common.{◌⊎◌}
+use Rattle.rcu_setup.specs.declared.fault.SetupFault.TheVariants.{Memory}
+use Rattle.rcuo_script.specs.declared.fault.Fault.{Fault}
+use Rattle.rcuo_script.specs.declared.fault.Fault.TheVariants.{CannotWrite, Setup}
+
+-- a growth was refused
+abbrev pub IsWantOfMemory : Fault → Type 0
+IsWantOfMemory fault = fault ≡ Setup Memory
+
+-- a growth was refused, or a write failed
+abbrev pub IsFaultOfOutput : Fault → Type 0
+IsFaultOfOutput fault = IsWantOfMemory fault ⊎ (fault ≡ CannotWrite)

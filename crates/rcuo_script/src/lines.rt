@@ -1,0 +1,224 @@
+//! What a script prints for each command: docs/specification/tables.md, "Script commands and what they print".
+
+ghost use Rattle.std.specs.Prelude.{◌≡◌, ◌++◌, IfErr, OnOk, Some, codes};
+ghost use Rattle.std.specs.Io.KnownBytes.{Appends};
+ghost use Rattle.rcuo_script.specs.Faults.{IsFaultOfOutput};
+ghost use Rattle.rcuo_script.specs.Lines.{line_text, lists_line, verb_text, whole_totals};
+ghost use Rattle.rcuo_script.specs.declared.fault.Fault.TheVariants.{CannotWrite};
+ghost use Rattle.rcuo_script.specs.declared.lines.Line.TheVariants.{Refused};
+
+use crate::fault::Fault;
+use rcu_jobs::{Closed, DriverTurn, Job, Lists};
+use rcu_status::{line, totals};
+use std::alloc::Global;
+use std::fmt;
+use std::io::Write;
+
+/// The word of a command that names a processor or a group.
+#[derive(Clone, Copy, PartialEq, Eq)]
+pub enum Verb {
+    Call,
+    Lazy,
+    Quiet,
+    Tick,
+    Group,
+    Hand,
+    Offload,
+    Deoffload,
+}
+
+impl fmt::Display for Verb {
+    ghost output = { λ verb. Some (verb_text verb) };
+
+    fn fmt<W: fmt::Write>(&self, f: &mut fmt::Formatter<W>) -> fmt::Result {
+        f.write_str(match self {
+            Verb::Call => "call",
+            Verb::Lazy => "lazy",
+            Verb::Quiet => "quiet",
+            Verb::Tick => "tick",
+            Verb::Group => "group",
+            Verb::Hand => "hand",
+            Verb::Offload => "offload",
+            Verb::Deoffload => "deoffload",
+        })
+    }
+}
+
+/// The line of one answer.
+#[derive(Drop)]
+pub enum Line {
+    /// The call on processor `cpu` was accepted as callback `number`.
+    Number {
+        verb: Verb,
+        cpu: u64,
+        number: u64,
+    },
+    /// The command on this processor or group was refused, by the refusal's number.
+    Refused {
+        verb: Verb,
+        place: u64,
+        refusal: u64,
+    },
+    /// The report of processor `cpu` counted for the grace period `seq`.
+    Counted {
+        cpu: u64,
+        seq: u64,
+    },
+    /// The report of processor `cpu` counted nothing.
+    Nothing {
+        cpu: u64,
+    },
+    /// The turn ran so many callbacks of processor `cpu`.
+    Ran {
+        verb: Verb,
+        cpu: u64,
+        ran: u64,
+    },
+    /// A turn of the driver.
+    Driver(DriverTurn),
+    /// The group drew `took` callbacks from its members, and gave `gave` to their hands.
+    Group {
+        group: u64,
+        took: u64,
+        gave: u64,
+    },
+    /// The processor is asked to switch.
+    Asked {
+        verb: Verb,
+        cpu: u64,
+    },
+    /// A barrier was opened.
+    Opened,
+    /// The barrier that was open has passed.
+    Passed,
+    /// The barrier that is open hasn't passed yet.
+    Waits,
+    /// No barrier is open.
+    NoBarrier,
+    /// All processors are shut, with these final counts: `C0,C1,..`.
+    Shut(String),
+}
+
+/// The number of the refusal "there is no such processor" (docs/specification/surface.md, "Refusals by number").
+const NO_PROCESSOR: u64 = 6;
+
+/// The number of the refusal "the processor isn't offloadable".
+const NOT_OFFLOADABLE: u64 = 5;
+
+impl Line {
+    /// The refusal of a command that names a processor or a group that isn't there.
+    pub fn no_such(verb: Verb, place: u64) -> Line
+        ensures { result ≡ Refused verb place 6 }
+    {
+        Line::Refused {
+            verb,
+            place,
+            refusal: NO_PROCESSOR,
+        }
+    }
+
+    /// The refusal of a command on a processor that isn't offloadable.
+    pub fn not_offloadable(verb: Verb, place: u64) -> Line
+        ensures { result ≡ Refused verb place 5 }
+    {
+        Line::Refused {
+            verb,
+            place,
+            refusal: NOT_OFFLOADABLE,
+        }
+    }
+}
+
+impl fmt::Display for Line {
+    ghost output = { λ line. Some (line_text line) };
+
+    fn fmt<W: fmt::Write>(&self, f: &mut fmt::Formatter<W>) -> fmt::Result {
+        match self {
+            Line::Number { verb, cpu, number } => write!(f, "{verb} {cpu} number {number}"),
+            Line::Refused {
+                verb,
+                place,
+                refusal,
+            } => write!(f, "{verb} {place} refused {refusal}"),
+            Line::Counted { cpu, seq } => write!(f, "quiet {cpu} counted {seq}"),
+            Line::Nothing { cpu } => write!(f, "quiet {cpu} nothing"),
+            Line::Ran { verb, cpu, ran } => write!(f, "{verb} {cpu} ran {ran}"),
+            Line::Group { group, took, gave } => write!(f, "group {group} took {took} gave {gave}"),
+            Line::Asked { verb, cpu } => write!(f, "{verb} {cpu} asked"),
+            Line::Driver(DriverTurn::Idle) => f.write_str("driver idle"),
+            Line::Driver(DriverTurn::Started(seq)) => write!(f, "driver started {seq}"),
+            Line::Driver(DriverTurn::Ended(seq)) => write!(f, "driver ended {seq}"),
+            Line::Driver(DriverTurn::Waits(_)) => f.write_str("driver waits"),
+            Line::Driver(DriverTurn::Spent) => f.write_str("driver spent"),
+            Line::Opened => f.write_str("barrier opened"),
+            Line::Passed => f.write_str("barrier passed"),
+            Line::Waits => f.write_str("barrier waits"),
+            Line::NoBarrier => f.write_str("barrier none"),
+            Line::Shut(counts) => write!(f, "shut {counts}"),
+        }
+    }
+}
+
+/// Writes a line, with its line feed.
+pub fn write_line<W: Write>(line: Line, writer: &mut W) -> Result<(), Fault>
+    ensures writes { OnOk result (Appends (W.contents writer.old) (W.contents writer.new)
+        (line_text line ++ codes "\n")) }
+    ensures why { IfErr result (λ fault. fault ≡ CannotWrite) }
+{
+    match writeln!(writer, "{line}") {
+        Ok(()) => Ok(()),
+        Err(_) => Err(Fault::CannotWrite),
+    }
+}
+
+/// Writes a text as it is.
+pub fn write_text<W: Write>(text: &str, writer: &mut W) -> Result<(), Fault>
+    ensures writes { OnOk result (Appends (W.contents writer.old) (W.contents writer.new)
+        text.now) }
+    ensures why { IfErr result (λ fault. fault ≡ CannotWrite) }
+{
+    match writer.write_all(text.as_bytes()) {
+        Ok(()) => Ok(()),
+        Err(_) => Err(Fault::CannotWrite),
+    }
+}
+
+/// Writes the line of a list (docs/specification/tables.md, "Lines of `show`").
+#[tactic(auto, unfolding(crate::specs::Lines::lists_line))]
+pub fn write_lists<W: Write>(
+    alloc: Global,
+    cpu: u64,
+    lists: &Lists,
+    writer: &mut W,
+) -> Result<(), Fault>
+    ensures writes { OnOk result (Appends (W.contents writer.old) (W.contents writer.new)
+        (lists_line cpu lists.now)) }
+    ensures why { IfErr result IsFaultOfOutput }
+{
+    let text = line(alloc, cpu, lists)?;
+    write_text(text.as_str(), writer)
+}
+
+/// Writes the totals of a run (docs/specification/tables.md, "Totals"), with the line of the reports where `reports` is true,
+/// and sees to it that they are out.
+///
+/// # Errors
+///
+/// The fault of a failed write; want of memory.
+pub fn write_totals<J: Job<Receipt = u64>, W: Write>(
+    alloc: Global,
+    closed: &Closed<J>,
+    reports: bool,
+    writer: &mut W,
+) -> Result<(), Fault>
+    ensures writes { OnOk result (Appends (W.contents writer.old) (W.contents writer.new)
+        (whole_totals reports closed.now)) }
+    ensures why { IfErr result IsFaultOfOutput }
+{
+    let text = totals(alloc, closed, reports)?;
+    write_text(text.as_str(), writer)?;
+    match writer.flush() {
+        Ok(()) => Ok(()),
+        Err(_) => Err(Fault::CannotWrite),
+    }
+}

@@ -1,0 +1,12 @@
+//! Tests of `rcu_board` and `rcu_part_control` through their public calls, in a crate of their own, so that the functions of those are
+//! proved once, and not with their tests once more.
+#![tactic(auto)]
+
+#[cfg(test)]
+mod tests;
+#[cfg(test)]
+mod tests_control;
+#[cfg(test)]
+mod tests_rows;
+#[cfg(test)]
+mod tests_threads;

@@ -1,0 +1,546 @@
+//! The steps on a board, by the seats that may make them, in one thread and in several.
+
+ghost use Rattle.std.specs.Prelude.{◌≡◌, ◌+◌, ◌<◌, ◌≤◌, None, [], ◌∷◌, length, IfSome, IsTrue, true, false};
+ghost use Rattle.std.specs.Thread.{IsSync};
+ghost use Rattle.rcu_numbers.specs.Words.{owes_of};
+ghost use Rattle.rcu_board.specs.Plays.{all_seats};
+ghost use Rattle.rcu_board.specs.Roles.{IsDriver, IsControl, MayClaim};
+ghost use Rattle.rcu_board.specs.Opened.{AreNew, IsNew, IsNewProcessor};
+ghost use Rattle.test_board.specs.Stays.{StaysSeat};
+ghost use Rattle.rcu_board.specs.Seats.{view, AtBoard, accepted_of, fresh_of};
+
+use rcu_board::{
+    Board, Claimed, Gathered, Role, Seat, Seats, accept, ask, asked, claim, end, finish, halt,
+    halted, heard, last_count_of, last_look, last_turn_of, look, merge, need, needed, open_board,
+    report, shut_one, start, turn_of, urge,
+};
+use rcu_numbers::{BoardWord, GREATEST_NUMBER, Shape};
+use std::test::Fail;
+use std::thread;
+use std::thread::Threads;
+
+#[test]
+fn seats_of_a_shape(rt: HostRuntime) -> Result<(), Fail> {
+    // processors 1, 4 and 5 of 6 are offloadable, in groups of two
+    let shape = Shape::new(6, 0b110010, 2, 10, 16, 1000).expect(&rt, "within the limits");
+    let (board, seats) = open_board(rt.alloc(), shape)?;
+    assert_eq!(rt; board.processors(), 6);
+    assert!(rt; board.is_offloadable(1) && !board.is_offloadable(2));
+    assert_eq!(rt; seats.processors.len(), 6);
+    assert_eq!(rt; seats.hands.len(), 3);
+    assert_eq!(rt; seats.groups.len(), 2);
+    let mut hands = seats.hands.into_iter();
+    assert_eq!(rt; hands.next().map(|seat| seat.role()), Some(Role::Hand(1)));
+    assert_eq!(rt; hands.next().map(|seat| seat.role()), Some(Role::Hand(4)));
+    assert_eq!(rt; hands.next().map(|seat| seat.role()), Some(Role::Hand(5)));
+    let mut groups = seats.groups.into_iter();
+    assert_eq!(rt; groups.next().map(|seat| seat.role()), Some(Role::Group(0)));
+    assert_eq!(rt; groups.next().map(|seat| seat.role()), Some(Role::Group(2)));
+    Ok(())
+}
+
+/// How many callbacks the processor of the test below tries to have accepted.
+const CALLS: u64 = 20_000;
+
+/// Claims a number, and finishes it where the claim is won. Answers how many were.
+pub(crate) fn run_one(board: &Board, seat: &mut Seat, number: u64) -> u64
+    requires board { AtBoard board.now seat.old }
+    requires who { MayClaim seat.old.role }
+    requires rests { (view seat.old).running ≡ [] }
+    requires small { number < 1000000 }
+    ensures same { StaysSeat seat.old seat.new }
+    ensures rests { (view seat.new).running ≡ [] }
+    ensures accepted { (accepted_of (view seat.new) ≡ accepted_of (view seat.old))
+        × (fresh_of (view seat.new) ≡ fresh_of (view seat.old)) }
+    ensures few { result ≤ 1 }
+{
+    let Claimed::Won = claim(board, seat, number) else {
+        return 0;
+    };
+    finish(board, seat);
+    1
+}
+
+/// Has callback `count` of processor `p` accepted, and looks, which stamps it. Answers whether it was accepted.
+pub(crate) fn accept_one(board: &Board, seat: &mut Seat, p: u64, count: u64) -> bool
+    requires board { AtBoard board.now seat.old }
+    requires who { seat.old.role ≡ Role.Processor p }
+    requires count { length (accepted_of (view seat.old)) ≡ count }
+    requires stamped { fresh_of (view seat.old) ≡ None }
+    requires rests { (view seat.old).running ≡ [] }
+    requires small { count < 1000000 }
+    ensures same { StaysSeat seat.old seat.new }
+    ensures rests { (view seat.new).running ≡ [] }
+    ensures stamped { fresh_of (view seat.new) ≡ None }
+    ensures more { IsTrue result → length (accepted_of (view seat.new)) ≡ count + 1 }
+{
+    let Some(number) = accept(board, seat, count, count) else {
+        return false;
+    };
+    look(board, seat);
+    number == count
+}
+
+/// Reports, and answers how many reports that counted.
+fn report_one(board: &Board, seat: &mut Seat) -> u64
+    requires board { AtBoard board.now seat.old }
+    requires who { seat.old.role ≡ Role.Processor 0 }
+    ensures same { StaysSeat seat.old seat.new }
+    ensures rests { (view seat.new).running ≡ (view seat.old).running }
+    ensures accepted { (length (accepted_of (view seat.new)) ≡ length (accepted_of (view seat.old)))
+        × (fresh_of (view seat.new) ≡ fresh_of (view seat.old)) }
+    ensures few { result ≤ 1 }
+{
+    u64::from(report(board, seat).owes(0))
+}
+
+/// What the processor's thread did.
+#[derive(Drop)]
+struct Done {
+    seat: Seat,
+    accepted: u64,
+    reports: u64,
+    won: u64,
+}
+
+fn be_processor(board: &Board, mut seat: Seat) -> Done
+    requires board { AtBoard board.now seat }
+    requires who { seat.role ≡ Role.Processor 0 }
+    requires new { (accepted_of (view seat) ≡ []) × (fresh_of (view seat) ≡ None)
+        × ((view seat).running ≡ []) }
+    ensures same { StaysSeat seat result.seat }
+    ensures rests { (view result.seat).running ≡ [] }
+    ensures few { (result.reports ≤ CALLS) × (result.won ≤ CALLS) }
+{
+    let mut reports = 0;
+    let mut won = 0;
+    for count in 0..CALLS {
+        if !accept_one(board, &mut seat, 0, count) {
+            return Done {
+                seat,
+                accepted: count,
+                reports,
+                won,
+            };
+        }
+        reports += report_one(board, &mut seat);
+        won += run_one(board, &mut seat, count);
+    }
+    Done {
+        seat,
+        accepted: CALLS,
+        reports,
+        won,
+    }
+}
+
+/// Claims and finishes the numbers below `count`, each once. Answers how many of these claims were won.
+pub(crate) fn run_all(board: &Board, mut seat: Seat, count: u64) -> (Seat, u64)
+    requires board { AtBoard board.now seat }
+    requires who { MayClaim seat.role }
+    requires rests { (view seat).running ≡ [] }
+    requires small { count ≤ CALLS }
+    ensures same { StaysSeat seat result.0 }
+    ensures rests { (view result.0).running ≡ [] }
+    ensures few { result.1 ≤ count }
+{
+    let mut won = 0;
+    for number in 0..count {
+        won += run_one(board, &mut seat, number);
+    }
+    (seat, won)
+}
+
+/// Starts or ends a grace period, where one can be. Answers whether it did.
+pub(crate) fn drive(board: &Board, seat: &mut Seat) -> bool
+    requires board { AtBoard board.now seat.old }
+    requires who { seat.old.role ≡ Role.Driver }
+    ensures same { StaysSeat seat.old seat.new }
+    ensures rests { (view seat.new).running ≡ (view seat.old).running }
+{
+    let seq = look(board, seat).seq();
+    if seq % 4 == 1 {
+        return end(board, seat, seq).is_ok();
+    }
+    if seq == GREATEST_NUMBER {
+        return false;
+    }
+    start(board, seat, seq);
+    true
+}
+
+fn be_driver(board: &Board, mut seat: Seat) -> Seat
+    requires board { AtBoard board.now seat }
+    requires who { seat.role ≡ Role.Driver }
+    ensures same { StaysSeat seat result }
+    ensures rests { (view result).running ≡ (view seat).running }
+{
+    for _n in 0..CALLS {
+        let _moved = drive(board, &mut seat);
+    }
+    seat
+}
+
+fn be_control(board: &Board, mut seat: Seat) -> (Seat, u64)
+    requires board { AtBoard board.now seat }
+    requires who { seat.role ≡ Role.Control }
+    requires some { 0 < board.now.processors }
+    ensures same { StaysSeat seat result.0 }
+    ensures rests { (view result.0).running ≡ (view seat).running }
+{
+    for round in 0..CALLS / 10 {
+        ask(board, &mut seat, 0, round % 2 == 0);
+        urge(board, &mut seat);
+        turn_of(board, &mut seat, 0);
+    }
+    let count = shut_one(board, &mut seat, 0);
+    (seat, count)
+}
+
+/// The only seat of a list.
+fn only(mut seats: Vec<Seat>) -> Option<Seat>
+    ensures { IfSome result (λ seat. seats.items ≡ seat ∷ []) }
+{
+    if seats.len() != 1 {
+        return None;
+    }
+    seats.pop()
+}
+
+/// What the threads did, and what the last look at each word said.
+#[derive(Drop)]
+struct Outcome {
+    accepted: u64,
+    shut: u64,
+    reports: u64,
+    won: u64,
+    accepts_word: u64,
+    turns_word: u64,
+    board_word: BoardWord,
+}
+
+/// Runs a processor and its hand, each in a thread of its own.
+fn run_both<R: Threads + Sync>(
+    rt: &R,
+    board: &Board,
+    processor: Seat,
+    hand: Seat,
+) -> (Done, (Seat, u64))
+    requires board { AtBoard board.now processor × AtBoard board.now hand }
+    requires who { (processor.role ≡ Role.Processor 0) × MayClaim hand.role }
+    requires new { (accepted_of (view processor) ≡ []) × (fresh_of (view processor) ≡ None) }
+    requires rests { ((view processor).running ≡ []) × ((view hand).running ≡ []) }
+    ensures same { StaysSeat processor result.0.seat × StaysSeat hand result.1.0 }
+    ensures rests { ((view result.0.seat).running ≡ []) × ((view result.1.0).running ≡ []) }
+    ensures few { (result.0.reports ≤ CALLS) × (result.0.won ≤ CALLS) × (result.1.1 ≤ CALLS) }
+{
+    thread::join(
+        rt,
+        move || -> Done
+            requires { AtBoard board.now processor × (processor.role ≡ Role.Processor 0)
+                × (accepted_of (view processor) ≡ []) × (fresh_of (view processor) ≡ None)
+                × ((view processor).running ≡ []) }
+            ensures { StaysSeat processor result.seat × ((view result.seat).running ≡ [])
+                × (result.reports ≤ CALLS) × (result.won ≤ CALLS) }
+        { be_processor(board, processor) },
+        move || -> (Seat, u64)
+            requires { AtBoard board.now hand × MayClaim hand.role × ((view hand).running ≡ []) }
+            ensures { StaysSeat hand result.0 × ((view result.0).running ≡ [])
+                × (result.1 ≤ CALLS) }
+        { run_all(board, hand, CALLS) },
+    )
+}
+
+/// Runs the driver and control, each in a thread of its own.
+fn run_rest<R: Threads + Sync>(
+    rt: &R,
+    board: &Board,
+    driver: Seat,
+    control: Seat,
+) -> (Seat, (Seat, u64))
+    requires board { AtBoard board.now driver × AtBoard board.now control }
+    requires who { (driver.role ≡ Role.Driver) × (control.role ≡ Role.Control) }
+    requires some { 0 < board.now.processors }
+    requires rests { ((view driver).running ≡ []) × ((view control).running ≡ []) }
+    ensures same { StaysSeat driver result.0 × StaysSeat control result.1.0 }
+    ensures rests { ((view result.0).running ≡ []) × ((view result.1.0).running ≡ []) }
+{
+    thread::join(
+        rt,
+        move || -> Seat
+            requires { AtBoard board.now driver × (driver.role ≡ Role.Driver)
+                × ((view driver).running ≡ []) }
+            ensures { StaysSeat driver result × ((view result).running ≡ []) }
+        { be_driver(board, driver) },
+        move || -> (Seat, u64)
+            requires { AtBoard board.now control × (control.role ≡ Role.Control)
+                × (0 < board.now.processors) × ((view control).running ≡ []) }
+            ensures { StaysSeat control result.0 × ((view result.0).running ≡ []) }
+        { be_control(board, control) },
+    )
+}
+
+/// Makes all seats one, and looks at each word.
+fn settle(
+    board: &Board,
+    control: Seat,
+    driver: Seat,
+    group: Seat,
+    hand: Seat,
+    processor: Seat,
+) -> (u64, u64, BoardWord)
+    requires board { AtBoard board.now control × AtBoard board.now driver × AtBoard board.now group
+        × AtBoard board.now hand × AtBoard board.now processor }
+    requires rests { ((view control).running ≡ []) × ((view driver).running ≡ [])
+        × ((view group).running ≡ []) × ((view hand).running ≡ [])
+        × ((view processor).running ≡ []) }
+    requires whole { (view control).weight + (view driver).weight + (view group).weight
+        + (view hand).weight + (view processor).weight ≡ all_seats }
+    requires some { 0 < board.now.processors }
+{
+    let mut all = Gathered::new(control);
+    merge(board, &mut all, driver);
+    merge(board, &mut all, group);
+    merge(board, &mut all, hand);
+    merge(board, &mut all, processor);
+    let accepts = last_count_of(board, &mut all, 0);
+    let turns = last_turn_of(board, &mut all, 0);
+    (accepts, turns, last_look(board, &mut all))
+}
+
+/// The seats of a board for one processor, which is offloadable.
+#[derive(Drop)]
+pub(crate) struct OneOfEach {
+    pub(crate) processor: Seat,
+    pub(crate) hand: Seat,
+    pub(crate) group: Seat,
+    pub(crate) driver: Seat,
+    pub(crate) control: Seat,
+}
+
+pub(crate) fn take_apart(shape: Shape, board: &Board, seats: Seats) -> Option<OneOfEach>
+    requires { AreNew shape board.now seats }
+    ensures processor { IfSome result (λ parts. IsNewProcessor board.now 0 parts.processor) }
+    ensures hand { IfSome result (λ parts.
+        AtBoard board.now parts.hand × MayClaim parts.hand.role × ((view parts.hand).running ≡ [])
+        × ((view parts.hand).weight ≡ 1)) }
+    ensures group { IfSome result (λ parts.
+        AtBoard board.now parts.group × ((view parts.group).running ≡ [])
+        × ((view parts.group).weight ≡ 1)) }
+    ensures driver { IfSome result (λ parts.
+        IsNew board.now Role.Driver 124 true false [] parts.driver) }
+    ensures control { IfSome result (λ parts.
+        IsNew board.now Role.Control 1 false true [] parts.control) }
+{
+    let Seats {
+        processors,
+        hands,
+        groups,
+        driver,
+        control,
+    } = seats;
+    Some(OneOfEach {
+        processor: only(processors)?,
+        hand: only(hands)?,
+        group: only(groups)?,
+        driver,
+        control,
+    })
+}
+
+/// The seats, but those of groups, of a board for two processors, which are both offloadable.
+#[derive(Drop)]
+pub(crate) struct TwoOfEach {
+    pub(crate) first: Seat,
+    pub(crate) second: Seat,
+    pub(crate) first_hand: Seat,
+    pub(crate) second_hand: Seat,
+    pub(crate) driver: Seat,
+    pub(crate) control: Seat,
+}
+
+/// The two seats of a list.
+fn both(mut seats: Vec<Seat>) -> Option<(Seat, Seat)>
+    ensures { IfSome result (λ pair. seats.items ≡ pair.0 ∷ pair.1 ∷ []) }
+{
+    if seats.len() != 2 {
+        return None;
+    }
+    let second = seats.pop()?;
+    let first = seats.pop()?;
+    Some((first, second))
+}
+
+pub(crate) fn take_two_apart(shape: Shape, board: &Board, seats: Seats) -> Option<TwoOfEach>
+    requires { AreNew shape board.now seats }
+    ensures first { IfSome result (λ two. IsNewProcessor board.now 0 two.first) }
+    ensures second { IfSome result (λ two. IsNewProcessor board.now 1 two.second) }
+    ensures first_hand { IfSome result (λ two.
+        AtBoard board.now two.first_hand × MayClaim two.first_hand.role
+        × ((view two.first_hand).running ≡ [])) }
+    ensures second_hand { IfSome result (λ two.
+        AtBoard board.now two.second_hand × MayClaim two.second_hand.role
+        × ((view two.second_hand).running ≡ [])) }
+    ensures driver { IfSome result (λ two.
+        AtBoard board.now two.driver × (two.driver.role ≡ Role.Driver)) }
+    ensures control { IfSome result (λ two.
+        AtBoard board.now two.control × (two.control.role ≡ Role.Control)) }
+{
+    let Seats {
+        processors,
+        hands,
+        groups: _,
+        driver,
+        control,
+    } = seats;
+    let (first, second) = both(processors)?;
+    let (first_hand, second_hand) = both(hands)?;
+    Some(TwoOfEach {
+        first,
+        second,
+        first_hand,
+        second_hand,
+        driver,
+        control,
+    })
+}
+
+/// Runs each seat but the group's in a thread of its own, makes all one, and looks.
+fn run_parts<R: Threads + Sync>(rt: &R, board: &Board, parts: OneOfEach) -> Outcome
+    requires some { 0 < board.now.processors }
+    requires processor { IsNewProcessor board.now 0 parts.processor }
+    requires hand { AtBoard board.now parts.hand × MayClaim parts.hand.role
+        × ((view parts.hand).running ≡ []) × ((view parts.hand).weight ≡ 1) }
+    requires group { AtBoard board.now parts.group × ((view parts.group).running ≡ [])
+        × ((view parts.group).weight ≡ 1) }
+    requires driver { IsNew board.now Role.Driver 124 true false [] parts.driver }
+    requires control { IsNew board.now Role.Control 1 false true [] parts.control }
+{
+    let OneOfEach {
+        processor,
+        hand,
+        group,
+        driver,
+        control,
+    } = parts;
+    let (first, second) = thread::join(
+        rt,
+        move || -> (Done, (Seat, u64))
+            requires { IsSync R.row × AtBoard board.now processor × AtBoard board.now hand
+                × (processor.role ≡ Role.Processor 0) × MayClaim hand.role
+                × (accepted_of (view processor) ≡ []) × (fresh_of (view processor) ≡ None)
+                × ((view processor).running ≡ []) × ((view hand).running ≡ []) }
+            ensures { StaysSeat processor result.0.seat × StaysSeat hand result.1.0
+                × ((view result.0.seat).running ≡ []) × ((view result.1.0).running ≡ [])
+                × (result.0.reports ≤ CALLS) × (result.0.won ≤ CALLS) × (result.1.1 ≤ CALLS) }
+        { run_both(rt, board, processor, hand) },
+        move || -> (Seat, (Seat, u64))
+            requires { IsSync R.row × AtBoard board.now driver × AtBoard board.now control
+                × (driver.role ≡ Role.Driver) × (control.role ≡ Role.Control)
+                × (0 < board.now.processors) × ((view driver).running ≡ [])
+                × ((view control).running ≡ []) }
+            ensures { StaysSeat driver result.0 × StaysSeat control result.1.0
+                × ((view result.0).running ≡ []) × ((view result.1.0).running ≡ []) }
+        { run_rest(rt, board, driver, control) },
+    );
+    let (done, (hand, hand_won)) = first;
+    let (driver, (control, shut)) = second;
+    let Done {
+        seat: processor,
+        accepted,
+        reports,
+        won,
+    } = done;
+    let (accepts_word, turns_word, board_word) = settle(
+        board, control, driver, group, hand, processor,
+    );
+    Outcome {
+        accepted,
+        shut,
+        reports,
+        won: won + hand_won,
+        accepts_word,
+        turns_word,
+        board_word,
+    }
+}
+
+#[test]
+fn four_threads_on_one_board(rt: HostRuntime) -> Result<(), Fail> {
+    let shape = Shape::new(1, 1, 1, 10, 16, 1000).expect(&rt, "within the limits");
+    let (board, seats) = open_board(rt.alloc(), shape)?;
+    let parts = take_apart(shape, &board, seats).expect(&rt, "one seat of each kind");
+    let outcome = run_parts(&rt, &board, parts);
+    assert_eq!(rt; outcome.shut, outcome.accepted);
+    assert_eq!(rt;
+        (outcome.accepts_word / 2, outcome.accepts_word % 2),
+        (outcome.accepted, 1)
+    );
+    assert_eq!(rt;
+        (outcome.turns_word / 2, outcome.turns_word % 2),
+        (outcome.won, 0)
+    );
+    let seq = outcome.board_word.seq();
+    let counted = seq % 4 == 1 && !outcome.board_word.owes(0);
+    assert_eq!(rt; outcome.reports, seq / 4 + u64::from(counted));
+    Ok(())
+}
+
+/// What was read before and after each step that another seat reads.
+#[derive(Clone, Copy)]
+struct Answers {
+    asked: (bool, bool),
+    heard: (bool, bool),
+    halted: (bool, bool),
+    needed: (u64, u64),
+}
+
+/// Makes each step on the words of switches, urging and needs once, with the steps that read it before and after.
+fn make_each_step(board: &Board, parts: OneOfEach) -> Answers
+    requires some { 0 < board.now.processors }
+    requires processor { AtBoard board.now parts.processor
+        × (parts.processor.role ≡ Role.Processor 0) }
+    requires driver { AtBoard board.now parts.driver × (parts.driver.role ≡ Role.Driver) }
+    requires control { AtBoard board.now parts.control × (parts.control.role ≡ Role.Control) }
+    requires hears { owes_of board.now.offloadable 0 ≡ 1 }
+{
+    let OneOfEach {
+        mut processor,
+        hand: _,
+        group: _,
+        mut driver,
+        mut control,
+    } = parts;
+    let first = asked(board, &mut processor);
+    ask(board, &mut control, 0, false);
+    let asked = (first, asked(board, &mut processor));
+    urge(board, &mut control);
+    let first = heard(board, &mut processor);
+    let heard = (first, heard(board, &mut processor));
+    let first = halted(board, &mut driver);
+    halt(board, &mut control);
+    let halted = (first, halted(board, &mut driver));
+    need(board, &mut processor, 8);
+    let first = needed(board, &mut driver);
+    need(board, &mut processor, 4);
+    Answers {
+        asked,
+        heard,
+        halted,
+        needed: (first, needed(board, &mut driver)),
+    }
+}
+
+#[test]
+fn told_and_heard(rt: HostRuntime) -> Result<(), Fail> {
+    let shape = Shape::new(1, 1, 1, 10, 16, 1000).expect(&rt, "within the limits");
+    let (board, seats) = open_board(rt.alloc(), shape)?;
+    let parts = take_apart(shape, &board, seats).expect(&rt, "one seat of each kind");
+    assert!(rt; board.is_offloadable(0));
+    let answers = make_each_step(&board, parts);
+    assert_eq!(rt; answers.asked, (true, false));
+    assert_eq!(rt; answers.heard, (true, false));
+    assert_eq!(rt; answers.halted, (false, true));
+    assert_eq!(rt; answers.needed, (8, 8));
+    Ok(())
+}

@@ -1,0 +1,10 @@
+//! Tests of callbacks in two steps, `begin` and `finish`, through the public calls of `rcu_parts`, in a crate of their own, so
+//! that its functions are proved once, and not with its tests once more.
+#![tactic(auto)]
+
+pub mod echo;
+pub mod opening;
+pub mod outcomes;
+pub mod steps;
+#[cfg(test)]
+mod tests;

@@ -1,0 +1,13 @@
+//! Tests of `rcu_world` and `rcu_world_checker` through their public calls: on histories written by hand and by the core's runs.
+//!
+//! They stand in a crate of their own, so that the functions of those are proved once, and not with their tests once more.
+#![tactic(auto)]
+
+#[cfg(test)]
+mod steps;
+#[cfg(test)]
+mod tests_checker;
+#[cfg(test)]
+mod tests_checker_core;
+#[cfg(test)]
+mod tests_world;

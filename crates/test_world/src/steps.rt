@@ -1,0 +1,62 @@
+//! Turn calls of a core at rest, of its processor 0, each with the answer that a test wants of it.
+
+ghost use Rattle.test_world.specs.Resting.{IsResting};
+
+use rcu_jobs::{DriverTurn, Job, Ticket};
+use rcu_world::World;
+use std::process::Abort;
+use std::test::Fail;
+
+// A call that is accepted.
+pub(crate) fn call<J: Job>(world: &mut World<J>, moment: u64, job: J) -> Result<Ticket, Fail>
+    requires { IsResting J.key_of J.gives world.old.core }
+    ensures { IsResting J.key_of J.gives world.new.core }
+{
+    match world.call_rcu(0, moment, job) {
+        Ok(ticket) => Ok(ticket),
+        Err(_) => Err(Fail::from("refused")),
+    }
+}
+
+// A tick that runs so many.
+pub(crate) fn tick<J: Job>(
+    rt: &impl Abort,
+    world: &mut World<J>,
+    moment: u64,
+    ran: u64,
+) -> Result<(), Fail>
+    requires { IsResting J.key_of J.gives world.old.core }
+    ensures { IsResting J.key_of J.gives world.new.core }
+{
+    let ticked = world.tick(0, moment)?;
+    assert_eq!(rt; ticked.ran, ran);
+    Ok(())
+}
+
+// A turn of the driver.
+pub(crate) fn drive<J: Job>(
+    rt: &impl Abort,
+    world: &mut World<J>,
+    turn: DriverTurn,
+) -> Result<(), Fail>
+    requires { IsResting J.key_of J.gives world.old.core }
+    ensures { IsResting J.key_of J.gives world.new.core }
+{
+    let turned = world.driver_turn()?;
+    assert_eq!(rt; turned, turn);
+    Ok(())
+}
+
+// A report of a quiescent state.
+pub(crate) fn report<J: Job>(
+    rt: &impl Abort,
+    world: &mut World<J>,
+    counted: Option<u64>,
+) -> Result<(), Fail>
+    requires { IsResting J.key_of J.gives world.old.core }
+    ensures { IsResting J.key_of J.gives world.new.core }
+{
+    let reported = world.quiescent(0)?;
+    assert_eq!(rt; reported, counted);
+    Ok(())
+}
