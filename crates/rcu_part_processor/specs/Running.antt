@@ -1,7 +1,7 @@
 -- What contracts see of a processor of which a claim runs.
-use Rattle.std.specs.Prelude.{◌≡◌, ℕ, Bool, List}
+use Rattle.std.specs.Prelude.{◌≡◌, ℕ, Bool, List, Result, IfOk, IfErr, IsErr}
 use Rattle.std.specs.Arc.{arc_value}
-use Rattle.rcu_board.specs.Seats.{view}
+use Rattle.rcu_board.specs.Seats.{SawShut, view}
 use Rattle.rcu_board.specs.declared.board.Board.{Board}
 use Rattle.rcu_board.specs.declared.board.Seat.{Seat}
 use Rattle.rcu_board.specs.declared.view.View.{View}
@@ -17,7 +17,7 @@ use Rattle.rcu_lanes.specs.declared.ends.Rear.{Rear}
 use Rattle.rcu_lists.specs.declared.pace.Kind.{Kind}
 use Rattle.rcu_lists.specs.declared.parcel.Parcel.{Parcel}
 use Rattle.rcu_part_steps.specs.Places.{AreKeyed}
-use Rattle.rcu_part_processor.specs.Accepting.{Accepting, Accepts, AcceptsNone, Refuses}
+use Rattle.rcu_part_processor.specs.Accepting.{Accepting, Accepts, AcceptsNone, IsRefusedByLimit, Refuses}
 use Rattle.rcu_part_processor.specs.Processors.{board_of}
 use Rattle.rcu_part_processor.specs.declared.processor.ProcessorState.{ProcessorState}
 use Rattle.rcu_part_processor.specs.declared.running_processor.RunningProcessorState.{RunningProcessorState}
@@ -93,3 +93,14 @@ module _ {J R : Type 0} where
   -- what is known of jobs stays known
   abbrev pub KeepsSoundRunning : (J → ℕ) → (ℕ → R → Type 0) → RunningProcessorState J R → RunningProcessorState J R → Type 0
   KeepsSoundRunning key_of gives old new = IsSoundRunning key_of gives old → IsSoundRunning key_of gives new
+
+  -- What a call answers and does while a claim runs: what it does between claims, and the claim stays.
+  pub record CallsAs (moment : ℕ) (kind : Kind) (key_of : J → ℕ) (gives : ℕ → R → Type 0) (job : J) (result : Result Ticket (Refused J)) (p q : RunningProcessorState J R) : Type 0 where
+    pub same : SameRunning p q
+    pub ok : IfOk result (λ t. IsAccepted moment kind (key_of job) job t p q)
+    pub err : IfErr result (λ _. KeepsAll p q)
+    pub refused : IfErr result (λ r. IsRefusedAs job r p q)
+    pub closed : SawShut p.cpu (running_view p) → IsErr result
+    pub full : p.accepted ≡ p.limit → IsRefusedByLimit result
+    pub claimed : q.claimed ≡ p.claimed
+    pub sound : KeepsSoundRunning key_of gives p q

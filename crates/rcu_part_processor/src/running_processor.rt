@@ -4,7 +4,7 @@ ghost use Rattle.std.specs.Prelude.{◌≡◌, ◌<◌, ◌≤◌, true};
 ghost use Rattle.std.specs.Arc.{arc_value};
 ghost use Rattle.std.specs.Vec.{vec_len, vec_capacity};
 ghost use Rattle.rcu_numbers.specs.declared.shape.TheConstants.{MOST_CALLBACKS};
-ghost use Rattle.rcu_board.specs.Seats.{view, AtBoard, SawShut};
+ghost use Rattle.rcu_board.specs.Seats.{view, AtBoard};
 ghost use Rattle.rcu_board.specs.declared.board.Role.{Role};
 ghost use Rattle.rcu_part_lists.specs.ProcessorLists.{holding};
 ghost use Rattle.rcu_numbers.specs.Words.{owes_of};
@@ -58,11 +58,9 @@ pub struct RunningProcessor<J: Job> {
 }
 
 impl<J: Job> RunningProcessor<J> {
-    ghost use Rattle.std.specs.Prelude.{IfOk, IfErr, IsErr};
     ghost use Rattle.rcu_part_lists.specs.ProcessorLists.{cpu_lists};
     ghost use Rattle.rcu_lists.specs.declared.pace.Kind.TheVariants.{Plain, Lazy};
-    ghost use Rattle.rcu_part_processor.specs.Accepting.{IsRefusedByLimit};
-    ghost use Rattle.rcu_part_processor.specs.Running.{SameRunning, IsAccepted, KeepsAll, IsRefusedAs, KeepsSoundRunning, running_lists, running_view};
+    ghost use Rattle.rcu_part_processor.specs.Running.{CallsAs, SameRunning, KeepsAll, KeepsSoundRunning, running_lists, running_view};
     ghost use Rattle.rcu_part_steps.specs.Reports.{Reports};
 
     /// Its number.
@@ -121,15 +119,8 @@ impl<J: Job> RunningProcessor<J> {
     /// The job comes back, and nothing is accepted: refusal 4 at the limit, refusal 2 for want of memory, refusal 3 where
     /// the processor was shut.
     pub fn call_rcu(&mut self, moment: u64, job: J) -> Result<Ticket, Refused<J>>
-        ensures same { SameRunning self.old.state self.new.state }
-        ensures ok { IfOk result (λ t.
-            IsAccepted moment Plain (J.key_of job) job t self.old.state self.new.state) }
-        ensures err { IfErr result (λ _. KeepsAll self.old.state self.new.state) }
-        ensures refused { IfErr result (λ r. IsRefusedAs job r self.old.state self.new.state) }
-        ensures closed { SawShut self.old.state.cpu (running_view self.old.state) → IsErr result }
-        ensures full { self.old.state.accepted ≡ self.old.state.limit → IsRefusedByLimit result }
-        ensures claimed { self.new.state.claimed ≡ self.old.state.claimed }
-        ensures sound { KeepsSoundRunning J.key_of J.gives self.old.state self.new.state }
+        ensures calls {
+            CallsAs moment Plain J.key_of J.gives job result self.old.state self.new.state }
     {
         self.call(moment, Kind::Plain, job)
     }
@@ -140,30 +131,16 @@ impl<J: Job> RunningProcessor<J> {
     ///
     /// As `call_rcu`.
     pub fn call_rcu_lazy(&mut self, moment: u64, job: J) -> Result<Ticket, Refused<J>>
-        ensures same { SameRunning self.old.state self.new.state }
-        ensures ok { IfOk result (λ t.
-            IsAccepted moment Lazy (J.key_of job) job t self.old.state self.new.state) }
-        ensures err { IfErr result (λ _. KeepsAll self.old.state self.new.state) }
-        ensures refused { IfErr result (λ r. IsRefusedAs job r self.old.state self.new.state) }
-        ensures closed { SawShut self.old.state.cpu (running_view self.old.state) → IsErr result }
-        ensures full { self.old.state.accepted ≡ self.old.state.limit → IsRefusedByLimit result }
-        ensures claimed { self.new.state.claimed ≡ self.old.state.claimed }
-        ensures sound { KeepsSoundRunning J.key_of J.gives self.old.state self.new.state }
+        ensures calls {
+            CallsAs moment Lazy J.key_of J.gives job result self.old.state self.new.state }
     {
         self.call(moment, Kind::Lazy, job)
     }
 
     // Accepts a job of either kind.
     fn call(&mut self, moment: u64, kind: Kind, job: J) -> Result<Ticket, Refused<J>>
-        ensures same { SameRunning self.old.state self.new.state }
-        ensures ok { IfOk result (λ t.
-            IsAccepted moment kind (J.key_of job) job t self.old.state self.new.state) }
-        ensures err { IfErr result (λ _. KeepsAll self.old.state self.new.state) }
-        ensures refused { IfErr result (λ r. IsRefusedAs job r self.old.state self.new.state) }
-        ensures closed { SawShut self.old.state.cpu (running_view self.old.state) → IsErr result }
-        ensures full { self.old.state.accepted ≡ self.old.state.limit → IsRefusedByLimit result }
-        ensures claimed { self.new.state.claimed ≡ self.old.state.claimed }
-        ensures sound { KeepsSoundRunning J.key_of J.gives self.old.state self.new.state }
+        ensures calls {
+            CallsAs moment kind J.key_of J.gives job result self.old.state self.new.state }
     {
         let state = &mut self.state;
         let request = Request {

@@ -7,11 +7,11 @@ use Rattle.rcu_c_slots.proofs.Jobs.{job_sends, receipt_sends, running_cpu_fits}
 use Rattle.rcu_c_slots.proofs.processors.call_begun.Goals as goal
 
 pub returns-in-Plain : goal.returns-in-Plain
-returns-in-Plain c = let e = c.call_rcu.ensures in let a = c.args in let q : BegunProcessor = record { processor = c.call_rcu.new.self; job = a.begun.now.job } in
+returns-in-Plain c = let e = c.call_rcu.ensures.calls in let a = c.args in let q : BegunProcessor = record { processor = c.call_rcu.new.self; job = a.begun.now.job } in
     subst (λ kind. AnswersBegun kind a.moment a.job c.call_rcu.result a.begun.now q) (sym c.in-Plain.is) (answers_begun Plain a.moment a.job c.call_rcu.result a.begun.now q refl e.same e.ok e.err e.refused e.closed e.full e.claimed e.sound)
 
 pub returns-in-Lazy : goal.returns-in-Lazy
-returns-in-Lazy c = let e = c.call_rcu_lazy.ensures in let a = c.args in let q : BegunProcessor = record { processor = c.call_rcu_lazy.new.self; job = a.begun.now.job } in
+returns-in-Lazy c = let e = c.call_rcu_lazy.ensures.calls in let a = c.args in let q : BegunProcessor = record { processor = c.call_rcu_lazy.new.self; job = a.begun.now.job } in
     subst (λ kind. AnswersBegun kind a.moment a.job c.call_rcu_lazy.result a.begun.now q) (sym c.in-Lazy.is) (answers_begun Lazy a.moment a.job c.call_rcu_lazy.result a.begun.now q refl e.same e.ok e.err e.refused e.closed e.full e.claimed e.sound)
 
 pub call_rcu-requires-send-J : goal.call_rcu-requires-send-J

@@ -6,11 +6,11 @@ use Rattle.rcu_c_slots.proofs.Jobs.{cpu_fits, job_sends, receipt_sends}
 use Rattle.rcu_c_slots.proofs.processors.call_one.Goals as goal
 
 pub returns-in-Plain : goal.returns-in-Plain
-returns-in-Plain c = let e = c.call_rcu.ensures in let a = c.args in
+returns-in-Plain c = let e = c.call_rcu.ensures.calls in let a = c.args in
     subst (λ kind. AnswersCall kind a.moment a.job c.call_rcu.result a.processor.now c.call_rcu.new.self) (sym c.in-Plain.is) (answers_call Plain a.moment a.job c.call_rcu.result a.processor.now c.call_rcu.new.self e.same e.ok e.err e.refused e.closed e.full e.sound)
 
 pub returns-in-Lazy : goal.returns-in-Lazy
-returns-in-Lazy c = let e = c.call_rcu_lazy.ensures in let a = c.args in
+returns-in-Lazy c = let e = c.call_rcu_lazy.ensures.calls in let a = c.args in
     subst (λ kind. AnswersCall kind a.moment a.job c.call_rcu_lazy.result a.processor.now c.call_rcu_lazy.new.self) (sym c.in-Lazy.is) (answers_call Lazy a.moment a.job c.call_rcu_lazy.result a.processor.now c.call_rcu_lazy.new.self e.same e.ok e.err e.refused e.closed e.full e.sound)
 
 pub call_rcu-requires-send-J : goal.call_rcu-requires-send-J

@@ -10,7 +10,7 @@ use Rattle.rcu_part_threads.proofs.callers.call_one.Goals as goal
 pub returns-clause-turns : goal.returns-clause-turns
 returns-clause-turns g c = let job = c.args.job in let answer = c.call_rcu-answer.result in let counted = c.quiescent.result in
     let before = c.args.processor.now.state in let called = c.call_rcu-answer.new.self.state in let told = c.quiescent.new.self.state in
-    let call = c.call_rcu-answer.ensures in let quiet = c.quiescent.ensures in record {
+    let call = c.call_rcu-answer.ensures.calls in let quiet = c.quiescent.ensures in record {
       called = called;
       told = told;
       counted = counted;
@@ -24,7 +24,7 @@ returns-clause-turns g c = let job = c.args.job in let answer = c.call_rcu-answe
 pub returns-clause-answered : goal.returns-clause-answered
 returns-clause-answered g c = let key_of = g.J.Job.key_of in let gives = g.J.Job.gives in let job = c.args.job in let answer = c.call_rcu-answer.result in
     let before = c.args.processor.now in let called = c.call_rcu-answer.new.self in let told = c.quiescent.new.self in let ticked = c.tick.new.self in
-    let call = c.call_rcu-answer.ensures in let quiet = c.quiescent.ensures in let tick = c.tick.ensures in
+    let call = c.call_rcu-answer.ensures.calls in let quiet = c.quiescent.ensures in let tick = c.tick.ensures in
     answered_still key_of gives (job ∷ []) (answer ∷ []) before told ticked tick.count tick.same (accepted_ticked _ c.tick.result told.state ticked.state tick.ticks) tick.sound
     (answered_still key_of gives (job ∷ []) (answer ∷ []) before called told quiet.keeps.count quiet.same (accepted_told c.quiescent.result called.state told.state quiet.reports) quiet.sound
     (answered_by key_of gives _ Plain job answer before called call.same call.ok call.err call.refused call.sound))

@@ -30,11 +30,11 @@ pub tick-requires-after_bounds : goal.tick-requires-after_bounds
 tick-requires-after_bounds g c κs within = assumption
 
 pub returns-in-Call-clause-acts : goal.returns-in-Call-clause-acts
-returns-in-Call-clause-acts g c = let e = c.call_rcu.ensures in let key_of = g.J.Job.key_of in
+returns-in-Call-clause-acts g c = let e = c.call_rcu.ensures.calls in let key_of = g.J.Job.key_of in
     subst (λ s. Acts key_of s c.accepted.result c.args.processor.now.state c.call_rcu.new.self.state) (sym c.in-Call.is) (called key_of c.in-Call.moment Plain c.in-Call.job c.args.processor.now.state c.call_rcu.new.self.state c.call_rcu.result c.accepted.result c.accepted.ensures.ok c.accepted.ensures.err e.ok e.err e.refused)
 
 pub returns-in-Lazy-clause-acts : goal.returns-in-Lazy-clause-acts
-returns-in-Lazy-clause-acts g c = let e = c.call_rcu_lazy.ensures in let key_of = g.J.Job.key_of in
+returns-in-Lazy-clause-acts g c = let e = c.call_rcu_lazy.ensures.calls in let key_of = g.J.Job.key_of in
     subst (λ s. Acts key_of s c.accepted-in-Lazy.result c.args.processor.now.state c.call_rcu_lazy.new.self.state) (sym c.in-Lazy.is) (called key_of c.in-Lazy.moment Lazy c.in-Lazy.job c.args.processor.now.state c.call_rcu_lazy.new.self.state c.call_rcu_lazy.result c.accepted-in-Lazy.result c.accepted-in-Lazy.ensures.ok c.accepted-in-Lazy.ensures.err e.ok e.err e.refused)
 
 pub returns-in-Report-clause-acts : goal.returns-in-Report-clause-acts

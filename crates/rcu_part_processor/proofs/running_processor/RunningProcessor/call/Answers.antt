@@ -39,29 +39,17 @@ accept_job-requires-after_bounds g c κs within =
       ),
     )
 
-pub returns-clause-same : goal.returns-clause-same
-returns-clause-same g c = let e = c.accept_job.ensures in record { part = record { board = refl; seat = e.same }; lane = e.lane; cpu = refl; offloadable = refl; limit = refl; blimit = refl }
-
-pub returns-clause-ok : goal.returns-clause-ok
-returns-clause-ok g c = let s = c.args.self.now.state in
-    accepts_with s.ran.items c.args.moment c.args.kind (g.J.Job.key_of c.args.job) c.args.job
-    (pieces s.cpu s.limit s.accepted s.seat s.lists) (pieces s.cpu s.limit c.accept_job.new.accepted c.accept_job.new.seat c.accept_job.new.lists) c.accept_job.result c.accept_job.ensures.ok
-
-pub returns-clause-err : goal.returns-clause-err
-returns-clause-err g c = let s = c.args.self.now.state in
-    accepts_none_with s.ran.items
-    (pieces s.cpu s.limit s.accepted s.seat s.lists) (pieces s.cpu s.limit c.accept_job.new.accepted c.accept_job.new.seat c.accept_job.new.lists) c.accept_job.result c.accept_job.ensures.err
-
-pub returns-clause-refused : goal.returns-clause-refused
-returns-clause-refused g c = let s = c.args.self.now.state in
-    refuses_with s.ran.items c.args.job
-    (pieces s.cpu s.limit s.accepted s.seat s.lists) (pieces s.cpu s.limit c.accept_job.new.accepted c.accept_job.new.seat c.accept_job.new.lists) c.accept_job.result c.accept_job.ensures.refused
-
-pub returns-clause-closed : goal.returns-clause-closed
-returns-clause-closed g c = c.accept_job.ensures.closed
-
-pub returns-clause-full : goal.returns-clause-full
-returns-clause-full g c = c.accept_job.ensures.full
-
-pub returns-clause-sound : goal.returns-clause-sound
-returns-clause-sound g c = λ sound. record { keyed = c.accept_job.ensures.keyed sound.keyed; given = sound.given }
+pub returns : goal.returns
+returns g c = let s = c.args.self.now.state in let e = c.accept_job.ensures in record { calls = record {
+  same = record { part = record { board = refl; seat = e.same }; lane = e.lane; cpu = refl; offloadable = refl; limit = refl; blimit = refl };
+  ok = accepts_with s.ran.items c.args.moment c.args.kind (g.J.Job.key_of c.args.job) c.args.job
+      (pieces s.cpu s.limit s.accepted s.seat s.lists) (pieces s.cpu s.limit c.accept_job.new.accepted c.accept_job.new.seat c.accept_job.new.lists) c.accept_job.result e.ok;
+  err = accepts_none_with s.ran.items
+      (pieces s.cpu s.limit s.accepted s.seat s.lists) (pieces s.cpu s.limit c.accept_job.new.accepted c.accept_job.new.seat c.accept_job.new.lists) c.accept_job.result e.err;
+  refused = refuses_with s.ran.items c.args.job
+      (pieces s.cpu s.limit s.accepted s.seat s.lists) (pieces s.cpu s.limit c.accept_job.new.accepted c.accept_job.new.seat c.accept_job.new.lists) c.accept_job.result e.refused;
+  closed = e.closed;
+  full = e.full;
+  claimed = refl;
+  sound = λ sound. record { keyed = e.keyed sound.keyed; given = sound.given };
+} }

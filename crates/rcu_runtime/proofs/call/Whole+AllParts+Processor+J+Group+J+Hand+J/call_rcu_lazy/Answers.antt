@@ -9,22 +9,22 @@ pub returns-then-p-processors-clause-continues : goal.returns-then-p-processors-
 returns-then-p-processors-clause-continues g c = continues_itself c.args.self.now
 
 pub invariant_of-self : goal.invariant_of-self
-invariant_of-self g c = called_whole c.args.self.now c.self.inside.parts c.self.view_is c.args.p c.processors.result c.index_mut.result.now c.call_rcu_lazy.new.self c.if-p-processors.false c.processors.ensures c.index_mut.ensures.value g.J.Job.key_of g.J.Job.gives c.self.inside.limit c.call_rcu_lazy.ensures.same c.call_rcu_lazy.ensures.sound c.self.invariant
+invariant_of-self g c = called_whole c.args.self.now c.self.inside.parts c.self.view_is c.args.p c.processors.result c.index_mut.result.now c.call_rcu_lazy.new.self c.if-p-processors.false c.processors.ensures c.index_mut.ensures.value g.J.Job.key_of g.J.Job.gives c.self.inside.limit c.call_rcu_lazy.ensures.calls.same c.call_rcu_lazy.ensures.calls.sound c.self.invariant
 
 pub returns-clause-continues : goal.returns-clause-continues
-returns-clause-continues g c = accepted_continues c.args.self.now c.self.inside.parts c.self.view_is c.args.p c.processors.result c.index_mut.result.now c.call_rcu_lazy.new.self c.if-p-processors.false c.processors.ensures c.index_mut.ensures.value c.args.moment Lazy (g.J.Job.key_of c.args.job) c.args.job c.call_rcu_lazy.result (record { same = c.call_rcu_lazy.ensures.same; ok = c.call_rcu_lazy.ensures.ok; err = c.call_rcu_lazy.ensures.err; refused = c.call_rcu_lazy.ensures.refused; full = c.call_rcu_lazy.ensures.full }) c.self.invariant.close.one
+returns-clause-continues g c = accepted_continues c.args.self.now c.self.inside.parts c.self.view_is c.args.p c.processors.result c.index_mut.result.now c.call_rcu_lazy.new.self c.if-p-processors.false c.processors.ensures c.index_mut.ensures.value c.args.moment Lazy (g.J.Job.key_of c.args.job) c.args.job c.call_rcu_lazy.result (record { same = c.call_rcu_lazy.ensures.calls.same; ok = c.call_rcu_lazy.ensures.calls.ok; err = c.call_rcu_lazy.ensures.calls.err; refused = c.call_rcu_lazy.ensures.calls.refused; full = c.call_rcu_lazy.ensures.calls.full }) c.self.invariant.close.one
 
 pub returns-clause-ok : goal.returns-clause-ok
-returns-clause-ok g c = rw c.given_back.ensures (accepted_ok c.args.self.now c.self.inside.parts c.self.view_is c.args.p c.processors.result c.index_mut.result.now c.call_rcu_lazy.new.self c.if-p-processors.false c.processors.ensures c.index_mut.ensures.value c.args.moment Lazy (g.J.Job.key_of c.args.job) c.args.job c.call_rcu_lazy.result c.self.invariant.close.one (record { same = c.call_rcu_lazy.ensures.same; ok = c.call_rcu_lazy.ensures.ok; err = c.call_rcu_lazy.ensures.err; refused = c.call_rcu_lazy.ensures.refused; full = c.call_rcu_lazy.ensures.full }))
+returns-clause-ok g c = rw c.given_back.ensures (accepted_ok c.args.self.now c.self.inside.parts c.self.view_is c.args.p c.processors.result c.index_mut.result.now c.call_rcu_lazy.new.self c.if-p-processors.false c.processors.ensures c.index_mut.ensures.value c.args.moment Lazy (g.J.Job.key_of c.args.job) c.args.job c.call_rcu_lazy.result c.self.invariant.close.one (record { same = c.call_rcu_lazy.ensures.calls.same; ok = c.call_rcu_lazy.ensures.calls.ok; err = c.call_rcu_lazy.ensures.calls.err; refused = c.call_rcu_lazy.ensures.calls.refused; full = c.call_rcu_lazy.ensures.calls.full }))
 
 pub returns-clause-err : goal.returns-clause-err
-returns-clause-err g c = rw c.given_back.ensures (accepted_err c.args.self.now c.self.inside.parts c.self.view_is c.args.p c.processors.result c.index_mut.result.now c.call_rcu_lazy.new.self c.if-p-processors.false c.processors.ensures c.index_mut.ensures.value c.args.moment Lazy (g.J.Job.key_of c.args.job) c.args.job c.call_rcu_lazy.result c.self.invariant.close.one (record { same = c.call_rcu_lazy.ensures.same; ok = c.call_rcu_lazy.ensures.ok; err = c.call_rcu_lazy.ensures.err; refused = c.call_rcu_lazy.ensures.refused; full = c.call_rcu_lazy.ensures.full }))
+returns-clause-err g c = rw c.given_back.ensures (accepted_err c.args.self.now c.self.inside.parts c.self.view_is c.args.p c.processors.result c.index_mut.result.now c.call_rcu_lazy.new.self c.if-p-processors.false c.processors.ensures c.index_mut.ensures.value c.args.moment Lazy (g.J.Job.key_of c.args.job) c.args.job c.call_rcu_lazy.result c.self.invariant.close.one (record { same = c.call_rcu_lazy.ensures.calls.same; ok = c.call_rcu_lazy.ensures.calls.ok; err = c.call_rcu_lazy.ensures.calls.err; refused = c.call_rcu_lazy.ensures.calls.refused; full = c.call_rcu_lazy.ensures.calls.full }))
 
 pub returns-clause-one : goal.returns-clause-one
-returns-clause-one g c = rw c.given_back.ensures (accepted_one c.args.self.now c.self.inside.parts c.self.view_is c.args.p c.processors.result c.index_mut.result.now c.call_rcu_lazy.new.self c.if-p-processors.false c.processors.ensures c.index_mut.ensures.value c.args.moment Lazy (g.J.Job.key_of c.args.job) c.args.job c.call_rcu_lazy.result (record { same = c.call_rcu_lazy.ensures.same; ok = c.call_rcu_lazy.ensures.ok; err = c.call_rcu_lazy.ensures.err; refused = c.call_rcu_lazy.ensures.refused; full = c.call_rcu_lazy.ensures.full }))
+returns-clause-one g c = rw c.given_back.ensures (accepted_one c.args.self.now c.self.inside.parts c.self.view_is c.args.p c.processors.result c.index_mut.result.now c.call_rcu_lazy.new.self c.if-p-processors.false c.processors.ensures c.index_mut.ensures.value c.args.moment Lazy (g.J.Job.key_of c.args.job) c.args.job c.call_rcu_lazy.result (record { same = c.call_rcu_lazy.ensures.calls.same; ok = c.call_rcu_lazy.ensures.calls.ok; err = c.call_rcu_lazy.ensures.calls.err; refused = c.call_rcu_lazy.ensures.calls.refused; full = c.call_rcu_lazy.ensures.calls.full }))
 
 pub returns-clause-none : goal.returns-clause-none
-returns-clause-none g c = rw c.given_back.ensures (accepted_none c.args.self.now c.self.inside.parts c.self.view_is c.args.p c.processors.result c.index_mut.result.now c.call_rcu_lazy.new.self c.if-p-processors.false c.processors.ensures c.index_mut.ensures.value c.args.moment Lazy (g.J.Job.key_of c.args.job) c.args.job c.call_rcu_lazy.result (record { same = c.call_rcu_lazy.ensures.same; ok = c.call_rcu_lazy.ensures.ok; err = c.call_rcu_lazy.ensures.err; refused = c.call_rcu_lazy.ensures.refused; full = c.call_rcu_lazy.ensures.full }))
+returns-clause-none g c = rw c.given_back.ensures (accepted_none c.args.self.now c.self.inside.parts c.self.view_is c.args.p c.processors.result c.index_mut.result.now c.call_rcu_lazy.new.self c.if-p-processors.false c.processors.ensures c.index_mut.ensures.value c.args.moment Lazy (g.J.Job.key_of c.args.job) c.args.job c.call_rcu_lazy.result (record { same = c.call_rcu_lazy.ensures.calls.same; ok = c.call_rcu_lazy.ensures.calls.ok; err = c.call_rcu_lazy.ensures.calls.err; refused = c.call_rcu_lazy.ensures.calls.refused; full = c.call_rcu_lazy.ensures.calls.full }))
 
 pub processors-requires-send-J : goal.processors-requires-send-J
 processors-requires-send-J g c κs within = c.type_bounds.send-J
