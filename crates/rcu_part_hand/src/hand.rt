@@ -13,7 +13,7 @@ use rcu_board::{Board, Role, Seat};
 use rcu_jobs::{Callback, Job, Record, Stop};
 use rcu_numbers::Shape;
 use rcu_part_lists::Held;
-use rcu_part_steps::{Begins, ClaimedCallback, take};
+use rcu_part_steps::{Begins, ClaimedCallback, try_claim};
 use std::alloc::Global;
 use std::sync::Arc;
 
@@ -128,7 +128,7 @@ impl<J: Job> Hand<J> {
                 mut held,
             },
         } = self;
-        if !take(&board, &mut seat, cpu, claimed.number) {
+        if !try_claim(&board, &mut seat, cpu, claimed.number) {
             let state = HandState {
                 board,
                 seat,

@@ -12,7 +12,7 @@ use crate::hand::Hand;
 use rcu_jobs::{HandTurn, Job, Stop};
 use rcu_numbers::snap;
 use rcu_part_lists::Fetched;
-use rcu_part_steps::{look_at_number, run_claimed, take};
+use rcu_part_steps::{look_at_number, run_claimed, try_claim};
 
 impl<J: Job> Hand<J> {
     // Runs the first of what it holds, or says why not. The number `seen` is that of the turn's look.
@@ -38,7 +38,7 @@ impl<J: Job> Hand<J> {
         let Ok(()) = state.ran.reserve(1) else {
             return Some(Stop::Memory);
         };
-        if !take(&state.board, &mut state.seat, state.cpu, number) {
+        if !try_claim(&state.board, &mut state.seat, state.cpu, number) {
             return Some(Stop::Turn);
         }
         let Some(callback) = state.held.take() else {

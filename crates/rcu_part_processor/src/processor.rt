@@ -14,7 +14,7 @@ use rcu_board::{Board, Role, Seat};
 use rcu_jobs::{Callback, Job, Record, Stop};
 use rcu_numbers::Shape;
 use rcu_part_lists::ProcessorLists;
-use rcu_part_steps::{Begins, ClaimedCallback, take};
+use rcu_part_steps::{Begins, ClaimedCallback, try_claim};
 use std::alloc::Global;
 use std::sync::Arc;
 
@@ -167,7 +167,7 @@ impl<J: Job> Processor<J> {
                 mut lists,
             },
         } = self;
-        if !take(&board, &mut seat, cpu, claimed.number) {
+        if !try_claim(&board, &mut seat, cpu, claimed.number) {
             let state = ProcessorState {
                 board,
                 seat,

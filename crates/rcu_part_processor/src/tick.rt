@@ -11,7 +11,7 @@ ghost use Rattle.rcu_part_steps.specs.Stops.{StopsInTime};
 use crate::processor::Processor;
 use rcu_board::{asked, heard, need, turn_of};
 use rcu_jobs::{Job, Stop, Ticked};
-use rcu_part_steps::{look_at_number, run_claimed, take};
+use rcu_part_steps::{look_at_number, run_claimed, try_claim};
 
 impl<J: Job> Processor<J> {
     // The tick's look: the own list is advanced by the number seen and accelerated, and what it waits for is asked for.
@@ -89,7 +89,7 @@ impl<J: Job> Processor<J> {
         let Ok(()) = state.ran.reserve(1) else {
             return Some(Stop::Memory);
         };
-        if !take(&state.board, &mut state.seat, state.cpu, number) {
+        if !try_claim(&state.board, &mut state.seat, state.cpu, number) {
             return Some(Stop::Turn);
         }
         let Some(callback) = state.lists.take() else {

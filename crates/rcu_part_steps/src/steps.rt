@@ -74,7 +74,7 @@ pub fn look_at_number(board: &Board, seat: &mut Seat) -> BoardWord
 }
 
 /// A processor's or a hand's claim: whether it was won, at the board sight that there is.
-pub fn take(board: &Board, seat: &mut Seat, cpu: u64, number: u64) -> bool
+pub fn try_claim(board: &Board, seat: &mut Seat, cpu: u64, number: u64) -> bool
     requires board { AtBoard board.now seat.old }
     requires who { MayClaim seat.old.role }
     requires cpu { cpu_of_role seat.old.role ≡ cpu }

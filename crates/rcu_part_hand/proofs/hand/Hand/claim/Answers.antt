@@ -19,68 +19,68 @@ use Rattle.rcu_part_steps.specs.declared.begins.ClaimedCallback.{ClaimedCallback
 use Rattle.std.specs.Arc.{arc_value}
 use Rattle.rcu_part_hand.proofs.hand.Hand.claim.Goals as goal
 
-pub take-requires-clause-board : goal.take-requires-clause-board
-take-requires-clause-board g c = let s = c.args.self.state in stands (arc_value s.board) c.deref.result.now s.seat c.deref.ensures s.here
+pub try_claim-requires-clause-board : goal.try_claim-requires-clause-board
+try_claim-requires-clause-board g c = let s = c.args.self.state in stands (arc_value s.board) c.deref.result.now s.seat c.deref.ensures s.here
 
-pub take-requires-clause-who : goal.take-requires-clause-who
-take-requires-clause-who g c = subst MayClaim (sym c.args.self.state.role) tt
+pub try_claim-requires-clause-who : goal.try_claim-requires-clause-who
+try_claim-requires-clause-who g c = subst MayClaim (sym c.args.self.state.role) tt
 
-pub take-requires-clause-cpu : goal.take-requires-clause-cpu
-take-requires-clause-cpu g c = ap cpu_of_role c.args.self.state.role
+pub try_claim-requires-clause-cpu : goal.try_claim-requires-clause-cpu
+try_claim-requires-clause-cpu g c = ap cpu_of_role c.args.self.state.role
 
-pub take-requires-clause-rests : goal.take-requires-clause-rests
-take-requires-clause-rests g c = c.args.self.state.lawful.rests
+pub try_claim-requires-clause-rests : goal.try_claim-requires-clause-rests
+try_claim-requires-clause-rests g c = c.args.self.state.lawful.rests
 
-pub take-requires-clause-small : goal.take-requires-clause-small
-take-requires-clause-small g c = c.requires.small
+pub try_claim-requires-clause-small : goal.try_claim-requires-clause-small
+try_claim-requires-clause-small g c = c.requires.small
 
 pub invariant_of-state : goal.invariant_of-state
-invariant_of-state g c = let s = c.args.self.state in let e = c.if-not-take.ensures in record {
+invariant_of-state g c = let s = c.args.self.state in let e = c.if-not-try_claim.ensures in record {
   here = e.same.table ∙ s.here;
   role = e.same.role ∙ s.role;
   lawful = hand_kept s.cpu (view s.seat) _ s.ran.items _ (taken_by s.held) (e.lost refl).0 refl s.lawful;
 }
 
-pub returns-then-not-take-clause-stays : goal.returns-then-not-take-clause-stays
-returns-then-not-take-clause-stays g c = record { part = record { board = refl; seat = c.if-not-take.ensures.same }; lane = refl; cpu = refl; blimit = refl }
+pub returns-then-not-try_claim-clause-stays : goal.returns-then-not-try_claim-clause-stays
+returns-then-not-try_claim-clause-stays g c = record { part = record { board = refl; seat = c.if-not-try_claim.ensures.same }; lane = refl; cpu = refl; blimit = refl }
 
-pub returns-then-not-take-clause-lost : goal.returns-then-not-take-clause-lost
-returns-then-not-take-clause-lost g c = ran_none 1 c.args.claimed.ready c.args.self.state _ refl refl refl ((c.if-not-take.ensures.lost refl).1 ∙ c.requires.seen) c.if-not-take.ensures.only
+pub returns-then-not-try_claim-clause-lost : goal.returns-then-not-try_claim-clause-lost
+returns-then-not-try_claim-clause-lost g c = ran_none 1 c.args.claimed.ready c.args.self.state _ refl refl refl ((c.if-not-try_claim.ensures.lost refl).1 ∙ c.requires.seen) c.if-not-try_claim.ensures.only
 
-pub returns-then-not-take-clause-stops : goal.returns-then-not-take-clause-stops
-returns-then-not-take-clause-stops g c = let n = c.requires.next in let k = ap (λ (x : ClaimedCallback). x.number) n.claimed in let l = (c.if-not-take.ensures.lost refl).2 in
+pub returns-then-not-try_claim-clause-stops : goal.returns-then-not-try_claim-clause-stops
+returns-then-not-try_claim-clause-stops g c = let n = c.requires.next in let k = ap (λ (x : ClaimedCallback). x.number) n.claimed in let l = (c.if-not-try_claim.ensures.lost refl).2 in
     (n.first, n.rest, n.held, inr (λ e. l (omega (arith, e, k)), refl))
 
-pub returns-then-not-take-clause-counts : goal.returns-then-not-take-clause-counts
-returns-then-not-take-clause-counts g c = λ e. (let f : Turn ≡ Limit = e in cc)
+pub returns-then-not-try_claim-clause-counts : goal.returns-then-not-try_claim-clause-counts
+returns-then-not-try_claim-clause-counts g c = λ e. (let f : Turn ≡ Limit = e in cc)
 
-pub returns-then-not-take-clause-sound : goal.returns-then-not-take-clause-sound
-returns-then-not-take-clause-sound g c = λ sound. (tt, sound)
+pub returns-then-not-try_claim-clause-sound : goal.returns-then-not-try_claim-clause-sound
+returns-then-not-try_claim-clause-sound g c = λ sound. (tt, sound)
 
 pub unreachable-requires : goal.unreachable-requires
 unreachable-requires g c = let n = c.requires.next in not_none n.first n.rest (held_by c.args.self.state.held) n.held c.in_default.ensures.first.0
 
 pub invariant_of-state-2 : goal.invariant_of-state-2
 invariant_of-state-2 g c =
-    let s = c.args.self.state in let e = c.if-not-take.ensures in let n = c.requires.next in let x = c.in-Some.callback in
-    let first = same_first n.first x n.rest (held_by c.take-2.new.self) (sym n.held ∙ c.in-Some.ensures.first) in
+    let s = c.args.self.state in let e = c.if-not-try_claim.ensures in let n = c.requires.next in let x = c.in-Some.callback in
+    let first = same_first n.first x n.rest (held_by c.take.new.self) (sym n.held ∙ c.in-Some.ensures.first) in
     let is : c.args.claimed ≡ claimed_as c.args.claimed.ready x = n.claimed ∙ ap (claimed_as c.args.claimed.ready) first in
-    let won : Claims s.cpu x.number (view s.seat) (view c.take.new.seat) = subst (λ (k : ℕ). Claims s.cpu k (view s.seat) (view c.take.new.seat)) (ap (λ (y : ClaimedCallback). y.number) is) (e.won refl) in record {
+    let won : Claims s.cpu x.number (view s.seat) (view c.try_claim.new.seat) = subst (λ (k : ℕ). Claims s.cpu k (view s.seat) (view c.try_claim.new.seat)) (ap (λ (y : ClaimedCallback). y.number) is) (e.won refl) in record {
       here = e.same.table ∙ s.here;
       role = e.same.role ∙ s.role;
       small = c.requires.small;
       room = c.requires.room;
-      lawful = hand_begun s.cpu c.args.claimed.ready (view s.seat) (view c.take.new.seat) s.ran.items (taken_by s.held) (taken_by c.take-2.new.self) x c.args.claimed is won c.requires.seen c.in-Some.ensures.taken
+      lawful = hand_begun s.cpu c.args.claimed.ready (view s.seat) (view c.try_claim.new.seat) s.ran.items (taken_by s.held) (taken_by c.take.new.self) x c.args.claimed is won c.requires.seen c.in-Some.ensures.taken
           (subst (λ (y : Callback g.row.J.Denot). snap_of y.stamp ≤ c.args.claimed.ready) first n.over) s.lawful;
     }
 
 pub returns-clause-same : goal.returns-clause-same
-returns-clause-same g c = let s = c.args.self.state in record { part = record { board = refl; seat = c.if-not-take.ensures.same }; lane = same_lane s.held c.take-2.new.self c.in-Some.ensures.front; cpu = refl; blimit = refl }
+returns-clause-same g c = let s = c.args.self.state in record { part = record { board = refl; seat = c.if-not-try_claim.ensures.same }; lane = same_lane s.held c.take.new.self c.in-Some.ensures.front; cpu = refl; blimit = refl }
 
 pub returns-clause-runs : goal.returns-clause-runs
 returns-clause-runs g c =
-    let s = c.args.self.state in let e = c.if-not-take.ensures in let n = c.requires.next in let x = c.in-Some.callback in
-    let first = same_first n.first x n.rest (held_by c.take-2.new.self) (sym n.held ∙ c.in-Some.ensures.first) in
+    let s = c.args.self.state in let e = c.if-not-try_claim.ensures in let n = c.requires.next in let x = c.in-Some.callback in
+    let first = same_first n.first x n.rest (held_by c.take.new.self) (sym n.held ∙ c.in-Some.ensures.first) in
     let is : c.args.claimed ≡ claimed_as c.args.claimed.ready x = n.claimed ∙ ap (claimed_as c.args.claimed.ready) first in record {
       first = x;
       job_is = refl;
@@ -89,21 +89,21 @@ returns-clause-runs g c =
       records = refl;
       claimed = is;
       over = subst (λ (y : Callback g.row.J.Denot). snap_of y.stamp ≤ c.args.claimed.ready) first n.over;
-      won = subst (λ (k : ℕ). Claims s.cpu k (view s.seat) (view c.take.new.seat)) (ap (λ (y : ClaimedCallback). y.number) is) (e.won refl);
+      won = subst (λ (k : ℕ). Claims s.cpu k (view s.seat) (view c.try_claim.new.seat)) (ap (λ (y : ClaimedCallback). y.number) is) (e.won refl);
       steps = e.only;
     }
 
 pub returns-clause-keyed : goal.returns-clause-keyed
 returns-clause-keyed g c =
     let s = c.args.self.state in let n = c.requires.next in let x = c.in-Some.callback in
-    let first = same_first n.first x n.rest (held_by c.take-2.new.self) (sym n.held ∙ c.in-Some.ensures.first) in
+    let first = same_first n.first x n.rest (held_by c.take.new.self) (sym n.held ∙ c.in-Some.ensures.first) in
     let is : c.args.claimed ≡ claimed_as c.args.claimed.ready x = n.claimed ∙ ap (claimed_as c.args.claimed.ready) first in
-    let drawn : drawn_by c.take-2.new.self ≡ drawn_by s.held = ap (λ f. drawn_calls f) c.in-Some.ensures.front in
-    keyed_that_runs g.J.Job.key_of c.args.claimed.ready (drawn_by s.held) (drawn_by c.take-2.new.self) (taken_by s.held) (held_by c.take-2.new.self) x c.args.claimed is (s.held.order ∙ ap (λ l. taken_by s.held ++ l) c.in-Some.ensures.first) drawn
+    let drawn : drawn_by c.take.new.self ≡ drawn_by s.held = ap (λ f. drawn_calls f) c.in-Some.ensures.front in
+    keyed_that_runs g.J.Job.key_of c.args.claimed.ready (drawn_by s.held) (drawn_by c.take.new.self) (taken_by s.held) (held_by c.take.new.self) x c.args.claimed is (s.held.order ∙ ap (λ l. taken_by s.held ++ l) c.in-Some.ensures.first) drawn
 
 pub returns-clause-sound : goal.returns-clause-sound
 returns-clause-sound g c = λ sound. let s = c.args.self.state in
-    (hand_sound_kept g.J.Job.key_of g.J.Job.gives (drawn_by s.held) (drawn_by c.take-2.new.self) s.ran.items s.ran.items (ap (λ f. drawn_calls f) c.in-Some.ensures.front) refl sound, tt)
+    (hand_sound_kept g.J.Job.key_of g.J.Job.gives (drawn_by s.held) (drawn_by c.take.new.self) s.ran.items s.ran.items (ap (λ f. drawn_calls f) c.in-Some.ensures.front) refl sound, tt)
 
-pub take-requires-2 : goal.take-requires-2
-take-requires-2 g c = let h : FitsInMemory (row.the_row (param 0 g.row.J) (param 1 g.row.J-Receipt)) = assumption in in_struct _ _ _ (in_struct _ _ _ h)
+pub take-requires : goal.take-requires
+take-requires g c = let h : FitsInMemory (row.the_row (param 0 g.row.J) (param 1 g.row.J-Receipt)) = assumption in in_struct _ _ _ (in_struct _ _ _ h)

@@ -37,55 +37,55 @@ returns-in_default-reserve-clause-not g c = let f = c.in-Some.ensures.first in
 pub returns-in_default-reserve-clause-sound : goal.returns-in_default-reserve-clause-sound
 returns-in_default-reserve-clause-sound g c = hand_sound_kept g.J.Job.key_of g.J.Job.gives (drawn_by c.args.self.now.state.held) (drawn_by c.args.self.now.state.held) c.args.self.now.state.ran.items c.reserve.new.self.items refl c.reserve.ensures.items
 
-pub invariant_of-state-then-not-take : goal.invariant_of-state-then-not-take
-invariant_of-state-then-not-take g c = let s = c.args.self.now.state in let e = c.if-not-take.ensures in record {
+pub invariant_of-state-then-not-try_claim : goal.invariant_of-state-then-not-try_claim
+invariant_of-state-then-not-try_claim g c = let s = c.args.self.now.state in let e = c.if-not-try_claim.ensures in record {
   here = e.same.table ∙ s.here;
   role = e.same.role ∙ s.role;
   lawful = hand_kept s.cpu (view s.seat) _ s.ran.items _ (taken_by s.held) (e.lost refl).0 c.reserve.ensures.items s.lawful;
 }
 
-pub returns-then-not-take-clause-not : goal.returns-then-not-take-clause-not
-returns-then-not-take-clause-not g c = let f = c.in-Some.ensures.first in let l = c.if-not-take.ensures.lost refl in
-    (1, ran_none 1 c.args.seen c.args.self.now.state _ refl refl c.reserve.ensures.items (l.1 ∙ c.requires.seen) c.if-not-take.ensures.only, λ n. (c.in-Some.first.now, f.0, f.1, inr (l.2, refl)))
+pub returns-then-not-try_claim-clause-not : goal.returns-then-not-try_claim-clause-not
+returns-then-not-try_claim-clause-not g c = let f = c.in-Some.ensures.first in let l = c.if-not-try_claim.ensures.lost refl in
+    (1, ran_none 1 c.args.seen c.args.self.now.state _ refl refl c.reserve.ensures.items (l.1 ∙ c.requires.seen) c.if-not-try_claim.ensures.only, λ n. (c.in-Some.first.now, f.0, f.1, inr (l.2, refl)))
 
-pub returns-then-not-take-clause-sound : goal.returns-then-not-take-clause-sound
-returns-then-not-take-clause-sound g c = hand_sound_kept g.J.Job.key_of g.J.Job.gives (drawn_by c.args.self.now.state.held) (drawn_by c.args.self.now.state.held) c.args.self.now.state.ran.items c.reserve.new.self.items refl c.reserve.ensures.items
+pub returns-then-not-try_claim-clause-sound : goal.returns-then-not-try_claim-clause-sound
+returns-then-not-try_claim-clause-sound g c = hand_sound_kept g.J.Job.key_of g.J.Job.gives (drawn_by c.args.self.now.state.held) (drawn_by c.args.self.now.state.held) c.args.self.now.state.ran.items c.reserve.new.self.items refl c.reserve.ensures.items
 
 pub run_claimed-record-requires-clause-runs : goal.run_claimed-record-requires-clause-runs
 run_claimed-record-requires-clause-runs g c κs within =
-    let s = c.args.self.now.state in let e = c.if-not-take.ensures in let w = e.won refl in
-    let first = same_first c.in-Some.first.now c.in-Some-take.callback c.in-Some.ensures.first.0 (held_by c.take-2.new.self) (sym c.in-Some.ensures.first.1 ∙ c.in-Some-take.ensures.first) in
+    let s = c.args.self.now.state in let e = c.if-not-try_claim.ensures in let w = e.won refl in
+    let first = same_first c.in-Some.first.now c.in-Some-take.callback c.in-Some.ensures.first.0 (held_by c.take.new.self) (sym c.in-Some.ensures.first.1 ∙ c.in-Some-take.ensures.first) in
     let at : ℕ → ℕ → ℕ → List Claim = λ p k x. record { cpu = p; number = k; sight = x } ∷ [] in
-    w.running ∙ (ap (λ (x : ℕ). at s.cpu c.in-Some.first.now.number x) (sym w.sights) ∙ (ap (λ (x : Callback g.row.J.Denot). at s.cpu x.number (sight (view c.take.new.seat))) first
-    ∙ ap (λ (p : ℕ). at p c.in-Some-take.callback.number (sight (view c.take.new.seat))) (sym (ap cpu_of_role (e.same.role ∙ s.role)))))
+    w.running ∙ (ap (λ (x : ℕ). at s.cpu c.in-Some.first.now.number x) (sym w.sights) ∙ (ap (λ (x : Callback g.row.J.Denot). at s.cpu x.number (sight (view c.try_claim.new.seat))) first
+    ∙ ap (λ (p : ℕ). at p c.in-Some-take.callback.number (sight (view c.try_claim.new.seat))) (sym (ap cpu_of_role (e.same.role ∙ s.role)))))
 
 pub push_reserved-requires : goal.push_reserved-requires
 push_reserved-requires g c = omega (arith, c.in-Ok.ensures.ok, c.reserve.ensures.len)
 
 pub invariant_of-state-2 : goal.invariant_of-state-2
 invariant_of-state-2 g c =
-    let s = c.args.self.now.state in let e = c.if-not-take.ensures in let w = e.won refl in let r = c.run_claimed-record.ensures in
-    let first = same_first c.in-Some.first.now c.in-Some-take.callback c.in-Some.ensures.first.0 (held_by c.take-2.new.self) (sym c.in-Some.ensures.first.1 ∙ c.in-Some-take.ensures.first) in
-    let won : Claims s.cpu c.in-Some-take.callback.number (view s.seat) (view c.take.new.seat) = subst (λ (x : Callback g.row.J.Denot). Claims s.cpu x.number (view s.seat) (view c.take.new.seat)) first w in
+    let s = c.args.self.now.state in let e = c.if-not-try_claim.ensures in let w = e.won refl in let r = c.run_claimed-record.ensures in
+    let first = same_first c.in-Some.first.now c.in-Some-take.callback c.in-Some.ensures.first.0 (held_by c.take.new.self) (sym c.in-Some.ensures.first.1 ∙ c.in-Some-take.ensures.first) in
+    let won : Claims s.cpu c.in-Some-take.callback.number (view s.seat) (view c.try_claim.new.seat) = subst (λ (x : Callback g.row.J.Denot). Claims s.cpu x.number (view s.seat) (view c.try_claim.new.seat)) first w in
     let over : snap_of c.in-Some-take.callback.stamp ≤ c.args.seen = omega (arith, c.if-snap-seen.false, c.snap.ensures.value, ap (λ (x : Callback g.row.J.Denot). snap_of x.stamp) first) in record {
       here = r.same.table ∙ (e.same.table ∙ s.here);
       role = r.same.role ∙ (e.same.role ∙ s.role);
-      lawful = hand_ran s.cpu c.args.seen (view s.seat) (view c.take.new.seat) (view c.run_claimed-record.new.seat) s.ran.items c.push_reserved.new.self.items (taken_by s.held) (taken_by c.take-2.new.self)
+      lawful = hand_ran s.cpu c.args.seen (view s.seat) (view c.try_claim.new.seat) (view c.run_claimed-record.new.seat) s.ran.items c.push_reserved.new.self.items (taken_by s.held) (taken_by c.take.new.self)
           c.in-Some-take.callback c.run_claimed-record.result won r.ends c.requires.seen (c.push_reserved.ensures.items ∙ ap (λ rs. rs ++ c.run_claimed-record.result ∷ []) c.reserve.ensures.items) c.in-Some-take.ensures.taken r.record r.ready over s.lawful;
     }
 
 pub returns-clause-ran : goal.returns-clause-ran
-returns-clause-ran g c = let s = c.args.self.now.state in let e = c.if-not-take.ensures in let w = e.won refl in let r = c.run_claimed-record.ensures in
-    let drawn : drawn_by c.take-2.new.self ≡ drawn_by s.held = ap (λ f. drawn_calls f) c.in-Some-take.ensures.front in
+returns-clause-ran g c = let s = c.args.self.now.state in let e = c.if-not-try_claim.ensures in let w = e.won refl in let r = c.run_claimed-record.ensures in
+    let drawn : drawn_by c.take.new.self ≡ drawn_by s.held = ap (λ f. drawn_calls f) c.in-Some-take.ensures.front in
     ran_one c.args.seen s _ c.in-Some-take.callback c.run_claimed-record.result c.in-Some-take.ensures.first drawn (c.push_reserved.ensures.items ∙ ap (λ rs. rs ++ c.run_claimed-record.result ∷ []) c.reserve.ensures.items) r.record r.ready
     (r.ends.sights ∙ (w.sights ∙ c.requires.seen))
-    (steps_more (turns_word s.cpu) 1 1 (view s.seat) (view c.take.new.seat) (view c.run_claimed-record.new.seat) e.only
-    (subst (λ (p : ℕ). StepsOnly (turns_word p) 1 (view c.take.new.seat) (view c.run_claimed-record.new.seat)) (ap cpu_of_role (e.same.role ∙ s.role)) r.only))
+    (steps_more (turns_word s.cpu) 1 1 (view s.seat) (view c.try_claim.new.seat) (view c.run_claimed-record.new.seat) e.only
+    (subst (λ (p : ℕ). StepsOnly (turns_word p) 1 (view c.try_claim.new.seat) (view c.run_claimed-record.new.seat)) (ap cpu_of_role (e.same.role ∙ s.role)) r.only))
 
 pub returns-clause-sound : goal.returns-clause-sound
 returns-clause-sound g c = let s = c.args.self.now.state in
-    let drawn : drawn_by c.take-2.new.self ≡ drawn_by s.held = ap (λ f. drawn_calls f) c.in-Some-take.ensures.front in
-    hand_sound_ran g.J.Job.key_of g.J.Job.gives (drawn_by s.held) (drawn_by c.take-2.new.self) (taken_by s.held) (held_by c.take-2.new.self) c.in-Some-take.callback s.ran.items c.push_reserved.new.self.items c.run_claimed-record.result
+    let drawn : drawn_by c.take.new.self ≡ drawn_by s.held = ap (λ f. drawn_calls f) c.in-Some-take.ensures.front in
+    hand_sound_ran g.J.Job.key_of g.J.Job.gives (drawn_by s.held) (drawn_by c.take.new.self) (taken_by s.held) (held_by c.take.new.self) c.in-Some-take.callback s.ran.items c.push_reserved.new.self.items c.run_claimed-record.result
     (s.held.order ∙ ap (λ l. taken_by s.held ++ l) c.in-Some-take.ensures.first) drawn (c.push_reserved.ensures.items ∙ ap (λ rs. rs ++ c.run_claimed-record.result ∷ []) c.reserve.ensures.items) c.run_claimed-record.ensures.given
 
 pub returns-in_default-clause-same : goal.returns-in_default-clause-same
@@ -100,38 +100,38 @@ returns-then-snap-seen-clause-same g c = record { part = record { board = refl; 
 pub returns-in_default-reserve-clause-same : goal.returns-in_default-reserve-clause-same
 returns-in_default-reserve-clause-same g c = record { part = record { board = refl; seat = same_seat _ }; lane = refl; cpu = refl; blimit = refl }
 
-pub take-requires-clause-board : goal.take-requires-clause-board
-take-requires-clause-board g c = let s = c.args.self.now.state in stands (arc_value s.board) c.deref.result.now s.seat c.deref.ensures s.here
+pub try_claim-requires-clause-board : goal.try_claim-requires-clause-board
+try_claim-requires-clause-board g c = let s = c.args.self.now.state in stands (arc_value s.board) c.deref.result.now s.seat c.deref.ensures s.here
 
-pub take-requires-clause-who : goal.take-requires-clause-who
-take-requires-clause-who g c = subst MayClaim (sym c.args.self.now.state.role) tt
+pub try_claim-requires-clause-who : goal.try_claim-requires-clause-who
+try_claim-requires-clause-who g c = subst MayClaim (sym c.args.self.now.state.role) tt
 
-pub take-requires-clause-cpu : goal.take-requires-clause-cpu
-take-requires-clause-cpu g c = ap cpu_of_role c.args.self.now.state.role
+pub try_claim-requires-clause-cpu : goal.try_claim-requires-clause-cpu
+try_claim-requires-clause-cpu g c = ap cpu_of_role c.args.self.now.state.role
 
-pub take-requires-clause-rests : goal.take-requires-clause-rests
-take-requires-clause-rests g c = c.args.self.now.state.lawful.rests
+pub try_claim-requires-clause-rests : goal.try_claim-requires-clause-rests
+try_claim-requires-clause-rests g c = c.args.self.now.state.lawful.rests
 
-pub take-requires-clause-small : goal.take-requires-clause-small
-take-requires-clause-small g c = c.in-Some.ensures.safe.1
+pub try_claim-requires-clause-small : goal.try_claim-requires-clause-small
+try_claim-requires-clause-small g c = c.in-Some.ensures.safe.1
 
-pub returns-then-not-take-clause-same : goal.returns-then-not-take-clause-same
-returns-then-not-take-clause-same g c = record { part = record { board = refl; seat = c.if-not-take.ensures.same }; lane = refl; cpu = refl; blimit = refl }
+pub returns-then-not-try_claim-clause-same : goal.returns-then-not-try_claim-clause-same
+returns-then-not-try_claim-clause-same g c = record { part = record { board = refl; seat = c.if-not-try_claim.ensures.same }; lane = refl; cpu = refl; blimit = refl }
 
 pub unreachable-requires : goal.unreachable-requires
 unreachable-requires g c = let f = c.in-Some.ensures.first in not_none c.in-Some.first.now f.0 (held_by c.args.self.now.state.held) f.1 c.in_default-take.ensures.first.0
 
 pub run_claimed-record-requires-clause-board : goal.run_claimed-record-requires-clause-board
-run_claimed-record-requires-clause-board g c κs within = let s = c.args.self.now.state in stands (arc_value s.board) c.deref-2.result.now c.take.new.seat c.deref-2.ensures (c.if-not-take.ensures.same.table ∙ s.here)
+run_claimed-record-requires-clause-board g c κs within = let s = c.args.self.now.state in stands (arc_value s.board) c.deref-2.result.now c.try_claim.new.seat c.deref-2.ensures (c.if-not-try_claim.ensures.same.table ∙ s.here)
 
 pub run_claimed-record-requires-clause-who : goal.run_claimed-record-requires-clause-who
-run_claimed-record-requires-clause-who g c κs within = subst MayClaim (sym (c.if-not-take.ensures.same.role ∙ c.args.self.now.state.role)) tt
+run_claimed-record-requires-clause-who g c κs within = subst MayClaim (sym (c.if-not-try_claim.ensures.same.role ∙ c.args.self.now.state.role)) tt
 
 pub run_claimed-record-requires-clause-small : goal.run_claimed-record-requires-clause-small
 run_claimed-record-requires-clause-small g c κs within = c.in-Some-take.ensures.safe.1
 
 pub returns-clause-same : goal.returns-clause-same
-returns-clause-same g c = let s = c.args.self.now.state in record { part = record { board = refl; seat = same_seat_again s.seat c.take.new.seat c.run_claimed-record.new.seat c.if-not-take.ensures.same c.run_claimed-record.ensures.same }; lane = same_lane s.held c.take-2.new.self c.in-Some-take.ensures.front; cpu = refl; blimit = refl }
+returns-clause-same g c = let s = c.args.self.now.state in record { part = record { board = refl; seat = same_seat_again s.seat c.try_claim.new.seat c.run_claimed-record.new.seat c.if-not-try_claim.ensures.same c.run_claimed-record.ensures.same }; lane = same_lane s.held c.take.new.self c.in-Some-take.ensures.front; cpu = refl; blimit = refl }
 
 pub invariant_of-state : goal.invariant_of-state
 invariant_of-state g c = let s = c.args.self.now.state in record { here = s.here; role = s.role; lawful = s.lawful }
@@ -161,11 +161,11 @@ returns-then-snap-seen-clause-counts g c = ((λ e. (let f : Turn ≡ Limit = e i
 pub returns-in_default-reserve-clause-counts : goal.returns-in_default-reserve-clause-counts
 returns-in_default-reserve-clause-counts g c = ((λ e. (let f : Memory ≡ Limit = e in cc)), λ e. (let f : Memory ≡ Again = e in cc))
 
-pub returns-then-not-take-clause-counts : goal.returns-then-not-take-clause-counts
-returns-then-not-take-clause-counts g c = ((λ e. (let f : Turn ≡ Limit = e in cc)), λ e. (let f : Turn ≡ Again = e in cc))
+pub returns-then-not-try_claim-clause-counts : goal.returns-then-not-try_claim-clause-counts
+returns-then-not-try_claim-clause-counts g c = ((λ e. (let f : Turn ≡ Limit = e in cc)), λ e. (let f : Turn ≡ Again = e in cc))
 
 pub first-requires : goal.first-requires
 first-requires g c = let h : FitsInMemory (row.the_row (param 0 g.row.J) (param 1 g.row.J-Receipt)) = assumption in in_struct _ _ _ (in_struct _ _ _ h)
 
-pub take-requires-2 : goal.take-requires-2
-take-requires-2 g c = let h : FitsInMemory (row.the_row (param 0 g.row.J) (param 1 g.row.J-Receipt)) = assumption in in_struct _ _ _ (in_struct _ _ _ h)
+pub take-requires : goal.take-requires
+take-requires g c = let h : FitsInMemory (row.the_row (param 0 g.row.J) (param 1 g.row.J-Receipt)) = assumption in in_struct _ _ _ (in_struct _ _ _ h)

@@ -23,67 +23,67 @@ use Rattle.rcu_part_processor.proofs.Standing.{same_lane, stands}
 use Rattle.rcu_part_processor.proofs.TickRuns.{done_none, done_some, same_done}
 use Rattle.rcu_part_processor.proofs.processor.Processor.claim.Goals as goal
 
-pub take-requires-clause-board : goal.take-requires-clause-board
-take-requires-clause-board g c = let s = c.args.self.state in stands (arc_value s.board) c.deref.result.now s.seat c.deref.ensures s.here
+pub try_claim-requires-clause-board : goal.try_claim-requires-clause-board
+try_claim-requires-clause-board g c = let s = c.args.self.state in stands (arc_value s.board) c.deref.result.now s.seat c.deref.ensures s.here
 
-pub take-requires-clause-who : goal.take-requires-clause-who
-take-requires-clause-who g c = subst MayClaim (sym c.args.self.state.role) tt
+pub try_claim-requires-clause-who : goal.try_claim-requires-clause-who
+try_claim-requires-clause-who g c = subst MayClaim (sym c.args.self.state.role) tt
 
-pub take-requires-clause-cpu : goal.take-requires-clause-cpu
-take-requires-clause-cpu g c = ap cpu_of_role c.args.self.state.role
+pub try_claim-requires-clause-cpu : goal.try_claim-requires-clause-cpu
+try_claim-requires-clause-cpu g c = ap cpu_of_role c.args.self.state.role
 
-pub take-requires-clause-rests : goal.take-requires-clause-rests
-take-requires-clause-rests g c = c.args.self.state.lawful.rests
+pub try_claim-requires-clause-rests : goal.try_claim-requires-clause-rests
+try_claim-requires-clause-rests g c = c.args.self.state.lawful.rests
 
-pub take-requires-clause-small : goal.take-requires-clause-small
-take-requires-clause-small g c = c.requires.small
+pub try_claim-requires-clause-small : goal.try_claim-requires-clause-small
+try_claim-requires-clause-small g c = c.requires.small
 
 pub invariant_of-state : goal.invariant_of-state
-invariant_of-state g c = let s = c.args.self.state in let e = c.if-not-take.ensures in record {
+invariant_of-state g c = let s = c.args.self.state in let e = c.if-not-try_claim.ensures in record {
   here = e.same.table ∙ s.here;
   role = e.same.role ∙ s.role;
   there = s.there;
   bit = s.bit;
   local = s.local;
   small = s.small;
-  lawful = kept_by_keeps s.cpu s.accepted _ (view s.seat) (view c.take.new.seat) s.ran.items (holding s.lists) (e.lost refl).0 (e.same.later (arc_value s.board) s.here) s.lawful;
+  lawful = kept_by_keeps s.cpu s.accepted _ (view s.seat) (view c.try_claim.new.seat) s.ran.items (holding s.lists) (e.lost refl).0 (e.same.later (arc_value s.board) s.here) s.lawful;
 }
 
-pub returns-then-not-take-clause-stays : goal.returns-then-not-take-clause-stays
-returns-then-not-take-clause-stays g c = record { part = record { board = refl; seat = c.if-not-take.ensures.same }; lane = refl; cpu = refl; offloadable = refl; limit = refl; blimit = refl }
+pub returns-then-not-try_claim-clause-stays : goal.returns-then-not-try_claim-clause-stays
+returns-then-not-try_claim-clause-stays g c = record { part = record { board = refl; seat = c.if-not-try_claim.ensures.same }; lane = refl; cpu = refl; offloadable = refl; limit = refl; blimit = refl }
 
-pub returns-then-not-take-clause-lost : goal.returns-then-not-take-clause-lost
-returns-then-not-take-clause-lost g c = let s = c.args.self.state in let e = c.if-not-take.ensures in
+pub returns-then-not-try_claim-clause-lost : goal.returns-then-not-try_claim-clause-lost
+returns-then-not-try_claim-clause-lost g c = let s = c.args.self.state in let e = c.if-not-try_claim.ensures in
     done_none 1 c.args.claimed.ready s _ refl refl e.only ((e.same.later (arc_value s.board) s.here).turns s.cpu s.there)
 
-pub returns-then-not-take-clause-stops : goal.returns-then-not-take-clause-stops
-returns-then-not-take-clause-stops g c = let n = c.requires.next in let k = ap (λ (x : ClaimedCallback). x.number) n.claimed in let l = (c.if-not-take.ensures.lost refl).2 in
+pub returns-then-not-try_claim-clause-stops : goal.returns-then-not-try_claim-clause-stops
+returns-then-not-try_claim-clause-stops g c = let n = c.requires.next in let k = ap (λ (x : ClaimedCallback). x.number) n.claimed in let l = (c.if-not-try_claim.ensures.lost refl).2 in
     (refl, (n.first, n.rest, n.done, λ e. l (omega (arith, e, k))))
 
-pub returns-then-not-take-clause-counts : goal.returns-then-not-take-clause-counts
-returns-then-not-take-clause-counts g c = λ e. (let f : Turn ≡ Limit = e in cc)
+pub returns-then-not-try_claim-clause-counts : goal.returns-then-not-try_claim-clause-counts
+returns-then-not-try_claim-clause-counts g c = λ e. (let f : Turn ≡ Limit = e in cc)
 
-pub returns-then-not-take-clause-keyed : goal.returns-then-not-take-clause-keyed
-returns-then-not-take-clause-keyed g c = λ sound. tt
+pub returns-then-not-try_claim-clause-keyed : goal.returns-then-not-try_claim-clause-keyed
+returns-then-not-try_claim-clause-keyed g c = λ sound. tt
 
-pub returns-then-not-take-clause-sound : goal.returns-then-not-take-clause-sound
-returns-then-not-take-clause-sound g c = λ sound. (tt, record { keyed = sound.keyed; given = sound.given })
+pub returns-then-not-try_claim-clause-sound : goal.returns-then-not-try_claim-clause-sound
+returns-then-not-try_claim-clause-sound g c = λ sound. (tt, record { keyed = sound.keyed; given = sound.given })
 
-pub take-requires-2 : goal.take-requires-2
-take-requires-2 g c = let h : FitsInMemory (row.the_row (param 0 g.row.J) (param 1 g.row.J-Receipt)) = assumption in in_struct _ _ _ (in_struct _ _ _ h)
+pub take-requires : goal.take-requires
+take-requires g c = let h : FitsInMemory (row.the_row (param 0 g.row.J) (param 1 g.row.J-Receipt)) = assumption in in_struct _ _ _ (in_struct _ _ _ h)
 
 pub unreachable-requires : goal.unreachable-requires
 unreachable-requires g c = let n = c.requires.next in done_some n.first n.rest (holding c.args.self.state.lists).own n.done c.in_default.ensures.taken.0
 
 pub invariant_of-state-2 : goal.invariant_of-state-2
 invariant_of-state-2 g c =
-    let s = c.args.self.state in let e = c.if-not-take.ensures in let n = c.requires.next in let x = c.in-Some.callback in let t = c.in-Some.ensures in
-    let h = holding s.lists in let h' = holding c.take-2.new.self in let seen = c.args.claimed.ready in
+    let s = c.args.self.state in let e = c.if-not-try_claim.ensures in let n = c.requires.next in let x = c.in-Some.callback in let t = c.in-Some.ensures in
+    let h = holding s.lists in let h' = holding c.take.new.self in let seen = c.args.claimed.ready in
     let first = same_done n.first x n.rest h'.own (sym n.done ∙ t.taken.0) in
     let is : c.args.claimed ≡ claimed_as seen x = n.claimed ∙ ap (claimed_as seen) first in
-    let won : Claims s.cpu x.number (view s.seat) (view c.take.new.seat) = subst (λ (k : ℕ). Claims s.cpu k (view s.seat) (view c.take.new.seat)) (ap (λ (y : ClaimedCallback). y.number) is) (e.won refl) in
+    let won : Claims s.cpu x.number (view s.seat) (view c.try_claim.new.seat) = subst (λ (k : ℕ). Claims s.cpu k (view s.seat) (view c.try_claim.new.seat)) (ap (λ (y : ClaimedCallback). y.number) is) (e.won refl) in
     let m = (arc_value s.board).processors in
-    let later : NeverFalls m (view s.seat) (view c.take.new.seat) = e.same.later (arc_value s.board) s.here in
+    let later : NeverFalls m (view s.seat) (view c.try_claim.new.seat) = e.same.later (arc_value s.board) s.here in
     let over : snap_of x.stamp ≤ seen = let a = t.graced in let b = c.requires.seen.1 in omega arith in
     let less : (m : ℕ) → AreUpTo m h.own → AreUpTo m h'.own = λ m up. All-rest (λ (y : Labelled g.row.J.Denot). IsTrue (is_up_to m y.label)) (record { label = Done; callback = x }) h'.own h.own t.taken.0 up in record {
       here = e.same.table ∙ s.here;
@@ -94,16 +94,16 @@ invariant_of-state-2 g c =
       small = s.small;
       below = c.requires.small;
       room = c.requires.room;
-      lawful = begun_law s.cpu s.accepted m seen (view s.seat) (view c.take.new.seat) s.ran.items h h' x c.args.claimed is won later c.requires.seen.0 (ap put_by t.taken.1) t.places (ap (λ (o : Holding g.row.J.Denot). o.advanced) t.taken.1) less over s.lawful;
+      lawful = begun_law s.cpu s.accepted m seen (view s.seat) (view c.try_claim.new.seat) s.ran.items h h' x c.args.claimed is won later c.requires.seen.0 (ap put_by t.taken.1) t.places (ap (λ (o : Holding g.row.J.Denot). o.advanced) t.taken.1) less over s.lawful;
     }
 
 pub returns-clause-same : goal.returns-clause-same
-returns-clause-same g c = let s = c.args.self.state in record { part = record { board = refl; seat = c.if-not-take.ensures.same }; lane = same_lane s.lists c.take-2.new.self c.in-Some.ensures.rear; cpu = refl; offloadable = refl; limit = refl; blimit = refl }
+returns-clause-same g c = let s = c.args.self.state in record { part = record { board = refl; seat = c.if-not-try_claim.ensures.same }; lane = same_lane s.lists c.take.new.self c.in-Some.ensures.rear; cpu = refl; offloadable = refl; limit = refl; blimit = refl }
 
 pub returns-clause-runs : goal.returns-clause-runs
 returns-clause-runs g c =
-    let s = c.args.self.state in let e = c.if-not-take.ensures in let n = c.requires.next in let x = c.in-Some.callback in let t = c.in-Some.ensures in
-    let h' = holding c.take-2.new.self in let seen = c.args.claimed.ready in
+    let s = c.args.self.state in let e = c.if-not-try_claim.ensures in let n = c.requires.next in let x = c.in-Some.callback in let t = c.in-Some.ensures in
+    let h' = holding c.take.new.self in let seen = c.args.claimed.ready in
     let first = same_done n.first x n.rest h'.own (sym n.done ∙ t.taken.0) in
     let is : c.args.claimed ≡ claimed_as seen x = n.claimed ∙ ap (claimed_as seen) first in record {
       first = x;
@@ -114,20 +114,20 @@ returns-clause-runs g c =
       count = refl;
       claimed = is;
       over = let a = t.graced in let b = c.requires.seen.1 in omega arith;
-      won = subst (λ (k : ℕ). Claims s.cpu k (view s.seat) (view c.take.new.seat)) (ap (λ (y : ClaimedCallback). y.number) is) (e.won refl);
+      won = subst (λ (k : ℕ). Claims s.cpu k (view s.seat) (view c.try_claim.new.seat)) (ap (λ (y : ClaimedCallback). y.number) is) (e.won refl);
       steps = e.only;
     }
 
 pub returns-clause-keyed : goal.returns-clause-keyed
 returns-clause-keyed g c = λ sound.
     let s = c.args.self.state in let n = c.requires.next in let x = c.in-Some.callback in let t = c.in-Some.ensures in
-    let h = holding s.lists in let h' = holding c.take-2.new.self in let seen = c.args.claimed.ready in
+    let h = holding s.lists in let h' = holding c.take.new.self in let seen = c.args.claimed.ready in
     let first = same_done n.first x n.rest h'.own (sym n.done ∙ t.taken.0) in
     let is : c.args.claimed ≡ claimed_as seen x = n.claimed ∙ ap (claimed_as seen) first in
     keyed_in g.J.Job.key_of (put_by h) x (held_in h') (subst (AreKeyed g.J.Job.key_of) (ap (λ l. put_by h ++ l) t.places) sound.keyed) ∙ sym (ap (λ (y : ClaimedCallback). y.key) is)
 
 pub returns-clause-sound : goal.returns-clause-sound
 returns-clause-sound g c = λ sound.
-    let h = holding c.args.self.state.lists in let h' = holding c.take-2.new.self in let x = c.in-Some.callback in let t = c.in-Some.ensures in
+    let h = holding c.args.self.state.lists in let h' = holding c.take.new.self in let x = c.in-Some.callback in let t = c.in-Some.ensures in
     let rest = keyed_without g.J.Job.key_of (put_by h) x (held_in h') (subst (AreKeyed g.J.Job.key_of) (ap (λ l. put_by h ++ l) t.places) sound.keyed) in
     (record { keyed = subst (AreKeyed g.J.Job.key_of) (sym (ap (λ l. l ++ held_in h') (ap put_by t.taken.1))) rest; given = sound.given }, tt)

@@ -56,54 +56,54 @@ returns-in_default-reserve-clause-not g c = let f = c.in-Some.ensures.first in
 pub returns-in_default-reserve-clause-sound : goal.returns-in_default-reserve-clause-sound
 returns-in_default-reserve-clause-sound g c = sound_same g.J.Job.key_of g.J.Job.gives c.args.self.now.state _ refl c.reserve.ensures.items
 
-pub invariant_of-state-then-not-take : goal.invariant_of-state-then-not-take
-invariant_of-state-then-not-take g c = let s = c.args.self.now.state in let e = c.if-not-take.ensures in record {
+pub invariant_of-state-then-not-try_claim : goal.invariant_of-state-then-not-try_claim
+invariant_of-state-then-not-try_claim g c = let s = c.args.self.now.state in let e = c.if-not-try_claim.ensures in record {
   here = e.same.table ∙ s.here;
   role = e.same.role ∙ s.role;
   there = s.there;
   bit = s.bit;
   local = s.local;
   small = s.small;
-  lawful = subst (λ (rs : List (Record g.row.J-Receipt.Denot)). IsLawful s.cpu s.accepted (view c.take.new.seat) rs (holding s.lists)) (sym c.reserve.ensures.items)
-      (kept_by_keeps s.cpu s.accepted _ (view s.seat) (view c.take.new.seat) s.ran.items (holding s.lists) (e.lost refl).0 (e.same.later (arc_value s.board) s.here) s.lawful);
+  lawful = subst (λ (rs : List (Record g.row.J-Receipt.Denot)). IsLawful s.cpu s.accepted (view c.try_claim.new.seat) rs (holding s.lists)) (sym c.reserve.ensures.items)
+      (kept_by_keeps s.cpu s.accepted _ (view s.seat) (view c.try_claim.new.seat) s.ran.items (holding s.lists) (e.lost refl).0 (e.same.later (arc_value s.board) s.here) s.lawful);
 }
 
-pub returns-then-not-take-clause-not : goal.returns-then-not-take-clause-not
-returns-then-not-take-clause-not g c = let s = c.args.self.now.state in let f = c.in-Some.ensures.first in let e = c.if-not-take.ensures in let l = e.lost refl in (
+pub returns-then-not-try_claim-clause-not : goal.returns-then-not-try_claim-clause-not
+returns-then-not-try_claim-clause-not g c = let s = c.args.self.now.state in let f = c.in-Some.ensures.first in let e = c.if-not-try_claim.ensures in let l = e.lost refl in (
   1,
   done_none 1 c.args.seen s _ refl c.reserve.ensures.items e.only ((e.same.later (arc_value s.board) s.here).turns s.cpu s.there),
   λ n. (refl, (c.in-Some.first.now, f.0, f.1, l.2)),
 )
 
-pub returns-then-not-take-clause-sight : goal.returns-then-not-take-clause-sight
-returns-then-not-take-clause-sight g c = ((c.if-not-take.ensures.lost refl).1 ∙ c.requires.seen.0, c.requires.seen.1)
+pub returns-then-not-try_claim-clause-sight : goal.returns-then-not-try_claim-clause-sight
+returns-then-not-try_claim-clause-sight g c = ((c.if-not-try_claim.ensures.lost refl).1 ∙ c.requires.seen.0, c.requires.seen.1)
 
-pub returns-then-not-take-clause-sound : goal.returns-then-not-take-clause-sound
-returns-then-not-take-clause-sound g c = sound_same g.J.Job.key_of g.J.Job.gives c.args.self.now.state _ refl c.reserve.ensures.items
+pub returns-then-not-try_claim-clause-sound : goal.returns-then-not-try_claim-clause-sound
+returns-then-not-try_claim-clause-sound g c = sound_same g.J.Job.key_of g.J.Job.gives c.args.self.now.state _ refl c.reserve.ensures.items
 
-pub take-requires-2 : goal.take-requires-2
-take-requires-2 g c = let h : FitsInMemory (row.the_row (param 0 g.row.J) (param 1 g.row.J-Receipt)) = assumption in in_struct _ _ _ (in_struct _ _ _ h)
+pub take-requires : goal.take-requires
+take-requires g c = let h : FitsInMemory (row.the_row (param 0 g.row.J) (param 1 g.row.J-Receipt)) = assumption in in_struct _ _ _ (in_struct _ _ _ h)
 
 pub unreachable-requires : goal.unreachable-requires
 unreachable-requires g c = let f = c.in-Some.ensures.first in done_some c.in-Some.first.now f.0 (holding c.args.self.now.state.lists).own f.1 c.in_default-take.ensures.taken.0
 
 pub run_claimed-record-requires-clause-runs : goal.run_claimed-record-requires-clause-runs
 run_claimed-record-requires-clause-runs g c κs within =
-    let s = c.args.self.now.state in let e = c.if-not-take.ensures in let w = e.won refl in
-    let first = same_done c.in-Some.first.now c.in-Some-take.callback c.in-Some.ensures.first.0 (holding c.take-2.new.self).own (sym c.in-Some.ensures.first.1 ∙ c.in-Some-take.ensures.taken.0) in
+    let s = c.args.self.now.state in let e = c.if-not-try_claim.ensures in let w = e.won refl in
+    let first = same_done c.in-Some.first.now c.in-Some-take.callback c.in-Some.ensures.first.0 (holding c.take.new.self).own (sym c.in-Some.ensures.first.1 ∙ c.in-Some-take.ensures.taken.0) in
     let at : ℕ → ℕ → ℕ → List Claim = λ p k x. record { cpu = p; number = k; sight = x } ∷ [] in
-    w.running ∙ (ap (λ (x : ℕ). at s.cpu c.in-Some.first.now.number x) (sym w.sights) ∙ (ap (λ (x : Callback g.row.J.Denot). at s.cpu x.number (sight (view c.take.new.seat))) first
-    ∙ ap (λ (p : ℕ). at p c.in-Some-take.callback.number (sight (view c.take.new.seat))) (sym (ap cpu_of_role (e.same.role ∙ s.role)))))
+    w.running ∙ (ap (λ (x : ℕ). at s.cpu c.in-Some.first.now.number x) (sym w.sights) ∙ (ap (λ (x : Callback g.row.J.Denot). at s.cpu x.number (sight (view c.try_claim.new.seat))) first
+    ∙ ap (λ (p : ℕ). at p c.in-Some-take.callback.number (sight (view c.try_claim.new.seat))) (sym (ap cpu_of_role (e.same.role ∙ s.role)))))
 
 pub invariant_of-state-2 : goal.invariant_of-state-2
 invariant_of-state-2 g c =
-    let s = c.args.self.now.state in let e = c.if-not-take.ensures in let w = e.won refl in let r = c.run_claimed-record.ensures in let t = c.in-Some-take.ensures in
-    let x = c.in-Some-take.callback in let h = holding s.lists in let h' = holding c.take-2.new.self in
+    let s = c.args.self.now.state in let e = c.if-not-try_claim.ensures in let w = e.won refl in let r = c.run_claimed-record.ensures in let t = c.in-Some-take.ensures in
+    let x = c.in-Some-take.callback in let h = holding s.lists in let h' = holding c.take.new.self in
     let first = same_done c.in-Some.first.now x c.in-Some.ensures.first.0 h'.own (sym c.in-Some.ensures.first.1 ∙ t.taken.0) in
-    let won : Claims s.cpu x.number (view s.seat) (view c.take.new.seat) = subst (λ (y : Callback g.row.J.Denot). Claims s.cpu y.number (view s.seat) (view c.take.new.seat)) first w in
+    let won : Claims s.cpu x.number (view s.seat) (view c.try_claim.new.seat) = subst (λ (y : Callback g.row.J.Denot). Claims s.cpu y.number (view s.seat) (view c.try_claim.new.seat)) first w in
     let n = (arc_value s.board).processors in
-    let later : NeverFalls n (view s.seat) (view c.take.new.seat) = e.same.later (arc_value s.board) s.here in
-    let later2 : NeverFalls n (view c.take.new.seat) (view c.run_claimed-record.new.seat) = r.same.later (arc_value s.board) (e.same.table ∙ s.here) in
+    let later : NeverFalls n (view s.seat) (view c.try_claim.new.seat) = e.same.later (arc_value s.board) s.here in
+    let later2 : NeverFalls n (view c.try_claim.new.seat) (view c.run_claimed-record.new.seat) = r.same.later (arc_value s.board) (e.same.table ∙ s.here) in
     let over : snap_of x.stamp ≤ c.args.seen = let a = t.graced in let b = c.requires.seen.1 in omega arith in
     let less : (m : ℕ) → AreUpTo m h.own → AreUpTo m h'.own = λ m up. All-rest (λ (y : Labelled g.row.J.Denot). IsTrue (is_up_to m y.label)) (record { label = Done; callback = x }) h'.own h.own t.taken.0 up in record {
       here = r.same.table ∙ (e.same.table ∙ s.here);
@@ -112,25 +112,25 @@ invariant_of-state-2 g c =
       bit = s.bit;
       local = λ is. let l = s.local is in (ap (λ (o : Holding g.row.J.Denot). o.mode) t.taken.1 ∙ l.0, ap put_by t.taken.1 ∙ l.1);
       small = s.small;
-      lawful = kept_by_runs s.cpu s.accepted n c.args.seen (view s.seat) (view c.take.new.seat) (view c.run_claimed-record.new.seat) s.ran.items c.push_reserved.new.self.items h h' x c.run_claimed-record.result
-          won r.ends (never_falls_again n (view s.seat) (view c.take.new.seat) (view c.run_claimed-record.new.seat) later later2) c.requires.seen.0
+      lawful = kept_by_runs s.cpu s.accepted n c.args.seen (view s.seat) (view c.try_claim.new.seat) (view c.run_claimed-record.new.seat) s.ran.items c.push_reserved.new.self.items h h' x c.run_claimed-record.result
+          won r.ends (never_falls_again n (view s.seat) (view c.try_claim.new.seat) (view c.run_claimed-record.new.seat) later later2) c.requires.seen.0
           (c.push_reserved.ensures.items ∙ ap (λ rs. rs ++ c.run_claimed-record.result ∷ []) c.reserve.ensures.items) (ap put_by t.taken.1) t.places (ap (λ (o : Holding g.row.J.Denot). o.advanced) t.taken.1) less r.record r.ready over s.lawful;
     }
 
 pub returns-clause-ran : goal.returns-clause-ran
-returns-clause-ran g c = let s = c.args.self.now.state in let e = c.if-not-take.ensures in let r = c.run_claimed-record.ensures in let t = c.in-Some-take.ensures in
-    let u = view c.take.new.seat in let w = view c.run_claimed-record.new.seat in
+returns-clause-ran g c = let s = c.args.self.now.state in let e = c.if-not-try_claim.ensures in let r = c.run_claimed-record.ensures in let t = c.in-Some-take.ensures in
+    let u = view c.try_claim.new.seat in let w = view c.run_claimed-record.new.seat in
     let first : seen_at (view s.seat) (turns_word s.cpu) ≤ seen_at u (turns_word s.cpu) = (e.same.later (arc_value s.board) s.here).turns s.cpu s.there in
     let second : seen_at u (turns_word s.cpu) ≤ seen_at w (turns_word s.cpu) = (r.same.later (arc_value s.board) (e.same.table ∙ s.here)).turns s.cpu s.there in
     done_one c.args.seen s _ c.in-Some-take.callback c.run_claimed-record.result t.taken.0 t.taken.1 (c.push_reserved.ensures.items ∙ ap (λ rs. rs ++ c.run_claimed-record.result ∷ []) c.reserve.ensures.items) r.record r.ready
     (steps_more (turns_word s.cpu) 1 1 (view s.seat) u w e.only (subst (λ (p : ℕ). StepsOnly (turns_word p) 1 u w) (ap cpu_of_role (e.same.role ∙ s.role)) r.only)) (omega (arith, first, second))
 
 pub returns-clause-sight : goal.returns-clause-sight
-returns-clause-sight g c = let w = c.if-not-take.ensures.won refl in
+returns-clause-sight g c = let w = c.if-not-try_claim.ensures.won refl in
     (c.run_claimed-record.ensures.ends.sights ∙ (w.sights ∙ c.requires.seen.0), ap (λ (o : Holding g.row.J.Denot). o.advanced) c.in-Some-take.ensures.taken.1 ∙ c.requires.seen.1)
 
 pub returns-clause-sound : goal.returns-clause-sound
-returns-clause-sound g c = let s = c.args.self.now.state in let t = c.in-Some-take.ensures in let h = holding s.lists in let h' = holding c.take-2.new.self in
+returns-clause-sound g c = let s = c.args.self.now.state in let t = c.in-Some-take.ensures in let h = holding s.lists in let h' = holding c.take.new.self in
     sound_ran g.J.Job.key_of g.J.Job.gives s _ c.in-Some-take.callback c.run_claimed-record.result (put_by h) (held_in h') (ap (λ l. put_by h ++ l) t.places) (ap (λ l. l ++ held_in h') (ap put_by t.taken.1))
     (c.push_reserved.ensures.items ∙ ap (λ rs. rs ++ c.run_claimed-record.result ∷ []) c.reserve.ensures.items) c.run_claimed-record.ensures.given
 
@@ -146,35 +146,35 @@ returns-in_default-reserve-clause-same g c = record { part = record { board = re
 pub returns-in_default-reserve-clause-sight : goal.returns-in_default-reserve-clause-sight
 returns-in_default-reserve-clause-sight g c = c.requires.seen
 
-pub take-requires-clause-board : goal.take-requires-clause-board
-take-requires-clause-board g c = let s = c.args.self.now.state in stands (arc_value s.board) c.deref.result.now s.seat c.deref.ensures s.here
+pub try_claim-requires-clause-board : goal.try_claim-requires-clause-board
+try_claim-requires-clause-board g c = let s = c.args.self.now.state in stands (arc_value s.board) c.deref.result.now s.seat c.deref.ensures s.here
 
-pub take-requires-clause-who : goal.take-requires-clause-who
-take-requires-clause-who g c = subst MayClaim (sym c.args.self.now.state.role) tt
+pub try_claim-requires-clause-who : goal.try_claim-requires-clause-who
+try_claim-requires-clause-who g c = subst MayClaim (sym c.args.self.now.state.role) tt
 
-pub take-requires-clause-cpu : goal.take-requires-clause-cpu
-take-requires-clause-cpu g c = ap cpu_of_role c.args.self.now.state.role
+pub try_claim-requires-clause-cpu : goal.try_claim-requires-clause-cpu
+try_claim-requires-clause-cpu g c = ap cpu_of_role c.args.self.now.state.role
 
-pub take-requires-clause-rests : goal.take-requires-clause-rests
-take-requires-clause-rests g c = c.args.self.now.state.lawful.rests
+pub try_claim-requires-clause-rests : goal.try_claim-requires-clause-rests
+try_claim-requires-clause-rests g c = c.args.self.now.state.lawful.rests
 
-pub take-requires-clause-small : goal.take-requires-clause-small
-take-requires-clause-small g c = c.in-Some.ensures.safe.1
+pub try_claim-requires-clause-small : goal.try_claim-requires-clause-small
+try_claim-requires-clause-small g c = c.in-Some.ensures.safe.1
 
-pub returns-then-not-take-clause-same : goal.returns-then-not-take-clause-same
-returns-then-not-take-clause-same g c = record { part = record { board = refl; seat = c.if-not-take.ensures.same }; lane = refl; cpu = refl; offloadable = refl; limit = refl; blimit = refl }
+pub returns-then-not-try_claim-clause-same : goal.returns-then-not-try_claim-clause-same
+returns-then-not-try_claim-clause-same g c = record { part = record { board = refl; seat = c.if-not-try_claim.ensures.same }; lane = refl; cpu = refl; offloadable = refl; limit = refl; blimit = refl }
 
 pub run_claimed-record-requires-clause-board : goal.run_claimed-record-requires-clause-board
-run_claimed-record-requires-clause-board g c κs within = let s = c.args.self.now.state in stands (arc_value s.board) c.deref-2.result.now c.take.new.seat c.deref-2.ensures (c.if-not-take.ensures.same.table ∙ s.here)
+run_claimed-record-requires-clause-board g c κs within = let s = c.args.self.now.state in stands (arc_value s.board) c.deref-2.result.now c.try_claim.new.seat c.deref-2.ensures (c.if-not-try_claim.ensures.same.table ∙ s.here)
 
 pub run_claimed-record-requires-clause-who : goal.run_claimed-record-requires-clause-who
-run_claimed-record-requires-clause-who g c κs within = subst MayClaim (sym (c.if-not-take.ensures.same.role ∙ c.args.self.now.state.role)) tt
+run_claimed-record-requires-clause-who g c κs within = subst MayClaim (sym (c.if-not-try_claim.ensures.same.role ∙ c.args.self.now.state.role)) tt
 
 pub run_claimed-record-requires-clause-small : goal.run_claimed-record-requires-clause-small
 run_claimed-record-requires-clause-small g c κs within = c.in-Some-take.ensures.safe.1
 
 pub returns-clause-same : goal.returns-clause-same
-returns-clause-same g c = let s = c.args.self.now.state in record { part = record { board = refl; seat = same_seat_again s.seat c.take.new.seat c.run_claimed-record.new.seat c.if-not-take.ensures.same c.run_claimed-record.ensures.same }; lane = same_lane s.lists c.take-2.new.self c.in-Some-take.ensures.rear; cpu = refl; offloadable = refl; limit = refl; blimit = refl }
+returns-clause-same g c = let s = c.args.self.now.state in record { part = record { board = refl; seat = same_seat_again s.seat c.try_claim.new.seat c.run_claimed-record.new.seat c.if-not-try_claim.ensures.same c.run_claimed-record.ensures.same }; lane = same_lane s.lists c.take.new.self c.in-Some-take.ensures.rear; cpu = refl; offloadable = refl; limit = refl; blimit = refl }
 
 pub returns-in_default-clause-counts : goal.returns-in_default-clause-counts
 returns-in_default-clause-counts g c = λ e. (let f : Empty ≡ Limit = e in cc)
@@ -182,5 +182,5 @@ returns-in_default-clause-counts g c = λ e. (let f : Empty ≡ Limit = e in cc)
 pub returns-in_default-reserve-clause-counts : goal.returns-in_default-reserve-clause-counts
 returns-in_default-reserve-clause-counts g c = λ e. (let f : Memory ≡ Limit = e in cc)
 
-pub returns-then-not-take-clause-counts : goal.returns-then-not-take-clause-counts
-returns-then-not-take-clause-counts g c = λ e. (let f : Turn ≡ Limit = e in cc)
+pub returns-then-not-try_claim-clause-counts : goal.returns-then-not-try_claim-clause-counts
+returns-then-not-try_claim-clause-counts g c = λ e. (let f : Turn ≡ Limit = e in cc)
