@@ -1,6 +1,6 @@
 pub mod Crews
 pub mod Steps
-pub mod Acts
+pub mod Acting
 pub mod Runs
 pub mod Backs
 pub mod Sends

@@ -1,9 +1,9 @@
 pub mod Labels
 pub mod Below
 pub mod Orders
-pub mod Waits
+pub mod Waiting
 pub mod Paces
-pub mod Claims
+pub mod Claiming
 pub mod Heeding
 pub mod Rooms
 pub mod Taking

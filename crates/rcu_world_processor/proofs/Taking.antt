@@ -11,7 +11,7 @@ use Rattle.rcu_world_law.specs.States.{Cpu}
 use Rattle.rcu_world_law.specs.Steps.{front}
 use Rattle.rcu_lists.specs.Labels.{Labelled, callbacks_of}
 use Rattle.rcu_world_processor.specs.Waits.{calls, waits}
-use Rattle.rcu_world_processor.proofs.Waits.{calls_as, nil_of, tail_shorter}
+use Rattle.rcu_world_processor.proofs.Waiting.{calls_as, nil_of, tail_shorter}
 
 -- the first key goes to the end of those that were taken
 pub one_taken : {J : Type 0} (k : J → ℕ) (js : List J) (j : J) (xs rest : List Call) → is_nil xs ≡ false → k j ≡ (front xs).key → rest ≡ tail xs

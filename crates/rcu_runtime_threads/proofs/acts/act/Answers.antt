@@ -4,7 +4,7 @@ use Rattle.rcu_runtime_threads.specs.Steps.{Does}
 use Rattle.rcu_runtime_threads.specs.declared.acts.Acted.TheVariants as acted
 use Rattle.rcu_runtime_threads.specs.declared.worker.Answer.TheVariants as answer
 use Rattle.rcu_runtime_threads.specs.declared.worker.WorkerEnd.TheVariants as end
-use Rattle.rcu_runtime_threads.proofs.Acts.{called_works, told_lazy, told_plain}
+use Rattle.rcu_runtime_threads.proofs.Acting.{called_works, told_lazy, told_plain}
 use Rattle.rcu_runtime_threads.proofs.Sends.{sent_as}
 use Rattle.rcu_runtime_threads.proofs.Steps.{works_itself, works_once}
 use Rattle.rcu_runtime_threads.proofs.acts.act.Goals as goal

@@ -1,7 +1,7 @@
 use Rattle.std.proofs.Common.{◌∙◌, subst}
 use Rattle.rcu_runtime_threads.specs.Steps.{Does}
 use Rattle.rcu_runtime_threads.specs.declared.acts.Acted.TheVariants as acted
-use Rattle.rcu_runtime_threads.proofs.Acts.{ends_as_said, none_ends_unbegun}
+use Rattle.rcu_runtime_threads.proofs.Acting.{ends_as_said, none_ends_unbegun}
 use Rattle.rcu_runtime_threads.proofs.Sends.{sent_as}
 use Rattle.rcu_runtime_threads.proofs.Steps.{works_again, works_itself}
 use Rattle.rcu_runtime_threads.proofs.post.work.Goals as goal

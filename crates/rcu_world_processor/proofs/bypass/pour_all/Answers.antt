@@ -6,7 +6,7 @@ use Rattle.rcu_lists.specs.Segments.{labelled}
 use Rattle.rcu_lists.specs.Labels.{Labelled, callbacks_of}
 use Rattle.rcu_world_processor.specs.Batches.{law_pace}
 use Rattle.rcu_world_processor.specs.Waits.{call, calls, waits}
-use Rattle.rcu_world_processor.proofs.Waits.{calls_as}
+use Rattle.rcu_world_processor.proofs.Waiting.{calls_as}
 use Rattle.rcu_world_processor.proofs.Paces.{poured}
 use Rattle.rcu_world_processor.proofs.bypass.pour_all.Goals as goal
 

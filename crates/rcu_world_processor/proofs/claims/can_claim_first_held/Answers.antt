@@ -3,7 +3,7 @@ use Rattle.std.specs.Prelude.{◌==◌}
 use Rattle.rcu_numbers.specs.declared.sequence.TheConstants.{GREATEST_NUMBER}
 use Rattle.rcu_world_law.specs.Steps.{can_claim_held, front}
 use Rattle.rcu_world_processor.specs.Waits.{call, calls}
-use Rattle.rcu_world_processor.proofs.Claims.{held_even, held_not}
+use Rattle.rcu_world_processor.proofs.Claiming.{held_even, held_not}
 use Rattle.rcu_world_processor.proofs.claims.can_claim_first_held.Goals.{then-is_past, else-is_past}
 use Rattle.rcu_world_processor.proofs.claims.can_claim_first_held.Goals as goal
 

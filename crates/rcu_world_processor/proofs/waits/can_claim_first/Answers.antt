@@ -1,7 +1,7 @@
 use Rattle.std.proofs.Common.{◌≡◌, rules}
 use Rattle.rcu_lists.specs.Labels.{count, is_done}
 use Rattle.rcu_lists.specs.Segments.{labelled}
-use Rattle.rcu_world_processor.proofs.Waits.{none_done}
+use Rattle.rcu_world_processor.proofs.Waiting.{none_done}
 use Rattle.rcu_world_processor.proofs.waits.can_claim_first.Goals as goal
 
 pub returns-in-None : goal.returns-in-None

@@ -1,6 +1,6 @@
 use Rattle.std.proofs.Common.{◌∙◌}
 use Rattle.rcu_lists.specs.Segments.{labelled}
-use Rattle.rcu_world_processor.proofs.Waits.{done_as}
+use Rattle.rcu_world_processor.proofs.Waiting.{done_as}
 use Rattle.rcu_world_processor.proofs.waits.count_done.Goals as goal
 
 pub returns : goal.returns

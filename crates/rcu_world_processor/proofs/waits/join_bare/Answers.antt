@@ -5,7 +5,7 @@ use Rattle.rcu_world_law.specs.Lists.{is_nil}
 use Rattle.rcu_lists.specs.Segments.{SegmentsRoom}
 use Rattle.rcu_world_processor.specs.Batches.{batch}
 use Rattle.rcu_world_processor.specs.Waits.{call, waiting, waits}
-use Rattle.rcu_world_processor.proofs.Waits.{join_more, nil_of, tail_shorter}
+use Rattle.rcu_world_processor.proofs.Waiting.{join_more, nil_of, tail_shorter}
 use Rattle.rcu_lists.proofs.Outcomes.{on_ok_never, on_err_said}
 use Rattle.rcu_world_processor.proofs.Taking.{one_has_room}
 use Rattle.rcu_world_processor.proofs.waits.join_bare.Goals as goal

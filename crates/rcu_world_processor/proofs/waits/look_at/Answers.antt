@@ -4,7 +4,7 @@ use Rattle.rcu_numbers.specs.Numbers.{snap_of}
 use Rattle.rcu_lists.specs.Segments.{labelled}
 use Rattle.rcu_lists.proofs.Counts.{well-formed}
 use Rattle.rcu_world_processor.specs.Waits.{waits, waiting}
-use Rattle.rcu_world_processor.proofs.Waits.{advance_as, may_as, look_steps}
+use Rattle.rcu_world_processor.proofs.Waiting.{advance_as, may_as, look_steps}
 use Rattle.rcu_world_processor.proofs.waits.look_at.Goals as goal
 
 pub snap-aim-requires : goal.snap-aim-requires

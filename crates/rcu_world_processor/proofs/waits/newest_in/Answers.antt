@@ -2,7 +2,7 @@ use Rattle.std.proofs.Common.{◌≡◌, ◌∙◌, max, ap, sym, rules, None, S
 use Rattle.rcu_lists.specs.Labels.{callbacks_of}
 use Rattle.rcu_lists.specs.Segments.{labelled}
 use Rattle.rcu_lists.specs.Stamps.{greater, newest_of}
-use Rattle.rcu_world_processor.proofs.Waits.{newest_as}
+use Rattle.rcu_world_processor.proofs.Waiting.{newest_as}
 use Rattle.rcu_world_processor.proofs.waits.newest_in.Goals as goal
 
 pub returns-in-None : goal.returns-in-None

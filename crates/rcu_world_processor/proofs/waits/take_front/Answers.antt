@@ -1,7 +1,7 @@
 use Rattle.std.proofs.Common.{◌≡◌, rules, arith}
 use Rattle.rcu_lists.specs.Labels.{count, is_done}
 use Rattle.rcu_lists.specs.Segments.{labelled}
-use Rattle.rcu_world_processor.proofs.Waits.{none_done}
+use Rattle.rcu_world_processor.proofs.Waiting.{none_done}
 use Rattle.rcu_world_processor.proofs.waits.take_front.Goals as goal
 
 pub unreachable-requires : goal.unreachable-requires

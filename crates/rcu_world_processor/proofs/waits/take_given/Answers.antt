@@ -4,7 +4,7 @@ use Rattle.rcu_lists.specs.Batches.{batch_items}
 use Rattle.rcu_lists.specs.Segments.{labelled}
 use Rattle.rcu_world_processor.specs.Waits.{waiting}
 use Rattle.rcu_world_processor.proofs.Amounts.{taken_count}
-use Rattle.rcu_world_processor.proofs.Waits.{done_as, taken_as}
+use Rattle.rcu_world_processor.proofs.Waiting.{done_as, taken_as}
 use Rattle.rcu_world_processor.proofs.waits.take_given.Goals as goal
 
 pub returns-clause-given : goal.returns-clause-given

@@ -11,7 +11,7 @@ use Rattle.rcu_part_lists.specs.Lanes.{put_calls}
 use Rattle.rcu_jobs.specs.Modes.{is_deoffloading}
 use Rattle.rcu_part_lists.specs.Limits.{AreSafe, IsSafe}
 use Rattle.rcu_part_lists.proofs.Holdings.{all-of-none, aimed-none, none-few, nothing-held}
-use Rattle.rcu_part_lists.proofs.Modes.{first-stays}
+use Rattle.rcu_part_lists.proofs.Switching.{first-stays}
 use denote.Param.{param}
 use Rattle.rcu_part_lists.proofs.Sizes.{processor_lists-bypass}
 use Rattle.rcu_part_lists.proofs.processor_lists.ProcessorLists.new.Goals as goal

@@ -13,7 +13,7 @@ use Rattle.rcu_part_lists.specs.Outgoing.{Outgoing, outgoing}
 use Rattle.rcu_part_lists.specs.Limits.{AreFew, AreSafe, IsSafe}
 use Rattle.rcu_part_lists.proofs.Aims.{aimed-push}
 use Rattle.rcu_part_lists.proofs.Holdings.{hold-few, one-more, hold-passes, placed-out, placed-own, callbacks-pushed}
-use Rattle.rcu_part_lists.proofs.Modes.{leaving-bypasses}
+use Rattle.rcu_part_lists.proofs.Switching.{leaving-bypasses}
 use Rattle.rcu_part_lists.proofs.Releases.{other}
 use Rattle.rcu_part_lists.proofs.processor_lists.ProcessorLists.place.Goals as goal
 

@@ -9,7 +9,7 @@ use Rattle.rcu_part_lists.specs.Lanes.{put_calls}
 use Rattle.rcu_part_lists.specs.Outgoing.{Outgoing, outgoing}
 use Rattle.rcu_part_lists.specs.Limits.{AreFew, AreBelow}
 use Rattle.rcu_part_lists.proofs.Holdings.{few-less, not-due, tick-passes, passes-before}
-use Rattle.rcu_part_lists.proofs.Modes.{leaving-bypasses}
+use Rattle.rcu_part_lists.proofs.Switching.{leaving-bypasses}
 use Rattle.rcu_part_lists.proofs.processor_lists.ProcessorLists.release.Goals as goal
 
 pub invariant_of-self : goal.invariant_of-self

@@ -3,7 +3,7 @@ use Rattle.std.proofs.lemmas.List.Elements.{All-weaker}
 use Rattle.rcu_jobs.specs.declared.callback.Callback.{Callback}
 use Rattle.rcu_part_lists.specs.Lanes.{put_calls}
 use Rattle.rcu_jobs.specs.Modes.{is_offloaded, is_deoffloading, is_local}
-use Rattle.rcu_part_lists.proofs.Modes.{settled-offloaded, settled-leaving, settled-local}
+use Rattle.rcu_part_lists.proofs.Switching.{settled-offloaded, settled-leaving, settled-local}
 use Rattle.rcu_part_lists.proofs.processor_lists.ProcessorLists.settle.Goals as goal
 
 pub invariant_of-self : goal.invariant_of-self

@@ -5,7 +5,7 @@ use Rattle.rcu_lists.specs.Bypasses.{bypass_items}
 use Rattle.rcu_part_lists.specs.ProcessorLists.{holding}
 use Rattle.rcu_jobs.specs.Modes.{is_offloaded, is_offloading}
 use Rattle.rcu_part_lists.proofs.Holdings.{clear-as, off-leaves, off-stays}
-use Rattle.rcu_part_lists.proofs.Modes.{left-clear}
+use Rattle.rcu_part_lists.proofs.Switching.{left-clear}
 use denote.Param.{param}
 use Rattle.rcu_part_lists.proofs.Sizes.{processor_lists-bypass}
 use Rattle.rcu_part_lists.proofs.processor_lists.ProcessorLists.turn_off.Goals as goal

@@ -4,7 +4,7 @@ use Rattle.rcu_world_processor.specs.Views.{run, seen}
 use Rattle.rcu_jobs.specs.Records.{Given}
 use Rattle.rcu_world_processor.specs.Waits.{call}
 use Rattle.rcu_lists.proofs.Outcomes.{if_ok_never, on_err_said, on_ok_never}
-use Rattle.rcu_world_processor.proofs.Claims.{claims_held, ready_held}
+use Rattle.rcu_world_processor.proofs.Claiming.{claims_held, ready_held}
 use Rattle.rcu_world_processor.proofs.Sizes.{batch_fits}
 use Rattle.rcu_world_processor.proofs.claims.WorldProcessor+J+J+Receipt.claim_held.Goals as goal
 

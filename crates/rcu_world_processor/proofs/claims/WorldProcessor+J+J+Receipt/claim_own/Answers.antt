@@ -3,7 +3,7 @@ use Rattle.rcu_world_processor.specs.Views.{run, seen}
 use Rattle.rcu_jobs.specs.Records.{Given}
 use Rattle.rcu_world_processor.specs.Waits.{call, waiting}
 use Rattle.rcu_lists.proofs.Outcomes.{if_ok_never, on_err_said, on_ok_never}
-use Rattle.rcu_world_processor.proofs.Claims.{claims_own, ready_own}
+use Rattle.rcu_world_processor.proofs.Claiming.{claims_own, ready_own}
 use Rattle.rcu_world_processor.proofs.claims.WorldProcessor+J+J+Receipt.claim_own.Goals as goal
 
 pub returns-in_err-reserve-clause-given : goal.returns-in_err-reserve-clause-given

@@ -9,7 +9,7 @@ use Rattle.rcu_numbers.specs.Numbers.{snap_of}
 use Rattle.rcu_world_law.specs.States.{Cpu, Run}
 use Rattle.rcu_world_law.specs.Steps.{can_claim, can_claim_held, claims, front}
 use Rattle.rcu_world_law.specs.declared.who.Side.TheVariants as sides
-use Rattle.rcu_world_processor.proofs.Waits.{claims_done}
+use Rattle.rcu_world_processor.proofs.Waiting.{claims_done}
 
 pub claims_own : (c : Cpu) (ws : List Labelled) (f : Call) (rs : List Run) → ws ≡ tail c.own → f ≡ front (map call_of c.own) → rs ≡ c.runs ++ record { call = f; ready = c.sight } ∷ []
     → record c { own = ws; turn = c.turn + 1; running = Some sides.Local; runs = rs } ≡ claims sides.Local c
