@@ -1,6 +1,5 @@
 pub mod Answers
 pub mod Driven
 pub mod Ends
-pub mod Faults
 pub mod Shows
 pub mod Works

@@ -1,9 +1,8 @@
 //! What stands after a call: docs/specification/surface.md, "After want of memory".
 
-ghost use Rattle.std.specs.Prelude.{◌≡◌, IfErr, IfOk, Some};
-ghost use Rattle.check_memory.specs.Faults.{IsBroken};
+ghost use Rattle.std.specs.Prelude.{◌≡◌, IfOk, Some};
 
-use crate::growth::{Fault, Growth, stands};
+use crate::growth::{Broken, Growth, stands};
 use crate::machine::{Answer, Cpu, Shown, accepted, bypass, done, length, mode};
 use crate::script::Action;
 use crate::steps::next_key;
@@ -53,9 +52,7 @@ impl Step {
 }
 
 /// Checks what stands after a call, and says which growth was refused, if one was.
-pub fn check(step: Step) -> Result<Step, Fault>
-    ensures broken { IfErr result IsBroken }
-{
+pub fn check(step: Step) -> Result<Step, Broken> {
     if let Answer::Memory(growth) = step.answer {
         return check_memory(step, growth);
     }
@@ -77,9 +74,7 @@ pub fn check(step: Step) -> Result<Step, Fault>
 }
 
 /// Checks that a call, made again after this growth was refused, isn't refused once more, and goes on where it stopped.
-pub fn check_again(again: &Step, growth: Growth) -> Result<(), Fault>
-    ensures broken { IfErr result IsBroken }
-{
+pub fn check_again(again: &Step, growth: Growth) -> Result<(), Broken> {
     stands(again.refused.is_none(), growth, "refused again")?;
     stands(
         again.goes_on(growth),
@@ -89,18 +84,16 @@ pub fn check_again(again: &Step, growth: Growth) -> Result<(), Fault>
 }
 
 /// A call that answered want of memory, and hands nothing back.
-fn check_memory(step: Step, growth: Growth) -> Result<Step, Fault>
+fn check_memory(step: Step, growth: Growth) -> Result<Step, Broken>
     ensures refused { IfOk result (λ s. s ≡ record step { refused = Some growth }) }
-    ensures broken { IfErr result IsBroken }
 {
     stands(step.is_unchanged(), growth, "a refused call changed a list")?;
     Ok(step.refused_by(growth))
 }
 
 /// A call whose job came back.
-fn check_refused(step: Step, growth: Growth, key: u64) -> Result<Step, Fault>
+fn check_refused(step: Step, growth: Growth, key: u64) -> Result<Step, Broken>
     ensures refused { IfOk result (λ s. s ≡ record step { refused = Some growth }) }
-    ensures broken { IfErr result IsBroken }
 {
     let same_job = key == next_key(step.action, &step.before);
     stands(same_job, growth, "another job came back")?;
@@ -110,9 +103,7 @@ fn check_refused(step: Step, growth: Growth, key: u64) -> Result<Step, Fault>
 
 /// A call that was accepted. Each has a moment of its own, so a plain callback releases the bypass list, unless the lane has
 /// no room for it.
-fn check_accepted(step: Step, growth: Growth, cpu: Cpu, ticket: Ticket) -> Result<Step, Fault>
-    ensures broken { IfErr result IsBroken }
-{
+fn check_accepted(step: Step, growth: Growth, cpu: Cpu, ticket: Ticket) -> Result<Step, Broken> {
     let (old, new) = (step.before.of(cpu), step.after.of(cpu));
     let number = accepted(old);
     let named = (ticket.cpu, ticket.number) == (cpu.number(), number);
@@ -139,9 +130,7 @@ fn check_accepted(step: Step, growth: Growth, cpu: Cpu, ticket: Ticket) -> Resul
 }
 
 /// A tick of the local processor.
-fn check_local(step: Step, ran: u64, stop: Stop) -> Result<Step, Fault>
-    ensures broken { IfErr result IsBroken }
-{
+fn check_local(step: Step, ran: u64, stop: Stop) -> Result<Step, Broken> {
     let (old, new) = (step.before.local, step.after.local);
     let left = length(new).wrapping_add(ran) == length(old);
     stands(left, Growth::TickRecord, "a callback is lost")?;
@@ -154,15 +143,16 @@ fn check_local(step: Step, ran: u64, stop: Stop) -> Result<Step, Fault>
             )?;
             Ok(step.refused_by(Growth::TickRecord))
         }
-        Stop::Turn | Stop::Again => Err(Fault::Broken(Growth::TickRecord, "no other part claims")),
+        Stop::Turn | Stop::Again => Err(Broken {
+            at: Growth::TickRecord,
+            what: "no other part claims",
+        }),
         Stop::Limit | Stop::Empty => Ok(step),
     }
 }
 
 /// A tick of the offloadable processor, late for any bypass list.
-fn check_tick(step: Step, ran: u64, stop: Stop) -> Result<Step, Fault>
-    ensures broken { IfErr result IsBroken }
-{
+fn check_tick(step: Step, ran: u64, stop: Stop) -> Result<Step, Broken> {
     let (old, new) = (step.before.offloadable, step.after.offloadable);
     let left = length(new).wrapping_add(ran) == length(old);
     let others = (step.before.local, step.before.member) == (step.after.local, step.after.member);
@@ -179,9 +169,7 @@ fn check_tick(step: Step, ran: u64, stop: Stop) -> Result<Step, Fault>
 }
 
 /// A tick whose batch came back: the bypass list is what it was, or what was poured into it.
-fn check_put(step: Step) -> Result<Step, Fault>
-    ensures broken { IfErr result IsBroken }
-{
+fn check_put(step: Step) -> Result<Step, Broken> {
     let (old, new) = (step.before.offloadable, step.after.offloadable);
     let has = (mode(new), bypass(new), length(new));
     let (expected, what) = if mode(old) == Mode::Offloaded {
@@ -200,9 +188,7 @@ fn check_put(step: Step) -> Result<Step, Fault>
 }
 
 /// A tick that left nothing in the bypass list: it heeded what was asked of it, unless the own list could not be poured.
-fn check_switch(step: Step, left: bool) -> Result<Step, Fault>
-    ensures broken { IfErr result IsBroken }
-{
+fn check_switch(step: Step, left: bool) -> Result<Step, Broken> {
     let new = step.after.offloadable;
     if mode(new) == Mode::Offloading {
         stands(left, Growth::TickPour, "something moved")?;
@@ -218,9 +204,7 @@ fn check_switch(step: Step, left: bool) -> Result<Step, Fault>
 }
 
 /// A turn of the group: what it took, or had held, is in its list, held or given.
-fn check_group(step: Step, turn: GroupTurn) -> Result<Step, Fault>
-    ensures broken { IfErr result IsBroken }
-{
+fn check_group(step: Step, turn: GroupTurn) -> Result<Step, Broken> {
     let GroupTurn { took, gave, held } = turn;
     let (old, new) = (step.before.member, step.after.member);
     let had = length(old).wrapping_add(step.held).wrapping_add(took);
@@ -242,9 +226,7 @@ fn check_group(step: Step, turn: GroupTurn) -> Result<Step, Fault>
 }
 
 /// A turn of the hand.
-fn check_hand(step: Step, stop: Stop) -> Result<Step, Fault>
-    ensures broken { IfErr result IsBroken }
-{
+fn check_hand(step: Step, stop: Stop) -> Result<Step, Broken> {
     stands(
         step.is_unchanged(),
         Growth::HandRecord,
@@ -257,9 +239,7 @@ fn check_hand(step: Step, stop: Stop) -> Result<Step, Fault>
 }
 
 /// A call that changes no list.
-fn check_other(step: Step) -> Result<Step, Fault>
-    ensures broken { IfErr result IsBroken }
-{
+fn check_other(step: Step) -> Result<Step, Broken> {
     let (growth, expected) = match (step.action, step.answer) {
         (Action::Report(_), Answer::Reported(_)) => (Growth::Quiescent, true),
         (Action::Drive, Answer::Done) => (Growth::DriverTurn, true),

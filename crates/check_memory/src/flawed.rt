@@ -1,7 +1,7 @@
 //! Each check of a call is handed steps that it must refuse, one for each thing that it says.
 
 use crate::checks::{Step, check, check_again};
-use crate::growth::{Fault, Growth};
+use crate::growth::{Broken, Growth};
 use crate::machine::{Answer, Cpu, Shown};
 use crate::script::Action;
 use rcu_jobs::{GroupTurn, Lists, Mode, Stop, Ticket};
@@ -207,10 +207,10 @@ fn stuck() -> [(Growth, Step); 4] {
 }
 
 /// Says what a check says of a step.
-fn tell(rt: &HostRuntime, checked: Result<(), Fault>) -> io::Result<()> {
+fn tell(rt: &HostRuntime, checked: Result<(), Broken>) -> io::Result<()> {
     match checked {
         Ok(()) => println!(rt; "stands"),
-        Err(fault) => println!(rt; "{fault}"),
+        Err(broken) => println!(rt; "{broken}"),
     }
 }
 

@@ -1,7 +1,6 @@
 //! Which growth was refused, and what did not stand after it.
 
 ghost use Rattle.std.specs.Prelude.{◌≡◌, ◌↔◌, IsOk, IsTrue, IfErr, IfOk, None, Some};
-ghost use Rattle.check_memory.specs.Faults.{IsBroken, growth_in};
 
 use std::alloc::{AllocError, AllocFailed};
 use std::fmt;
@@ -91,12 +90,22 @@ impl fmt::Display for Growth {
     }
 }
 
+/// What the specification says of a call did not stand.
+#[derive(Debug, Drop, Error)]
+#[error("{at}: {what}")]
+pub struct Broken {
+    /// The growth after which it did not.
+    pub at: Growth,
+    /// What did not.
+    pub what: &'static str,
+}
+
 /// Why a scenario ended early.
 #[derive(Debug, Drop, Error)]
 pub enum Fault {
     /// What the specification says of a call did not stand.
-    #[error("{0}: {1}")]
-    Broken(Growth, &'static str),
+    #[error(transparent)]
+    Broken(#[from] Broken),
     /// A list of the scenario's own could not grow.
     #[error("a list of the scenario")]
     Own,
@@ -115,15 +124,14 @@ impl<T: Drop> From<AllocFailed<T>> for Fault {
 }
 
 /// Ok where `holds`, which is what stands after a call.
-pub fn stands(holds: bool, at: Growth, what: &'static str) -> Result<(), Fault>
+pub fn stands(holds: bool, at: Growth, what: &'static str) -> Result<(), Broken>
     ensures ok { IsOk result ↔ IsTrue holds }
-    ensures broken { IfErr result IsBroken }
-    ensures named { IfErr result (λ fault. growth_in fault ≡ Some at) }
+    ensures named { IfErr result (λ broken. broken.at ≡ at) }
 {
     if holds {
         Ok(())
     } else {
-        Err(Fault::Broken(at, what))
+        Err(Broken { at, what })
     }
 }
 
@@ -148,13 +156,12 @@ impl Refusals {
     }
 
     /// Notes a refusal. Whoever refuses one allocation never sees two.
-    pub fn note(&mut self, growth: Growth) -> Result<(), Fault>
+    pub fn note(&mut self, growth: Growth) -> Result<(), Broken>
         ensures once { IfOk result (λ _. self.old.first ≡ None) }
         ensures noted { IfOk result (λ _. self.new.first ≡ Some growth) }
         ensures first { self.old.first ≡ None → IsOk result }
         ensures stays { IfErr result (λ _. self.new ≡ self.old) }
-        ensures broken { IfErr result IsBroken }
-        ensures named { IfErr result (λ fault. growth_in fault ≡ Some growth) }
+        ensures named { IfErr result (λ broken. broken.at ≡ growth) }
     {
         stands(
             self.first.is_none(),

@@ -1,10 +1,9 @@
 //! The scenarios of a lane and of a board.
 
-ghost use Rattle.std.specs.Prelude.{IfErr, IfOk};
+ghost use Rattle.std.specs.Prelude.{IfOk};
 ghost use Rattle.rcu_lanes.specs.Ends.{SameLane, SameRear};
-ghost use Rattle.check_memory.specs.Faults.{IsBroken};
 
-use crate::growth::{Fault, Growth, Refusals, stands};
+use crate::growth::{Broken, Growth, Refusals, stands};
 use crate::machine::shape;
 use rcu_board::open_board;
 use rcu_lanes::{Draw, Front, Rear, Rest, lane, rest};
@@ -17,9 +16,8 @@ const ITEMS: u64 = 100;
 const DRAWN: u64 = 10;
 
 /// A new lane.
-fn open_lane(alloc: Global, refusals: &mut Refusals) -> Result<(Front<u64>, Rear<u64>), Fault>
+fn open_lane(alloc: Global, refusals: &mut Refusals) -> Result<(Front<u64>, Rear<u64>), Broken>
     ensures lane { IfOk result (λ ends. SameLane ends.0 ends.1) }
-    ensures broken { IfErr result IsBroken }
 {
     if let Ok(ends) = lane(alloc) {
         return Ok(ends);
@@ -27,14 +25,16 @@ fn open_lane(alloc: Global, refusals: &mut Refusals) -> Result<(Front<u64>, Rear
     refusals.note(Growth::Lane)?;
     match lane(alloc) {
         Ok(ends) => Ok(ends),
-        Err(_) => Err(Fault::Broken(Growth::Lane, "refused again")),
+        Err(_) => Err(Broken {
+            at: Growth::Lane,
+            what: "refused again",
+        }),
     }
 }
 
 /// Puts an item, again where it came back.
-fn put(refusals: &mut Refusals, rear: &mut Rear<u64>, item: u64) -> Result<(), Fault>
+fn put(refusals: &mut Refusals, rear: &mut Rear<u64>, item: u64) -> Result<(), Broken>
     ensures lane { SameRear rear.old rear.new }
-    ensures broken { IfErr result IsBroken }
 {
     let Err(back) = rear.put(item) else {
         return Ok(());
@@ -45,9 +45,8 @@ fn put(refusals: &mut Refusals, rear: &mut Rear<u64>, item: u64) -> Result<(), F
 }
 
 /// Puts all items, in order.
-fn put_all(refusals: &mut Refusals, mut rear: Rear<u64>) -> Result<Rear<u64>, Fault>
+fn put_all(refusals: &mut Refusals, mut rear: Rear<u64>) -> Result<Rear<u64>, Broken>
     ensures lane { IfOk result (SameRear rear) }
-    ensures broken { IfErr result IsBroken }
 {
     for item in 0..ITEMS {
         put(refusals, &mut rear, item)?;
@@ -56,9 +55,7 @@ fn put_all(refusals: &mut Refusals, mut rear: Rear<u64>) -> Result<Rear<u64>, Fa
 }
 
 /// The lane still has the items from `DRAWN` on, in order.
-fn check_left(mut left: Rest<u64>) -> Result<(), Fault>
-    ensures broken { IfErr result IsBroken }
-{
+fn check_left(mut left: Rest<u64>) -> Result<(), Broken> {
     for item in DRAWN..ITEMS {
         stands(
             left.take() == Some(item),
@@ -74,9 +71,7 @@ fn check_left(mut left: Rest<u64>) -> Result<(), Fault>
 }
 
 /// The scenario of a lane: items put, some drawn, and the rest taken.
-pub fn play_lanes(alloc: Global) -> Result<Refusals, Fault>
-    ensures broken { IfErr result IsBroken }
-{
+pub fn play_lanes(alloc: Global) -> Result<Refusals, Broken> {
     let mut refusals = Refusals::new();
     let (mut front, rear) = open_lane(alloc, &mut refusals)?;
     let rear = put_all(&mut refusals, rear)?;
@@ -93,11 +88,12 @@ pub fn play_lanes(alloc: Global) -> Result<Refusals, Fault>
 }
 
 /// The scenario of a board.
-pub fn play_board(alloc: Global) -> Result<Refusals, Fault>
-    ensures broken { IfErr result IsBroken }
-{
+pub fn play_board(alloc: Global) -> Result<Refusals, Broken> {
     let mut refusals = Refusals::new();
-    let shape = shape().ok_or(Fault::Broken(Growth::OpenBoard, "no shape"))?;
+    let shape = shape().ok_or(Broken {
+        at: Growth::OpenBoard,
+        what: "no shape",
+    })?;
     if open_board(alloc, shape).is_err() {
         refusals.note(Growth::OpenBoard)?;
         let again = open_board(alloc, shape);

@@ -1,9 +1,8 @@
 //! The scenario of the list types.
 
-ghost use Rattle.std.specs.Prelude.{◌≡◌, IfErr};
-ghost use Rattle.check_memory.specs.Faults.{IsBroken};
+ghost use Rattle.std.specs.Prelude.{◌≡◌};
 
-use crate::growth::{Fault, Growth, Refusals, stands};
+use crate::growth::{Broken, Growth, Refusals, stands};
 use crate::work::Work;
 use rcu_jobs::Callback;
 use rcu_lists::{Batch, Bypass, Kind, Placed, Segments};
@@ -30,9 +29,7 @@ fn callback(number: u64) -> Callback<Work>
 }
 
 /// Adds a callback, in room that is found before.
-fn enqueue(refusals: &mut Refusals, list: &mut Segments<Work>, number: u64) -> Result<(), Fault>
-    ensures broken { IfErr result IsBroken }
-{
+fn enqueue(refusals: &mut Refusals, list: &mut Segments<Work>, number: u64) -> Result<(), Broken> {
     let before = list.lengths();
     if list.reserve(1).is_err() {
         refusals.note(Growth::Reserve)?;
@@ -42,16 +39,17 @@ fn enqueue(refusals: &mut Refusals, list: &mut Segments<Work>, number: u64) -> R
             "the list changed",
         )?;
         let again = list.reserve(1);
-        again.map_err(|_| Fault::Broken(Growth::Reserve, "refused again"))?;
+        again.map_err(|_| Broken {
+            at: Growth::Reserve,
+            what: "refused again",
+        })?;
     }
     list.enqueue(callback(number));
     Ok(())
 }
 
 /// Fills a list with callbacks, which then are done.
-fn fill(refusals: &mut Refusals, list: &mut Segments<Work>) -> Result<(), Fault>
-    ensures broken { IfErr result IsBroken }
-{
+fn fill(refusals: &mut Refusals, list: &mut Segments<Work>) -> Result<(), Broken> {
     for number in 0..CALLBACKS {
         enqueue(refusals, list, number)?;
     }
@@ -63,9 +61,7 @@ fn fill(refusals: &mut Refusals, list: &mut Segments<Work>) -> Result<(), Fault>
 }
 
 /// Takes a batch of done callbacks.
-fn take_batch(refusals: &mut Refusals, list: &mut Segments<Work>) -> Result<Batch<Work>, Fault>
-    ensures broken { IfErr result IsBroken }
-{
+fn take_batch(refusals: &mut Refusals, list: &mut Segments<Work>) -> Result<Batch<Work>, Broken> {
     let before = (list.lengths(), list.numbers());
     if let Ok(batch) = list.take_batch(TAKEN) {
         return Ok(batch);
@@ -75,7 +71,10 @@ fn take_batch(refusals: &mut Refusals, list: &mut Segments<Work>) -> Result<Batc
     stands(same, Growth::TakeBatch, "the list changed")?;
     match list.take_batch(TAKEN) {
         Ok(batch) => Ok(batch),
-        Err(_) => Err(Fault::Broken(Growth::TakeBatch, "refused again")),
+        Err(_) => Err(Broken {
+            at: Growth::TakeBatch,
+            what: "refused again",
+        }),
     }
 }
 
@@ -84,9 +83,7 @@ fn pour(
     refusals: &mut Refusals,
     list: &mut Segments<Work>,
     bypass: &mut Bypass<Work>,
-) -> Result<(), Fault>
-    ensures broken { IfErr result IsBroken }
-{
+) -> Result<(), Broken> {
     let before = (list.lengths(), list.numbers(), bypass.len());
     if list.pour(bypass).is_ok() {
         return Ok(());
@@ -99,9 +96,7 @@ fn pour(
 }
 
 /// Adds a lazy callback to a bypass list, in room that is found before.
-fn hold(refusals: &mut Refusals, bypass: &mut Bypass<Work>, number: u64) -> Result<(), Fault>
-    ensures broken { IfErr result IsBroken }
-{
+fn hold(refusals: &mut Refusals, bypass: &mut Bypass<Work>, number: u64) -> Result<(), Broken> {
     let before = bypass.len();
     if bypass.reserve().is_err() {
         refusals.note(Growth::BypassReserve)?;
@@ -111,11 +106,17 @@ fn hold(refusals: &mut Refusals, bypass: &mut Bypass<Work>, number: u64) -> Resu
             "the list changed",
         )?;
         let again = bypass.reserve();
-        again.map_err(|_| Fault::Broken(Growth::BypassReserve, "refused again"))?;
+        again.map_err(|_| Broken {
+            at: Growth::BypassReserve,
+            what: "refused again",
+        })?;
     }
     match bypass.place(0, Kind::Lazy, callback(number)) {
         Placed::Kept => Ok(()),
-        Placed::Out(_) => Err(Fault::Broken(Growth::BypassReserve, "the list was released")),
+        Placed::Out(_) => Err(Broken {
+            at: Growth::BypassReserve,
+            what: "the list was released",
+        }),
     }
 }
 
@@ -128,9 +129,7 @@ fn is_next(batch: &mut Batch<Work>, number: u64) -> bool {
 }
 
 /// The batch holds the callbacks from `first` up to `end`, in order.
-fn check_batch(mut batch: Batch<Work>, first: u64, end: u64) -> Result<(), Fault>
-    ensures broken { IfErr result IsBroken }
-{
+fn check_batch(mut batch: Batch<Work>, first: u64, end: u64) -> Result<(), Broken> {
     for number in first..end {
         stands(
             is_next(&mut batch, number),
@@ -150,9 +149,7 @@ fn pass_on(
     refusals: &mut Refusals,
     list: &mut Segments<Work>,
     bypass: &mut Bypass<Work>,
-) -> Result<(), Fault>
-    ensures broken { IfErr result IsBroken }
-{
+) -> Result<(), Broken> {
     check_batch(take_batch(refusals, list)?, 0, TAKEN as u64)?;
     pour(refusals, list, bypass)?;
     for number in CALLBACKS..2 * CALLBACKS {
@@ -162,9 +159,7 @@ fn pass_on(
 }
 
 /// The scenario: a list that is filled, cut and poured into a bypass list, which then grows.
-pub fn play_lists(alloc: Global) -> Result<Refusals, Fault>
-    ensures broken { IfErr result IsBroken }
-{
+pub fn play_lists(alloc: Global) -> Result<Refusals, Broken> {
     let mut refusals = Refusals::new();
     let mut list = Segments::new(alloc);
     fill(&mut refusals, &mut list)?;

@@ -1,11 +1,10 @@
 //! The runtime that a scenario drives: the parts or the core. It has a local processor and an offloadable one.
 
-ghost use Rattle.std.specs.Prelude.{◌≡◌, ◌↔◌, IfErr, IfOk, IfSome, IsSome, IsTrue, vec_len};
+ghost use Rattle.std.specs.Prelude.{◌≡◌, ◌↔◌, IfOk, IfSome, IsSome, IsTrue, vec_len};
 ghost use Rattle.check_memory.specs.Ends.{AreFirst, AreNext, EndsWhole, IsWhole, accepted_in};
-ghost use Rattle.check_memory.specs.Faults.{IsBroken};
 ghost use Rattle.check_memory.specs.Shows.{bypass_in, done_in, length_in, lengths_in, lists_of, mode_in, number_of};
 
-use crate::growth::{Fault, Growth, stands};
+use crate::growth::{Broken, Growth, stands};
 use crate::script::Action;
 use crate::work::{Work, key_at};
 use rcu_jobs::{Closed, Counts, GroupTurn, Lists, Mode, Record, Stop, Ticket};
@@ -194,12 +193,11 @@ fn is_whole(closed: &Closed<Work>, cpu: u64, many: u64) -> bool
 }
 
 /// What a close gives is whole, by what the runtime showed before it.
-pub fn check_closed(growth: Growth, closed: &Closed<Work>, shown: &Shown) -> Result<(), Fault>
+pub fn check_closed(growth: Growth, closed: &Closed<Work>, shown: &Shown) -> Result<(), Broken>
     ensures local { IfOk result (λ _. EndsWhole 0 (accepted_in shown.now.local) closed.now) }
     ensures offloadable { IfOk result (λ _.
         EndsWhole 1 (accepted_in shown.now.offloadable) closed.now) }
     ensures reports { IfOk result (λ _. vec_len closed.now.reports ≡ 2) }
-    ensures broken { IfErr result IsBroken }
 {
     let whole = is_whole(closed, 0, accepted(shown.local))
         && is_whole(closed, 1, accepted(shown.offloadable));

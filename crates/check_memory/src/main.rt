@@ -67,12 +67,12 @@ impl Scenario {
 
     fn play(self, alloc: Global) -> Result<Refusals, Fault> {
         match self {
-            Scenario::Lists => play_lists(alloc),
-            Scenario::Lanes => play_lanes(alloc),
-            Scenario::Board => play_board(alloc),
+            Scenario::Lists => Ok(play_lists(alloc)?),
+            Scenario::Lanes => Ok(play_lanes(alloc)?),
+            Scenario::Board => Ok(play_board(alloc)?),
             Scenario::World => play_world(alloc),
-            Scenario::Parts => play_parts(alloc),
-            Scenario::Setup => play_setup(alloc),
+            Scenario::Parts => Ok(play_parts(alloc)?),
+            Scenario::Setup => Ok(play_setup(alloc)?),
             Scenario::Status => play_status(alloc),
         }
     }

@@ -5,14 +5,13 @@ ghost use Rattle.std.specs.List.{AllZip};
 ghost use Rattle.rcu_part_control.specs.Parts.{SameControl};
 ghost use Rattle.check_memory.specs.Answers.{refused_as};
 ghost use Rattle.check_memory.specs.Driven.{AreDriven};
-ghost use Rattle.check_memory.specs.Faults.{IsBroken};
 ghost use Rattle.check_memory.specs.Works.{IsOwnKey, key_of_work};
 ghost use Rattle.check_memory.specs.declared.machine.Answer.TheVariants.{Accepted};
 ghost use Rattle.rcu_part_group.specs.Groups.{SameGroup};
 ghost use Rattle.rcu_part_hand.specs.Hands.{IsSoundHand, SameHand};
 ghost use Rattle.rcu_part_processor.specs.Processors.{IsSound, SameProcessor};
 
-use crate::growth::{Fault, Growth, Refusals};
+use crate::growth::{Broken, Growth, Refusals};
 use crate::machine::{Answer, Machine, Shown, check_closed, shape};
 use crate::script::Action;
 use crate::steps::{Progress, shown};
@@ -159,18 +158,23 @@ impl Machine for Parts<Work> {
 }
 
 /// Opens the parts.
-fn open_parts(alloc: Global, refusals: &mut Refusals) -> Result<Parts<Work>, Fault>
+fn open_parts(alloc: Global, refusals: &mut Refusals) -> Result<Parts<Work>, Broken>
     ensures driven { IfOk result AreDriven }
-    ensures broken { IfErr result IsBroken }
 {
-    let shape = shape().ok_or(Fault::Broken(Growth::Open, "no shape"))?;
+    let shape = shape().ok_or(Broken {
+        at: Growth::Open,
+        what: "no shape",
+    })?;
     if let Ok(parts) = open(alloc, shape) {
         return Ok(parts);
     }
     refusals.note(Growth::Open)?;
     match open(alloc, shape) {
         Ok(parts) => Ok(parts),
-        Err(_) => Err(Fault::Broken(Growth::Open, "refused again")),
+        Err(_) => Err(Broken {
+            at: Growth::Open,
+            what: "refused again",
+        }),
     }
 }
 
@@ -179,9 +183,8 @@ fn close_parts(
     alloc: Global,
     refusals: &mut Refusals,
     parts: Parts<Work>,
-) -> Result<Closed<Work>, Fault>
+) -> Result<Closed<Work>, Broken>
     requires { AreDriven parts }
-    ensures broken { IfErr result IsBroken }
 {
     let closing = match close(alloc, parts) {
         Ok(closed) => return Ok(closed),
@@ -190,24 +193,24 @@ fn close_parts(
     refusals.note(Growth::Close)?;
     match closing.again(alloc) {
         Ok(closed) => Ok(closed),
-        Err(_) => Err(Fault::Broken(Growth::Close, "refused again")),
+        Err(_) => Err(Broken {
+            at: Growth::Close,
+            what: "refused again",
+        }),
     }
 }
 
 /// Each call of the table. Answers what the parts show then.
-fn perform_all(progress: &mut Progress, parts: &mut Parts<Work>) -> Result<Shown, Fault>
+fn perform_all(progress: &mut Progress, parts: &mut Parts<Work>) -> Result<Shown, Broken>
     requires { AreDriven parts.old }
     ensures driven { AreDriven parts.new }
-    ensures broken { IfErr result IsBroken }
 {
     progress.perform_all(parts)?;
     shown(parts)
 }
 
 /// The scenario: `open`, each call of the table, `close`.
-pub fn play_parts(alloc: Global) -> Result<Refusals, Fault>
-    ensures broken { IfErr result IsBroken }
-{
+pub fn play_parts(alloc: Global) -> Result<Refusals, Broken> {
     let mut refusals = Refusals::new();
     let mut parts = open_parts(alloc, &mut refusals)?;
     let mut progress = Progress::new(refusals);

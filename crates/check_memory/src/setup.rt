@@ -1,9 +1,6 @@
 //! The scenario of a setup's text.
 
-ghost use Rattle.std.specs.Prelude.{IfErr};
-ghost use Rattle.check_memory.specs.Faults.{IsBroken};
-
-use crate::growth::{Fault, Growth, Refusals, stands};
+use crate::growth::{Broken, Growth, Refusals, stands};
 use rcu_setup::{Command, Setup, SetupFault, read_setup, script_line};
 use std::alloc::Global;
 
@@ -62,9 +59,12 @@ fn is_expected(expected: Expected, answer: &Result<Setup, SetupFault>) -> bool {
 }
 
 /// Reads a text, again where memory was wanted.
-fn read(alloc: Global, refusals: &mut Refusals, text: &str, expected: Expected) -> Result<(), Fault>
-    ensures broken { IfErr result IsBroken }
-{
+fn read(
+    alloc: Global,
+    refusals: &mut Refusals,
+    text: &str,
+    expected: Expected,
+) -> Result<(), Broken> {
     let mut answer = read_setup(alloc, text);
     if matches!(answer, Err(SetupFault::Memory)) {
         refusals.note(Growth::ReadSetup)?;
@@ -78,9 +78,7 @@ fn read(alloc: Global, refusals: &mut Refusals, text: &str, expected: Expected) 
 }
 
 /// Reads a line of a script, again where memory was wanted.
-fn read_line(alloc: Global, refusals: &mut Refusals) -> Result<(), Fault>
-    ensures broken { IfErr result IsBroken }
-{
+fn read_line(alloc: Global, refusals: &mut Refusals) -> Result<(), Broken> {
     let mut answer = script_line(alloc, "call 1 5 abc 7");
     if matches!(answer, Err(SetupFault::Memory)) {
         refusals.note(Growth::ScriptLine)?;
@@ -101,9 +99,7 @@ fn read_line(alloc: Global, refusals: &mut Refusals) -> Result<(), Fault>
 }
 
 /// The scenario: a text that is a setup, texts with faults, a line of a script.
-pub fn play_setup(alloc: Global) -> Result<Refusals, Fault>
-    ensures broken { IfErr result IsBroken }
-{
+pub fn play_setup(alloc: Global) -> Result<Refusals, Broken> {
     let mut refusals = Refusals::new();
     for (text, expected) in TEXTS {
         read(alloc, &mut refusals, text, expected)?;

@@ -1,9 +1,8 @@
 //! The scenario of the lines of lists and totals.
 
-ghost use Rattle.std.specs.Prelude.{◌≡◌, ◌↔◌, IfErr, IsOkAnd, IsTrue, string_bytes};
-ghost use Rattle.check_memory.specs.Faults.{IsBroken};
+ghost use Rattle.std.specs.Prelude.{◌≡◌, ◌↔◌, IsOkAnd, IsTrue, string_bytes};
 
-use crate::growth::{Fault, Growth, Refusals, stands};
+use crate::growth::{Broken, Fault, Growth, Refusals, stands};
 use crate::work::Work;
 use rcu_jobs::{Closed, Lists, Mode, Record};
 use rcu_status::{line, totals};
@@ -49,9 +48,7 @@ fn is_text(written: &Result<String, AllocError>, text: &str) -> bool
 }
 
 /// A line of `show`, again where memory was wanted.
-fn write_line(alloc: Global, refusals: &mut Refusals) -> Result<(), Fault>
-    ensures broken { IfErr result IsBroken }
-{
+fn write_line(alloc: Global, refusals: &mut Refusals) -> Result<(), Broken> {
     let mut text = line(alloc, 31, &SHOWN);
     if text.is_err() {
         refusals.note(Growth::Line)?;
@@ -61,9 +58,11 @@ fn write_line(alloc: Global, refusals: &mut Refusals) -> Result<(), Fault>
 }
 
 /// The totals, again where memory was wanted.
-fn write_totals(alloc: Global, refusals: &mut Refusals, closed: &Closed<Work>) -> Result<(), Fault>
-    ensures broken { IfErr result IsBroken }
-{
+fn write_totals(
+    alloc: Global,
+    refusals: &mut Refusals,
+    closed: &Closed<Work>,
+) -> Result<(), Broken> {
     let mut text = totals(alloc, closed, true);
     if text.is_err() {
         refusals.note(Growth::Totals)?;

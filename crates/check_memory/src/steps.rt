@@ -1,16 +1,15 @@
 //! The calls of a runtime in turn: after each, what it says and shows is what the specification allows. A call that was
 //! refused a growth is made once more.
 
-ghost use Rattle.std.specs.Prelude.{◌≡◌, IfErr, true};
+ghost use Rattle.std.specs.Prelude.{◌≡◌, true};
 ghost use Rattle.check_memory.specs.Ends.{accepted_in};
-ghost use Rattle.check_memory.specs.Faults.{IsBroken};
 ghost use Rattle.check_memory.specs.Shows.{lists_of, number_of};
 ghost use Rattle.check_memory.specs.Works.{callback_key};
 ghost use Rattle.check_memory.specs.declared.machine.Cpu.{Cpu};
 ghost use Rattle.check_memory.specs.declared.script.Action.TheVariants.{Call, Lazy};
 
 use crate::checks::{Step, check, check_again};
-use crate::growth::{Fault, Growth, Refusals};
+use crate::growth::{Broken, Growth, Refusals};
 use crate::machine::{Answer, Machine, Shown, accepted};
 use crate::script::{Action, SCRIPT, Steps};
 use crate::work::key_at;
@@ -45,10 +44,9 @@ impl Progress {
     }
 
     /// Performs the whole script.
-    pub fn perform_all<M: Machine>(&mut self, machine: &mut M) -> Result<(), Fault>
+    pub fn perform_all<M: Machine>(&mut self, machine: &mut M) -> Result<(), Broken>
         requires { M.holds machine.old }
         ensures holds { M.holds machine.new }
-        ensures broken { IfErr result IsBroken }
     {
         for steps in SCRIPT {
             self.perform(machine, steps)?;
@@ -57,10 +55,9 @@ impl Progress {
     }
 
     /// Performs these steps.
-    pub fn perform<M: Machine>(&mut self, machine: &mut M, steps: Steps) -> Result<(), Fault>
+    pub fn perform<M: Machine>(&mut self, machine: &mut M, steps: Steps) -> Result<(), Broken>
         requires { M.holds machine.old }
         ensures holds { M.holds machine.new }
-        ensures broken { IfErr result IsBroken }
     {
         for (times, action) in steps {
             self.repeat(machine, *times, *action)?;
@@ -74,10 +71,9 @@ impl Progress {
         machine: &mut M,
         times: u64,
         action: Action,
-    ) -> Result<(), Fault>
+    ) -> Result<(), Broken>
         requires { M.holds machine.old }
         ensures holds { M.holds machine.new }
-        ensures broken { IfErr result IsBroken }
     {
         for _ in 0..times {
             self.make(machine, action)?;
@@ -86,10 +82,9 @@ impl Progress {
     }
 
     /// Makes one call, and once more where it was refused a growth.
-    fn make<M: Machine>(&mut self, machine: &mut M, action: Action) -> Result<(), Fault>
+    fn make<M: Machine>(&mut self, machine: &mut M, action: Action) -> Result<(), Broken>
         requires { M.holds machine.old }
         ensures holds { M.holds machine.new }
-        ensures broken { IfErr result IsBroken }
     {
         let first = self.make_once(machine, action)?;
         let Some(growth) = first.refused else {
@@ -103,10 +98,9 @@ impl Progress {
     }
 
     /// Makes one call, and checks what stands after it.
-    fn make_once<M: Machine>(&mut self, machine: &mut M, action: Action) -> Result<Step, Fault>
+    fn make_once<M: Machine>(&mut self, machine: &mut M, action: Action) -> Result<Step, Broken>
         requires { M.holds machine.old }
         ensures holds { M.holds machine.new }
-        ensures broken { IfErr result IsBroken }
     {
         let before = shown(machine)?;
         self.moment = self.moment.wrapping_add(match action {
@@ -135,12 +129,11 @@ impl Progress {
 }
 
 /// What a runtime shows.
-pub fn shown<M: Machine>(machine: &M) -> Result<Shown, Fault>
-    ensures broken { IfErr result IsBroken }
-{
-    machine
-        .shown()
-        .ok_or(Fault::Broken(Growth::Open, "a part is missing"))
+pub fn shown<M: Machine>(machine: &M) -> Result<Shown, Broken> {
+    machine.shown().ok_or(Broken {
+        at: Growth::Open,
+        what: "a part is missing",
+    })
 }
 
 /// The key of the job that a call hands in, by what its processor accepted before.

@@ -1,12 +1,11 @@
 //! The scenario of the core.
 
-ghost use Rattle.std.specs.Prelude.{IfErr, IfOk};
+ghost use Rattle.std.specs.Prelude.{IfOk};
 ghost use Rattle.check_memory.specs.Driven.{IsDrivenWorld};
-ghost use Rattle.check_memory.specs.Faults.{IsBroken};
 ghost use Rattle.check_memory.specs.Works.{IsOwnKey, key_of_work};
 ghost use Rattle.rcu_world.specs.Worlds.{IsWorld};
 
-use crate::growth::{Fault, Growth, Refusals, stands};
+use crate::growth::{Broken, Fault, Growth, Refusals, stands};
 use crate::machine::{Answer, Cpu, Machine, Shown, check_closed, shape};
 use crate::parts::called;
 use crate::script::{Action, ONE_MARK, SHORT_SCRIPT};
@@ -168,18 +167,23 @@ impl Machine for World<Work> {
 }
 
 /// Opens the world.
-fn open_world(alloc: Global, refusals: &mut Refusals) -> Result<World<Work>, Fault>
+fn open_world(alloc: Global, refusals: &mut Refusals) -> Result<World<Work>, Broken>
     ensures driven { IfOk result IsDrivenWorld }
-    ensures broken { IfErr result IsBroken }
 {
-    let shape = shape().ok_or(Fault::Broken(Growth::WorldNew, "no shape"))?;
+    let shape = shape().ok_or(Broken {
+        at: Growth::WorldNew,
+        what: "no shape",
+    })?;
     if let Ok(world) = World::new(alloc, shape) {
         return Ok(world);
     }
     refusals.note(Growth::WorldNew)?;
     match World::new(alloc, shape) {
         Ok(world) => Ok(world),
-        Err(_) => Err(Fault::Broken(Growth::WorldNew, "refused again")),
+        Err(_) => Err(Broken {
+            at: Growth::WorldNew,
+            what: "refused again",
+        }),
     }
 }
 
@@ -207,9 +211,8 @@ fn run_events(alloc: Global, refusals: &mut Refusals, world: &mut World<Work>) -
 }
 
 /// Closes the world, or tries it again.
-fn close_world(refusals: &mut Refusals, world: World<Work>) -> Result<Closed<Work>, Fault>
+fn close_world(refusals: &mut Refusals, world: World<Work>) -> Result<Closed<Work>, Broken>
     requires { IsWorld key_of_work IsOwnKey world.core }
-    ensures broken { IfErr result IsBroken }
 {
     let before = shown(&world)?;
     let marks = world.history().len();
@@ -222,15 +225,16 @@ fn close_world(refusals: &mut Refusals, world: World<Work>) -> Result<Closed<Wor
     stands(same, Growth::WorldClose, "the world changed")?;
     match back.close() {
         Ok((_, closed)) => Ok(closed),
-        Err(_) => Err(Fault::Broken(Growth::WorldClose, "refused again")),
+        Err(_) => Err(Broken {
+            at: Growth::WorldClose,
+            what: "refused again",
+        }),
     }
 }
 
 /// The short script on a world whose history has so many marks before it: among some lengths in a row is one at which the
 /// history grows at each call.
-fn play_short(alloc: Global, refusals: Refusals, marks: u64) -> Result<Refusals, Fault>
-    ensures broken { IfErr result IsBroken }
-{
+fn play_short(alloc: Global, refusals: Refusals, marks: u64) -> Result<Refusals, Broken> {
     let mut progress = Progress::new(refusals);
     let mut world = open_world(alloc, &mut progress.refusals)?;
     progress.repeat(&mut world, marks, ONE_MARK)?;
@@ -239,9 +243,7 @@ fn play_short(alloc: Global, refusals: Refusals, marks: u64) -> Result<Refusals,
 }
 
 /// The short script on histories of some lengths in a row.
-fn play_all_short(alloc: Global) -> Result<Refusals, Fault>
-    ensures broken { IfErr result IsBroken }
-{
+fn play_all_short(alloc: Global) -> Result<Refusals, Broken> {
     let mut refusals = Refusals::new();
     for marks in 0..LENGTHS {
         refusals = play_short(alloc, refusals, marks)?;
