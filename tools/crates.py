@@ -58,6 +58,11 @@ class Crate:
         return self.count(".rt")
 
     @functools.cached_property
+    def tests(self):
+        """How many #[test] functions it has."""
+        return sum(it.read_bytes().count(b"#[test]") for it in self.files if it.suffix == ".rt")
+
+    @functools.cached_property
     def proof_lines(self):
         return self.count(".antt")
 

@@ -1,33 +1,24 @@
-#!/usr/bin/env python3
-"""Runs the program whose path is given on hostile setups, input that can't be read, output that can't be written and words that
-are refused, and sees how each run ends: with the status, the output and the fault line that docs/specification/tables.md says, in
-under 60 seconds, within 2 GiB of memory, which is all that it is given, and never by a signal.
-The last line is 'N passed, M failed'.
+"""Runs rcuo on hostile setups, input that can't be read, output that can't be written and words that are refused, and sees how
+each run ends: with the status, the output and the fault line that docs/specification/tables.md says, in under 60 seconds, within
+2 GiB of memory, which is all that it is given, and never by a signal.
 """
-import collections
 import functools
 import itertools
 import os
-import pathlib
 import re
-import resource
-import signal
 import subprocess
-import sys
 import tempfile
+import unittest
 
-ROOT = pathlib.Path(__file__).resolve().parent.parent
+import programs
+from programs import REPLAYS, ROOT, ProgramTest, Run, built, limiter, one_each
+
 SECONDS = 60
 BYTES = 2 << 30
 MOST_BYTES = 1048576
 DEEP = 100000
 LONG = 1000000
 LETTERS = "0123456789abcdefghijklmnopqrstuvwxyz"
-
-# how a run ended, and what it wrote
-Run = collections.namedtuple("Run", "status stdout stderr")
-# a run: the word, the setup, and how it may end
-Case = collections.namedtuple("Case", "name word setup wanted")
 
 NO_MEMORY = "2: no memory"
 NOT_TOML = "10: not a TOML document"
@@ -43,10 +34,10 @@ REFUSED_WORDS = {
     "a-word-that-is-no-text": ([b"\xff"], b"error: a word of the command line is no text"),
 }
 
-THREADS_4 = (ROOT / "replays" / "threads-4" / "setup.toml").read_bytes()
-THREADS_4_WRITES = (ROOT / "replays" / "threads-4" / "stdout").read_bytes()
-REPLAY = (ROOT / "replays" / "first-run" / "setup.toml").read_bytes()
-REPLAY_WRITES = (ROOT / "replays" / "first-run" / "stdout").read_bytes()
+THREADS_4 = (REPLAYS / "threads-4" / "setup.toml").read_bytes()
+THREADS_4_WRITES = (REPLAYS / "threads-4" / "stdout").read_bytes()
+REPLAY = (REPLAYS / "first-run" / "setup.toml").read_bytes()
+REPLAY_WRITES = (REPLAYS / "first-run" / "stdout").read_bytes()
 
 
 def fault(line):
@@ -128,53 +119,69 @@ def end_of_beginning(word, setup):
     return writes(totals + (b"reports 0,0,0,0\n" if word == "replay" else b""))
 
 
-def cases():
-    for it, (setup, wanted) in SETUPS.items():
-        yield Case(it, "replay", setup if isinstance(setup, bytes) else setup.encode(), wanted)
+def beginnings():
+    """THREADS_4 cut after each of its bytes, with what each word writes on it."""
     for word, most in itertools.product(("threads", "replay"), range(len(THREADS_4) + 1)):
         setup = THREADS_4[:most]
-        yield Case(f"cut-after-{most}", word, setup, [end_of_beginning(word, setup)])
-    for keys in itertools.permutations(THREADS_4.splitlines()):
-        yield Case("keys-in-another-order", "threads", b"\n".join(keys), [writes(THREADS_4_WRITES)])
+        yield f"{word}_cut-after-{most}", word, setup, [end_of_beginning(word, setup)]
+
+
+def orders():
+    """The keys of THREADS_4 in every order."""
+    for number, keys in enumerate(itertools.permutations(THREADS_4.splitlines())):
+        yield f"keys-in-order-{number}", "threads", b"\n".join(keys), [writes(THREADS_4_WRITES)]
+
+
+def setups():
+    for it, (setup, wanted) in SETUPS.items():
+        yield it, "replay", setup if isinstance(setup, bytes) else setup.encode(), wanted
 
 
 # ---- runs
 
 
-def limited(file_bytes=None):
-    resource.setrlimit(resource.RLIMIT_AS, (BYTES, BYTES))
-    if file_bytes is not None:
-        # (a write past the limit fails, and no signal comes)
-        signal.signal(signal.SIGXFSZ, signal.SIG_IGN)
-        resource.setrlimit(resource.RLIMIT_FSIZE, (file_bytes, file_bytes))
-
-
-def run_with(command, setup=None, **streams):
-    """The run of a command on a setup, or with streams of its own."""
-    if setup is not None:
-        streams["input"] = setup
-    streams = {"stdout": subprocess.PIPE, "stderr": subprocess.PIPE, "preexec_fn": limited, **streams}
-    run = subprocess.run(command, timeout=SECONDS, **streams)
-    return Run(run.returncode, run.stdout or b"", run.stderr or b"")
+def run(command, setup=b"", **how):
+    """The run within the time and the memory that all runs have."""
+    return programs.run(command, setup, seconds=SECONDS, **{"limit": limiter(BYTES), **how})
 
 
 def run_bytewise(command, setup):
     """The run where each read gives one byte at most."""
-    ends = {"stdin": subprocess.PIPE, "stdout": subprocess.PIPE, "stderr": subprocess.PIPE, "preexec_fn": limited}
+    ends = {"stdin": subprocess.PIPE, "stdout": subprocess.PIPE, "stderr": subprocess.PIPE, "preexec_fn": limiter(BYTES)}
     with subprocess.Popen(command, bufsize=0, **ends) as program:
         for byte in setup:
             program.stdin.write(bytes([byte]))
             os.sched_yield()
-        stdout, stderr = program.communicate(timeout=SECONDS)
+        try:
+            stdout, stderr = program.communicate(timeout=SECONDS)
+        finally:
+            program.kill()
         return Run(program.returncode, stdout, stderr)
 
 
-def run_to_file(command, setup, file_bytes):
-    """The run that writes to a file in which this many bytes have room."""
-    with tempfile.TemporaryFile() as file:
-        run = run_with(command, setup, stdout=file, preexec_fn=functools.partial(limited, file_bytes))
-        file.seek(0)
-        return run._replace(stdout=file.read())
+def run_of_folder(command, setup):
+    """The run whose input is a folder."""
+    folder = os.open(ROOT, os.O_RDONLY)
+    try:
+        return run(command, stdin=folder)
+    finally:
+        os.close(folder)
+
+
+def run_of_unreadable(command, setup):
+    """The run whose input is open for writing alone."""
+    with open(os.devnull, "wb") as unreadable:
+        return run(command, stdin=unreadable)
+
+
+def run_without(descriptor, command, setup):
+    """The run that has no input, or no output."""
+    return run(command, setup, limit=limiter(BYTES, closed=descriptor))
+
+
+def run_to_full_device(command, setup):
+    with open("/dev/full", "wb") as full:
+        return run(command, setup, stdout=full)
 
 
 def run_to_no_reader(command, setup):
@@ -182,66 +189,83 @@ def run_to_no_reader(command, setup):
     reader, writer = os.pipe()
     os.close(reader)
     try:
-        return run_with(command, setup, stdout=writer)
+        return run(command, setup, stdout=writer)
     finally:
         os.close(writer)
 
 
-def other_runs(program):
-    """Runs with input that comes otherwise or not, and output that can't be written: each name, run and wanted end."""
+def run_to_file(file_bytes, command, setup):
+    """The run that writes to a file in which this many bytes have room."""
+    with tempfile.TemporaryFile() as file:
+        ended = run(command, setup, stdout=file, limit=limiter(BYTES, file_bytes))
+        file.seek(0)
+        return ended._replace(stdout=file.read())
+
+
+def streams():
+    """Input that comes otherwise or not, and output that can't be written: how each is run, and how it ends."""
     for word, setup, written in (("replay", REPLAY, REPLAY_WRITES), ("threads", THREADS_4, THREADS_4_WRITES)):
-        command = [program, word]
-        yield f"{word}-bytewise", run_bytewise(command, setup), writes(written)
-        with open(os.devnull, "wb") as unreadable:
-            yield f"{word}-of-what-can't-be-read", run_with(command, stdin=unreadable), fault(CANNOT_READ)
-        folder = os.open(ROOT, os.O_RDONLY)
-        yield f"{word}-of-a-folder", run_with(command, stdin=folder), fault(CANNOT_READ)
-        os.close(folder)
-        yield f"{word}-without-input", run_with(command, preexec_fn=lambda: os.close(0)), fault(CANNOT_READ)
-        with open("/dev/full", "wb") as full:
-            yield f"{word}-to-a-full-device", run_with(command, setup, stdout=full), fault(CANNOT_WRITE)
-        yield f"{word}-without-output", run_with(command, setup, stdout=None, preexec_fn=lambda: os.close(1)), fault(CANNOT_WRITE)
-        yield f"{word}-to-no-reader", run_to_no_reader(command, setup), fault(CANNOT_WRITE)
+        ends = {
+            "bytewise": (run_bytewise, writes(written)),
+            "of-what-can't-be-read": (run_of_unreadable, fault(CANNOT_READ)),
+            "of-a-folder": (run_of_folder, fault(CANNOT_READ)),
+            "without-input": (functools.partial(run_without, 0), fault(CANNOT_READ)),
+            "to-a-full-device": (run_to_full_device, fault(CANNOT_WRITE)),
+            "without-output": (functools.partial(run_without, 1), fault(CANNOT_WRITE)),
+            "to-no-reader": (run_to_no_reader, fault(CANNOT_WRITE)),
+        }
         for most in range(len(written)):
             wanted = fault(CANNOT_WRITE)._replace(stdout=written[:most])
-            yield f"{word}-to-a-file-of-{most}", run_to_file(command, setup, most), wanted
+            ends[f"to-a-file-of-{most}"] = (functools.partial(run_to_file, most), wanted)
+        for it, (way, wanted) in ends.items():
+            yield f"{word}_{it}", word, setup, way, wanted
 
 
-def refused_words(program):
-    """Runs whose words are refused, which read nothing: each name, run and whether it ended so."""
-    for it, (words, line) in REFUSED_WORDS.items():
-        with open(os.devnull, "wb") as unreadable:
-            run = run_with([program, *words], stdin=unreadable)
-        yield it, run, run.status == 2 and run.stdout == b"" and run.stderr.startswith(line + b"\n")
+class HostileTest(ProgramTest):
+    """A test whose failure shows so much of a long output as a reader can use."""
+
+    MOST = 300
+
+    def see(self, found, wanted):
+        self.assertTrue(found in wanted, f"ended otherwise: {str(found)[: self.MOST]}\nwanted: {str(wanted)[: self.MOST]}")
 
 
-def ends(program):
-    """Each run: its name, what is at fault, and how it ended."""
-    for case in cases():
-        try:
-            run = run_with([program, case.word], case.setup)
-        except subprocess.TimeoutExpired:
-            run = f"took more than {SECONDS} seconds"
-        yield f"{case.name} ({case.word})", run in case.wanted, run
-    for it, run, wanted in other_runs(program):
-        yield it, run == wanted, run
-    for it, run, as_wanted in refused_words(program):
-        yield it, as_wanted, run
+class SetupTest(HostileTest):
+    def check(self, word, setup, wanted):
+        self.see(run([built("rcuo"), word], setup), wanted)
 
 
-def main(program):
-    passed = failed = 0
-    for it, as_wanted, run in ends(program):
-        if as_wanted:
-            passed += 1
-        else:
-            failed += 1
-            print(f"hostile/{it}: ended otherwise: {str(run)[:300]}")
-    print(f"{passed} passed, {failed} failed")
-    return 1 if failed else 0
+@one_each(setups())
+class Setups(SetupTest):
+    """Setups that are too long, too deep, no text, no TOML, or outside the limits."""
+
+
+@one_each(beginnings())
+class Beginnings(SetupTest):
+    """A setup that is cut after each of its bytes."""
+
+
+@one_each(orders())
+class Orders(SetupTest):
+    """A setup's keys in every order."""
+
+
+@one_each(streams())
+class Streams(HostileTest):
+    """Input that can't be read, and output that can't be written."""
+
+    def check(self, word, setup, way, wanted):
+        self.see(way([built("rcuo"), word], setup), [wanted])
+
+
+@one_each((it, *how) for it, how in REFUSED_WORDS.items())
+class Words(HostileTest):
+    """Words that are refused, before anything is read."""
+
+    def check(self, words, line):
+        ended = run_of_unreadable([built("rcuo"), *words], b"")
+        self.assertEqual((ended.status, ended.stdout, ended.stderr.split(b"\n")[0]), (2, b"", line))
 
 
 if __name__ == "__main__":
-    if len(sys.argv) != 2:
-        sys.exit("usage: tools/hostile PROGRAM")
-    sys.exit(main(str(pathlib.Path(sys.argv[1]).resolve())))
+    unittest.main()

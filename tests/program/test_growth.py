@@ -1,5 +1,4 @@
-#!/usr/bin/env python3
-"""Runs the programs whose paths are given with each of their allocations refused in turn, one a run, until a run has none.
+"""Runs programs with each of their allocations refused in turn, one a run, until a run has none.
 
 check_memory plays a scenario for each crate of docs/specification/surface.md, "After want of memory", and checks itself what
 stands after each call. A scenario passes where each of its runs says so, and where each growth of its list was refused once
@@ -8,24 +7,22 @@ at least. With `--flaws` it hands each check steps that it must refuse, and has 
 rcuo and rcu_world_program run setups: such a run ends with status 0, or with 'fault 2: no memory' and status 1 (in threads also with
 'fault 21: cannot run threads', where a thread can't be made). It writes whole lines of docs/specification/tables.md, the same
 as with ample memory up to one that a refused growth can change; and where it ends well, so many callbacks ran or were handed
-back as were accepted. Of a setup of refusals/ some run has to write what stands beside it.
+back as were accepted. Of a setup of tests/refusals/ some run has to write what stands beside it.
 
 example_readers runs workers in threads: such a run writes what it does with ample memory and ends with status 0, or names a fault
 of its own and ends with status 1.
-
-The last line is 'N passed, M failed'.
 """
-import collections
 import itertools
 import os
 import pathlib
 import re
+import shutil
 import subprocess
-import sys
 import tempfile
+import unittest
 
-ROOT = pathlib.Path(__file__).resolve().parent.parent
-SECONDS = 60
+import programs
+from programs import REFUSALS, REPLAYS, TOTALS, ProgramTest, Run, built, is_whole, one_each
 
 # The growths that each scenario of check_memory has to be refused, and no others: a call of the parts that can't want memory
 # is never refused. In the core a `Give` that finds no room changes nothing, so its put and its batch are one.
@@ -71,10 +68,12 @@ FLAWS = (
     "a record of Hand::turn: the next turn doesn't go on where it stopped",
     "the put of Group::turn: the next turn doesn't go on where it stopped",
 )
-FLAWED = "check_memory --flaws"
 NO_WORDS = b"the words can't be had, or nothing can be written\n"
 
-REPLAYS = ("two-generations", "turn-word-order", "switch-and-pour", "lazy-urged", "lazy-deoffload", "bypass-17", "barrier-one-call", "shut-twice")
+SETUPS = (
+    *("two-generations", "turn-word-order", "switch-and-pour", "lazy-urged", "lazy-deoffload", "bypass-17", "barrier-one-call"),
+    "shut-twice",
+)
 THREADS = ("threads-4",)
 NO_MEMORY = b"fault 2: no memory\n"
 NO_THREADS = b"fault 21: cannot run threads\n"
@@ -91,28 +90,22 @@ LINE = re.compile(
 )
 # The lines that can be the first that a refused growth changes. (A join that is refused shows in no line of its turn.)
 CHANGED = re.compile(rb"(?:call|lazy) \d+ refused 2|(?:tick|hand|group) |driver (?:idle|waits)|cpu \d+ ")
-ACCEPTED = re.compile(rb"^(?:call|lazy) (\d+) number ", re.M)
-TOTALS = re.compile(rb"^cpu (\d+) ran (\d+) back (\d+) routes", re.M)
-
-# what a run wrote, and how it ended
-Run = collections.namedtuple("Run", "status stdout stderr")
 
 
 class Refuser:
-    """Runs a program with one of its allocations refused, by tools/refuse.c."""
+    """Runs a program with one of its allocations refused, by refuse.c."""
 
     def __init__(self, folder):
         self.library = pathlib.Path(folder) / "refuse.so"
         self.told = pathlib.Path(folder) / "told"
-        source = ROOT / "tools" / "refuse.c"
+        source = pathlib.Path(__file__).with_name("refuse.c")
         subprocess.run(["cc", "-O2", "-shared", "-fPIC", "-o", self.library, source], check=True)
 
-    def run(self, command, setup, number=0):
+    def run(self, command, setup=b"", number=0):
         """The run with this allocation refused, none where it is 0, and whether it came so far."""
         self.told.unlink(missing_ok=True)
         environment = {**os.environ, "LD_PRELOAD": str(self.library), "REFUSE": str(number), "REFUSE_TOLD": str(self.told)}
-        run = subprocess.run(command, input=setup, capture_output=True, timeout=SECONDS, env=environment)
-        return Run(run.returncode, run.stdout, run.stderr), self.told.exists()
+        return programs.run(command, setup, env=environment), self.told.exists()
 
     def runs(self, command, setup=b""):
         """The runs with the first allocation refused, with the second, and so on, each with its number."""
@@ -121,6 +114,30 @@ class Refuser:
             if not refused:
                 return
             yield number, run
+
+
+REFUSER = None
+
+
+def setUpModule():
+    global REFUSER
+    if shutil.which("cc") is None:
+        raise unittest.SkipTest("the command cc, which builds refuse.c, isn't on the path")
+    folder = tempfile.TemporaryDirectory()
+    unittest.addModuleCleanup(folder.cleanup)
+    REFUSER = Refuser(folder.name)
+
+
+tearDownModule = programs.tell_notes
+
+
+class GrowthTest(ProgramTest):
+    """A test that says at its end how many allocations were refused, each once."""
+
+    def see(self, faults, many, what="allocations, each refused once"):
+        self.assertEqual([], faults)
+        self.assertTrue(many, "nothing was refused")
+        programs.note(f"{self._testMethodName.removeprefix('test_')}: {many} {what}")
 
 
 # ---- the scenarios of check_memory
@@ -137,35 +154,35 @@ def growth_of(scenario, run):
     return "" if name == "a list of its own" else name
 
 
-def faults_of_scenario(refuser, program, scenario, wanted):
-    """What is at fault in a scenario, and how many allocations it made."""
-    ample, _ = refuser.run([program, scenario], b"")
-    if ample != Run(0, f"{scenario}: nothing refused\n".encode(), b""):
-        return [f"with ample memory: {ample}"], 0
-    runs = list(refuser.runs([program, scenario]))
-    growths = [growth_of(scenario, run) for _, run in runs]
-    faults = [f"allocation {number}: {run}" for (number, run), growth in zip(runs, growths) if growth is None]
-    found = set(growths) - {None, ""}
-    faults += [f"never refused: {it}" for it in sorted(wanted - found)]
-    return faults + [f"refused, and it can't be: {it}" for it in sorted(found - wanted)], len(runs)
+@one_each((it, it, wanted) for it, wanted in SCENARIOS.items())
+class Scenarios(GrowthTest):
+    """The calls that may want memory, crate by crate."""
+
+    def check(self, scenario, wanted):
+        command = [built("check_memory"), scenario]
+        ample, _ = REFUSER.run(command)
+        self.assertEqual(ample, Run(0, f"{scenario}: nothing refused\n".encode(), b""), "with ample memory")
+        runs = list(REFUSER.runs(command))
+        growths = [growth_of(scenario, run) for _, run in runs]
+        faults = [f"allocation {number}: {run}" for (number, run), growth in zip(runs, growths) if growth is None]
+        found = set(growths) - {None, ""}
+        faults += [f"never refused: {it}" for it in sorted(wanted - found)]
+        faults += [f"refused, and it can't be: {it}" for it in sorted(found - wanted)]
+        self.see(faults, len(runs))
 
 
-def faults_of_flaws(program):
-    """What is at fault where each check is handed steps that it must refuse, and how many these are."""
-    run = subprocess.run([program, "--flaws"], capture_output=True, timeout=SECONDS, text=True)
-    said = run.stdout.splitlines()
-    faults = [f"not {wanted}, but {it}" for wanted, it in itertools.zip_longest(FLAWS, said) if wanted != it]
-    return faults + ([f"status {run.returncode}"] if run.returncode else []), len(FLAWS)
+class Flaws(GrowthTest):
+    """The checks of check_memory, each handed steps that it must refuse."""
+
+    def test_flaws(self):
+        ended = programs.run([built("check_memory"), "--flaws"])
+        said = ended.stdout.decode().splitlines()
+        faults = [f"not {wanted}, but {it}" for wanted, it in itertools.zip_longest(FLAWS, said) if wanted != it]
+        self.assertEqual(ended.status, 0)
+        self.see(faults, len(FLAWS), "steps, each refused")
 
 
 # ---- the programs
-
-
-def is_whole(stdout):
-    """Whether so many callbacks of each processor ran or were handed back as were accepted."""
-    accepted = collections.Counter(ACCEPTED.findall(stdout))
-    ended = {cpu: int(ran) + int(back) for cpu, ran, back in TOTALS.findall(stdout)}
-    return accepted.keys() <= ended.keys() and all(accepted[cpu] == many for cpu, many in ended.items())
 
 
 def first_change(ample, found):
@@ -191,68 +208,48 @@ def fault_of(ample, run, threads):
     return None
 
 
-def faults_of_program(refuser, command, setup, threads=False, wanted=None):
-    """What is at fault where a program runs a setup, and how many allocations it made."""
-    ample, _ = refuser.run(command, setup)
-    runs = list(refuser.runs(command, setup))
-    faults = [f"allocation {number}: {fault}: {run}" for number, run in runs if (fault := fault_of(ample, run, threads))]
-    if wanted is not None and all(run != Run(0, wanted, b"") for _, run in runs):
-        faults.append("no run writes what is wanted")
-    return faults, len(runs)
+def setups():
+    """The setups, with the program and the word that each is run with, and what some run must write."""
+    for folder in [*(REPLAYS / it for it in SETUPS), *sorted(REFUSALS.iterdir())]:
+        wanted = (folder / "stdout").read_bytes() if folder.parent == REFUSALS else None
+        yield f"parts_{folder.name}", folder, "rcuo", ["replay"], wanted
+        yield f"core_{folder.name}", folder, "rcu_world_program", [], wanted
+    for it in THREADS:
+        yield it, REPLAYS / it, "rcuo", ["threads"], None
 
 
-def faults_of_workers(refuser, program):
-    """What is at fault where a program runs workers in threads, and how many of its runs had an allocation refused."""
-    ample, _ = refuser.run([program], b"")
-    if ample.status != 0 or ample.stderr or not ample.stdout:
-        return [f"with ample memory: {ample}"], 0
-    runs = list(refuser.runs([program]))
-    faults = []
-    for number, run in runs:
-        is_named = run.status == 1 and (run.stderr in WORKERS_FAULTS or run.stderr == NO_WORDS) and ample.stdout.startswith(run.stdout)
-        if run != ample and not is_named:
-            faults.append(f"allocation {number}: {run}")
-    return faults, len(runs)
+@one_each(setups())
+class Programs(GrowthTest):
+    """Whole runs of setups."""
+
+    def check(self, folder, program, words, wanted):
+        command, setup = [built(program), *words], (folder / "setup.toml").read_bytes()
+        ample, _ = REFUSER.run(command, setup)
+        runs = list(REFUSER.runs(command, setup))
+        found = ((number, run, fault_of(ample, run, "threads" in words)) for number, run in runs)
+        faults = [f"allocation {number}: {fault}: {run}" for number, run, fault in found if fault]
+        if wanted is not None and all(run != Run(0, wanted, b"") for _, run in runs):
+            faults.append("no run writes what is wanted")
+        self.see(faults, len(runs))
 
 
-def cases(refuser, rcuo, core, memory, readers):
-    """Each case: its name, and what is at fault in it with the number of its allocations, or of its steps."""
-    yield FLAWED, faults_of_flaws(memory)
-    for scenario, wanted in SCENARIOS.items():
-        yield f"check_memory {scenario}", faults_of_scenario(refuser, memory, scenario, wanted)
-    folders = [(ROOT / "replays" / name, None) for name in REPLAYS]
-    folders += [(it, (it / "stdout").read_bytes()) for it in sorted((ROOT / "refusals").iterdir())]
-    for (folder, wanted), command in itertools.product(folders, ([rcuo, "replay"], [core])):
-        setup = (folder / "setup.toml").read_bytes()
-        name = f"{pathlib.Path(command[0]).name} {folder.relative_to(ROOT)}"
-        yield name, faults_of_program(refuser, command, setup, wanted=wanted)
-    for name in THREADS:
-        setup = (ROOT / "replays" / name / "setup.toml").read_bytes()
-        yield f"rcuo replays/{name}", faults_of_program(refuser, [rcuo, "threads"], setup, threads=True)
-    yield "example_readers", faults_of_workers(refuser, readers)
+class Workers(GrowthTest):
+    """Workers in threads."""
+
+    def test_workers(self):
+        command = [built("example_readers")]
+        ample, _ = REFUSER.run(command)
+        self.assertEqual((ample.status, ample.stderr), (0, b""), "with ample memory")
+        self.assertTrue(ample.stdout, "with ample memory")
+        runs = list(REFUSER.runs(command))
+        self.see([f"allocation {number}: {run}" for number, run in runs if not is_named(ample, run)], len(runs))
 
 
-def main(*programs):
-    passed = failed = 0
-    with tempfile.TemporaryDirectory() as folder:
-        for name, (faults, many) in cases(Refuser(folder), *programs):
-            for fault in faults:
-                print(f"{name}: {fault}")
-            if faults or not many:
-                failed += 1
-            else:
-                passed += 1
-                what = "steps, each refused" if name == FLAWED else "allocations, each refused once"
-                print(f"{name}: {many} {what}")
-            sys.stdout.flush()
-    print(f"{passed} passed, {failed} failed")
-    return 1 if failed else 0
+def is_named(ample, run):
+    """Whether a run of workers wrote what it does with ample memory, or names a fault of its own."""
+    names = run.status == 1 and (run.stderr in WORKERS_FAULTS or run.stderr == NO_WORDS)
+    return run == ample or names and ample.stdout.startswith(run.stdout)
 
 
 if __name__ == "__main__":
-    if len(sys.argv) != 5:
-        sys.exit("usage: tools/growth RCUO RCUO_CORE RCU_MEMORY RCU_READERS")
-    if not any((pathlib.Path(it) / "cc").exists() for it in os.environ["PATH"].split(":")):
-        print("tools/growth: the command cc, which builds tools/refuse.c, isn't on the path\n0 passed, 1 failed")
-        sys.exit(1)
-    sys.exit(main(*(str(pathlib.Path(it).resolve()) for it in sys.argv[1:])))
+    unittest.main()
