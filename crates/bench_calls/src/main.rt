@@ -1,5 +1,7 @@
-//! Measures the running parts: what a call costs the thread that makes it, how many callbacks run a second until a barrier
-//! has passed, and how long a single callback waits. `tools/bench` runs it beside a peer.
+//! Measures what a call costs its thread, how many callbacks run a second, and how long a single one waits.
+//!
+//! The callbacks are those of the running parts, and are counted until a barrier has passed. `tools/bench` runs it
+//! beside a peer.
 //!
 //! With `--times` it prints the times, in nanoseconds: of calls one line, of waiting a line for each callback. Without it
 //! it says how many callbacks ran, of how many calls, which is the same in each run.

@@ -1,5 +1,7 @@
-//! A runtime of four processors, two of them offloadable, whose parts have nothing to do: each has a thread of its own, and
-//! the only job, of processor 0, sleeps. While it does, all other parts wait.
+//! A runtime whose parts have nothing to do, each in a thread of its own: what idle parts take is measured by it.
+//!
+//! Of its four processors two are offloadable, and the only job, of processor 0, sleeps. While it does, all other parts
+//! wait.
 //!
 //! The job sleeps for a hundredth of a second; with the argument `long`, for ten seconds, in which tools/idle measures what
 //! processor time each thread takes.

@@ -1,7 +1,9 @@
-//! Calls that may want memory, one scenario after the other, or the one that the first word names. Each says which growth
-//! was refused, if one was, and that what the specification says stood after it (docs/specification/surface.md, "After want
-//! of memory"). `tests/program/test_growth.py` runs each scenario with each of its allocations refused in turn. With
-//! `--flaws` it makes no call: each check is handed steps that it must refuse, and what it says of them is written.
+//! Makes the calls that may want memory, scenario after scenario, and checks what stands where it was refused.
+//!
+//! The first word may name one scenario. Each says which growth was refused, if one was, and that what the
+//! specification says stood after it (docs/specification/surface.md, "After want of memory").
+//! `tests/program/test_growth.py` runs each scenario with each of its allocations refused in turn. With `--flaws` it
+//! makes no call: each check is handed steps that it must refuse, and what it says of them is written.
 #![tactic(auto)]
 
 mod checks;

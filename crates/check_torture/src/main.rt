@@ -1,5 +1,6 @@
-//! The program `check_torture`: it drives all parts of a runtime in threads of their own by random calls, read sections, reports,
-//! ticks, switches and barriers, and checks that no promise is broken. It prints one line of counters.
+//! Drives all parts in threads by random steps, after the kernel's rcutorture, and checks that no promise is broken.
+//!
+//! The steps are calls, read sections, reports, ticks, switches and barriers. It prints one line of counters.
 //!
 //! It ends with status 0 where no error was met, 1 where one was or where it could not run, and 2 where the words of the
 //! command line were refused.

@@ -1,5 +1,6 @@
-//! An example of embedding: a read-mostly table whose old versions are retired by `call_rcu`, while readers may still look
-//! at them. docs/embedding.md walks through it.
+//! An example in one thread: a read-mostly table whose old versions are retired by `call_rcu`.
+//!
+//! Readers may still look at these. docs/embedding.md walks through it.
 #![tactic(auto)]
 
 ghost use Rattle.std.specs.Prelude.{◌≡◌, ◌==◌, ◌+◌, ◌++◌, [], ◌∷◌, IfOk, OnErr, OnOk, find, reverse, vec_len};

@@ -1,5 +1,7 @@
-//! The library for C: each export is one call on a slot, by `rcu_c_slots`, and answers 0 or the number of a fault, as
-//! `enum rcuo_answer` of `include/rcuo.h` has them. The header's functions call these, after a test for null pointers.
+//! The library for C: each export is one call on a slot, and answers 0 or the number of a fault.
+//!
+//! The calls are those of `rcu_c_slots`, the numbers those of `enum rcuo_answer` of `include/rcuo.h`. The header's
+//! functions call these, after a test for null pointers.
 #![tactic(auto)]
 
 mod calls;

@@ -1,5 +1,6 @@
-//! Parts of a runtime that a program in another language keeps: each in a slot of its own, as a box whose pointer the
-//! program stores (docs/c.md). The exports over this crate stand in `rcu_c`.
+//! Parts of a runtime in slots that a program in another language keeps, each as the pointer of a box.
+//!
+//! docs/c.md says how it is used. The exports over this crate stand in `rcu_c`.
 #![tactic(auto)]
 
 mod barriers;

@@ -1,5 +1,4 @@
-//! Jobs, what they promise, the callbacks that wait and the records of those that ran, and the plain types in which
-//! the calls of the runtime answer.
+//! Jobs and what they promise, callbacks and the records of those that ran, and the plain types in which calls answer.
 //!
 //! The surface stands in docs/specification/surface.md, "rcu_jobs".
 #![tactic(auto)]

@@ -1,5 +1,6 @@
-//! The lists that callbacks wait in: a processor's or a group's list of segments, the bypass list of an offloaded
-//! processor, and the batch in which callbacks go over a lane. Nothing here looks at a job.
+//! The lists that callbacks wait in: segments, the bypass list, and the batch in which callbacks go over a lane.
+//!
+//! A processor and a group have segments, an offloaded processor a bypass list. Nothing here looks at a job.
 //!
 //! The rules stand in docs/specification/rules.md, "Callback lists" and "Bypass lists", the definitions in
 //! docs/specification/definitions.md, "Lists".

@@ -1,6 +1,7 @@
-//! The running parts that hold no callbacks: the driver, which starts and ends all grace periods, and control, which asks
-//! for switches, shuts, opens barriers and halts (docs/specification/surface.md, "rcu_parts"). Each call is the list of
-//! steps that docs/specification/rules.md, "The calls, step by step" has for it, and nothing else.
+//! The driver, which starts and ends grace periods, and control, which switches, shuts, halts and opens barriers.
+//!
+//! They hold no callbacks (docs/specification/surface.md, "rcu_parts"). Each call is the list of steps that
+//! docs/specification/rules.md, "The calls, step by step" has for it, and nothing else.
 #![tactic(auto)]
 
 mod barrier;

@@ -1,6 +1,8 @@
-//! A hand's part: it runs the callbacks that the group gives it, for an offloadable processor, each under a claim of its
-//! number (docs/specification/surface.md, "rcu_parts", and docs/specification/rules.md, "The calls, step by step").
-//! `rcu_parts` hands on `Hand` and `RunningHand`; what takes a hand apart is for its `close`.
+//! A hand (rcuo): it runs the callbacks of an offloadable processor, each under a claim of its number.
+//!
+//! The group gives it these callbacks (docs/specification/surface.md, "rcu_parts", and docs/specification/rules.md,
+//! "The calls, step by step"). `rcu_parts` hands on `Hand` and `RunningHand`; what takes a hand apart is for its
+//! `close`.
 #![tactic(auto)]
 
 mod begin;

@@ -1,6 +1,7 @@
-//! What the running parts hold in private: the lists of a processor, the lists that a group keeps for one member, and
-//! the batch of a hand, each with its ends of lanes. Nothing here names a board or a thread: what a step saw comes in
-//! as a plain number.
+//! The lists that a processor, a group and a hand hold in private, each with its ends of lanes.
+//!
+//! Of a group these are the lists that it keeps for one member, of a hand a batch. Nothing here names a board or a
+//! thread: what a step saw comes in as a plain number.
 //!
 //! The rules stand in docs/specification/rules.md, "Bypass lists", "Groups", "Modes" and "The calls, step by step".
 #![tactic(auto)]

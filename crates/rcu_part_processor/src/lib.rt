@@ -1,7 +1,8 @@
-//! A processor's part: it accepts callbacks, reports quiescent states, opens barriers, and runs the callbacks of its own
-//! list in its tick (docs/specification/surface.md, "rcu_parts"). Each call is the list of steps that
-//! docs/specification/rules.md, "The calls, step by step" has for it, and nothing else. `rcu_parts` hands on `Processor`,
-//! `RunningProcessor` and `Reading`; what takes a processor apart is for its `close`.
+//! A processor: it accepts callbacks, reports quiescent states, opens barriers, and runs its own list in its tick.
+//!
+//! Its calls stand in docs/specification/surface.md, "rcu_parts"; each is the list of steps that
+//! docs/specification/rules.md, "The calls, step by step" has for it, and nothing else. `rcu_parts` hands on
+//! `Processor`, `RunningProcessor` and `Reading`; what takes a processor apart is for its `close`.
 #![tactic(auto)]
 
 mod acceptance;

@@ -1,7 +1,8 @@
-//! Parts in threads of their own: the threads of the driver, the groups and the hands, which run until the runtime is halted, and
-//! those of the processors, which call with their jobs and then run until a barrier with all tickets has passed. What each thread
-//! gives back is the part that it was given, by the promise that it was started with. It names the parts alone, and neither `open`
-//! nor `close`, so it is proved beside `rcu_parts`.
+//! The threads of the parts of one kind: each gives back the part that it was given.
+//!
+//! Those of the driver, the groups and the hands run until the runtime is halted; those of the processors call with
+//! their jobs, and then run until a barrier with all tickets has passed. Each starts with the promise of what it gives
+//! back. The crate names the parts alone, and neither `open` nor `close`, so it is proved beside `rcu_parts`.
 #![tactic(auto)]
 
 mod answer;

@@ -1,5 +1,6 @@
-//! All parts of a runtime with no lock, each usable from a thread of its own: `open` makes them, a processor accepts and
-//! reports, its group waits for it, its hand runs for it, and `close` says what became of each callback
+//! A runtime as parts, each for a thread of its own: `open` makes them, `close` says what became of each callback.
+//!
+//! No part takes a lock. In between a processor accepts and reports, its group waits for it, and its hand runs for it
 //! (docs/specification/surface.md, "rcu_parts"). Each part has a crate of its own below; a user names this one alone.
 #![tactic(auto)]
 

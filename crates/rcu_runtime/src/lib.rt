@@ -1,6 +1,7 @@
-//! A whole runtime in one object: what a program of one's own names to defer work until all readers are past it
-//! (docs/embedding.md). All parts of one open are in it, and it keeps what `close` asks of them; so a program over it writes
-//! its job type and its calls, and nothing else.
+//! A whole runtime in one object, for a program in one thread that defers work until all readers are past it.
+//!
+//! docs/embedding.md walks through such a program. All parts of one open are in it, and it keeps what `close` asks of
+//! them; so a program over it writes its job type and its calls, and nothing else.
 #![tactic(auto)]
 
 mod any_fault;

@@ -1,5 +1,6 @@
-//! A whole runtime in threads: each processor with a worker of the program's own, which says step by step what it does next,
-//! and every other part in a thread that makes its turns. After the run the whole runtime comes back. A program names this
+//! A whole runtime in threads, where a worker of the program's own says step by step what each processor does.
+//!
+//! Every other part has a thread that makes its turns. After the run the whole runtime comes back. A program names this
 //! crate alone: it hands on what rcu_runtime does.
 #![tactic(auto)]
 

@@ -1,4 +1,6 @@
-//! The lines that a run shows: docs/specification/tables.md, "Lines of `show`" and "Totals".
+//! The lines in which a run shows its lists, and the totals at its end.
+//!
+//! Their texts stand in docs/specification/tables.md, "Lines of `show`" and "Totals".
 #![tactic(auto)]
 
 mod closed;

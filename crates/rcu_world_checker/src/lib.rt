@@ -1,6 +1,8 @@
-//! A plain checker of histories: whether a list of marks keeps the law, and whether it is closed
-//! (docs/specification/definitions.md, "The law"). The answers are exactly the definitions of `rcu_world_law`, in whose words the
-//! headline of the core is proved; so whoever doubts a definition can run it, on real histories and on bad ones.
+//! A plain checker of histories: whether a list of marks keeps the law, and whether it is closed.
+//!
+//! The law stands in docs/specification/definitions.md, "The law". The answers are exactly the definitions of
+//! `rcu_world_law`, in whose words the headline of the core is proved; so whoever doubts a definition can run it, on real
+//! histories and on bad ones.
 //!
 //! It is written to be read, and not to be fast: where barriers are many, its time is of the fourth power of the history's
 //! length.

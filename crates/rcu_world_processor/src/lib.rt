@@ -1,5 +1,7 @@
-//! The state of one processor in the core: where its callbacks are, from its own list to the hand of its group, what ran,
-//! and its words. Contracts see it as the law's `Cpu` (docs/specification/tables.md, "Places of a callback").
+//! One processor of the core: where its callbacks are, what ran, and its words.
+//!
+//! Callbacks are in its own list, in its group's, in the batch of its hand, or between these. Contracts see it as the
+//! law's `Cpu` (docs/specification/tables.md, "Places of a callback").
 #![tactic(auto)]
 
 mod batches;

@@ -1,6 +1,7 @@
-//! The program `rcu_world_program`, which is for checking alone: it reads a setup from standard input and runs its script over the
-//! deterministic core, and prints, word for word, what `rcuo replay` prints over the running parts
-//! (docs/specification/program.md). It looks at no words of the command line.
+//! The program with which `rcuo replay` is compared: the same script over the deterministic core.
+//!
+//! It is for checking alone: it reads a setup from standard input, and prints, word for word, what `rcuo replay` prints
+//! over the running parts (docs/specification/program.md). It looks at no words of the command line.
 #![tactic(auto)]
 
 ghost use Rattle.std.specs.Prelude.{◌≡◌};

@@ -1,5 +1,6 @@
-//! The program `rcuo`: it replays a script of calls, turns and reports over a runtime of deferred work, and prints
-//! what each call answers; or it runs such a runtime in threads. docs/specification/program.md has its surface.
+//! The program `rcuo`: it replays a script of calls, turns and reports over a runtime, or runs one in threads.
+//!
+//! Of a replay it prints what each call answers. docs/specification/program.md has its surface.
 #![tactic(auto)]
 
 ghost use Rattle.std.specs.Prelude.{◌≡◌};

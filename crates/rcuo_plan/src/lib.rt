@@ -1,6 +1,7 @@
-//! What a run of the program `rcuo` is to do: the subcommand that the words of the command line name, the setup that is read, and
-//! the versions of the route table that are retired (docs/specification/program.md). It names no part of the runtime, so it is
-//! proved beside the parts.
+//! What a run of the program `rcuo` is to do: its subcommand, its setup, and the versions of the route table.
+//!
+//! The words of the command line name the subcommand, and the calls of the setup retire the versions
+//! (docs/specification/program.md). The crate names no part of the runtime, so it is proved beside the parts.
 #![tactic(auto)]
 
 mod plan;

@@ -1,4 +1,6 @@
-//! The versions of the route table that a run retires: docs/specification/program.md, "Route table".
+//! The versions of the route table that the calls of a run retire.
+//!
+//! docs/specification/program.md, "Route table", has their rules.
 #![tactic(auto)]
 
 mod retired;

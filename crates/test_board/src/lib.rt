@@ -1,5 +1,7 @@
-//! Tests of `rcu_board` and `rcu_part_control` through their public calls, in a crate of their own, so that the functions of those are
-//! proved once, and not with their tests once more.
+//! Tests of `rcu_board` and `rcu_part_control` through their public calls.
+//!
+//! They stand in a crate of their own, so that the functions of those crates are proved once, and not with their tests
+//! once more.
 #![tactic(auto)]
 
 #[cfg(test)]

@@ -1,5 +1,6 @@
-//! Drives a list of segments through random steps, beside a labelled list that is written plainly, and compares each
-//! answer, length and number (docs/specification/definitions.md, "Labelled list").
+//! Drives a list of segments through random steps, beside a plain labelled list, and compares all that they show.
+//!
+//! That is each answer, length and number (docs/specification/definitions.md, "Labelled list").
 //!
 //! With no argument it prints `10000 steps agree`, or ends with status 1 at the first step that differs. With any
 //! argument it measures what a round of calls costs on short and on long lists.

@@ -1,5 +1,7 @@
-//! Tests of `rcu_parts` through its public calls, in a crate of their own, so that its functions are proved once, and not with
-//! its tests once more.
+//! Tests of `rcu_parts` through its public calls.
+//!
+//! They stand in a crate of their own, so that the functions of that crate are proved once, and not with their tests
+//! once more.
 #![tactic(auto)]
 
 #[cfg(test)]

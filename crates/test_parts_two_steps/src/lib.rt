@@ -1,5 +1,7 @@
-//! Tests of callbacks in two steps, `begin` and `finish`, through the public calls of `rcu_parts`, in a crate of their own, so
-//! that its functions are proved once, and not with its tests once more.
+//! Tests of callbacks in two steps, `begin` and `finish`, through the public calls of `rcu_parts`.
+//!
+//! They stand in a crate of their own, so that the functions of that crate are proved once, and not with their tests
+//! once more.
 #![tactic(auto)]
 
 pub mod echo;

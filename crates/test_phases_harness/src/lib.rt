@@ -1,6 +1,8 @@
-//! All parts of one open in phases. In each phase the processors, the groups, the hands, and the driver with control have
-//! a thread of their own each, in which they do what the phase says; then all threads are joined. After the last phase the
-//! runtime is closed. So a schedule is fixed as far as a row of docs/specification/rows.md fixes it, and free within a phase.
+//! All parts of one open in threads, phase after phase, for tests that fix a part of the schedule.
+//!
+//! In each phase the processors, the groups, the hands, and the driver with control have a thread of their own each, in
+//! which they do what the phase says; then all threads are joined. After the last phase the runtime is closed. So a
+//! schedule is fixed as far as a row of docs/specification/rows.md fixes it, and free within a phase.
 #![tactic(auto)]
 
 mod acts;
