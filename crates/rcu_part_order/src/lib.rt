@@ -1,4 +1,4 @@
-//! The order of a processor's callbacks: where each accepted number is, and the records of a processor and its hand as one list.
+//! The order of a processor's callbacks: where each accepted number is, and all of its records as one list.
 //!
 //! The law of places is over plain lists: what a processor claimed, put and holds, what a group and a hand drew, and how they
 //! make one order (docs/specification/definitions.md, "Places"). It speaks of no seat, word or lane; the running parts keep

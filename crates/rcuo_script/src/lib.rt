@@ -1,4 +1,4 @@
-//! What all runs of a script share: the setup that is read, the commands, the lines of their answers, and the faults of a run.
+//! What all runs of a script share: the setup that is read, commands, the lines of answers, and faults.
 //!
 //! Of a setup a bounded number of bytes is read, a piece at a time (docs/specification/program.md, "Command line"). Which
 //! commands take a job, and what each line says, stands in docs/specification/tables.md, "Script commands and what they

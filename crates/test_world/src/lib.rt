@@ -1,4 +1,4 @@
-//! Tests of `rcu_world` and `rcu_world_checker` through their public calls: on histories written by hand and by the core's runs.
+//! Tests of `rcu_world` and `rcu_world_checker` through their public calls, on written histories and real runs.
 //!
 //! They stand in a crate of their own, so that the functions of those are proved once, and not with their tests once more.
 #![tactic(auto)]
