@@ -20,6 +20,22 @@
  *
  * No call blocks, takes a lock or starts a thread. Parts with nothing to do say so, and the program decides how to wait.
  * Calls that may take memory are marked; RCUO_MEMORY says that it was refused, and that nothing was lost.
+ *
+ * WHAT A MOMENT IS. A time of the program's own clock, in any unit: milliseconds, ticks, or the rounds of a loop. Calls and
+ * begins hand one in. An offloaded processor decides by it which callbacks wait in its bypass list, to be released together:
+ *   - Sixteen plain calls in one moment are released at once. Those after them wait for a begin of the processor (`rcuo_begin`,
+ *     `rcuo_run`) or a plain call in another moment, or until `qhimark` callbacks wait.
+ *   - Lazy calls wait for a begin ten moments after the first of them or later (or in a moment before it), for a plain call in
+ *     any moment, or until `qhimark` callbacks wait.
+ *   - The first begin after a barrier was opened, or after the processor was asked to be local, releases all.
+ * So a constant moment has each callback after the sixteenth wait: let it move on, as by `rcuo_run(slot, ++moment, 16, NULL)`.
+ * A local processor heeds no moment, and 0 will do. The rules, word by word: docs/specification/rules.md, "Bypass lists".
+ *
+ * RCUO_DEBUG. In a file that defines it before it includes this header (or by -DRCUO_DEBUG) `rcuo_read_lock` counts the read
+ * sections of its slot, and a report or a close within one answers RCUO_READING. Files with it and files without may be mixed,
+ * and NDEBUG means nothing here: `rcuo_read_unlock` takes back what was counted, wherever it was compiled. So the count is never
+ * above the number of open sections, and a report outside of all of them is never refused for it. Where every file that calls
+ * `rcuo_read_lock` defines it, each report within a section is refused; else one may go unnoticed.
  */
 #ifndef RCUO_H
 #define RCUO_H
@@ -32,11 +48,15 @@
 extern "C" {
 #endif
 
-/* The version of this header and of the library that belongs to it. */
+/* The version of this header. */
 #define RCUO_VERSION_MAJOR 0
 #define RCUO_VERSION_MINOR 1
 #define RCUO_VERSION_PATCH 0
 #define RCUO_VERSION "0.1.0"
+#define RCUO_VERSION_NUMBER (RCUO_VERSION_MAJOR * 1000000 + RCUO_VERSION_MINOR * 1000 + RCUO_VERSION_PATCH)
+
+/* The version of the library that is linked, or was loaded: it belongs to this header where it is RCUO_VERSION_NUMBER. */
+uint32_t rcuo_version(void);
 
 /* How many processors a runtime has at most. */
 #define RCUO_PROCESSORS 32
@@ -122,6 +142,10 @@ struct rcuo_settings {
     uint64_t limit;      /* how many callbacks a processor accepts in its life; 1 to 1000000 */
     uint32_t offloadable; /* bit p: processor p starts offloaded, has a hand, and may be switched */
 };
+
+/* One local processor with the highest limit: `struct rcuo_settings settings = RCUO_SETTINGS_DEFAULT;`, and then what is to
+ * differ, as `settings.processors = 4;`. */
+#define RCUO_SETTINGS_DEFAULT {1, 1, 10, 10000, 1000000, 0}
 
 /* A callback's function. */
 typedef void rcuo_function(void *argument);
@@ -257,7 +281,7 @@ static inline enum rcuo_answer rcuo_open(const struct rcuo_settings *settings, s
  * memory.
  * Answers RCUO_EMPTY where a slot is missing, RCUO_FOREIGN where one has a part of another open or of another place,
  * RCUO_OTHER where one has a part of another kind, RCUO_RUNNING where a callback was begun and isn't finished,
- * RCUO_READING where a read section is open (debug builds), RCUO_MEMORY; then nothing was lost, and the call may be made again. */
+ * RCUO_READING where a read section is counted (RCUO_DEBUG), RCUO_MEMORY; then nothing was lost, and the call may be made again. */
 static inline enum rcuo_answer rcuo_close(struct rcuo_parts *parts) {
     if (!parts) return RCUO_NULL;
     return RCUO_CALL(rcuo_slot_close(parts));
@@ -296,10 +320,9 @@ static inline enum rcuo_answer rcuo_end(struct rcuo_parts *parts) {
 
 /* ---- a processor: for the thread that owns it ---- */
 
-/* Accepts a callback, which runs once a grace period that began after this call has ended. `moment` is a time of the
- * program's own clock, by which an offloaded processor holds callbacks back to release several together
- * (docs/specification/rules.md, "Bypass lists"); 0 will do for a local one. The ticket may be null. A callback may call this
- * on its own processor. Takes memory.
+/* Accepts a callback, which runs once a grace period that began after this call has ended. `moment`: see above. The ticket may
+ * be null. A callback that the processor's own thread runs, as it runs those of a local one, may call this on its processor; one
+ * that a hand's thread runs may not, since the slot is not that thread's. Takes memory.
  * Answers RCUO_LIMIT, RCUO_MEMORY, RCUO_CLOSED: the job is still the caller's, and nothing changed. */
 static inline enum rcuo_answer rcuo_call_job(struct rcuo_slot *processor, uint64_t moment, const struct rcuo_job *job, bool lazy,
                                              struct rcuo_ticket *ticket) {
@@ -328,10 +351,10 @@ static inline enum rcuo_answer rcuo_call_lazy(struct rcuo_slot *processor, uint6
 }
 
 /* Begins and ends a read section of the thread that owns this processor. What it reaches within is not let go by a callback
- * before the section ends, since the processor makes no report meanwhile. Sections may nest. Where NDEBUG is defined they do
- * nothing; else they are counted, and a report or a close within answers RCUO_READING. */
+ * before the section ends, since the processor makes no report meanwhile. Sections may nest. That the program keeps to this is
+ * tested where RCUO_DEBUG is defined (see above). */
 static inline void rcuo_read_lock(struct rcuo_slot *processor) {
-#ifndef NDEBUG
+#ifdef RCUO_DEBUG
     if (processor) processor->reading++;
 #else
     (void)processor;
@@ -339,11 +362,8 @@ static inline void rcuo_read_lock(struct rcuo_slot *processor) {
 }
 
 static inline void rcuo_read_unlock(struct rcuo_slot *processor) {
-#ifndef NDEBUG
+    /* (in every file: a section that another file began may have been counted) */
     if (processor && processor->reading) processor->reading--;
-#else
-    (void)processor;
-#endif
 }
 
 /* Publishes a pointer to what was written before, and reads such a pointer. */
@@ -352,7 +372,7 @@ static inline void rcuo_read_unlock(struct rcuo_slot *processor) {
 
 /* Reports a quiescent state: no read section of this thread is open. `counted`, which may be null, gets the number of the
  * grace period that counted it, or 0.
- * Answers RCUO_READING within a read section (debug builds). */
+ * Answers RCUO_READING within a read section that is counted (RCUO_DEBUG). */
 static inline enum rcuo_answer rcuo_quiescent(struct rcuo_slot *processor, uint64_t *counted) {
     uint64_t unused;
     if (!processor) return RCUO_NULL;
@@ -383,7 +403,7 @@ static inline enum rcuo_answer rcuo_lists(struct rcuo_slot *processor, struct rc
 /* Begins a callback: the turn's look, and then the claim of the first callback whose wait is over. The thread now calls
  * `job->function(job->argument)`, and then `rcuo_finish`; until then no later callback of the processor runs anywhere. Of a
  * processor this is its tick, which it needs even where it has nothing to run: it asks for grace periods, releases its bypass
- * list and heeds a switch. `moment` is as in `rcuo_call`; a hand needs none. Takes memory.
+ * list and heeds a switch. `moment`: see above; a hand needs none. Takes memory.
  * Answers RCUO_NONE_LEFT where none is ready here: of a processor none in its own list is done, though some may wait there; a
  * hand holds none and drew none. RCUO_TURN where it isn't the turn of the first one here, whose claim was lost, or, of a hand,
  * its wait isn't over. RCUO_AGAIN where another thread's step kept a hand from drawing. RCUO_MEMORY where there is no room for

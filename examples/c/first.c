@@ -6,8 +6,9 @@ static void let_go(void *old) { printf("freed %s\n", (char *)old); }
 
 int main(void) {
     static struct rcuo_parts parts;
-    struct rcuo_settings settings = {.processors = 2, .stride = 1, .blimit = 10, .qhimark = 100, .limit = 1000};
+    struct rcuo_settings settings = RCUO_SETTINGS_DEFAULT;
     uint64_t ran = 0;
+    settings.processors = 2;
     if (rcuo_open(&settings, &parts) != RCUO_OK) return 1;
     rcuo_call(&parts.processors[0], 0, let_go, "the old version", NULL);
     while (!ran) {

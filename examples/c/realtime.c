@@ -51,7 +51,7 @@ static void let_go(void *argument) {
 static void pin(void) {
     cpu_set_t may, one;
     if (pthread_getaffinity_np(pthread_self(), sizeof may, &may)) return;
-    for (int p = 0; p < CPU_SETSIZE; p++) {
+    for (size_t p = 0; p < CPU_SETSIZE; p++) {
         if (CPU_ISSET(p, &may)) {
             CPU_ZERO(&one);
             CPU_SET(p, &one);

@@ -2,7 +2,6 @@
  * Each allocation of the library is refused in turn, once and from then on: each call answers RCUO_MEMORY or goes on, nothing
  * is lost, and at the end nothing is left on the heap. Linked with -Wl,--wrap=malloc,--wrap=realloc,--wrap=free.
  */
-#undef NDEBUG
 #include <rcuo.h>
 
 #include <stdio.h>

@@ -1,25 +1,8 @@
 /* Each kind of bad input, by name: it is answered so, and changes nothing. */
-#undef NDEBUG
-#include <rcuo.h>
+#define RCUO_DEBUG
+#include "expect.h"
 
-#include <stdio.h>
 #include <string.h>
-
-static int passed, failed;
-
-static void is(const char *what, enum rcuo_answer got, enum rcuo_answer wanted) {
-    if (got == wanted) {
-        passed++;
-        return;
-    }
-    failed++;
-    fprintf(stderr, "%s: %s, and not %s\n", what, rcuo_strerror(got), rcuo_strerror(wanted));
-}
-
-static void holds(const char *what, bool it) {
-    if (it) passed++;
-    else failed++, fprintf(stderr, "%s doesn't hold\n", what);
-}
 
 static int calls;
 static void count(void *argument) {
@@ -288,6 +271,5 @@ int main(void) {
     foreign_slots();
     after_close();
     holds("each callback that was run was run once", calls == 1);
-    printf("%d passed, %d failed\n", passed, failed);
-    return failed != 0;
+    return tell();
 }

@@ -10,7 +10,7 @@
  * Compiled by clang with -fsanitize=fuzzer -DFUZZED it is a target of libFuzzer: the choices of a run are the bytes of its
  * input.
  */
-#undef NDEBUG
+#define RCUO_DEBUG
 #include <rcuo.h>
 
 #include <stdio.h>

@@ -1,5 +1,5 @@
 -- What words say, as include/rcuo.h has them.
-use Rattle.std.specs.Prelude.{◌≡◌, ℕ, ◌<◌, ⊤, slice_index}
+use Rattle.std.specs.Prelude.{◌≡◌, ℕ, ◌+◌, ◌*◌, ◌<◌, ⊤, slice_index}
 use Rattle.rcu_jobs.specs.declared.Counts.{Counts}
 use Rattle.rcu_jobs.specs.declared.DriverTurn.{DriverTurn}
 use Rattle.rcu_jobs.specs.declared.DriverTurn.TheVariants.{Ended, Idle, Spent, Started, Waits}
@@ -57,3 +57,7 @@ pub record AreRecordWords (w : RecordWords) (r : Record ForeignJob) : Type 0 whe
   pub stamp : w.stamp ≡ r.stamp
   pub ready : w.ready ≡ r.ready
   pub job : w.job ≡ r.receipt
+
+-- `RCUO_VERSION_NUMBER`
+abbrev pub version_number : ℕ → ℕ → ℕ → ℕ
+version_number major minor patch = major * 1000000 + minor * 1000 + patch

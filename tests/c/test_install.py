@@ -1,0 +1,165 @@
+"""Installs librcuo into a folder, builds the first example with what is there, and removes it: python3 tests/c/test_install.py
+
+It wants the libraries built (tools/build librcuo), a C compiler and pkg-config, and no `rt`.
+"""
+import os
+import pathlib
+import re
+import shutil
+import subprocess
+import sys
+import tempfile
+import unittest
+
+ROOT = pathlib.Path(__file__).resolve().parent.parent.parent
+EXAMPLE = ROOT / "examples/c/first.c"
+SAYS = "freed the old version\nclosed: done\n"
+VERSION = re.search(r'^#define RCUO_VERSION "(.*)"$', (ROOT / "include/rcuo.h").read_text(encoding="utf-8"), re.MULTILINE).group(1)
+SONAME = "librcuo.so." + VERSION.partition(".")[0]
+LIBRARIES = {"librcuo.a", f"librcuo.so.{VERSION}", SONAME, "librcuo.so", "pkgconfig/rcuo.pc"}
+
+
+def run(*words, **variables):
+    """Runs a command that is to end well. Returns what it printed."""
+    ended = subprocess.run(words, env={**os.environ, **variables}, capture_output=True, text=True)
+    if ended.returncode:
+        raise AssertionError(f"{words} ended with {ended.returncode}:\n{ended.stdout}{ended.stderr}")
+    return ended.stdout
+
+
+def path_without_rt(folder):
+    """A PATH with links to the commands that an install uses, and no rt."""
+    for name in ("bash", "sed", "realpath", "readlink", "dirname", "install", "ln", "cat", "rm"):
+        os.symlink(shutil.which(name), folder / name)
+    os.symlink(sys.executable, folder / "python3")
+    return str(folder)
+
+
+class Install(unittest.TestCase):
+    def setUp(self):
+        folder = tempfile.TemporaryDirectory()
+        self.addCleanup(folder.cleanup)
+        self.work = pathlib.Path(folder.name)
+        self.stage = self.work / "stage"
+
+    def tool(self, *words, root=ROOT, **variables):
+        command = [root / "tools/install-librcuo", *words]
+        clean = {name: it for name, it in os.environ.items() if name not in ("PREFIX", "LIBDIR", "DESTDIR")}
+        return subprocess.run(command, env={**clean, **variables}, cwd=self.work, capture_output=True, text=True)
+
+    def installs(self, *words, **variables):
+        ended = self.tool(*words, **variables)
+        self.assertEqual(ended.returncode, 0, ended.stderr)
+        return ended
+
+    def refuses(self, status, text, *words, **variables):
+        ended = self.tool(*words, **variables)
+        self.assertEqual(ended.returncode, status, ended.stderr)
+        self.assertIn(text, ended.stderr)
+        self.assertEqual(len(ended.stderr.splitlines()), 1)
+
+    def files(self, folder):
+        return {str(it.relative_to(folder)) for it in folder.rglob("*") if it.is_symlink() or it.is_file()}
+
+    def built(self, name, how):
+        """The first example, linked in this way with what pkg-config says of the staged library."""
+        variables = {"PKG_CONFIG_LIBDIR": str(self.stage / "usr/lib/pkgconfig"), "PKG_CONFIG_SYSROOT_DIR": str(self.stage)}
+        said = run("pkg-config", "--cflags", "--libs", "rcuo", **variables).split()
+        run("cc", "-std=c99", "-Wall", "-Wextra", "-Werror", "-o", self.work / name, EXAMPLE, how, *said, "-Wl,-Bdynamic")
+        return self.work / name
+
+    def test_staged_used_and_removed(self):
+        self.installs("PREFIX=/usr", f"DESTDIR={self.stage}")
+        libraries = {f"usr/lib/{it}" for it in LIBRARIES}
+        self.assertEqual(self.files(self.stage), {"usr/include/rcuo.h", *libraries})
+        with self.subTest("the archive"):
+            archived = self.built("archived", "-Wl,-Bstatic")
+            self.assertEqual(run(archived), SAYS)
+            self.assertNotIn("librcuo", run("readelf", "-d", archived))
+        with self.subTest("the shared library"):
+            shared = self.built("shared", "-Wl,-Bdynamic")
+            self.assertIn(f"[{SONAME}]", run("readelf", "-d", shared))
+            self.assertEqual(run(shared, LD_LIBRARY_PATH=str(self.stage / "usr/lib")), SAYS)
+        self.installs("--uninstall", "PREFIX=/usr", f"DESTDIR={self.stage}")
+        self.assertEqual(self.files(self.stage), set())
+
+    def test_the_shared_library_offers_what_the_header_declares(self):
+        self.installs("PREFIX=/usr", f"DESTDIR={self.stage}")
+        library = self.stage / "usr/lib" / SONAME
+        offered = {line.split()[-1] for line in run("nm", "-D", "--defined-only", library).splitlines()}
+        header = (ROOT / "include/rcuo.h").read_text(encoding="utf-8")
+        self.assertEqual(offered, set(re.findall(r"^uint32_t (rcuo_\w+)\(", header, re.MULTILINE)))
+        self.assertIn(f"Library soname: [{SONAME}]", run("readelf", "-d", library))
+        wanted = {line.split()[-1].partition("@")[0] for line in run("nm", "-D", "--undefined-only", library).splitlines()}
+        wanted -= {"__cxa_finalize", "__gmon_start__", "_ITM_deregisterTMCloneTable", "_ITM_registerTMCloneTable"}
+        self.assertEqual(wanted, {"malloc", "realloc", "free", "memcpy", "memmove", "memset"})
+
+    def test_the_environment_and_a_folder_for_libraries(self):
+        self.installs(PREFIX="/opt/rcuo/", LIBDIR="/usr/lib/some-system", DESTDIR="stage")
+        self.assertEqual(self.files(self.stage), {"opt/rcuo/include/rcuo.h", *(f"usr/lib/some-system/{it}" for it in LIBRARIES)})
+        described = (self.stage / "usr/lib/some-system/pkgconfig/rcuo.pc").read_text(encoding="utf-8")
+        self.assertIn("prefix=/opt/rcuo\n", described)
+        self.assertIn("libdir=/usr/lib/some-system\n", described)
+        self.assertIn(f"Version: {VERSION}\n", described)
+        self.assertNotIn(str(self.stage), described)
+        self.installs("--uninstall", PREFIX="/opt/rcuo", LIBDIR="/usr/lib/some-system/", DESTDIR="stage")
+        self.assertEqual(self.files(self.stage), set())
+
+    def test_uninstall_leaves_what_others_put_there(self):
+        prefix = self.work / "with a space"
+        self.installs(f"PREFIX={prefix}")
+        other = prefix / "lib/libother.so"
+        other.write_text("", encoding="utf-8")
+        said = run("pkg-config", "--variable=libdir", "rcuo", PKG_CONFIG_LIBDIR=str(prefix / "lib/pkgconfig"))
+        self.assertEqual(said.replace("\\", "").strip(), str(prefix / "lib"))
+        self.installs("--uninstall", f"PREFIX={prefix}")
+        self.assertEqual(self.files(prefix), {"lib/libother.so"})
+        self.assertIn("nothing to remove", self.installs("--uninstall", f"PREFIX={prefix}").stdout)
+
+    def test_uninstall_of_an_earlier_version(self):
+        self.installs("PREFIX=/usr", f"DESTDIR={self.stage}")
+        libraries = self.stage / "usr/lib"
+        os.rename(libraries / f"librcuo.so.{VERSION}", libraries / "librcuo.so.0.0.9")
+        described = libraries / "pkgconfig/rcuo.pc"
+        described.write_text(described.read_text(encoding="utf-8").replace(VERSION, "0.0.9"), encoding="utf-8")
+        self.installs("--uninstall", "PREFIX=/usr", f"DESTDIR={self.stage}")
+        self.assertEqual(self.files(self.stage), set())
+
+    def test_no_rt_is_needed_where_the_library_is_built(self):
+        path = self.work / "path"
+        path.mkdir()
+        ended = self.installs("PREFIX=/usr", f"DESTDIR={self.stage}", PATH=path_without_rt(path))
+        self.assertIn("nothing is proved or built", ended.stdout)
+
+    def test_without_rt_and_not_built(self):
+        path, root = self.work / "path", self.work / "copy"
+        path.mkdir()
+        shutil.copytree(ROOT / "tools", root / "tools")
+        shutil.copytree(ROOT / "include", root / "include")
+        shutil.copy(ROOT / "crates.txt", root / "crates.txt")
+        self.refuses(1, "the command rt", "PREFIX=/usr", f"DESTDIR={self.stage}", root=root, PATH=path_without_rt(path))
+        self.assertFalse(self.stage.exists())
+
+    def test_bad_folders(self):
+        self.refuses(2, "PREFIX is usr, and has to be an absolute path", "PREFIX=usr")
+        self.refuses(2, "LIBDIR is lib", "PREFIX=/usr", "LIBDIR=lib", f"DESTDIR={self.stage}")
+        self.refuses(2, "unknown word /usr", "/usr")
+        blocked = self.work / "file"
+        blocked.write_text("", encoding="utf-8")
+        self.refuses(1, f"{blocked}/include can't be written to", f"PREFIX={blocked}")
+        self.assertEqual(self.files(self.work), {"file"})
+
+    @unittest.skipIf(os.geteuid() == 0 and not shutil.which("setpriv"), "a folder that root can't write to isn't had")
+    def test_a_folder_of_another_user(self):
+        os.chmod(self.work, 0o755)
+        owned = self.work / "owned"
+        owned.mkdir(mode=0o555)
+        nobody = ["setpriv", "--reuid=65534", "--regid=65534", "--clear-groups"] if os.geteuid() == 0 else []
+        command = [*nobody, ROOT / "tools/install-librcuo", f"PREFIX={owned}"]
+        ended = subprocess.run(command, capture_output=True, text=True)
+        self.assertEqual(ended.returncode, 1, ended.stderr)
+        self.assertIn(f"{owned}/include can't be written to", ended.stderr)
+
+
+if __name__ == "__main__":
+    unittest.main()
