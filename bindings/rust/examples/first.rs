@@ -3,14 +3,14 @@
 fn main() -> Result<(), rcuo::Error> {
     let mut parts = rcuo::open(&rcuo::Settings { processors: 2, ..Default::default() })?;
     let old = String::from("the old version");
-    parts.processors[0].call(0, move || println!("freed {old}")).map_err(|refused| refused.error)?;
+    parts.processors[0].call(0, move || println!("freed {old}"))?;
     while parts.processors[0].run(0, 10)? == 0 {
         for processor in &mut parts.processors {
             processor.quiescent()?; // no thread reads now as this processor
         }
         parts.driver.turn()?; // starts and ends grace periods
     }
-    let closed = parts.close().map_err(|refused| refused.error)?;
+    let closed = parts.close()?;
     println!("closed: {} ran", closed.ran[0].len());
     Ok(())
 }

@@ -69,6 +69,13 @@ pub struct Counts {
     pub counts: [u64; PROCESSORS],
 }
 
+impl Counts {
+    /// The numbers of the processors that there are.
+    pub fn counts_of(&self) -> &[u64] {
+        &self.counts[..self.processors as usize]
+    }
+}
+
 #[repr(C)]
 #[derive(Clone, Copy, Default)]
 pub struct DriverTurn {
@@ -94,6 +101,7 @@ pub struct Record {
 }
 
 extern "C" {
+    pub fn rcuo_version() -> u32;
     pub fn rcuo_slot_open(settings: *const Settings, number: u64, parts: *mut Parts) -> u32;
     pub fn rcuo_slot_close(parts: *mut Parts) -> u32;
     pub fn rcuo_slot_call(slot: *mut Slot, lazy: bool, moment: u64, job: *const Job, ticket: *mut Ticket) -> u32;

@@ -3,7 +3,7 @@
 //! [`open`] makes the parts of a runtime, each for a thread of its own. A thread reads shared data by its [`Processor`],
 //! retires what it replaced by [`Processor::call`], and reports quiescent states between its read sections. A callback is a
 //! boxed `FnOnce`, which runs once each processor has reported since it was called. [`Parts::close`] gives back what ran and
-//! what didn't.
+//! what didn't. Where a part was dropped, as by a thread that panicked, no job is lost: [`Parts::recover`] takes it up again.
 //!
 //! ```
 //! use rcuo::{open, Settings};
@@ -16,7 +16,7 @@
 //! let told = Arc::clone(&freed);
 //! let ticket = parts.processors[0].call(0, move || {
 //!     told.fetch_add(1, Ordering::SeqCst);
-//! }).map_err(|refused| refused.error)?;
+//! })?;
 //! assert_eq!(ticket.number, 0);
 //!
 //! while freed.load(Ordering::SeqCst) == 0 {
@@ -24,11 +24,15 @@
 //!     parts.processors[0].run(0, 16)?;
 //!     parts.driver.turn()?;
 //! }
-//! let closed = parts.close().map_err(|refused| refused.error)?;
+//! let closed = parts.close()?;
 //! assert_eq!(closed.ran[0].len(), 1);
 //! assert!(closed.back[0].is_empty());
 //! # Ok::<(), rcuo::Error>(())
 //! ```
+//!
+//! A *moment* is a time of the program's own clock, in any unit, by which an offloaded processor decides which callbacks it
+//! holds back, to release several together. It has to move on: after sixteen calls in one moment each further one waits for a
+//! tick ([`Processor::run`]) or a call in another moment, or for a barrier. A local processor heeds no moment, and 0 will do.
 //!
 //! While a read section lives, its processor makes no report:
 //!
@@ -47,16 +51,18 @@
 //! is_sync::<rcuo::Processor>();
 //! ```
 
+#![warn(missing_docs, missing_debug_implementations)]
+
 mod ffi;
 
-use std::cell::UnsafeCell;
+use std::cell::{Cell, UnsafeCell};
 use std::fmt;
 use std::marker::PhantomData;
-use std::mem::MaybeUninit;
-use std::sync::Arc;
+use std::sync::{Arc, Mutex, MutexGuard, PoisonError};
 
 /// Why a call did nothing: `enum rcuo_answer` of `include/rcuo.h`.
 #[derive(Clone, Copy, Debug, PartialEq, Eq)]
+#[non_exhaustive]
 pub enum Error {
     /// No further grace period can be numbered.
     Spent,
@@ -70,7 +76,7 @@ pub enum Error {
     NotOffloadable,
     /// There is no such processor.
     NoProcessor,
-    /// A part is missing.
+    /// A part is missing: it was dropped, or is held elsewhere. See [`Parts::recover`].
     Missing,
     /// A part is of another open.
     Foreign,
@@ -89,7 +95,7 @@ impl fmt::Display for Error {
             Error::Limit => out.write_str("the processor accepted as many callbacks as its limit allows"),
             Error::NotOffloadable => out.write_str("the processor isn't offloadable"),
             Error::NoProcessor => out.write_str("there is no such processor"),
-            Error::Missing => out.write_str("a part is missing"),
+            Error::Missing => out.write_str("a part is missing: it was dropped, or is held elsewhere"),
             Error::Foreign => out.write_str("a part is of another open"),
             Error::Shape => out.write_str("a setting is outside its limits"),
             Error::Other(answer) => write!(out, "answer {answer} of the library"),
@@ -146,27 +152,49 @@ impl Default for Settings {
 pub type Job = Box<dyn FnOnce() + Send + 'static>;
 
 /// A job or parts that come back with the reason.
+///
+/// `?` hands it on as it is in a function that answers `Box<dyn std::error::Error>`. In one that answers [`Error`] it hands on the
+/// reason, and what came back is dropped: a job doesn't run then, and parts are as [`Parts`] says of dropped ones.
 pub struct Refused<T> {
+    /// The reason.
     pub error: Error,
+    /// What was refused.
     pub back: T,
 }
 
 impl<T> fmt::Debug for Refused<T> {
     fn fmt(&self, out: &mut fmt::Formatter<'_>) -> fmt::Result {
-        write!(out, "Refused({:?})", self.error)
+        out.debug_struct("Refused").field("error", &self.error).finish_non_exhaustive()
+    }
+}
+
+impl<T> fmt::Display for Refused<T> {
+    fn fmt(&self, out: &mut fmt::Formatter<'_>) -> fmt::Result {
+        self.error.fmt(out)
+    }
+}
+
+impl<T> std::error::Error for Refused<T> {}
+
+impl<T> From<Refused<T>> for Error {
+    fn from(refused: Refused<T>) -> Error {
+        refused.error
     }
 }
 
 /// An accepted callback: its processor, and its number there.
 #[derive(Clone, Copy, Debug, PartialEq, Eq)]
 pub struct Ticket {
+    /// The number of its processor.
     pub processor: u64,
+    /// Its number there, from 0 in the order of acceptance.
     pub number: u64,
 }
 
 /// What is kept of a callback that ran.
 #[derive(Clone, Copy, Debug, PartialEq, Eq)]
 pub struct Record {
+    /// Its number.
     pub number: u64,
     /// The grace-period number that its processor saw after it was accepted.
     pub stamp: u64,
@@ -174,47 +202,104 @@ pub struct Record {
     pub ready: u64,
 }
 
-/// The slots of one runtime, which stay where they are while a part of it lives.
-struct Slots(UnsafeCell<ffi::Parts>);
+/// Which parts of a runtime: of each kind, bit n stands for the one in place n.
+#[derive(Clone, Copy, Default, PartialEq, Eq)]
+struct Places {
+    processors: u32,
+    groups: u32,
+    hands: u32,
+    driver: u32,
+    control: u32,
+}
 
-// Each slot is reached by the one part that is for it, and all of them only where no part is left.
+/// The slots of one runtime, which stay where they are while a handle of a part lives.
+struct Slots {
+    slots: UnsafeCell<ffi::Parts>,
+    /// The parts that the open made.
+    opened: Places,
+    /// Those of them that there is a handle for. There never are two for one part, so the slot of a part is reached by one
+    /// thread at a time, by the handle; and all slots by the thread that has all handles.
+    held: Mutex<Places>,
+}
+
+// (see `held`)
 unsafe impl Send for Slots {}
 unsafe impl Sync for Slots {}
 
 impl Slots {
-    fn control(&self) -> *mut ffi::Slot {
-        unsafe { &raw mut (*self.0.get()).control }
+    fn held(&self) -> MutexGuard<'_, Places> {
+        self.held.lock().unwrap_or_else(PoisonError::into_inner)
     }
 
-    /// Closes all parts, where no other use of a slot is left.
-    fn close(&self, processors: u64) -> Result<Closed, Error> {
-        answer(unsafe { ffi::rcuo_slot_close(self.0.get()) })?;
-        let mut closed = Closed { ran: Vec::new(), back: Vec::new() };
-        for processor in 0..processors {
-            let mut record = ffi::Record::default();
-            let mut records = Vec::new();
-            while unsafe { ffi::rcuo_slot_record(self.control(), processor, records.len() as u64, &mut record) } == 0 {
-                records.push(Record { number: record.number, stamp: record.stamp, ready: record.ready });
-            }
-            closed.ran.push(records);
-            let mut job = ffi::Job::default();
-            let mut jobs = Vec::new();
-            while unsafe { ffi::rcuo_slot_back(self.control(), processor, jobs.len() as u64, &mut job) } == 0 {
-                // (each job that comes back was made by `Processor::call`, and comes back once)
-                jobs.push(unsafe { job_of(&job) });
-            }
-            closed.back.push(jobs);
+    /// Handles of all parts that have none.
+    fn recover(self: &Arc<Slots>) -> Recovered {
+        let mut held = self.held();
+        let without = |opened: u32, held: u32| (0..ffi::PROCESSORS).filter(move |at| (opened & !held) >> at & 1 == 1);
+        let recovered = Recovered {
+            processors: without(self.opened.processors, held.processors).map(|at| Processor::of(self, at)).collect(),
+            groups: without(self.opened.groups, held.groups).map(|at| Group::of(self, at)).collect(),
+            hands: without(self.opened.hands, held.hands).map(|at| Hand::of(self, at)).collect(),
+            driver: without(self.opened.driver, held.driver).map(|at| Driver::of(self, at)).next(),
+            control: without(self.opened.control, held.control).map(|at| Control::of(self, at)).next(),
+        };
+        *held = self.opened;
+        recovered
+    }
+
+    fn control(&self) -> *mut ffi::Slot {
+        unsafe { &raw mut (*self.slots.get()).control }
+    }
+
+    /// Closes all parts.
+    ///
+    /// # Safety
+    ///
+    /// The caller has all handles, or there are none.
+    unsafe fn close(&self) -> Result<Closed, Error> {
+        answer(ffi::rcuo_slot_close(self.slots.get()))?;
+        let processors = 0..u64::from(self.opened.processors.count_ones());
+        let ran = processors.clone().map(|processor| self.records_of(processor)).collect();
+        let back = processors.map(|processor| self.jobs_of(processor)).collect();
+        answer(ffi::rcuo_slot_end(self.control()))?;
+        Ok(Closed { ran, back })
+    }
+
+    /// The records of the callbacks of a processor that ran.
+    ///
+    /// # Safety
+    ///
+    /// As of [`Slots::close`], between the close and the end.
+    unsafe fn records_of(&self, processor: u64) -> Vec<Record> {
+        let mut records = Vec::new();
+        let mut record = ffi::Record::default();
+        while ffi::rcuo_slot_record(self.control(), processor, records.len() as u64, &mut record) == 0 {
+            records.push(Record { number: record.number, stamp: record.stamp, ready: record.ready });
         }
-        answer(unsafe { ffi::rcuo_slot_end(self.control()) })?;
-        Ok(closed)
+        records
+    }
+
+    /// The jobs of a processor that didn't run.
+    ///
+    /// # Safety
+    ///
+    /// As of [`Slots::close`], between the close and the end, and once for each processor.
+    unsafe fn jobs_of(&self, processor: u64) -> Vec<Job> {
+        let mut jobs = Vec::new();
+        let mut job = ffi::Job::default();
+        while ffi::rcuo_slot_back(self.control(), processor, jobs.len() as u64, &mut job) == 0 {
+            // (each job that comes back was made by `Processor::call`, and comes back once)
+            jobs.push(job_of(&job));
+        }
+        jobs
     }
 }
 
 impl Drop for Slots {
     fn drop(&mut self) {
-        // A runtime whose parts were dropped: the jobs that didn't run are dropped too.
-        if self.0.get_mut().control.full {
-            let _ = self.close(ffi::PROCESSORS as u64);
+        // A runtime all of whose parts were dropped: the jobs that didn't run are dropped too.
+        if self.slots.get_mut().control.full {
+            // (each handle has the slots, so there is none)
+            let _ = unsafe { self.close() };
         }
     }
 }
@@ -233,20 +318,44 @@ unsafe fn job_of(words: &ffi::Job) -> Job {
 }
 
 macro_rules! part {
-    ($(#[$doc:meta])* $name:ident, $slot:ident $(, $at:ident)?) => {
+    ($(#[$doc:meta])* $name:ident, $slot:ident $(, $shown:ident)?) => {
         $(#[$doc])*
         pub struct $name {
             slots: Arc<Slots>,
-            $($at: usize,)?
+            at: usize,
             // (a part may go to another thread, but isn't shared)
-            alone: PhantomData<std::cell::Cell<()>>,
+            alone: PhantomData<Cell<()>>,
         }
 
         impl $name {
+            /// The handle of a part that has no other, and is now marked as held.
+            fn of(slots: &Arc<Slots>, at: usize) -> $name {
+                $name { slots: Arc::clone(slots), at, alone: PhantomData }
+            }
+
             fn slot(&self) -> *mut ffi::Slot {
-                let first = unsafe { &raw mut (*self.slots.0.get()).$slot }.cast::<ffi::Slot>();
-                $(let first = unsafe { first.add(self.$at) };)?
-                first
+                unsafe { (&raw mut (*self.slots.slots.get()).$slot).cast::<ffi::Slot>().add(self.at) }
+            }
+
+            fn place(&self) -> u32 {
+                1 << self.at
+            }
+
+            /// Takes up again those parts of this runtime that were dropped, as by threads that panicked, with all their jobs.
+            pub fn recover(&self) -> Recovered {
+                self.slots.recover()
+            }
+        }
+
+        impl Drop for $name {
+            fn drop(&mut self) {
+                self.slots.held().$slot &= !self.place();
+            }
+        }
+
+        impl fmt::Debug for $name {
+            fn fmt(&self, out: &mut fmt::Formatter<'_>) -> fmt::Result {
+                out.debug_tuple(stringify!($name))$(.field(&self.$shown))?.finish()
             }
         }
     };
@@ -274,6 +383,11 @@ part!(
 );
 
 /// All parts of a runtime.
+///
+/// Where a part is dropped, the runtime keeps it with its jobs, and [`Parts::recover`], or `recover` of any part that is left,
+/// takes it up again. Until then a dropped processor makes no report, so no callback runs that waits for one. Once the last part
+/// was dropped the runtime is closed, and its jobs that didn't run are dropped.
+#[derive(Debug)]
 pub struct Parts {
     /// In rising order.
     pub processors: Vec<Processor>,
@@ -281,8 +395,25 @@ pub struct Parts {
     pub groups: Vec<Group>,
     /// One for each offloadable processor, in rising order.
     pub hands: Vec<Hand>,
+    /// The one driver.
     pub driver: Driver,
+    /// The one control.
     pub control: Control,
+}
+
+/// Those parts of a runtime that were dropped, and are taken up again.
+#[derive(Debug)]
+pub struct Recovered {
+    /// In rising order.
+    pub processors: Vec<Processor>,
+    /// In rising order.
+    pub groups: Vec<Group>,
+    /// In rising order.
+    pub hands: Vec<Hand>,
+    /// The driver, if it was dropped.
+    pub driver: Option<Driver>,
+    /// Control, if it was dropped.
+    pub control: Option<Control>,
 }
 
 /// What is left of a runtime that was closed, by processor.
@@ -293,7 +424,23 @@ pub struct Closed {
     pub back: Vec<Vec<Job>>,
 }
 
+impl fmt::Debug for Closed {
+    fn fmt(&self, out: &mut fmt::Formatter<'_>) -> fmt::Result {
+        let many: Vec<usize> = self.back.iter().map(Vec::len).collect();
+        out.debug_struct("Closed").field("ran", &self.ran).field("back", &many).finish()
+    }
+}
+
+/// The places whose slots are full.
+fn full(slots: &[ffi::Slot]) -> u32 {
+    slots.iter().rev().fold(0, |mask, slot| mask << 1 | u32::from(slot.full))
+}
+
 /// Opens a runtime.
+///
+/// # Errors
+///
+/// [`Error::Shape`]: a setting is outside its limits. [`Error::Memory`].
 pub fn open(settings: &Settings) -> Result<Parts, Error> {
     let asked = ffi::Settings {
         processors: settings.processors,
@@ -303,19 +450,31 @@ pub fn open(settings: &Settings) -> Result<Parts, Error> {
         limit: settings.limit,
         offloadable: settings.offloadable,
     };
-    let slots = Arc::new(Slots(UnsafeCell::new(ffi::Parts::EMPTY)));
-    answer(unsafe { ffi::rcuo_slot_open(&asked, Arc::as_ptr(&slots) as u64, slots.0.get()) })?;
-    let full = |slots: &[ffi::Slot]| -> Vec<usize> { (0..slots.len()).filter(|&at| slots[at].full).collect() };
-    let opened = unsafe { &*slots.0.get() };
-    let (processors, groups, hands) = (full(&opened.processors), full(&opened.groups), full(&opened.hands));
-    let alone = PhantomData;
-    Ok(Parts {
-        processors: processors.into_iter().map(|at| Processor { slots: Arc::clone(&slots), at, alone }).collect(),
-        groups: groups.into_iter().map(|at| Group { slots: Arc::clone(&slots), at, alone }).collect(),
-        hands: hands.into_iter().map(|at| Hand { slots: Arc::clone(&slots), at, alone }).collect(),
-        driver: Driver { slots: Arc::clone(&slots), alone },
-        control: Control { slots, alone },
-    })
+    let mut slots = Arc::new(Slots {
+        slots: UnsafeCell::new(ffi::Parts::EMPTY),
+        opened: Places::default(),
+        held: Mutex::new(Places::default()),
+    });
+    let number = Arc::as_ptr(&slots) as u64;
+    let whole = Arc::get_mut(&mut slots).expect("the slots have one owner");
+    let filled = whole.slots.get_mut();
+    answer(unsafe { ffi::rcuo_slot_open(&asked, number, filled) })?;
+    whole.opened = Places {
+        processors: full(&filled.processors),
+        groups: full(&filled.groups),
+        hands: full(&filled.hands),
+        driver: 1,
+        control: 1,
+    };
+    let Recovered { processors, groups, hands, driver, control } = slots.recover();
+    let (driver, control) = (driver.expect("it was opened"), control.expect("it was opened"));
+    Ok(Parts { processors, groups, hands, driver, control })
+}
+
+/// The version of the library that was linked, as `0.1.0`.
+pub fn version() -> String {
+    let number = unsafe { ffi::rcuo_version() };
+    format!("{}.{}.{}", number / 1_000_000, number / 1000 % 1000, number % 1000)
 }
 
 impl Parts {
@@ -323,36 +482,83 @@ impl Parts {
     ///
     /// # Errors
     ///
-    /// The parts come back, and nothing was lost.
+    /// The parts come back, and nothing was lost. [`Error::Missing`]: a part isn't there; where it was dropped,
+    /// [`Parts::recover`] takes it up again. [`Error::Foreign`]: a part is of another open. [`Error::Memory`]: close again.
     pub fn close(self) -> Result<Closed, Refused<Parts>> {
-        if let Err(error) = self.are_all() {
-            return Err(Refused { error, back: self });
-        }
-        match self.control.slots.close(self.processors.len() as u64) {
+        match self.are_all().and_then(|()| unsafe { self.control.slots.close() }) {
             Ok(closed) => Ok(closed),
             Err(error) => Err(Refused { error, back: self }),
         }
     }
 
-    /// Whether these are all parts of one open.
-    fn are_all(&self) -> Result<(), Error> {
+    /// Takes up again those processors, groups and hands of control's open that were dropped, as by threads that panicked, with
+    /// all their jobs. Answers how many.
+    ///
+    /// ```
+    /// use rcuo::{open, Error, Settings};
+    ///
+    /// let mut parts = open(&Settings { processors: 2, ..Settings::default() })?;
+    /// let mut processor = parts.processors.pop().unwrap();
+    /// processor.call(0, || ())?;
+    /// let thread = std::thread::spawn(move || {
+    ///     processor.quiescent().unwrap();
+    ///     panic!("a fault, by which the processor is dropped");
+    /// });
+    /// assert!(thread.join().is_err());
+    ///
+    /// let refused = parts.close().unwrap_err();
+    /// assert_eq!(refused.error, Error::Missing);
+    /// let mut parts = refused.back;
+    /// assert_eq!(parts.recover(), 1);
+    /// let closed = parts.close()?;
+    /// assert_eq!(closed.back[1].len(), 1);
+    /// # Ok::<(), Error>(())
+    /// ```
+    pub fn recover(&mut self) -> usize {
+        // (a driver or a control that was dropped, where another open's is in its place, is dropped again)
+        let Recovered { processors, groups, hands, .. } = self.control.recover();
+        let many = processors.len() + groups.len() + hands.len();
+        self.processors.extend(processors);
+        self.processors.sort_by_key(|part| part.at);
+        self.groups.extend(groups);
+        self.groups.sort_by_key(|part| part.at);
+        self.hands.extend(hands);
+        self.hands.sort_by_key(|part| part.at);
+        many
+    }
+
+    /// Which parts these are, of one open.
+    fn places(&self) -> Result<Places, Error> {
+        let slots = &self.control.slots;
         let mut others = vec![&self.driver.slots];
         others.extend(self.processors.iter().map(|part| &part.slots));
         others.extend(self.groups.iter().map(|part| &part.slots));
         others.extend(self.hands.iter().map(|part| &part.slots));
-        let slots = &self.control.slots;
         if !others.iter().all(|other| Arc::ptr_eq(slots, other)) {
             return Err(Error::Foreign);
         }
-        // (each part owns the slots together with the others, and there is no other owner)
-        if Arc::strong_count(slots) != 1 + others.len() {
-            return Err(Error::Missing);
+        Ok(Places {
+            processors: self.processors.iter().fold(0, |mask, part| mask | part.place()),
+            groups: self.groups.iter().fold(0, |mask, part| mask | part.place()),
+            hands: self.hands.iter().fold(0, |mask, part| mask | part.place()),
+            driver: self.driver.place(),
+            control: self.control.place(),
+        })
+    }
+
+    /// Whether these are all parts of one open.
+    fn are_all(&self) -> Result<(), Error> {
+        if self.places()? == self.control.slots.opened {
+            Ok(())
+        } else {
+            Err(Error::Missing)
         }
-        Ok(())
     }
 }
 
 /// A read section of a processor, which makes no report while this lives.
+#[derive(Debug)]
+#[must_use = "the read section ends where its guard is dropped"]
 pub struct ReadGuard<'a> {
     processor: PhantomData<&'a Processor>,
 }
@@ -436,12 +642,20 @@ impl Processor {
         }
     }
 
-    /// Accepts a callback, at a moment of the caller's clock. It runs once each processor has reported since.
+    /// Accepts a callback, at a moment of the program's clock. It runs once each processor has reported since.
+    ///
+    /// # Errors
+    ///
+    /// [`Error::Limit`], [`Error::Closed`], [`Error::Memory`]: the job comes back, and nothing changed.
     pub fn call(&mut self, moment: u64, job: impl FnOnce() + Send + 'static) -> Result<Ticket, Refused<Job>> {
         self.call_job(false, moment, Box::new(job))
     }
 
-    /// As [`Processor::call`], but an offloaded processor may hold the callback back longer.
+    /// As [`Processor::call`], but an offloaded processor may hold the callback back longer: for ten moments.
+    ///
+    /// # Errors
+    ///
+    /// As of [`Processor::call`].
     pub fn call_lazy(&mut self, moment: u64, job: impl FnOnce() + Send + 'static) -> Result<Ticket, Refused<Job>> {
         self.call_job(true, moment, Box::new(job))
     }
@@ -513,8 +727,11 @@ impl Hand {
 /// What a turn of a group did.
 #[derive(Clone, Copy, Debug, PartialEq, Eq)]
 pub struct GroupTurn {
+    /// How many callbacks it drew from its processors.
     pub took: u64,
+    /// How many it gave to hands.
     pub gave: u64,
+    /// How many wait with it in batches.
     pub held: u64,
 }
 
@@ -576,7 +793,13 @@ pub struct Barrier(ffi::Counts);
 impl Barrier {
     /// How many callbacks of each processor it counts.
     pub fn counts(&self) -> &[u64] {
-        &self.0.counts[..self.0.processors as usize]
+        self.0.counts_of()
+    }
+}
+
+impl fmt::Debug for Barrier {
+    fn fmt(&self, out: &mut fmt::Formatter<'_>) -> fmt::Result {
+        out.debug_tuple("Barrier").field(&self.counts()).finish()
     }
 }
 
@@ -603,10 +826,9 @@ impl Control {
 
     /// Shuts every processor: from now on each call is refused. Answers how many callbacks each accepted.
     pub fn shut(&mut self) -> Result<Vec<u64>, Error> {
-        let mut counts = MaybeUninit::<ffi::Counts>::zeroed();
-        answer(unsafe { ffi::rcuo_slot_shut(self.slot(), counts.as_mut_ptr()) })?;
-        let counts = unsafe { counts.assume_init() };
-        Ok(counts.counts[..counts.processors as usize].to_vec())
+        let mut counts = ffi::Counts::default();
+        answer(unsafe { ffi::rcuo_slot_shut(self.slot(), &mut counts) })?;
+        Ok(counts.counts_of().to_vec())
     }
 
     /// Sets the halt word, which `is_halted` of the other parts reads. No call heeds it by itself.

@@ -163,3 +163,54 @@ fn a_processor_opens_and_polls_a_barrier() {
     let other = open(&Settings { processors: 2, ..Settings::default() }).unwrap().control.barrier().unwrap();
     assert_eq!(parts.processors[0].poll(&other), Err(Error::Foreign));
 }
+
+#[test]
+fn refusals_are_errors() {
+    fn boxed() -> Result<(), Box<dyn std::error::Error>> {
+        let mut parts = open(&Settings { limit: 1, ..Settings::default() })?;
+        parts.processors[0].call(0, || ())?;
+        parts.control.shut()?;
+        assert_eq!(parts.close()?.back[0].len(), 1);
+        let mut parts = open(&Settings { limit: 1, ..Settings::default() })?;
+        parts.processors[0].call(0, || ())?;
+        parts.processors[0].call(0, || ())?;
+        unreachable!("the limit is 1");
+    }
+    fn plain() -> Result<(), Error> {
+        let mut parts = open(&Settings::default())?;
+        parts.processors[0].call(0, || ())?;
+        parts.control.shut()?;
+        parts.processors[0].call(0, || ())?;
+        unreachable!("it was shut");
+    }
+    let refused = boxed().unwrap_err();
+    assert_eq!(refused.to_string(), Error::Limit.to_string());
+    assert!(refused.is::<rcuo::Refused<rcuo::Job>>());
+    assert_eq!(format!("{refused:?}"), "Refused { error: Limit, .. }");
+    assert_eq!(plain(), Err(Error::Closed));
+    let mut parts = open(&Settings::default()).unwrap();
+    parts.processors.clear();
+    assert_eq!(parts.close().map_err(Error::from).map(drop), Err(Error::Missing));
+}
+
+#[test]
+fn types_show_themselves() {
+    let mut parts = open(&Settings { processors: 2, offloadable: 2, ..Settings::default() }).unwrap();
+    parts.processors[0].call(0, || ()).unwrap();
+    let shown = "Parts { processors: [Processor(0), Processor(1)], groups: [Group(1)], hands: [Hand(1)], driver: Driver, control: Control }";
+    assert_eq!(format!("{parts:?}"), shown);
+    assert_eq!(format!("{:?}", parts.control.barrier().unwrap()), "Barrier([1, 0])");
+    assert_eq!(format!("{:?}", parts.close().unwrap()), "Closed { ran: [[], []], back: [1, 0] }");
+}
+
+/// The header's version and defaults are those of this crate and of the library that it links.
+#[test]
+fn the_header_and_the_library_are_this_versions() {
+    let header = include_str!("../../../include/rcuo.h");
+    let defined = |name: &str| header.lines().find_map(|line| line.strip_prefix(&format!("#define {name} "))).unwrap();
+    assert_eq!(defined("RCUO_VERSION"), format!("\"{}\"", env!("CARGO_PKG_VERSION")));
+    assert_eq!(rcuo::version(), env!("CARGO_PKG_VERSION"));
+    let Settings { processors, stride, blimit, qhimark, limit, offloadable } = Settings::default();
+    let defaults = format!("{{{processors}, {stride}, {blimit}, {qhimark}, {limit}, {offloadable}}}");
+    assert_eq!(defined("RCUO_SETTINGS_DEFAULT"), defaults);
+}
