@@ -51,7 +51,7 @@
 //! is_sync::<rcuo::Processor>();
 //! ```
 
-#![warn(missing_docs, missing_debug_implementations)]
+#![deny(missing_docs, missing_debug_implementations)]
 
 mod ffi;
 
