@@ -26,8 +26,8 @@ pub fn gathering()
         → All (λ w. seen_at w i ≤ seen_at (gather v ws) i) (v ∷ ws) }
 {}
 
-/// Where the parts of one open have ended, each processor and its hand by [`rcu_part_close::end_offloadable`] or
-/// [`rcu_part_close::end_local`], the last loads say of each what `close` promises, also of its jobs where these were sound, and
+/// Where the parts of one open have ended, each processor and its hand by [`end_offloadable`](crate::end_offloadable) or
+/// [`end_local`](crate::end_local), the last loads say of each what `close` promises, also of its jobs where these were sound, and
 /// the last board word how many counted reports it made (see [`crate::reports_by`]).
 pub fn closing<J: Job>()
     ensures ends { (n x : ℕ) (v : View) (others : List View) (es : List (CpuEnd J J.Receipt))

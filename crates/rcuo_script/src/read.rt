@@ -3,7 +3,7 @@
 ghost use Rattle.std.specs.Prelude.{◌≡◌, ◌<◌, ◌≤◌, IfErr, IfOk, IfSome, take, vec_len, length};
 ghost use Rattle.rcuo_script.specs.Reading.{IsFailedRead, TakesAtMost, TakesPiece};
 
-use rcuo_script::Fault;
+use crate::fault::Fault;
 use std::alloc::Global;
 use std::io::Read;
 

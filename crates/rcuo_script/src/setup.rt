@@ -4,9 +4,9 @@ ghost use Rattle.std.specs.Prelude.{◌≡◌, IfErr, IfOk, IfSome, Ok};
 ghost use Rattle.rcu_setup.specs.Setup.{setup_of, setup_view};
 ghost use Rattle.rcuo_script.specs.Reading.{IsFaultOf, TakesAtMost};
 
+use crate::fault::Fault;
 use crate::read::read_text;
 use rcu_setup::{Setup, SetupFault, read_setup};
-use rcuo_script::Fault;
 use std::alloc::Global;
 use std::io::Read;
 
