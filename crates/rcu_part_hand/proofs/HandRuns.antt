@@ -1,5 +1,5 @@
 -- How a hand keeps its law, and what its runs come to.
-use Rattle.std.proofs.Common.{◌≡◌, ◌≢◌, ℕ, zero, suc, ◌+◌, ◌≤◌, List, [], ◌∷◌, ◌++◌, map, length, length-append, append-nil, append_assoc, ap, sym, ◌∙◌, refl, subst, arith, get_or, get_or-set_same, false, rules}
+use Rattle.std.proofs.Common.{◌≡◌, ◌≢◌, ℕ, zero, suc, ◌+◌, ◌≤◌, List, [], ◌∷◌, ◌++◌, map, length, length-append, append-nil, append_assoc, ap, sym, ◌∙◌, refl, subst, arith, get_or, get_or-set_same, false, rules, Option, None, Some, IfSome}
 use Rattle.std.proofs.lemmas.List.{map-append}
 use Rattle.std.proofs.lemmas.List.Elements.{All-append}
 use Rattle.std.specs.List.{All}
@@ -11,6 +11,9 @@ use Rattle.rcu_board.specs.declared.view.View.{View}
 use Rattle.rcu_board.proofs.Stepping.{has_words, same_again}
 use Rattle.rcu_jobs.specs.Records.{Given}
 use Rattle.rcu_jobs.specs.declared.HandTurn.{HandTurn}
+use Rattle.rcu_jobs.specs.declared.Stop.{Stop}
+use Rattle.rcu_jobs.specs.declared.Stop.TheVariants.{Again, Empty, Limit, Memory, Turn}
+use Rattle.rcu_part_lists.specs.Lanes.{IsStopOfLane}
 use Rattle.rcu_jobs.specs.declared.callback.Callback.{Callback}
 use Rattle.rcu_jobs.specs.declared.callback.Record.{Record}
 use Rattle.rcu_numbers.specs.Numbers.{snap_of}
@@ -20,7 +23,7 @@ use Rattle.rcu_part_steps.specs.Changes.{Keeps, Claims, Finishes, StepsOnly, cla
 use Rattle.rcu_board.specs.Words.{board_word, turns_word}
 use Rattle.rcu_part_steps.proofs.Turning.{steps_more}
 use Rattle.rcu_part_hand.specs.HandLaw.{IsLawfulHand}
-use Rattle.rcu_part_hand.specs.Hands.{AddsRecords, Looks, Loads, Ran, SameHand, TurnsBy, hand_board, hand_held, hand_drawn, hand_records, hand_view}
+use Rattle.rcu_part_hand.specs.Hands.{AddsRecords, Looks, Loads, Ran, SameHand, StopsAt, TurnsBy, hand_board, hand_held, hand_drawn, hand_records, hand_view}
 use Rattle.rcu_part_steps.specs.Places.{AreKeyed, numbered_callback, claim_of}
 use Rattle.rcu_part_hand.specs.declared.hand.HandState.{HandState}
 use Rattle.rcu_board.proofs.Facts.{same_seat}
@@ -60,6 +63,15 @@ module _ {J : Type 0} where
   keyed_before key_of (x ∷ xs) ys k (suc i) d low = keyed_before key_of xs ys (λ j e less. k (suc j) e (omega (arith, less))) i d (omega (arith, low))
 
 module _ {J R : Type 0} where
+  -- where a draw gave nothing, a turn stops for that
+  pub stops_empty : (stop : Option Stop) (h : HandState J R) → (stop ≢ None → hand_held h ≡ []) → IfSome stop IsStopOfLane → IfSome stop (λ s. (n seen : ℕ) → StopsAt s n n seen h)
+  stops_empty None h none why = tt
+  stops_empty (Some Empty) h none why = λ n seen. (none (λ e. absurd cc), refl)
+  stops_empty (Some Again) h none why = λ n seen. (none (λ e. absurd cc), refl)
+  stops_empty (Some Limit) h none why = absurd why
+  stops_empty (Some Turn) h none why = absurd why
+  stops_empty (Some Memory) h none why = absurd why
+
   pub hand_kept : (cpu : ℕ) (v w : View) (ran ran' : List (Record R)) (taken : List (Callback J)) → Keeps v w → ran' ≡ ran → IsLawfulHand cpu v ran taken → IsLawfulHand cpu w ran' taken
   hand_kept cpu v w ran ran' taken k same l = subst (λ (rs : List (Record R)). IsLawfulHand cpu w rs taken) (sym same) (record { rests = k.running ∙ l.rests; places = l.places; claims = k.claims ∙ l.claims; ripe = l.ripe })
 

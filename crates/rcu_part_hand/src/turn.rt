@@ -11,7 +11,6 @@ ghost use Rattle.rcu_part_steps.specs.Stops.{StopsInTime};
 use crate::hand::Hand;
 use rcu_jobs::{HandTurn, Job, Stop};
 use rcu_numbers::snap;
-use rcu_part_lists::Fetched;
 use rcu_part_steps::{look_at_number, run_claimed, try_claim};
 
 impl<J: Job> Hand<J> {
@@ -91,11 +90,7 @@ impl<J: Job> Hand<J> {
         ensures none { IfSome result (λ stop. (n seen : ℕ) → StopsAt stop n n seen self.new.state) }
         ensures sound { KeepsSoundHand J.key_of J.gives self.old.state self.new.state }
     {
-        match self.state.held.fetch() {
-            Fetched::Got => None,
-            Fetched::Empty => Some(Stop::Empty),
-            Fetched::Again => Some(Stop::Again),
-        }
+        self.state.held.fetch()
     }
 
     /// A turn: one look; where no batch is held, one is drawn; then the first callbacks are run, at most `blimit`, each where

@@ -1,17 +1,16 @@
 //! What a hand holds.
 
-ghost use Rattle.std.specs.Prelude.{◌≡◌, ◌≢◌, [], ◌∷◌, ◌++◌, List, option_to_list, IfSome, MatchOption};
+ghost use Rattle.std.specs.Prelude.{◌≡◌, ◌≢◌, [], ◌∷◌, ◌++◌, List, option_to_list, IfSome, MatchOption, None};
 ghost use Rattle.rcu_jobs.specs.declared.callback.Callback.{Callback};
 ghost use Rattle.rcu_lanes.specs.Ends.{SameFront, items_drawn};
 ghost use Rattle.rcu_lists.specs.Batches.{batch_items};
 ghost use Rattle.rcu_part_lists.specs.Ends.{EndsWith};
-ghost use Rattle.rcu_part_lists.specs.Lanes.{drawn_calls};
+ghost use Rattle.rcu_part_lists.specs.Lanes.{drawn_calls, IsStopOfLane};
 ghost use Rattle.rcu_part_lists.specs.Limits.{AreSafe, IsSafe};
 
-use crate::fetched::Fetched;
 use crate::lane_ends::Inlet;
 use crate::limits::LaneLimits;
-use rcu_jobs::Callback;
+use rcu_jobs::{Callback, Stop};
 use rcu_lanes::Front;
 use rcu_lists::{Batch, Parcel};
 use std::alloc::Global;
@@ -26,7 +25,6 @@ pub struct Held<J> {
 }
 
 impl<J: Drop> Held<J> {
-    ghost use Rattle.rcu_part_lists.specs.declared.fetched.Fetched.TheVariants.{Got};
     ghost use Rattle.rcu_part_lists.specs.Helds.{front_of, drawn_by, held_by, taken_by};
 
     /// A hand that has drawn nothing.
@@ -41,23 +39,24 @@ impl<J: Drop> Held<J> {
         }
     }
 
-    /// Draws a batch, where none is held. Takes no memory.
-    pub fn fetch(&mut self) -> Fetched
+    /// Draws a batch, where none is held. Takes no memory. Answers why none is held, if so.
+    pub fn fetch(&mut self) -> Option<Stop>
         ensures lane { SameFront (front_of self.old) (front_of self.new) }
 
         // What was held stays, and nothing is drawn then.
         ensures held { held_by self.old ≢ []
-            → (result ≡ Got) × (drawn_by self.new ≡ drawn_by self.old)
+            → (result ≡ None) × (drawn_by self.new ≡ drawn_by self.old)
             × (held_by self.new ≡ held_by self.old) }
 
         // A batch that was drawn is held.
         ensures drawn { held_by self.old ≡ []
             → drawn_by self.new ≡ drawn_by self.old ++ held_by self.new }
-        ensures none { result ≢ Got → (held_by self.old ≡ []) × (held_by self.new ≡ []) }
+        ensures none { result ≢ None → (held_by self.old ≡ []) × (held_by self.new ≡ []) }
+        ensures stops { IfSome result IsStopOfLane }
         ensures taken { taken_by self.new ≡ taken_by self.old }
     {
         if !self.batch.is_empty() {
-            return Fetched::Got;
+            return None;
         }
         self.inlet.draw_into(&mut self.batch)
     }

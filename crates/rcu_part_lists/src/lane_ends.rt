@@ -1,18 +1,16 @@
 //! The ends of a lane between two running parts: what one puts on it and the other draws from it are parcels.
 
-ghost use Rattle.std.specs.Prelude.{⊤, ◌≡◌, ◌≢◌, ◌+◌, ◌<◌, ◌≤◌, true, false, [], ◌∷◌, ◌++◌, length, IfNone, IfOk, IsOk, MatchResult};
+ghost use Rattle.std.specs.Prelude.{⊤, ◌≡◌, ◌≢◌, ◌+◌, ◌<◌, ◌≤◌, true, false, [], ◌∷◌, ◌++◌, length, IfNone, IfOk, IfSome, IsOk, MatchResult, None};
 ghost use Rattle.rcu_lanes.specs.Ends.{SameFront, SameRear, items_drawn, items_put};
 ghost use Rattle.rcu_lanes.specs.declared.ends.TheConstants.{FIRST_SLOTS};
 ghost use Rattle.rcu_lists.specs.Batches.{batch_items};
 ghost use Rattle.rcu_lists.specs.Parcels.{parcel_items};
 ghost use Rattle.rcu_lists.specs.declared.batch.TheConstants.{INLINE_PLACES};
-ghost use Rattle.rcu_part_lists.specs.Lanes.{put_calls, drawn_calls, DrawsOff, PutsFrom, PutsOn};
+ghost use Rattle.rcu_part_lists.specs.Lanes.{put_calls, drawn_calls, DrawsOff, IsStopOfLane, PutsFrom, PutsOn};
 ghost use Rattle.rcu_part_lists.specs.Limits.{AreFew, AreSafe, IsSafe};
-ghost use Rattle.rcu_part_lists.specs.declared.fetched.Fetched.TheVariants.{Got};
 
-use crate::fetched::Fetched;
 use crate::limits::LaneLimits;
-use rcu_jobs::Callback;
+use rcu_jobs::{Callback, Stop};
 use rcu_lanes::{Draw, FIRST_SLOTS, Front, Rear};
 use rcu_lists::{Batch, INLINE_PLACES, Parcel, SpareBlock};
 use std::alloc::{AllocError, Global};
@@ -222,25 +220,27 @@ impl<J: Drop> Inlet<J> {
         }
     }
 
-    /// Draws what was put next into a batch that holds nothing. Wants no memory.
-    pub(crate) fn draw_into(&mut self, batch: &mut Batch<J>) -> Fetched
+    /// Draws what was put next into a batch that holds nothing. Wants no memory. Answers why none was drawn, if so: the lane
+    /// was empty at one moment of the call, or another step on it was in the way.
+    pub(crate) fn draw_into(&mut self, batch: &mut Batch<J>) -> Option<Stop>
         requires none { batch_items batch.old ≡ [] }
         ensures lane { SameFront self.old.front self.new.front }
-        ensures drawn { result ≡ Got
+        ensures drawn { result ≡ None
             → DrawsOff (batch_items batch.new) self.old.front self.new.front }
-        ensures allowed { result ≡ Got
+        ensures allowed { result ≡ None
             → AreSafe (batch_items batch.new) × AreFew (drawn_calls self.new.front) }
-        ensures none { result ≢ Got
+        ensures none { result ≢ None
             → (items_drawn self.new.front ≡ items_drawn self.old.front)
             × (batch_items batch.new ≡ []) }
+        ensures stops { IfSome result IsStopOfLane }
     {
         match self.front.draw() {
             Draw::Got(parcel) => {
                 batch.load(parcel);
-                Fetched::Got
+                None
             }
-            Draw::Empty => Fetched::Empty,
-            Draw::Again => Fetched::Again,
+            Draw::Empty => Some(Stop::Empty),
+            Draw::Again => Some(Stop::Again),
         }
     }
 

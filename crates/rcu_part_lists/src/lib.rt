@@ -6,7 +6,6 @@
 //! The rules stand in docs/specification/rules.md, "Bypass lists", "Groups", "Modes" and "The calls, step by step".
 #![tactic(auto)]
 
-mod fetched;
 mod hand;
 mod joins;
 mod lane_ends;
@@ -21,7 +20,6 @@ mod relay;
 mod sends;
 mod views;
 
-pub use fetched::Fetched;
 pub use hand::Held;
 pub use lane_ends::{Inlet, Outlet};
 pub use laws::places_in_a_batch;

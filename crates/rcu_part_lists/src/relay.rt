@@ -7,7 +7,6 @@ ghost use Rattle.rcu_lists.specs.Batches.{batch_items};
 ghost use Rattle.rcu_lists.specs.Labels.{callbacks_of, count, is_done};
 ghost use Rattle.rcu_part_lists.specs.MemberLists.{Relay, relay, front_of, rear_of, most_batches, joined, Draws, TakesIn, Loads, Hands, Gives, GivesSome};
 
-use crate::fetched::Fetched;
 use crate::joins::join;
 use crate::member_lists::{MOST_BATCHES, MemberLists};
 use rcu_lanes::Draw;
@@ -56,11 +55,7 @@ impl<J: Drop> MemberLists<J> {
         ensures draws { result ≡ true → Draws (relay self.old) (relay self.new) }
         ensures none { result ≡ false → relay self.new ≡ relay self.old }
     {
-        match self.inlet.draw_into(&mut self.drawn) {
-            Fetched::Got => true,
-            Fetched::Empty => false,
-            Fetched::Again => false,
-        }
+        self.inlet.draw_into(&mut self.drawn).is_none()
     }
 
     /// Puts the batch that waits for the done lane; where none does, the first done callbacks, at most `blimit`, as one

@@ -1,52 +1,28 @@
-use Rattle.std.proofs.Common.{◌≡◌, ◌∙◌, sym, refl, List, subst}
+use Rattle.std.proofs.Common.{◌≡◌, sym, refl, List, None, subst}
 use Rattle.rcu_part_hand.specs.contracts.hand.Hand as row
 use Rattle.rcu_part_lists.proofs.Sizes.{in_struct}
 use denote.Param.{param}
 use Rattle.std.specs.Mem.{FitsInMemory}
 use Rattle.rcu_part_lists.specs.Helds.{drawn_by, held_by}
-use Rattle.rcu_part_lists.specs.declared.fetched.Fetched.TheVariants.{Got, Empty, Again}
-use Rattle.rcu_part_hand.proofs.HandRuns.{fetched, hand_sound_drawn}
+use Rattle.rcu_part_hand.proofs.HandRuns.{fetched, hand_sound_drawn, stops_empty}
 use Rattle.rcu_board.specs.Seats.{view}
 use Rattle.rcu_jobs.specs.declared.callback.Callback.{Callback}
 use Rattle.rcu_part_hand.specs.HandLaw.{IsLawfulHand}
 use Rattle.rcu_board.proofs.Facts.{same_seat}
 use Rattle.rcu_part_hand.proofs.hand.Hand.load.Goals as goal
 
-pub returns-in-Got-clause-loads : goal.returns-in-Got-clause-loads
-returns-in-Got-clause-loads g c = let s = c.args.self.now.state in let e = c.fetch.ensures in
-    let f = fetched (c.fetch.result ≡ Got) (held_by s.held) (held_by c.fetch.new.self) (drawn_by s.held) (drawn_by c.fetch.new.self) e.held e.drawn in
+pub returns-clause-loads : goal.returns-clause-loads
+returns-clause-loads g c = let s = c.args.self.now.state in let e = c.fetch.ensures in
+    let f = fetched (c.fetch.result ≡ None) (held_by s.held) (held_by c.fetch.new.self) (drawn_by s.held) (drawn_by c.fetch.new.self) e.held e.drawn in
     record { batch = f.0; drawn = f.1; held = f.2; only = f.3; view = refl; records = refl }
 
-pub returns-in-Got-clause-sound : goal.returns-in-Got-clause-sound
-returns-in-Got-clause-sound g c = let s = c.args.self.now.state in let e = c.fetch.ensures in
-    let f = fetched (c.fetch.result ≡ Got) (held_by s.held) (held_by c.fetch.new.self) (drawn_by s.held) (drawn_by c.fetch.new.self) e.held e.drawn in
+pub returns-clause-sound : goal.returns-clause-sound
+returns-clause-sound g c = let s = c.args.self.now.state in let e = c.fetch.ensures in
+    let f = fetched (c.fetch.result ≡ None) (held_by s.held) (held_by c.fetch.new.self) (drawn_by s.held) (drawn_by c.fetch.new.self) e.held e.drawn in
     hand_sound_drawn g.J.Job.key_of g.J.Job.gives (drawn_by s.held) (drawn_by c.fetch.new.self) f.0 s.ran.items f.1
 
-pub returns-in-Empty-clause-loads : goal.returns-in-Empty-clause-loads
-returns-in-Empty-clause-loads g c = let s = c.args.self.now.state in let e = c.fetch.ensures in
-    let f = fetched (c.fetch.result ≡ Got) (held_by s.held) (held_by c.fetch.new.self) (drawn_by s.held) (drawn_by c.fetch.new.self) e.held e.drawn in
-    record { batch = f.0; drawn = f.1; held = f.2; only = f.3; view = refl; records = refl }
-
-pub returns-in-Empty-clause-sound : goal.returns-in-Empty-clause-sound
-returns-in-Empty-clause-sound g c = let s = c.args.self.now.state in let e = c.fetch.ensures in
-    let f = fetched (c.fetch.result ≡ Got) (held_by s.held) (held_by c.fetch.new.self) (drawn_by s.held) (drawn_by c.fetch.new.self) e.held e.drawn in
-    hand_sound_drawn g.J.Job.key_of g.J.Job.gives (drawn_by s.held) (drawn_by c.fetch.new.self) f.0 s.ran.items f.1
-
-pub returns-in-Empty-clause-none : goal.returns-in-Empty-clause-none
-returns-in-Empty-clause-none g c n seen = ((c.fetch.ensures.none (λ e. (let f : Empty ≡ Got = sym c.in-Empty.is ∙ e in cc))).1, refl)
-
-pub returns-in-Again-clause-loads : goal.returns-in-Again-clause-loads
-returns-in-Again-clause-loads g c = let s = c.args.self.now.state in let e = c.fetch.ensures in
-    let f = fetched (c.fetch.result ≡ Got) (held_by s.held) (held_by c.fetch.new.self) (drawn_by s.held) (drawn_by c.fetch.new.self) e.held e.drawn in
-    record { batch = f.0; drawn = f.1; held = f.2; only = f.3; view = refl; records = refl }
-
-pub returns-in-Again-clause-sound : goal.returns-in-Again-clause-sound
-returns-in-Again-clause-sound g c = let s = c.args.self.now.state in let e = c.fetch.ensures in
-    let f = fetched (c.fetch.result ≡ Got) (held_by s.held) (held_by c.fetch.new.self) (drawn_by s.held) (drawn_by c.fetch.new.self) e.held e.drawn in
-    hand_sound_drawn g.J.Job.key_of g.J.Job.gives (drawn_by s.held) (drawn_by c.fetch.new.self) f.0 s.ran.items f.1
-
-pub returns-in-Again-clause-none : goal.returns-in-Again-clause-none
-returns-in-Again-clause-none g c n seen = ((c.fetch.ensures.none (λ e. (let f : Again ≡ Got = sym c.in-Again.is ∙ e in cc))).1, refl)
+pub returns-clause-none : goal.returns-clause-none
+returns-clause-none g c = stops_empty c.fetch.result _ (λ some. (c.fetch.ensures.none some).1) c.fetch.ensures.stops
 
 pub invariant_of-self : goal.invariant_of-self
 invariant_of-self g c = let s = c.args.self.now.state in record {
@@ -55,14 +31,8 @@ invariant_of-self g c = let s = c.args.self.now.state in record {
   lawful = subst (λ (cs : List (Callback g.row.J.Denot)). IsLawfulHand s.cpu (view s.seat) s.ran.items cs) (sym c.fetch.ensures.taken) s.lawful;
 }
 
-pub returns-in-Got-clause-same : goal.returns-in-Got-clause-same
-returns-in-Got-clause-same g c = record { part = record { board = refl; seat = same_seat _ }; lane = c.fetch.ensures.lane; cpu = refl; blimit = refl }
-
-pub returns-in-Empty-clause-same : goal.returns-in-Empty-clause-same
-returns-in-Empty-clause-same g c = record { part = record { board = refl; seat = same_seat _ }; lane = c.fetch.ensures.lane; cpu = refl; blimit = refl }
-
-pub returns-in-Again-clause-same : goal.returns-in-Again-clause-same
-returns-in-Again-clause-same g c = record { part = record { board = refl; seat = same_seat _ }; lane = c.fetch.ensures.lane; cpu = refl; blimit = refl }
+pub returns-clause-same : goal.returns-clause-same
+returns-clause-same g c = record { part = record { board = refl; seat = same_seat _ }; lane = c.fetch.ensures.lane; cpu = refl; blimit = refl }
 
 pub fetch-requires : goal.fetch-requires
 fetch-requires g c = let h : FitsInMemory (row.the_row (param 0 g.row.J) (param 1 g.row.J-Receipt)) = assumption in in_struct _ _ _ (in_struct _ _ _ h)

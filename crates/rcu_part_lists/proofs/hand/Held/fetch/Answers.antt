@@ -55,3 +55,9 @@ returns-then-not-is_empty-clause-taken g c = refl
 
 pub returns-clause-lane : goal.returns-clause-lane
 returns-clause-lane g c = c.draw_into.ensures.lane
+
+pub returns-clause-stops : goal.returns-clause-stops
+returns-clause-stops g c = c.draw_into.ensures.stops
+
+pub returns-then-not-is_empty-clause-stops : goal.returns-then-not-is_empty-clause-stops
+returns-then-not-is_empty-clause-stops g c = tt

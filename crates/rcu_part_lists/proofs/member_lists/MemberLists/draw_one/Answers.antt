@@ -1,4 +1,4 @@
-use Rattle.std.proofs.Common.{ap, sym, ◌∙◌, refl, length, true≢false}
+use Rattle.std.proofs.Common.{ap, sym, ◌∙◌, refl, length}
 use Rattle.std.specs.List.{flat_map}
 use Rattle.rcu_lists.specs.Batches.{batch_items}
 use Rattle.rcu_lists.specs.Labels.{callbacks_of}
@@ -6,11 +6,10 @@ use Rattle.rcu_lists.specs.Parcels.{parcel_items}
 use Rattle.rcu_lists.specs.Segments.{labelled}
 use Rattle.rcu_part_lists.specs.Lanes.{put_calls, drawn_calls}
 use Rattle.rcu_part_lists.specs.MemberLists.{relay}
-use Rattle.rcu_part_lists.proofs.Fetches.{fetched-drawn, fetched-few, fetched-safe, empty≢got, again≢got}
+use Rattle.rcu_part_lists.proofs.Fetches.{fetched-drawn, fetched-few, fetched-safe, none-tested, some-tested}
 use Rattle.rcu_part_lists.proofs.Relays.{drawn-waits}
 use denote.Param.{param}
 use Rattle.rcu_part_lists.proofs.Sizes.{member-batch}
-use Rattle.std.proofs.lemmas.Bool.{false≢true}
 use Rattle.rcu_part_lists.proofs.member_lists.MemberLists.draw_one.Goals as goal
 
 pub invariant_of-self : goal.invariant_of-self
@@ -31,47 +30,20 @@ invariant_of-self g c =
       aimed = s.aimed;
     }
 
-pub returns-in-Got-clause-draws : goal.returns-in-Got-clause-draws
-returns-in-Got-clause-draws g c = λ _. let d = c.in-Got.ensures.drawn refl in record { received = d.0; one = d.1; others = refl }
+pub returns-clause-draws : goal.returns-clause-draws
+returns-clause-draws g c = λ e. let d = c.draw_into.ensures.drawn (none-tested c.draw_into.result c.is_none.result c.is_none.ensures e) in record { received = d.0; one = d.1; others = refl }
 
-pub returns-in-Empty-clause-draws : goal.returns-in-Empty-clause-draws
-returns-in-Empty-clause-draws g c = λ e. absurd (false≢true e)
-
-pub returns-in-Empty-clause-none : goal.returns-in-Empty-clause-none
-returns-in-Empty-clause-none g c = λ _.
+pub returns-clause-none : goal.returns-clause-none
+returns-clause-none g c = λ e.
     let r = relay c.args.self.now in
-    let n = c.in-Empty.ensures.none empty≢got in
-    ap (λ items. record r { received = flat_map parcel_items items; draws = length items; drawn = batch_items c.draw_into.new.batch }) n.0 ∙ ap (λ l. record r { drawn = l }) (n.1 ∙ sym c.requires)
-
-pub returns-in-Again-clause-draws : goal.returns-in-Again-clause-draws
-returns-in-Again-clause-draws g c = λ e. absurd (false≢true e)
-
-pub returns-in-Again-clause-none : goal.returns-in-Again-clause-none
-returns-in-Again-clause-none g c = λ _.
-    let r = relay c.args.self.now in
-    let n = c.in-Again.ensures.none again≢got in
+    let n = c.draw_into.ensures.none (some-tested c.draw_into.result c.is_none.result c.is_none.ensures e) in
     ap (λ items. record r { received = flat_map parcel_items items; draws = length items; drawn = batch_items c.draw_into.new.batch }) n.0 ∙ ap (λ l. record r { drawn = l }) (n.1 ∙ sym c.requires)
 
 pub draw_into-requires : goal.draw_into-requires
 draw_into-requires g c = (member-batch (param 0 g.row.J) assumption, c.requires)
 
-pub returns-in-Got-clause-lanes : goal.returns-in-Got-clause-lanes
-returns-in-Got-clause-lanes g c = (c.draw_into.ensures.lane, refl)
+pub returns-clause-lanes : goal.returns-clause-lanes
+returns-clause-lanes g c = (c.draw_into.ensures.lane, refl)
 
-pub returns-in-Got-clause-advanced : goal.returns-in-Got-clause-advanced
-returns-in-Got-clause-advanced g c = refl
-
-pub returns-in-Empty-clause-lanes : goal.returns-in-Empty-clause-lanes
-returns-in-Empty-clause-lanes g c = (c.draw_into.ensures.lane, refl)
-
-pub returns-in-Empty-clause-advanced : goal.returns-in-Empty-clause-advanced
-returns-in-Empty-clause-advanced g c = refl
-
-pub returns-in-Again-clause-lanes : goal.returns-in-Again-clause-lanes
-returns-in-Again-clause-lanes g c = (c.draw_into.ensures.lane, refl)
-
-pub returns-in-Again-clause-advanced : goal.returns-in-Again-clause-advanced
-returns-in-Again-clause-advanced g c = refl
-
-pub returns-in-Got-clause-none : goal.returns-in-Got-clause-none
-returns-in-Got-clause-none g c = λ e. absurd (true≢false e)
+pub returns-clause-advanced : goal.returns-clause-advanced
+returns-clause-advanced g c = refl
