@@ -15,7 +15,7 @@ help: ## this list
 build: ## prove and build the program rcuo with all that it stands on
 	tools/build
 
-lib: ## prove and build the library for C, out/librcuo.a
+lib: ## prove and build the library for C: out/librcuo.a and out/librcuo.so.0
 	tools/build librcuo
 
 test: ## run all tests without a proof, after an edit; with CRATE=NAME those of one crate

@@ -40,16 +40,18 @@ accept_job-requires-after_bounds g c κs within =
     )
 
 pub returns : goal.returns
-returns g c = let s = c.args.self.now.state in let e = c.accept_job.ensures in record { calls = record {
-  same = record { part = record { board = refl; seat = e.same }; lane = e.lane; cpu = refl; offloadable = refl; limit = refl; blimit = refl };
-  ok = accepts_with s.ran.items c.args.moment c.args.kind (g.J.Job.key_of c.args.job) c.args.job
-      (pieces s.cpu s.limit s.accepted s.seat s.lists) (pieces s.cpu s.limit c.accept_job.new.accepted c.accept_job.new.seat c.accept_job.new.lists) c.accept_job.result e.ok;
-  err = accepts_none_with s.ran.items
-      (pieces s.cpu s.limit s.accepted s.seat s.lists) (pieces s.cpu s.limit c.accept_job.new.accepted c.accept_job.new.seat c.accept_job.new.lists) c.accept_job.result e.err;
-  refused = refuses_with s.ran.items c.args.job
-      (pieces s.cpu s.limit s.accepted s.seat s.lists) (pieces s.cpu s.limit c.accept_job.new.accepted c.accept_job.new.seat c.accept_job.new.lists) c.accept_job.result e.refused;
-  closed = e.closed;
-  full = e.full;
-  claimed = refl;
-  sound = λ sound. record { keyed = e.keyed sound.keyed; given = sound.given };
-} }
+returns g c = let s = c.args.self.now.state in let e = c.accept_job.ensures in record {
+  calls = record {
+    same = record { part = record { board = refl; seat = e.same }; lane = e.lane; cpu = refl; offloadable = refl; limit = refl; blimit = refl };
+    ok = accepts_with s.ran.items c.args.moment c.args.kind (g.J.Job.key_of c.args.job) c.args.job
+        (pieces s.cpu s.limit s.accepted s.seat s.lists) (pieces s.cpu s.limit c.accept_job.new.accepted c.accept_job.new.seat c.accept_job.new.lists) c.accept_job.result e.ok;
+    err = accepts_none_with s.ran.items
+        (pieces s.cpu s.limit s.accepted s.seat s.lists) (pieces s.cpu s.limit c.accept_job.new.accepted c.accept_job.new.seat c.accept_job.new.lists) c.accept_job.result e.err;
+    refused = refuses_with s.ran.items c.args.job
+        (pieces s.cpu s.limit s.accepted s.seat s.lists) (pieces s.cpu s.limit c.accept_job.new.accepted c.accept_job.new.seat c.accept_job.new.lists) c.accept_job.result e.refused;
+    closed = e.closed;
+    full = e.full;
+    claimed = refl;
+    sound = λ sound. record { keyed = e.keyed sound.keyed; given = sound.given };
+  };
+}
