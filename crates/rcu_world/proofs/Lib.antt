@@ -28,3 +28,4 @@ pub mod Fitting
 pub mod Refusing
 pub mod Faults
 pub mod Places
+pub mod Staying

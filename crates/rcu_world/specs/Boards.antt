@@ -1,6 +1,7 @@
 -- The board of the core, as contracts see it. docs/specification/rules.md, "Quiescent reports"
-use Rattle.std.specs.Prelude.{ℕ, zero, suc, ◌+◌, ◌*◌, ◌%◌, ◌/◌, ◌==◌, ◌<◌, ◌≤◌, Bool, List, [], ◌∷◌}
+use Rattle.std.specs.Prelude.{ℕ, zero, suc, ◌+◌, ◌*◌, ◌%◌, ◌/◌, ◌==◌, ◌<◌, ◌≤◌, ◌&&◌, nat_lt, Bool, List, [], ◌∷◌}
 use Rattle.rcu_numbers.specs.declared.shape.TheConstants.{MOST_PROCESSORS}
+use Rattle.rcu_numbers.specs.declared.sequence.TheConstants.{GREATEST_NUMBER}
 use Rattle.rcu_world_law.specs.Invariant.{owed}
 use Rattle.rcu_numbers.specs.Words.{Board, Owes}
 
@@ -18,6 +19,10 @@ pub record IsBoardOf (processors : ℕ) (word : Board) : Type 0 where
 abbrev pub bits : ℕ → ℕ → List Bool
 bits zero mask = []
 bits (suc n) mask = (mask % 2 == 1) ∷ bits n (mask / 2)
+
+-- a grace period can start
+abbrev pub may_start : (number needed : ℕ) → Bool
+may_start number needed = (number % 4 == 0) && (nat_lt number needed && nat_lt number GREATEST_NUMBER)
 
 -- the mask of the processors that owe a report
 abbrev pub mask_of : List Bool → ℕ

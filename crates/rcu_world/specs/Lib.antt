@@ -9,3 +9,6 @@ pub mod Turns
 pub mod Ready
 pub mod Polls
 pub mod GroupTurns
+pub mod Stays
+pub mod Calls
+pub mod Shown

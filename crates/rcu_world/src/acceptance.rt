@@ -3,9 +3,9 @@
 ghost use Rattle.std.specs.Prelude.{◌≡◌, true, false};
 ghost use Rattle.rcu_world.specs.Ready.{IsReadyAt, is_done, lacks_room};
 ghost use Rattle.rcu_world.specs.Worlds.{IsFit};
-ghost use Rattle.rcu_world.specs.Events.{Answers};
 ghost use Rattle.rcu_world.specs.Views.{state, AllGiven};
 ghost use Rattle.rcu_world.specs.declared.events.Event.TheVariants as events;
+ghost use Rattle.rcu_world.specs.Stays.{Applies};
 
 use crate::cores::Core;
 use crate::events::Answer;
@@ -15,10 +15,9 @@ use rcu_world_law::marks::Mark;
 impl<J: Job> Core<J, J::Receipt> {
     pub(crate) fn accept(&mut self, cpu: u64, job: J) -> Answer<J>
         requires { IsFit (state J.key_of self.old) }
-        ensures answers { Answers J.key_of (state J.key_of self.old) (events.Accept cpu job) result
-            (state J.key_of self.new) }
+        ensures answers { Applies J.key_of J.gives self.old (events.Accept cpu job)
+            result self.new }
         ensures ready { is_done result ≡ true → IsReadyAt self.new cpu }
-        ensures given { AllGiven J.gives self.old → AllGiven J.gives self.new }
     {
         let i = cpu as usize;
         if i >= self.processors.len() {
@@ -45,10 +44,9 @@ impl<J: Job> Core<J, J::Receipt> {
     pub(crate) fn stamp(&mut self, cpu: u64, moment: u64, lazy: bool) -> Answer<J>
         requires fit { IsFit (state J.key_of self.old) }
         requires given { AllGiven J.gives self.old }
-        ensures answers { Answers J.key_of (state J.key_of self.old) (events.Stamp cpu moment lazy)
-            result (state J.key_of self.new) }
+        ensures answers { Applies J.key_of J.gives self.old (events.Stamp cpu moment lazy)
+            result self.new }
         ensures sure { IsReadyAt self.old cpu → lacks_room result ≡ false }
-        ensures given { AllGiven J.gives self.old → AllGiven J.gives self.new }
     {
         let number = self.board.number();
         let i = cpu as usize;
@@ -68,9 +66,8 @@ impl<J: Job> Core<J, J::Receipt> {
 
     pub(crate) fn put(&mut self, cpu: u64, moment: Option<u64>) -> Answer<J>
         requires { IsFit (state J.key_of self.old) }
-        ensures answers { Answers J.key_of (state J.key_of self.old) (events.Put cpu moment) result
-            (state J.key_of self.new) }
-        ensures given { AllGiven J.gives self.old → AllGiven J.gives self.new }
+        ensures answers { Applies J.key_of J.gives self.old (events.Put cpu moment)
+            result self.new }
     {
         let i = cpu as usize;
         if i >= self.processors.len() {

@@ -6,9 +6,9 @@ ghost use Rattle.rcu_world_law.specs.Events.{each_cpu};
 ghost use Rattle.rcu_world_processor.specs.Views.{AreGiven};
 ghost use Rattle.rcu_world.specs.Members.{urge_step};
 ghost use Rattle.rcu_world.specs.Worlds.{IsFit};
-ghost use Rattle.rcu_world.specs.Events.{Answers};
-ghost use Rattle.rcu_world.specs.Views.{all_seen, state, AllGiven};
+ghost use Rattle.rcu_world.specs.Views.{all_seen, state};
 ghost use Rattle.rcu_world.specs.declared.events.Event.TheVariants as events;
+ghost use Rattle.rcu_world.specs.Stays.{Applies};
 
 use crate::barriers::Barring;
 use crate::cores::Core;
@@ -33,9 +33,7 @@ fn urge_all<J: Job>(processors: &mut Vec<WorldProcessor<J, J::Receipt>>)
 impl<J: Job> Core<J, J::Receipt> {
     pub(crate) fn open(&mut self, barrier: u64) -> Answer<J>
         requires { IsFit (state J.key_of self.old) }
-        ensures answers { Answers J.key_of (state J.key_of self.old) (events.Open barrier) result
-            (state J.key_of self.new) }
-        ensures given { AllGiven J.gives self.old → AllGiven J.gives self.new }
+        ensures answers { Applies J.key_of J.gives self.old (events.Open barrier) result self.new }
     {
         if barrier != self.barriers.len() as u64 {
             return Answer::Skipped(None);
@@ -60,9 +58,8 @@ impl<J: Job> Core<J, J::Receipt> {
 
     pub(crate) fn count(&mut self, barrier: u64, cpu: u64) -> Answer<J>
         requires { IsFit (state J.key_of self.old) }
-        ensures answers { Answers J.key_of (state J.key_of self.old) (events.Count barrier cpu)
-            result (state J.key_of self.new) }
-        ensures given { AllGiven J.gives self.old → AllGiven J.gives self.new }
+        ensures answers { Applies J.key_of J.gives self.old (events.Count barrier cpu)
+            result self.new }
     {
         let j = barrier as usize;
         let i = cpu as usize;
@@ -86,9 +83,8 @@ impl<J: Job> Core<J, J::Receipt> {
 
     pub(crate) fn turn(&mut self, barrier: u64, cpu: u64) -> Answer<J>
         requires { IsFit (state J.key_of self.old) }
-        ensures answers { Answers J.key_of (state J.key_of self.old) (events.Turn barrier cpu)
-            result (state J.key_of self.new) }
-        ensures given { AllGiven J.gives self.old → AllGiven J.gives self.new }
+        ensures answers { Applies J.key_of J.gives self.old (events.Turn barrier cpu)
+            result self.new }
     {
         let j = barrier as usize;
         let i = cpu as usize;
@@ -112,9 +108,7 @@ impl<J: Job> Core<J, J::Receipt> {
 
     pub(crate) fn pass(&mut self, barrier: u64) -> Answer<J>
         requires { IsFit (state J.key_of self.old) }
-        ensures answers { Answers J.key_of (state J.key_of self.old) (events.Pass barrier) result
-            (state J.key_of self.new) }
-        ensures given { AllGiven J.gives self.old → AllGiven J.gives self.new }
+        ensures answers { Applies J.key_of J.gives self.old (events.Pass barrier) result self.new }
     {
         let j = barrier as usize;
         if j >= self.barriers.len() {
@@ -138,9 +132,7 @@ impl<J: Job> Core<J, J::Receipt> {
 
     pub(crate) fn shut(&mut self, cpu: u64) -> Answer<J>
         requires { IsFit (state J.key_of self.old) }
-        ensures answers { Answers J.key_of (state J.key_of self.old) (events.Shut cpu) result
-            (state J.key_of self.new) }
-        ensures given { AllGiven J.gives self.old → AllGiven J.gives self.new }
+        ensures answers { Applies J.key_of J.gives self.old (events.Shut cpu) result self.new }
     {
         let i = cpu as usize;
         if i >= self.processors.len() {
@@ -161,9 +153,7 @@ impl<J: Job> Core<J, J::Receipt> {
 
     pub(crate) fn urge(&mut self) -> Answer<J>
         requires { IsFit (state J.key_of self.old) }
-        ensures answers { Answers J.key_of (state J.key_of self.old) events.Urge result
-            (state J.key_of self.new) }
-        ensures given { AllGiven J.gives self.old → AllGiven J.gives self.new }
+        ensures answers { Applies J.key_of J.gives self.old events.Urge result self.new }
     {
         urge_all(&mut self.processors);
         Answer::Done

@@ -1,6 +1,6 @@
 //! What is kept of a barrier.
 
-ghost use Rattle.std.specs.Prelude.{◌≡◌, ◌*◌, ◌<◌, ◌||◌, not, false, Some, nat_le, slice_set, slice_index_or, length, replicate, IfOk, None};
+ghost use Rattle.std.specs.Prelude.{◌≡◌, ◌*◌, ◌<◌, ◌||◌, false, Some, nat_le, slice_set, slice_index_or, length, replicate, IfOk, None};
 ghost use Rattle.rcu_world_law.specs.Lists.{is_none};
 ghost use Rattle.rcu_world_law.specs.Lists.{all_of, value_or};
 ghost use Rattle.rcu_world_law.specs.States.{count_at};

@@ -1,10 +1,11 @@
 //! The events of the board word: `Report`, `Start`, `End`.
 
-ghost use Rattle.std.specs.Prelude.{◌≡◌, ◌%◌, ◌&&◌, ◌==◌, nat_lt};
+ghost use Rattle.std.specs.Prelude.{◌≡◌, ◌%◌, ◌&&◌, ◌==◌};
 ghost use Rattle.rcu_world.specs.Worlds.{IsFit};
-ghost use Rattle.rcu_world.specs.Events.{Answers};
-ghost use Rattle.rcu_world.specs.Views.{state, AllGiven};
+ghost use Rattle.rcu_world.specs.Views.{state};
 ghost use Rattle.rcu_world.specs.declared.events.Event.TheVariants as events;
+ghost use Rattle.rcu_world.specs.Stays.{Applies};
+ghost use Rattle.rcu_world.specs.Boards.{may_start};
 
 use crate::cores::Core;
 use crate::events::Answer;
@@ -13,8 +14,7 @@ use rcu_numbers::GREATEST_NUMBER;
 use rcu_world_law::marks::Mark;
 
 fn may_start(number: u64, needed: u64) -> bool
-    ensures { result
-        ≡ ((number % 4 == 0) && (nat_lt number needed && nat_lt number GREATEST_NUMBER)) }
+    ensures { result ≡ may_start number needed }
 {
     number % 4 == 0 && number < needed && number < GREATEST_NUMBER
 }
@@ -22,9 +22,7 @@ fn may_start(number: u64, needed: u64) -> bool
 impl<J: Job> Core<J, J::Receipt> {
     pub(crate) fn report(&mut self, cpu: u64) -> Answer<J>
         requires { IsFit (state J.key_of self.old) }
-        ensures answers { Answers J.key_of (state J.key_of self.old) (events.Report cpu) result
-            (state J.key_of self.new) }
-        ensures given { AllGiven J.gives self.old → AllGiven J.gives self.new }
+        ensures answers { Applies J.key_of J.gives self.old (events.Report cpu) result self.new }
     {
         let i = cpu as usize;
         if i >= self.processors.len() {
@@ -43,9 +41,7 @@ impl<J: Job> Core<J, J::Receipt> {
 
     pub(crate) fn start(&mut self) -> Answer<J>
         requires { IsFit (state J.key_of self.old) }
-        ensures answers { Answers J.key_of (state J.key_of self.old) events.Start result
-            (state J.key_of self.new) }
-        ensures given { AllGiven J.gives self.old → AllGiven J.gives self.new }
+        ensures answers { Applies J.key_of J.gives self.old events.Start result self.new }
     {
         if !may_start(self.board.number(), self.needed) {
             return Answer::Skipped(None);
@@ -56,9 +52,7 @@ impl<J: Job> Core<J, J::Receipt> {
 
     pub(crate) fn end(&mut self) -> Answer<J>
         requires { IsFit (state J.key_of self.old) }
-        ensures answers { Answers J.key_of (state J.key_of self.old) events.End result
-            (state J.key_of self.new) }
-        ensures given { AllGiven J.gives self.old → AllGiven J.gives self.new }
+        ensures answers { Applies J.key_of J.gives self.old events.End result self.new }
     {
         if self.board.number() % 4 != 1 {
             return Answer::Skipped(None);

@@ -1,13 +1,14 @@
 //! The calls that take a job on: `call_rcu` and `call_rcu_lazy` (docs/specification/rules.md, "The calls, step by step").
 
-ghost use Rattle.std.specs.Prelude.{◌≡◌, ◌∷◌, [], ◌<◌, Bool, true, false, length, IfOk, IfErr, OnOk, OnErr, if◌then◌else◌};
+ghost use Rattle.std.specs.Prelude.{◌≡◌, ◌∷◌, [], ◌<◌, Bool, true, false, length, IfErr, OnOk, OnErr};
 ghost use Rattle.rcu_world_law.specs.Events.{is_enabled};
 ghost use Rattle.rcu_world_law.specs.Events.CoreEvent.{Accept, Stamp};
-ghost use Rattle.rcu_world_law.specs.States.{cpu_at};
 ghost use Rattle.rcu_world.specs.Ready.{IsReadyAt, IsRefusal};
-ghost use Rattle.rcu_world.specs.Turns.{IsAtRest, IsAtRestBut, Leads, call_events, stamp_events};
-ghost use Rattle.rcu_world.specs.Views.{state, AsManyProcessors, SameState};
+ghost use Rattle.rcu_world.specs.Turns.{IsAtRest, IsAtRestBut, Leads, stamp_events};
+ghost use Rattle.rcu_world.specs.Views.{state, SameState};
 ghost use Rattle.rcu_world.specs.Worlds.{IsWorld};
+ghost use Rattle.rcu_world.specs.Stays.{KeepsWorld};
+ghost use Rattle.rcu_world.specs.Calls.{CallsAs};
 
 use crate::events::Answer;
 use crate::worlds::World;
@@ -26,8 +27,7 @@ impl<J: Job> World<J> {
         ensures rest { OnOk result (IsAtRestBut cpu (state J.key_of self.new.core)) }
         ensures same { OnErr result (SameState J.key_of self.old.core self.new.core) }
         ensures refused { IfErr result (IsRefusal (state J.key_of self.old.core) cpu job) }
-        ensures len { AsManyProcessors J.key_of self.old.core self.new.core }
-        ensures kept { IsWorld J.key_of J.gives self.new.core }
+        ensures keeps { KeepsWorld J.key_of J.gives self.old.core self.new.core }
     {
         let limit = self.core.limit;
         let count = self.core.processors[cpu as usize].count();
@@ -53,8 +53,7 @@ impl<J: Job> World<J> {
             (state J.key_of self.new.core) }
         ensures rest { IsAtRestBut cpu (state J.key_of self.old.core)
             → IsAtRest (state J.key_of self.new.core) }
-        ensures len { AsManyProcessors J.key_of self.old.core self.new.core }
-        ensures kept { IsWorld J.key_of J.gives self.new.core }
+        ensures keeps { KeepsWorld J.key_of J.gives self.old.core self.new.core }
     {
         match self.core.stamp(cpu, moment, lazy) {
             Answer::Due => {
@@ -70,19 +69,8 @@ impl<J: Job> World<J> {
         requires world { IsWorld J.key_of J.gives self.old.core }
         requires there { cpu < length (state J.key_of self.old.core).cpus }
         requires rest { IsAtRest (state J.key_of self.old.core) }
-        ensures events { OnOk result
-            ((room : Bool)
-            × Leads (state J.key_of self.old.core)
-            (call_events cpu moment lazy (J.key_of job) room (state J.key_of self.old.core))
-            (state J.key_of self.new.core)) }
-        ensures ticket { IfOk result (λ ticket.
-            (ticket.cpu ≡ cpu)
-            × (ticket.number ≡ (cpu_at (state J.key_of self.old.core) cpu).count)) }
-        ensures same { OnErr result (SameState J.key_of self.old.core self.new.core) }
-        ensures refused { IfErr result (IsRefusal (state J.key_of self.old.core) cpu job) }
-        ensures rest { IsAtRest (state J.key_of self.new.core) }
-        ensures len { AsManyProcessors J.key_of self.old.core self.new.core }
-        ensures kept { IsWorld J.key_of J.gives self.new.core }
+        ensures called { CallsAs J.key_of J.gives cpu moment lazy job result
+            self.old.core self.new.core }
     {
         let number = self.core.processors[cpu as usize].count();
         self.accept_call(cpu, job)?;
@@ -96,19 +84,8 @@ impl<J: Job> World<J> {
         requires world { IsWorld J.key_of J.gives self.old.core }
         requires there { cpu < length (state J.key_of self.old.core).cpus }
         requires rest { IsAtRest (state J.key_of self.old.core) }
-        ensures events { OnOk result
-            ((room : Bool)
-            × Leads (state J.key_of self.old.core)
-            (call_events cpu moment false (J.key_of job) room (state J.key_of self.old.core))
-            (state J.key_of self.new.core)) }
-        ensures ticket { IfOk result (λ ticket.
-            (ticket.cpu ≡ cpu)
-            × (ticket.number ≡ (cpu_at (state J.key_of self.old.core) cpu).count)) }
-        ensures same { OnErr result (SameState J.key_of self.old.core self.new.core) }
-        ensures refused { IfErr result (IsRefusal (state J.key_of self.old.core) cpu job) }
-        ensures rest { IsAtRest (state J.key_of self.new.core) }
-        ensures len { AsManyProcessors J.key_of self.old.core self.new.core }
-        ensures kept { IsWorld J.key_of J.gives self.new.core }
+        ensures called { CallsAs J.key_of J.gives cpu moment false job result
+            self.old.core self.new.core }
     {
         self.call(cpu, moment, false, job)
     }
@@ -118,19 +95,8 @@ impl<J: Job> World<J> {
         requires world { IsWorld J.key_of J.gives self.old.core }
         requires there { cpu < length (state J.key_of self.old.core).cpus }
         requires rest { IsAtRest (state J.key_of self.old.core) }
-        ensures events { OnOk result
-            ((room : Bool)
-            × Leads (state J.key_of self.old.core)
-            (call_events cpu moment true (J.key_of job) room (state J.key_of self.old.core))
-            (state J.key_of self.new.core)) }
-        ensures ticket { IfOk result (λ ticket.
-            (ticket.cpu ≡ cpu)
-            × (ticket.number ≡ (cpu_at (state J.key_of self.old.core) cpu).count)) }
-        ensures same { OnErr result (SameState J.key_of self.old.core self.new.core) }
-        ensures refused { IfErr result (IsRefusal (state J.key_of self.old.core) cpu job) }
-        ensures rest { IsAtRest (state J.key_of self.new.core) }
-        ensures len { AsManyProcessors J.key_of self.old.core self.new.core }
-        ensures kept { IsWorld J.key_of J.gives self.new.core }
+        ensures called { CallsAs J.key_of J.gives cpu moment true job result
+            self.old.core self.new.core }
     {
         self.call(cpu, moment, true, job)
     }

@@ -1,10 +1,9 @@
 //! The events of a run: `Claim`, `Finish`.
 
-ghost use Rattle.std.specs.Prelude.{◌≡◌};
 ghost use Rattle.rcu_world.specs.Worlds.{IsFit};
-ghost use Rattle.rcu_world.specs.Events.{Answers};
-ghost use Rattle.rcu_world.specs.Views.{state, AllGiven};
+ghost use Rattle.rcu_world.specs.Views.{state};
 ghost use Rattle.rcu_world.specs.declared.events.Event.TheVariants as events;
+ghost use Rattle.rcu_world.specs.Stays.{Applies};
 
 use crate::cores::Core;
 use crate::events::Answer;
@@ -15,9 +14,7 @@ use rcu_world_law::who::Side;
 impl<J: Job> Core<J, J::Receipt> {
     pub(crate) fn claim(&mut self, cpu: u64, by: Side) -> Answer<J>
         requires { IsFit (state J.key_of self.old) }
-        ensures answers { Answers J.key_of (state J.key_of self.old) (events.Claim cpu by) result
-            (state J.key_of self.new) }
-        ensures given { AllGiven J.gives self.old → AllGiven J.gives self.new }
+        ensures answers { Applies J.key_of J.gives self.old (events.Claim cpu by) result self.new }
     {
         let i = cpu as usize;
         if i >= self.processors.len() {
@@ -42,9 +39,7 @@ impl<J: Job> Core<J, J::Receipt> {
 
     pub(crate) fn finish(&mut self, cpu: u64, by: Side) -> Answer<J>
         requires { IsFit (state J.key_of self.old) }
-        ensures answers { Answers J.key_of (state J.key_of self.old) (events.Finish cpu by) result
-            (state J.key_of self.new) }
-        ensures given { AllGiven J.gives self.old → AllGiven J.gives self.new }
+        ensures answers { Applies J.key_of J.gives self.old (events.Finish cpu by) result self.new }
     {
         let i = cpu as usize;
         if i >= self.processors.len() {

@@ -4,9 +4,10 @@ ghost use Rattle.rcu_world_law.specs.Events.{is_enabled};
 ghost use Rattle.rcu_world_law.specs.Events.CoreEvent.{Shut};
 ghost use Rattle.std.specs.Prelude.{◌≡◌, ◌<◌, ◌≤◌, ℕ, true, length, IfOk, OnOk, OnErr, Option, None, Some};
 ghost use Rattle.rcu_numbers.specs.declared.shape.TheConstants.{MOST_PROCESSORS};
-ghost use Rattle.rcu_world.specs.Turns.{AreCounts, IsAtRest, IsBarrierAnswer, Leads, barrier_events, barrier_fault, counts_for, shuts, ticket_fault, upto, KeepsRest};
-ghost use Rattle.rcu_world.specs.Views.{state, AsManyProcessors, SameState};
+ghost use Rattle.rcu_world.specs.Turns.{AreCounts, IsAtRest, IsBarrierAnswer, Leads, barrier_events, barrier_fault, counts_for, shuts, ticket_fault, upto};
+ghost use Rattle.rcu_world.specs.Views.{state, SameState};
 ghost use Rattle.rcu_world.specs.Worlds.{IsWorld};
+ghost use Rattle.rcu_world.specs.Stays.{StaysWorld, LeadsWorld};
 
 use crate::events::Event;
 use crate::worlds::World;
@@ -47,9 +48,7 @@ impl<J: Job> World<J> {
             (state J.key_of self.new.core)) }
         ensures err_enabled { OnErr result
             ((cpu : ℕ) × (is_enabled (state J.key_of self.new.core) (Shut cpu) ≡ true)) }
-        ensures rest { IsAtRest (state J.key_of self.new.core) }
-        ensures len { AsManyProcessors J.key_of self.old.core self.new.core }
-        ensures kept { IsWorld J.key_of J.gives self.new.core }
+        ensures stays { StaysWorld J.key_of J.gives self.old.core self.new.core }
     {
         for cpu in 0..self.core.processors.len() {
             self.attempt(Event::Shut { cpu: cpu as u64 })?;
@@ -90,12 +89,8 @@ impl<J: Job> World<J> {
     /// Takes the counts of all processors for an open barrier.
     fn count_all(&mut self, barrier: u64)
         requires { IsWorld J.key_of J.gives self.old.core }
-        ensures events { Leads (state J.key_of self.old.core)
-            (upto (counts_for barrier) (length (state J.key_of self.old.core).cpus)
-            (state J.key_of self.old.core)) (state J.key_of self.new.core) }
-        ensures rest { KeepsRest J.key_of self.old.core self.new.core }
-        ensures len { AsManyProcessors J.key_of self.old.core self.new.core }
-        ensures kept { IsWorld J.key_of J.gives self.new.core }
+        ensures events { LeadsWorld J.key_of J.gives self.old.core
+            (λ w. upto (counts_for barrier) (length w.cpus) w) self.new.core }
     {
         for cpu in 0..self.core.processors.len() {
             self.perform(Event::Count {
@@ -116,9 +111,7 @@ impl<J: Job> World<J> {
             (barrier_events name (length (state J.key_of self.old.core).cpus)
             (state J.key_of self.old.core)) (state J.key_of self.new.core)) }
         ensures same { OnErr result (SameState J.key_of self.old.core self.new.core) }
-        ensures rest { IsAtRest (state J.key_of self.new.core) }
-        ensures len { AsManyProcessors J.key_of self.old.core self.new.core }
-        ensures kept { IsWorld J.key_of J.gives self.new.core }
+        ensures stays { StaysWorld J.key_of J.gives self.old.core self.new.core }
     {
         if let Some(fault) = self.barrier_fault(by, tickets) {
             return Err(fault);

@@ -3,9 +3,9 @@
 ghost use Rattle.std.specs.Prelude.{◌≡◌, IfOk};
 ghost use Rattle.rcu_world_law.specs.States.{opening};
 ghost use Rattle.rcu_world.specs.Worlds.{IsFit, plan};
-ghost use Rattle.rcu_world.specs.Events.{Answers};
 ghost use Rattle.rcu_world.specs.Ready.{LeavesRoom, UsesRoom};
 ghost use Rattle.rcu_world.specs.Views.{state, AllGiven};
+ghost use Rattle.rcu_world.specs.Stays.{Applies};
 
 use crate::barriers::Barring;
 use crate::boards::Board;
@@ -42,11 +42,9 @@ impl<J: Job> Core<J, J::Receipt> {
     pub fn apply(&mut self, event: Event<J>) -> Answer<J>
         requires fit { IsFit (state J.key_of self.old) }
         requires given { AllGiven J.gives self.old }
-        ensures answers { Answers J.key_of (state J.key_of self.old) event result
-            (state J.key_of self.new) }
+        ensures answers { Applies J.key_of J.gives self.old event result self.new }
         ensures ready { LeavesRoom event result self.new }
         ensures sure { UsesRoom self.old event result }
-        ensures given { AllGiven J.gives self.old → AllGiven J.gives self.new }
     {
         match event {
             Event::Accept { cpu, job } => self.accept(cpu, job),

@@ -4,11 +4,12 @@ ghost use Rattle.std.specs.Prelude.{◌≡◌, ◌<◌, ◌≤◌, [], length, i
 ghost use Rattle.rcu_numbers.specs.declared.shape.TheConstants.{MOST_CALLBACKS};
 ghost use Rattle.rcu_world_law.specs.Events.{is_enabled};
 ghost use Rattle.rcu_world_law.specs.Events.CoreEvent.{Join, LookGroup};
-ghost use Rattle.rcu_world_law.specs.States.{is_member, is_offloadable};
+ghost use Rattle.rcu_world_law.specs.States.{is_member};
 ghost use Rattle.rcu_world.specs.GroupTurns.{Draws, Gives, IsGroupTurn, Made, Takes, Upto, look_group_events, most_batches, waiting_upto};
-ghost use Rattle.rcu_world.specs.Turns.{IsAtRest, Leads, where_enabled, KeepsRest};
-ghost use Rattle.rcu_world.specs.Views.{state, AsManyProcessors, SameShape};
+ghost use Rattle.rcu_world.specs.Turns.{IsAtRest, where_enabled};
+ghost use Rattle.rcu_world.specs.Views.{state};
 ghost use Rattle.rcu_world.specs.Worlds.{IsWorld};
+ghost use Rattle.rcu_world.specs.Stays.{StaysWorld, LeadsWorld, MadeWorld};
 
 use crate::events::Event;
 use crate::groups::{has_member, is_member_of};
@@ -51,13 +52,8 @@ impl<J: Job> World<J> {
     /// A batch that waits joins the list of its member: whether there was room.
     fn join(&mut self, cpu: u64) -> bool
         requires { IsWorld J.key_of J.gives self.old.core }
-        ensures leads { Leads (state J.key_of self.old.core)
-            (if result then where_enabled (Join cpu) (state J.key_of self.old.core) else [])
-            (state J.key_of self.new.core) }
-        ensures rest { KeepsRest J.key_of self.old.core self.new.core }
-        ensures len { AsManyProcessors J.key_of self.old.core self.new.core }
-        ensures shape { SameShape J.key_of self.old.core self.new.core }
-        ensures kept { IsWorld J.key_of J.gives self.new.core }
+        ensures events { LeadsWorld J.key_of J.gives self.old.core
+            (λ w. if result then where_enabled (Join cpu) w else []) self.new.core }
     {
         match self.attempt(Event::Join { cpu }) {
             Ok(_) => true,
@@ -69,13 +65,9 @@ impl<J: Job> World<J> {
     fn draw_some(&mut self, cpu: u64) -> u64
         requires world { IsWorld J.key_of J.gives self.old.core }
         requires there { cpu < length (state J.key_of self.old.core).cpus }
-        ensures events { Made (Draws cpu most_batches) (state J.key_of self.old.core)
-            (state J.key_of self.new.core) result 0 }
+        ensures events { MadeWorld J.key_of J.gives (Draws cpu most_batches) self.old.core
+            self.new.core result 0 }
         ensures most { result ≤ 64000000 }
-        ensures rest { KeepsRest J.key_of self.old.core self.new.core }
-        ensures len { AsManyProcessors J.key_of self.old.core self.new.core }
-        ensures shape { SameShape J.key_of self.old.core self.new.core }
-        ensures kept { IsWorld J.key_of J.gives self.new.core }
     {
         let mut took = 0;
         for batch in 0..MOST_BATCHES {
@@ -95,12 +87,9 @@ impl<J: Job> World<J> {
     fn take(&mut self, group: u64, cpu: u64) -> u64
         requires world { IsWorld J.key_of J.gives self.old.core }
         requires there { cpu < length (state J.key_of self.old.core).cpus }
-        ensures events { Made (Takes group cpu) (state J.key_of self.old.core)
-            (state J.key_of self.new.core) result 0 }
+        ensures events { MadeWorld J.key_of J.gives (Takes group cpu) self.old.core self.new.core
+            result 0 }
         ensures most { result ≤ 64000000 }
-        ensures rest { KeepsRest J.key_of self.old.core self.new.core }
-        ensures len { AsManyProcessors J.key_of self.old.core self.new.core }
-        ensures kept { IsWorld J.key_of J.gives self.new.core }
     {
         if !self.is_member(group, cpu) {
             return 0;
@@ -112,11 +101,9 @@ impl<J: Job> World<J> {
     /// Takes what waits for the members of the group: how many callbacks it drew.
     fn take_all(&mut self, group: u64) -> u64
         requires { IsWorld J.key_of J.gives self.old.core }
-        ensures events { Made (Upto (Takes group) (length (state J.key_of self.old.core).cpus))
-            (state J.key_of self.old.core) (state J.key_of self.new.core) result 0 }
-        ensures rest { KeepsRest J.key_of self.old.core self.new.core }
-        ensures len { AsManyProcessors J.key_of self.old.core self.new.core }
-        ensures kept { IsWorld J.key_of J.gives self.new.core }
+        ensures events { MadeWorld J.key_of J.gives
+            (Upto (Takes group) (length (state J.key_of self.old.core).cpus)) self.old.core
+            self.new.core result 0 }
     {
         let mut took = 0;
         for cpu in 0..self.core.processors.len() {
@@ -129,11 +116,8 @@ impl<J: Job> World<J> {
     /// The look of a group, and what it asks for.
     fn look_group(&mut self, group: u64)
         requires { IsWorld J.key_of J.gives self.old.core }
-        ensures events { Made (λ w es. es ≡ look_group_events group w)
-            (state J.key_of self.old.core) (state J.key_of self.new.core) 0 0 }
-        ensures rest { KeepsRest J.key_of self.old.core self.new.core }
-        ensures len { AsManyProcessors J.key_of self.old.core self.new.core }
-        ensures kept { IsWorld J.key_of J.gives self.new.core }
+        ensures events { MadeWorld J.key_of J.gives (λ w es. es ≡ look_group_events group w)
+            self.old.core self.new.core 0 0 }
     {
         self.perform(Event::LookGroup { group });
         self.perform(Event::Need {
@@ -145,12 +129,9 @@ impl<J: Job> World<J> {
     fn give(&mut self, group: u64, cpu: u64) -> u64
         requires world { IsWorld J.key_of J.gives self.old.core }
         requires there { cpu < length (state J.key_of self.old.core).cpus }
-        ensures events { Made (Gives group cpu) (state J.key_of self.old.core)
-            (state J.key_of self.new.core) 0 result }
+        ensures events { MadeWorld J.key_of J.gives (Gives group cpu) self.old.core self.new.core 0
+            result }
         ensures most { result ≤ MOST_CALLBACKS }
-        ensures rest { KeepsRest J.key_of self.old.core self.new.core }
-        ensures len { AsManyProcessors J.key_of self.old.core self.new.core }
-        ensures kept { IsWorld J.key_of J.gives self.new.core }
     {
         if !self.is_member(group, cpu) {
             return 0;
@@ -166,11 +147,9 @@ impl<J: Job> World<J> {
     /// Gives what is done to the hands of the members: how many callbacks.
     fn give_all(&mut self, group: u64) -> u64
         requires { IsWorld J.key_of J.gives self.old.core }
-        ensures events { Made (Upto (Gives group) (length (state J.key_of self.old.core).cpus))
-            (state J.key_of self.old.core) (state J.key_of self.new.core) 0 result }
-        ensures rest { KeepsRest J.key_of self.old.core self.new.core }
-        ensures len { AsManyProcessors J.key_of self.old.core self.new.core }
-        ensures kept { IsWorld J.key_of J.gives self.new.core }
+        ensures events { MadeWorld J.key_of J.gives
+            (Upto (Gives group) (length (state J.key_of self.old.core).cpus)) self.old.core
+            self.new.core 0 result }
     {
         let mut gave = 0;
         for cpu in 0..self.core.processors.len() {
@@ -213,9 +192,7 @@ impl<J: Job> World<J> {
             ≡ waiting_upto group (length (state J.key_of self.new.core).cpus)
             (state J.key_of self.new.core)) }
         ensures ok { IsOk result }
-        ensures rest { IsAtRest (state J.key_of self.new.core) }
-        ensures len { AsManyProcessors J.key_of self.old.core self.new.core }
-        ensures kept { IsWorld J.key_of J.gives self.new.core }
+        ensures stays { StaysWorld J.key_of J.gives self.old.core self.new.core }
     {
         let took = self.take_all(group);
         self.look_group(group);

@@ -1,11 +1,10 @@
 //! The events of a look: `Look`, `LookGroup`, `LookHand`, `Need`.
 
-ghost use Rattle.std.specs.Prelude.{◌≡◌};
 ghost use Rattle.rcu_world_law.specs.declared.who.Who.TheVariants as who;
 ghost use Rattle.rcu_world.specs.Worlds.{IsFit};
-ghost use Rattle.rcu_world.specs.Events.{Answers};
-ghost use Rattle.rcu_world.specs.Views.{state, AllGiven};
+ghost use Rattle.rcu_world.specs.Views.{state};
 ghost use Rattle.rcu_world.specs.declared.events.Event.TheVariants as events;
+ghost use Rattle.rcu_world.specs.Stays.{Applies};
 
 use crate::cores::Core;
 use crate::events::Answer;
@@ -16,9 +15,7 @@ use rcu_jobs::Job;
 impl<J: Job> Core<J, J::Receipt> {
     pub(crate) fn look(&mut self, cpu: u64) -> Answer<J>
         requires { IsFit (state J.key_of self.old) }
-        ensures answers { Answers J.key_of (state J.key_of self.old) (events.Look cpu) result
-            (state J.key_of self.new) }
-        ensures given { AllGiven J.gives self.old → AllGiven J.gives self.new }
+        ensures answers { Applies J.key_of J.gives self.old (events.Look cpu) result self.new }
     {
         let i = cpu as usize;
         let number = self.board.number();
@@ -32,9 +29,7 @@ impl<J: Job> Core<J, J::Receipt> {
 
     pub(crate) fn look_hand(&mut self, cpu: u64) -> Answer<J>
         requires { IsFit (state J.key_of self.old) }
-        ensures answers { Answers J.key_of (state J.key_of self.old) (events.LookHand cpu) result
-            (state J.key_of self.new) }
-        ensures given { AllGiven J.gives self.old → AllGiven J.gives self.new }
+        ensures answers { Applies J.key_of J.gives self.old (events.LookHand cpu) result self.new }
     {
         let number = self.board.number();
         let i = cpu as usize;
@@ -51,9 +46,8 @@ impl<J: Job> Core<J, J::Receipt> {
 
     pub(crate) fn need_own(&mut self, cpu: u64) -> Answer<J>
         requires { IsFit (state J.key_of self.old) }
-        ensures answers { Answers J.key_of (state J.key_of self.old) (events.Need (who.Cpu cpu))
-            result (state J.key_of self.new) }
-        ensures given { AllGiven J.gives self.old → AllGiven J.gives self.new }
+        ensures answers { Applies J.key_of J.gives self.old (events.Need (who.Cpu cpu))
+            result self.new }
     {
         let i = cpu as usize;
         if i >= self.processors.len() {
@@ -72,9 +66,8 @@ impl<J: Job> Core<J, J::Receipt> {
 
     pub(crate) fn look_group(&mut self, group: u64) -> Answer<J>
         requires { IsFit (state J.key_of self.old) }
-        ensures answers { Answers J.key_of (state J.key_of self.old) (events.LookGroup group) result
-            (state J.key_of self.new) }
-        ensures given { AllGiven J.gives self.old → AllGiven J.gives self.new }
+        ensures answers { Applies J.key_of J.gives self.old (events.LookGroup group)
+            result self.new }
     {
         let number = self.board.number();
         if !has_member(&self.processors, &self.offloadable, self.stride, group) {
@@ -92,9 +85,8 @@ impl<J: Job> Core<J, J::Receipt> {
 
     pub(crate) fn need_group(&mut self, group: u64) -> Answer<J>
         requires { IsFit (state J.key_of self.old) }
-        ensures answers { Answers J.key_of (state J.key_of self.old) (events.Need (who.Group group))
-            result (state J.key_of self.new) }
-        ensures given { AllGiven J.gives self.old → AllGiven J.gives self.new }
+        ensures answers { Applies J.key_of J.gives self.old (events.Need (who.Group group))
+            result self.new }
     {
         if !wants_member(&self.processors, &self.offloadable, self.stride, group) {
             return Answer::Skipped(None);

@@ -2,9 +2,9 @@
 
 ghost use Rattle.std.specs.Prelude.{◌≡◌, false, slice_index_or};
 ghost use Rattle.rcu_world.specs.Worlds.{IsFit};
-ghost use Rattle.rcu_world.specs.Events.{Answers};
-ghost use Rattle.rcu_world.specs.Views.{state, AllGiven};
+ghost use Rattle.rcu_world.specs.Views.{state};
 ghost use Rattle.rcu_world.specs.declared.events.Event.TheVariants as events;
+ghost use Rattle.rcu_world.specs.Stays.{Applies};
 
 use crate::cores::Core;
 use crate::events::Answer;
@@ -20,9 +20,7 @@ pub(crate) fn is_set(list: &Vec<bool>, i: usize) -> bool
 impl<J: Job> Core<J, J::Receipt> {
     pub(crate) fn ask(&mut self, cpu: u64, on: bool) -> Answer<J>
         requires { IsFit (state J.key_of self.old) }
-        ensures answers { Answers J.key_of (state J.key_of self.old) (events.Ask cpu on) result
-            (state J.key_of self.new) }
-        ensures given { AllGiven J.gives self.old → AllGiven J.gives self.new }
+        ensures answers { Applies J.key_of J.gives self.old (events.Ask cpu on) result self.new }
     {
         let i = cpu as usize;
         if i >= self.processors.len() {
@@ -38,9 +36,7 @@ impl<J: Job> Core<J, J::Receipt> {
 
     pub(crate) fn hear(&mut self, cpu: u64) -> Answer<J>
         requires { IsFit (state J.key_of self.old) }
-        ensures answers { Answers J.key_of (state J.key_of self.old) (events.Hear cpu) result
-            (state J.key_of self.new) }
-        ensures given { AllGiven J.gives self.old → AllGiven J.gives self.new }
+        ensures answers { Applies J.key_of J.gives self.old (events.Hear cpu) result self.new }
     {
         let i = cpu as usize;
         if i >= self.processors.len() {
@@ -56,9 +52,7 @@ impl<J: Job> Core<J, J::Receipt> {
 
     pub(crate) fn heed(&mut self, cpu: u64) -> Answer<J>
         requires { IsFit (state J.key_of self.old) }
-        ensures answers { Answers J.key_of (state J.key_of self.old) (events.Heed cpu) result
-            (state J.key_of self.new) }
-        ensures given { AllGiven J.gives self.old → AllGiven J.gives self.new }
+        ensures answers { Applies J.key_of J.gives self.old (events.Heed cpu) result self.new }
     {
         let i = cpu as usize;
         if i >= self.processors.len() {
@@ -74,9 +68,7 @@ impl<J: Job> Core<J, J::Receipt> {
 
     pub(crate) fn settle(&mut self, cpu: u64) -> Answer<J>
         requires { IsFit (state J.key_of self.old) }
-        ensures answers { Answers J.key_of (state J.key_of self.old) (events.Settle cpu) result
-            (state J.key_of self.new) }
-        ensures given { AllGiven J.gives self.old → AllGiven J.gives self.new }
+        ensures answers { Applies J.key_of J.gives self.old (events.Settle cpu) result self.new }
     {
         let i = cpu as usize;
         if i >= self.processors.len() {

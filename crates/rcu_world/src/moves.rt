@@ -1,10 +1,9 @@
 //! The events by which a batch moves on: `Draw`, `Join`, `Give`, `Fetch`.
 
-ghost use Rattle.std.specs.Prelude.{◌≡◌};
 ghost use Rattle.rcu_world.specs.Worlds.{IsFit};
-ghost use Rattle.rcu_world.specs.Events.{Answers};
-ghost use Rattle.rcu_world.specs.Views.{state, AllGiven};
+ghost use Rattle.rcu_world.specs.Views.{state};
 ghost use Rattle.rcu_world.specs.declared.events.Event.TheVariants as events;
+ghost use Rattle.rcu_world.specs.Stays.{Applies};
 
 use crate::cores::Core;
 use crate::events::Answer;
@@ -13,9 +12,7 @@ use rcu_jobs::Job;
 impl<J: Job> Core<J, J::Receipt> {
     pub(crate) fn draw(&mut self, cpu: u64) -> Answer<J>
         requires { IsFit (state J.key_of self.old) }
-        ensures answers { Answers J.key_of (state J.key_of self.old) (events.Draw cpu) result
-            (state J.key_of self.new) }
-        ensures given { AllGiven J.gives self.old → AllGiven J.gives self.new }
+        ensures answers { Applies J.key_of J.gives self.old (events.Draw cpu) result self.new }
     {
         let i = cpu as usize;
         if i >= self.processors.len() {
@@ -31,9 +28,7 @@ impl<J: Job> Core<J, J::Receipt> {
 
     pub(crate) fn join(&mut self, cpu: u64) -> Answer<J>
         requires { IsFit (state J.key_of self.old) }
-        ensures answers { Answers J.key_of (state J.key_of self.old) (events.Join cpu) result
-            (state J.key_of self.new) }
-        ensures given { AllGiven J.gives self.old → AllGiven J.gives self.new }
+        ensures answers { Applies J.key_of J.gives self.old (events.Join cpu) result self.new }
     {
         let i = cpu as usize;
         if i >= self.processors.len() {
@@ -51,9 +46,7 @@ impl<J: Job> Core<J, J::Receipt> {
 
     pub(crate) fn give(&mut self, cpu: u64) -> Answer<J>
         requires { IsFit (state J.key_of self.old) }
-        ensures answers { Answers J.key_of (state J.key_of self.old) (events.Give cpu) result
-            (state J.key_of self.new) }
-        ensures given { AllGiven J.gives self.old → AllGiven J.gives self.new }
+        ensures answers { Applies J.key_of J.gives self.old (events.Give cpu) result self.new }
     {
         let blimit = self.blimit;
         let i = cpu as usize;
@@ -72,9 +65,7 @@ impl<J: Job> Core<J, J::Receipt> {
 
     pub(crate) fn fetch(&mut self, cpu: u64) -> Answer<J>
         requires { IsFit (state J.key_of self.old) }
-        ensures answers { Answers J.key_of (state J.key_of self.old) (events.Fetch cpu) result
-            (state J.key_of self.new) }
-        ensures given { AllGiven J.gives self.old → AllGiven J.gives self.new }
+        ensures answers { Applies J.key_of J.gives self.old (events.Fetch cpu) result self.new }
     {
         let i = cpu as usize;
         if i >= self.processors.len() {

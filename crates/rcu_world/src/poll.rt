@@ -1,15 +1,15 @@
 //! The poll of a barrier (docs/specification/rules.md, "On the core").
 
-ghost use Rattle.std.specs.Prelude.{◌≡◌, ◌<◌, ◌≤◌, ◌++◌, ◌∷◌, [], ℕ, true, false, length, IfOk, OnOk, OnErr};
+ghost use Rattle.std.specs.Prelude.{◌≡◌, ◌<◌, ◌≤◌, true, false, length, IfOk, OnOk, OnErr};
 ghost use Rattle.rcu_numbers.specs.declared.shape.TheConstants.{MOST_PROCESSORS};
 ghost use Rattle.rcu_world_law.specs.Events.{is_enabled};
 ghost use Rattle.rcu_world_law.specs.Events.CoreEvent.{Pass};
-ghost use Rattle.rcu_world_law.specs.States.{barrier_at, count_at, is_open};
-ghost use Rattle.rcu_world_law.specs.Lists.{value_or};
+ghost use Rattle.rcu_world_law.specs.States.{barrier_at};
 ghost use Rattle.rcu_world.specs.Polls.{HasKept, IsPollAnswer, is_seen, poll_events, turns_for};
-ghost use Rattle.rcu_world.specs.Turns.{IsAtRest, Leads, upto, KeepsRest};
-ghost use Rattle.rcu_world.specs.Views.{state, AsManyProcessors};
+ghost use Rattle.rcu_world.specs.Turns.{IsAtRest, Leads, upto};
+ghost use Rattle.rcu_world.specs.Views.{state};
 ghost use Rattle.rcu_world.specs.Worlds.{IsWorld};
+ghost use Rattle.rcu_world.specs.Stays.{StaysWorld, LeadsWorld};
 
 use crate::events::Event;
 use crate::worlds::World;
@@ -31,14 +31,10 @@ impl<J: Job> World<J> {
     /// Reads the turns of the processors that the barrier hasn't seen yet.
     fn see_all(&mut self, barrier: u64)
         requires { IsWorld J.key_of J.gives self.old.core }
-        ensures events { Leads (state J.key_of self.old.core)
-            (upto (turns_for barrier) (length (state J.key_of self.old.core).cpus)
-            (state J.key_of self.old.core)) (state J.key_of self.new.core) }
+        ensures events { LeadsWorld J.key_of J.gives self.old.core
+            (λ w. upto (turns_for barrier) (length w.cpus) w) self.new.core }
         ensures history { (state J.key_of self.new.core).history
             ≡ (state J.key_of self.old.core).history }
-        ensures rest { KeepsRest J.key_of self.old.core self.new.core }
-        ensures len { AsManyProcessors J.key_of self.old.core self.new.core }
-        ensures kept { IsWorld J.key_of J.gives self.new.core }
     {
         for place in 0..self.core.processors.len() {
             let cpu = place as u64;
@@ -87,9 +83,7 @@ impl<J: Job> World<J> {
             (state J.key_of self.old.core)) (state J.key_of self.new.core)) }
         ensures err_enabled { OnErr result
             (is_enabled (state J.key_of self.new.core) (Pass barrier) ≡ true) }
-        ensures rest { IsAtRest (state J.key_of self.new.core) }
-        ensures len { AsManyProcessors J.key_of self.old.core self.new.core }
-        ensures kept { IsWorld J.key_of J.gives self.new.core }
+        ensures stays { StaysWorld J.key_of J.gives self.old.core self.new.core }
     {
         self.see_all(barrier);
         if !self.attempt(Event::Pass { barrier })? {

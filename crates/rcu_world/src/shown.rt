@@ -1,9 +1,10 @@
 //! What a world shows of its lists.
 
-ghost use Rattle.std.specs.Prelude.{◌≡◌, ◌<◌, length, Some, None, if◌then◌else◌};
-ghost use Rattle.rcu_world_law.specs.States.{cpu_at, is_offloadable};
-ghost use Rattle.rcu_world_processor.specs.Shown.{cpu_lists, folk_lists};
+ghost use Rattle.std.specs.Prelude.{◌≡◌, ◌<◌, length, Some, None};
+ghost use Rattle.rcu_world_law.specs.States.{cpu_at};
+ghost use Rattle.rcu_world_processor.specs.Shown.{cpu_lists};
 ghost use Rattle.rcu_world.specs.Views.{state};
+ghost use Rattle.rcu_world.specs.Shown.{group_lists};
 
 use crate::modes::is_set;
 use crate::worlds::World;
@@ -27,9 +28,7 @@ impl<J: Job> World<J> {
 
     /// The list that a group keeps for a processor, None where that isn't an offloadable member.
     pub fn group_lists(&self, cpu: u64) -> Option<Lists>
-        ensures { result
-            ≡ (if is_offloadable (state J.key_of self.now.core) cpu then Some
-            (folk_lists (cpu_at (state J.key_of self.now.core) cpu)) else None) }
+        ensures { result ≡ group_lists (state J.key_of self.now.core) cpu }
     {
         let i = cpu as usize;
         if i >= self.core.processors.len() {

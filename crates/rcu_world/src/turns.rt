@@ -1,14 +1,15 @@
 //! The turn calls of a world: each is a list of events (docs/specification/rules.md, "On the core").
 
-ghost use Rattle.std.specs.Prelude.{◌≡◌, ◌∷◌, [], ◌<◌, ◌≤◌, Bool, true, false, length, Some, None, IfOk, IsOk, OnOk, OnErr, if◌then◌else◌, ◌%◌, ◌==◌};
+ghost use Rattle.std.specs.Prelude.{◌≡◌, ◌∷◌, [], ◌<◌, ◌≤◌, Bool, true, false, length, Some, None, IfOk, IsOk, OnOk, OnErr, if◌then◌else◌, ◌%◌};
 ghost use Rattle.rcu_world_law.specs.Events.{is_enabled};
 ghost use Rattle.rcu_world_law.specs.Events.CoreEvent.{Ask, Put, Report};
 ghost use Rattle.rcu_world_law.specs.States.{cpu_at, is_offloadable, owes};
 ghost use Rattle.rcu_world_law.specs.declared.who.Side.TheVariants.{Local, Hand};
 ghost use Rattle.rcu_world.specs.Events.{core_event, needs_room};
 ghost use Rattle.rcu_world.specs.Turns.{IsAtRest, Leads, Rooms, driver_answer, driver_events, hand_events, keeps_rest, look_events, offloadable_events, release_events, run_events, stop_of, switch_answer, switch_events, tick_events, where_enabled, KeepsRest};
-ghost use Rattle.rcu_world.specs.Views.{state, AsManyProcessors, SameShape, SameState};
+ghost use Rattle.rcu_world.specs.Views.{state, SameState};
 ghost use Rattle.rcu_world.specs.Worlds.{IsWorld};
+ghost use Rattle.rcu_world.specs.Stays.{KeepsWorld, StaysWorld, LeadsWorld};
 
 use crate::events::{Answer, Event};
 use crate::modes::is_set;
@@ -35,9 +36,7 @@ impl<J: Job> World<J> {
         ensures room { needs_room (state J.key_of self.old.core) event ≡ false → IsOk result }
         ensures rest { keeps_rest (core_event J.key_of true event) ≡ true
             → KeepsRest J.key_of self.old.core self.new.core }
-        ensures len { AsManyProcessors J.key_of self.old.core self.new.core }
-        ensures shape { SameShape J.key_of self.old.core self.new.core }
-        ensures kept { IsWorld J.key_of J.gives self.new.core }
+        ensures keeps { KeepsWorld J.key_of J.gives self.old.core self.new.core }
     {
         match self.step(event) {
             Answer::Done => Ok(true),
@@ -59,9 +58,7 @@ impl<J: Job> World<J> {
             ≡ is_enabled (state J.key_of self.old.core) (core_event J.key_of true event) }
         ensures rest { keeps_rest (core_event J.key_of true event) ≡ true
             → KeepsRest J.key_of self.old.core self.new.core }
-        ensures len { AsManyProcessors J.key_of self.old.core self.new.core }
-        ensures shape { SameShape J.key_of self.old.core self.new.core }
-        ensures kept { IsWorld J.key_of J.gives self.new.core }
+        ensures keeps { KeepsWorld J.key_of J.gives self.old.core self.new.core }
     {
         match self.attempt(event) {
             Ok(done) => done,
@@ -87,9 +84,7 @@ impl<J: Job> World<J> {
             (state J.key_of self.old.core).number else None)) }
         ensures err { OnErr result (SameState J.key_of self.old.core self.new.core) }
         ensures err_owes { OnErr result (owes (state J.key_of self.old.core) cpu ≡ true) }
-        ensures rest { IsAtRest (state J.key_of self.new.core) }
-        ensures len { AsManyProcessors J.key_of self.old.core self.new.core }
-        ensures kept { IsWorld J.key_of J.gives self.new.core }
+        ensures stays { StaysWorld J.key_of J.gives self.old.core self.new.core }
     {
         let counted = if self.core.board.owes(cpu) {
             Some(self.core.board.number())
@@ -104,13 +99,9 @@ impl<J: Job> World<J> {
     pub fn driver_turn(&mut self) -> Result<DriverTurn, AllocError>
         requires world { IsWorld J.key_of J.gives self.old.core }
         requires rest { IsAtRest (state J.key_of self.old.core) }
-        ensures events { Leads (state J.key_of self.old.core)
-            (driver_events (state J.key_of self.old.core)) (state J.key_of self.new.core) }
+        ensures events { LeadsWorld J.key_of J.gives self.old.core driver_events self.new.core }
         ensures answer { IfOk result (λ turn. turn ≡ driver_answer (state J.key_of self.old.core)) }
         ensures ok { IsOk result }
-        ensures rest { IsAtRest (state J.key_of self.new.core) }
-        ensures len { AsManyProcessors J.key_of self.old.core self.new.core }
-        ensures kept { IsWorld J.key_of J.gives self.new.core }
     {
         let number = self.core.board.number();
         if number % 4 != 0 {
@@ -133,13 +124,8 @@ impl<J: Job> World<J> {
     /// The bypass list is put, where it isn't empty: whether there was room.
     pub(crate) fn put(&mut self, cpu: u64, moment: Option<u64>) -> bool
         requires { IsWorld J.key_of J.gives self.old.core }
-        ensures leads { Leads (state J.key_of self.old.core)
-            (if result then where_enabled (Put cpu moment) (state J.key_of self.old.core) else [])
-            (state J.key_of self.new.core) }
-        ensures rest { KeepsRest J.key_of self.old.core self.new.core }
-        ensures len { AsManyProcessors J.key_of self.old.core self.new.core }
-        ensures shape { SameShape J.key_of self.old.core self.new.core }
-        ensures kept { IsWorld J.key_of J.gives self.new.core }
+        ensures events { LeadsWorld J.key_of J.gives self.old.core
+            (λ w. if result then where_enabled (Put cpu moment) w else []) self.new.core }
     {
         match self.attempt(Event::Put { cpu, moment }) {
             Ok(_) => true,
@@ -150,12 +136,7 @@ impl<J: Job> World<J> {
     /// The look of a tick, and what it asks for.
     fn look_own(&mut self, cpu: u64)
         requires { IsWorld J.key_of J.gives self.old.core }
-        ensures leads { Leads (state J.key_of self.old.core)
-            (look_events cpu (state J.key_of self.old.core)) (state J.key_of self.new.core) }
-        ensures rest { KeepsRest J.key_of self.old.core self.new.core }
-        ensures len { AsManyProcessors J.key_of self.old.core self.new.core }
-        ensures shape { SameShape J.key_of self.old.core self.new.core }
-        ensures kept { IsWorld J.key_of J.gives self.new.core }
+        ensures events { LeadsWorld J.key_of J.gives self.old.core (look_events cpu) self.new.core }
     {
         self.perform(Event::Look { cpu });
         self.perform(Event::Need { who: Who::Cpu(cpu) });
@@ -169,10 +150,7 @@ impl<J: Job> World<J> {
             × Leads (state J.key_of self.old.core)
             (release_events cpu moment room (state J.key_of self.old.core))
             (state J.key_of self.new.core) }
-        ensures rest { KeepsRest J.key_of self.old.core self.new.core }
-        ensures len { AsManyProcessors J.key_of self.old.core self.new.core }
-        ensures shape { SameShape J.key_of self.old.core self.new.core }
-        ensures kept { IsWorld J.key_of J.gives self.new.core }
+        ensures stays { StaysWorld J.key_of J.gives self.old.core self.new.core }
     {
         let i = cpu as usize;
         let urged = self.core.processors[i].is_urged();
@@ -192,10 +170,7 @@ impl<J: Job> World<J> {
             × Leads (state J.key_of self.old.core)
             (switch_events cpu pour room (state J.key_of self.old.core))
             (state J.key_of self.new.core) }
-        ensures rest { KeepsRest J.key_of self.old.core self.new.core }
-        ensures len { AsManyProcessors J.key_of self.old.core self.new.core }
-        ensures shape { SameShape J.key_of self.old.core self.new.core }
-        ensures kept { IsWorld J.key_of J.gives self.new.core }
+        ensures stays { StaysWorld J.key_of J.gives self.old.core self.new.core }
     {
         let i = cpu as usize;
         if !self.core.processors[i].is_switching() {
@@ -216,10 +191,7 @@ impl<J: Job> World<J> {
             × Leads (state J.key_of self.old.core)
             (offloadable_events cpu moment rooms (state J.key_of self.old.core))
             (state J.key_of self.new.core) }
-        ensures rest { KeepsRest J.key_of self.old.core self.new.core }
-        ensures len { AsManyProcessors J.key_of self.old.core self.new.core }
-        ensures shape { SameShape J.key_of self.old.core self.new.core }
-        ensures kept { IsWorld J.key_of J.gives self.new.core }
+        ensures stays { StaysWorld J.key_of J.gives self.old.core self.new.core }
     {
         if !is_set(&self.core.offloadable, cpu as usize) {
             return;
@@ -234,15 +206,12 @@ impl<J: Job> World<J> {
         requires world { IsWorld J.key_of J.gives self.old.core }
         requires there { cpu < length (state J.key_of self.old.core).cpus }
         requires rest { IsAtRest (state J.key_of self.old.core) }
-        ensures leads { Leads (state J.key_of self.old.core) (run_events cpu by result.ran)
-            (state J.key_of self.new.core) }
+        ensures events { LeadsWorld J.key_of J.gives self.old.core
+            (λ w. run_events cpu by result.ran) self.new.core }
         ensures stop { result.stop
             ≡ stop_of by (state J.key_of self.new.core).shape.blimit result.ran
             (cpu_at (state J.key_of self.new.core) cpu) }
         ensures most { result.ran ≤ (state J.key_of self.new.core).shape.blimit }
-        ensures rest { IsAtRest (state J.key_of self.new.core) }
-        ensures len { AsManyProcessors J.key_of self.old.core self.new.core }
-        ensures kept { IsWorld J.key_of J.gives self.new.core }
     {
         let blimit = self.core.blimit;
         let mut ran = 0;
@@ -286,9 +255,7 @@ impl<J: Job> World<J> {
         ensures most { IfOk result (λ ticked.
             ticked.ran ≤ (state J.key_of self.new.core).shape.blimit) }
         ensures ok { IsOk result }
-        ensures rest { IsAtRest (state J.key_of self.new.core) }
-        ensures len { AsManyProcessors J.key_of self.old.core self.new.core }
-        ensures kept { IsWorld J.key_of J.gives self.new.core }
+        ensures stays { StaysWorld J.key_of J.gives self.old.core self.new.core }
     {
         self.look_own(cpu);
         self.tick_offloadable(cpu, moment);
@@ -311,9 +278,7 @@ impl<J: Job> World<J> {
         ensures most { IfOk result (λ turn.
             turn.ran ≤ (state J.key_of self.new.core).shape.blimit) }
         ensures ok { IsOk result }
-        ensures rest { IsAtRest (state J.key_of self.new.core) }
-        ensures len { AsManyProcessors J.key_of self.old.core self.new.core }
-        ensures kept { IsWorld J.key_of J.gives self.new.core }
+        ensures stays { StaysWorld J.key_of J.gives self.old.core self.new.core }
     {
         self.perform(Event::LookHand { cpu });
         self.perform(Event::Fetch { cpu });
@@ -326,12 +291,8 @@ impl<J: Job> World<J> {
         requires world { IsWorld J.key_of J.gives self.old.core }
         requires rest { IsAtRest (state J.key_of self.old.core) }
         ensures answer { result ≡ switch_answer (state J.key_of self.old.core) cpu }
-        ensures events { Leads (state J.key_of self.old.core)
-            (where_enabled (Ask cpu on) (state J.key_of self.old.core))
-            (state J.key_of self.new.core) }
-        ensures rest { IsAtRest (state J.key_of self.new.core) }
-        ensures len { AsManyProcessors J.key_of self.old.core self.new.core }
-        ensures kept { IsWorld J.key_of J.gives self.new.core }
+        ensures events { LeadsWorld J.key_of J.gives self.old.core (where_enabled (Ask cpu on))
+            self.new.core }
     {
         let done = self.perform(Event::Ask { cpu, on });
         if cpu as usize >= self.core.processors.len() {
@@ -348,12 +309,8 @@ impl<J: Job> World<J> {
         requires world { IsWorld J.key_of J.gives self.old.core }
         requires rest { IsAtRest (state J.key_of self.old.core) }
         ensures answer { result ≡ switch_answer (state J.key_of self.old.core) cpu }
-        ensures events { Leads (state J.key_of self.old.core)
-            (where_enabled (Ask cpu true) (state J.key_of self.old.core))
-            (state J.key_of self.new.core) }
-        ensures rest { IsAtRest (state J.key_of self.new.core) }
-        ensures len { AsManyProcessors J.key_of self.old.core self.new.core }
-        ensures kept { IsWorld J.key_of J.gives self.new.core }
+        ensures events { LeadsWorld J.key_of J.gives self.old.core (where_enabled (Ask cpu true))
+            self.new.core }
     {
         self.ask(cpu, true)
     }
@@ -363,12 +320,8 @@ impl<J: Job> World<J> {
         requires world { IsWorld J.key_of J.gives self.old.core }
         requires rest { IsAtRest (state J.key_of self.old.core) }
         ensures answer { result ≡ switch_answer (state J.key_of self.old.core) cpu }
-        ensures events { Leads (state J.key_of self.old.core)
-            (where_enabled (Ask cpu false) (state J.key_of self.old.core))
-            (state J.key_of self.new.core) }
-        ensures rest { IsAtRest (state J.key_of self.new.core) }
-        ensures len { AsManyProcessors J.key_of self.old.core self.new.core }
-        ensures kept { IsWorld J.key_of J.gives self.new.core }
+        ensures events { LeadsWorld J.key_of J.gives self.old.core (where_enabled (Ask cpu false))
+            self.new.core }
     {
         self.ask(cpu, false)
     }

@@ -7,3 +7,5 @@ pub mod Ready
 pub mod Leaving
 pub mod Shown
 pub mod Turns
+pub mod Makes
+pub mod Gains

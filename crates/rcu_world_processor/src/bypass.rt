@@ -5,9 +5,8 @@ ghost use Rattle.std.specs.VecDeque.{deque_len, deque_capacity};
 ghost use Rattle.rcu_world_law.specs.LabelledLists.{call_of};
 ghost use Rattle.rcu_world_law.specs.Lists.{is_nil, is_none};
 ghost use Rattle.rcu_world_law.specs.Releases.{call_releases, is_late, pace_after_put, pace_after_stamp};
-ghost use Rattle.rcu_world_law.specs.States.{Cpu};
 ghost use Rattle.rcu_lists.specs.Bypasses.{BypassRoom, bypass_qhimark};
-ghost use Rattle.rcu_world_processor.specs.Batches.{batch, batches, bypassed, pace, with_bypass};
+ghost use Rattle.rcu_world_processor.specs.Batches.{batch, batches, bypassed, pace, PacesAs, is_late_at};
 ghost use Rattle.rcu_world_processor.specs.Waits.{call, waiting};
 
 use crate::batches::put_batch;
@@ -33,13 +32,11 @@ pub(crate) fn hold<J: Job>(
     requires { BypassRoom bypass.old 1 }
     ensures items { bypassed J.key_of bypass.new
         ≡ bypassed J.key_of bypass.old ++ call J.key_of callback ∷ [] }
-    ensures pace { (c : Cpu)
-        → pace bypass.new ≡ pace_after_stamp lazy moment (with_bypass J.key_of bypass.old c) }
+    ensures pace { PacesAs J.key_of (pace_after_stamp lazy moment) bypass.old bypass.new }
     ensures due { result
         ≡ call_releases lazy moment (pace bypass.old).moment (pace bypass.old).direct
         (length (bypassed J.key_of bypass.old) + 1) (not (is_none (pace bypass.old).kept_moment))
         (bypass_qhimark bypass.old) }
-    ensures qhimark { bypass_qhimark bypass.new ≡ bypass_qhimark bypass.old }
 {
     if lazy {
         return bypass.hold(moment, Kind::Lazy, callback);
@@ -51,9 +48,7 @@ pub(crate) fn hold<J: Job>(
 pub(crate) fn flush<J: Job>(bypass: &mut Bypass<J>) -> Batch<J>
     ensures all { batch J.key_of result ≡ bypassed J.key_of bypass.old }
     ensures none { bypassed J.key_of bypass.new ≡ [] }
-    ensures pace { (c : Cpu)
-        → pace bypass.new ≡ pace_after_put None (with_bypass J.key_of bypass.old c) }
-    ensures qhimark { bypass_qhimark bypass.new ≡ bypass_qhimark bypass.old }
+    ensures pace { PacesAs J.key_of (pace_after_put None) bypass.old bypass.new }
 {
     bypass.flush()
 }
@@ -68,9 +63,7 @@ pub(crate) fn release<J: Job>(
     ensures lane { batches J.key_of lane.new.items
         ≡ batches J.key_of lane.old.items ++ bypassed J.key_of bypass.old ∷ [] }
     ensures none { bypassed J.key_of bypass.new ≡ [] }
-    ensures pace { (c : Cpu)
-        → pace bypass.new ≡ pace_after_put moment (with_bypass J.key_of bypass.old c) }
-    ensures qhimark { bypass_qhimark bypass.new ≡ bypass_qhimark bypass.old }
+    ensures pace { PacesAs J.key_of (pace_after_put moment) bypass.old bypass.new }
 {
     put_batch(lane, flush(bypass));
     match moment {
@@ -105,9 +98,7 @@ pub(crate) fn pour_all<J: Job>(
 
 /// Whether a tick releases the list because of its moment.
 pub(crate) fn is_late<J: Job>(bypass: &Bypass<J>, moment: u64) -> bool
-    ensures { result
-        ≡ is_late moment (pace bypass.now).moment (is_nil (bypassed J.key_of bypass.now))
-        (pace bypass.now).plain (pace bypass.now).kept_moment }
+    ensures { result ≡ is_late_at J.key_of moment bypass.now }
 {
     bypass.is_late(moment)
 }

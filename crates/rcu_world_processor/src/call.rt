@@ -1,6 +1,6 @@
 //! How a callback comes in: it is accepted, stamped, and goes to the own list or to the bypass list.
 
-ghost use Rattle.std.specs.Prelude.{◌≡◌, ◌^◌, ◌<◌, ◌&&◌, true, false, not, nat_lt, None, ◌∷◌, [], OnOk, OnErr, IfOk, IsOk};
+ghost use Rattle.std.specs.Prelude.{◌≡◌, ◌^◌, ◌<◌, ◌&&◌, true, false, not, nat_lt, None, ◌∷◌, [], OnOk, IfOk, IsOk};
 ghost use Rattle.rcu_world_law.specs.Lists.{is_none};
 ghost use Rattle.rcu_world_law.specs.Releases.{pace_after_stamp, releases};
 ghost use Rattle.rcu_jobs.specs.Modes.{is_offloaded};
@@ -10,6 +10,7 @@ ghost use Rattle.rcu_lists.specs.Segments.{SegmentsRoom};
 ghost use Rattle.rcu_world_processor.specs.Ready.{IsReady};
 ghost use Rattle.rcu_world_processor.specs.Waits.{call};
 ghost use Rattle.rcu_world_processor.specs.Views.{fresh_call, seen, mark_of, KeepsGiven};
+ghost use Rattle.rcu_world_processor.specs.Makes.{Makes, MakesIfOk};
 
 use crate::bypass::hold;
 use crate::processor::WorldProcessor;
@@ -70,9 +71,8 @@ impl<J: Job> WorldProcessor<J, J::Receipt> {
     pub fn accept(&mut self, cpu: u64, job: J)
         requires empty { (seen J.key_of self.old).fresh ≡ None }
         requires fits { (seen J.key_of self.old).count < 2 ^ 63 }
-        ensures accepts { seen J.key_of self.new ≡ accepts (J.key_of job) (seen J.key_of self.old) }
+        ensures step { Makes J.key_of J.gives (accepts (J.key_of job)) self.old self.new }
         ensures ready { IsReady self.old → IsReady self.new }
-        ensures given { KeepsGiven J.gives self.old self.new }
     {
         let key = job.key();
         self.fresh = Some(Callback {
@@ -95,12 +95,11 @@ impl<J: Job> WorldProcessor<J, J::Receipt> {
     /// Takes the fresh callback out, with its stamp.
     fn take_fresh(&mut self, number: u64) -> Callback<J>
         requires { not (is_none (seen J.key_of self.old).fresh) ≡ true }
-        ensures taken { seen J.key_of self.new ≡ record (seen J.key_of self.old) { fresh = None } }
+        ensures step { Makes J.key_of J.gives (λ c. record c { fresh = None }) self.old self.new }
         ensures callback { fresh_calls number (seen J.key_of self.old).fresh
             ≡ call J.key_of result ∷ [] }
         ensures own { self.new.own ≡ self.old.own }
         ensures bypass { self.new.bypass ≡ self.old.bypass }
-        ensures given { KeepsGiven J.gives self.old self.new }
     {
         let Some(mut callback) = self.fresh.take() else {
             unreachable!()
@@ -112,12 +111,10 @@ impl<J: Job> WorldProcessor<J, J::Receipt> {
     /// The fresh callback goes to the own list.
     fn stamp_own(&mut self, number: u64) -> Result<bool, AllocError>
         requires { not (is_none (seen J.key_of self.old).fresh) ≡ true }
-        ensures ok { OnOk result
-            (seen J.key_of self.new ≡ stamps_into false number (seen J.key_of self.old)) }
+        ensures step { MakesIfOk J.key_of J.gives (stamps_into false number) result
+            self.old self.new }
         ensures due { IfOk result (λ due. due ≡ false) }
         ensures succeeds { SegmentsRoom self.old.own 1 → IsOk result }
-        ensures err { OnErr result (seen J.key_of self.new ≡ seen J.key_of self.old) }
-        ensures given { KeepsGiven J.gives self.old self.new }
     {
         self.own.reserve(1)?;
         let callback = self.take_fresh(number);
@@ -128,15 +125,12 @@ impl<J: Job> WorldProcessor<J, J::Receipt> {
     /// The fresh callback goes to the bypass list. Answers whether that is due to be released.
     fn stamp_offloaded(&mut self, number: u64, moment: u64, lazy: bool) -> Result<bool, AllocError>
         requires { not (is_none (seen J.key_of self.old).fresh) ≡ true }
-        ensures ok { OnOk result
-            (seen J.key_of self.new
-            ≡ with_pace (pace_after_stamp lazy moment (seen J.key_of self.old))
-            (stamps_into true number (seen J.key_of self.old))) }
+        ensures step { MakesIfOk J.key_of J.gives
+            (λ c. with_pace (pace_after_stamp lazy moment c) (stamps_into true number c)) result
+            self.old self.new }
         ensures due { IfOk result (λ due.
             due ≡ releases (mark_of self.old) lazy moment (seen J.key_of self.old)) }
         ensures succeeds { BypassRoom self.old.bypass 1 → IsOk result }
-        ensures err { OnErr result (seen J.key_of self.new ≡ seen J.key_of self.old) }
-        ensures given { KeepsGiven J.gives self.old self.new }
     {
         self.bypass.reserve()?;
         let callback = self.take_fresh(number);
@@ -152,15 +146,13 @@ impl<J: Job> WorldProcessor<J, J::Receipt> {
     /// Refusal 2, want of memory: nothing changed.
     pub fn stamp(&mut self, number: u64, moment: u64, lazy: bool) -> Result<bool, AllocError>
         requires { not (is_none (seen J.key_of self.old).fresh) ≡ true }
-        ensures ok { OnOk result
-            (seen J.key_of self.new ≡ stamps number moment lazy (seen J.key_of self.old)) }
+        ensures step { MakesIfOk J.key_of J.gives (stamps number moment lazy) result
+            self.old self.new }
         ensures due { IfOk result (λ due.
             due
             ≡ (is_offloaded (seen J.key_of self.old).mode && releases (mark_of self.old) lazy moment
             (seen J.key_of self.old))) }
         ensures succeeds { IsReady self.old → IsOk result }
-        ensures err { OnErr result (seen J.key_of self.new ≡ seen J.key_of self.old) }
-        ensures given { KeepsGiven J.gives self.old self.new }
     {
         if self.mode.is_offloaded() {
             self.stamp_offloaded(number, moment, lazy)

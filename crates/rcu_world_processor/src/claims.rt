@@ -1,6 +1,6 @@
 //! How callbacks run: claimed by the processor itself or by its hand, once, and finished.
 
-ghost use Rattle.std.specs.Prelude.{◌≡◌, ◌^◌, ◌+◌, ◌<◌, ◌≤◌, ◌++◌, ◌∷◌, [], map, vec_len, vec_capacity, true, nat_le, OnOk, OnErr, IfOk, if◌then◌else◌};
+ghost use Rattle.std.specs.Prelude.{◌≡◌, ◌^◌, ◌+◌, ◌<◌, ◌≤◌, ◌++◌, ◌∷◌, [], map, vec_len, vec_capacity, true, nat_le, IfOk, if◌then◌else◌};
 ghost use Rattle.rcu_jobs.specs.declared.Stop.TheVariants as stops;
 ghost use Rattle.rcu_numbers.specs.Numbers.{snap_of};
 ghost use Rattle.rcu_numbers.specs.declared.sequence.TheConstants.{GREATEST_NUMBER};
@@ -8,9 +8,10 @@ ghost use Rattle.rcu_world_law.specs.Steps.{can_claim, claims, claimed, can_clai
 ghost use Rattle.rcu_world_law.specs.declared.who.Side.TheVariants as sides;
 ghost use Rattle.rcu_world_processor.specs.Batches.{batch};
 ghost use Rattle.rcu_world_processor.specs.Waits.{call};
-ghost use Rattle.rcu_world_processor.specs.Turns.{has_none};
+ghost use Rattle.rcu_world_processor.specs.Turns.{no_claim};
 ghost use Rattle.rcu_jobs.specs.Records.{Given};
-ghost use Rattle.rcu_world_processor.specs.Views.{run, seen, KeepsGiven};
+ghost use Rattle.rcu_world_processor.specs.Views.{run, seen};
+ghost use Rattle.rcu_world_processor.specs.Makes.{Makes, MakesIfOk};
 
 use crate::batches::{is_spent, take_first};
 use crate::processor::WorldProcessor;
@@ -113,9 +114,7 @@ impl<J: Job> WorldProcessor<J, J::Receipt> {
         requires ready { can_claim by (seen J.key_of self.old) ≡ true }
         requires fits { (seen J.key_of self.old).turn < 2 ^ 63 }
         ensures key { IfOk result (λ key. key ≡ (claimed by (seen J.key_of self.old)).key) }
-        ensures ok { OnOk result (seen J.key_of self.new ≡ claims by (seen J.key_of self.old)) }
-        ensures err { OnErr result (seen J.key_of self.new ≡ seen J.key_of self.old) }
-        ensures given { KeepsGiven J.gives self.old self.new }
+        ensures step { MakesIfOk J.key_of J.gives (claims by) result self.old self.new }
     {
         match by {
             Side::Local => self.claim_own(),
@@ -128,10 +127,7 @@ impl<J: Job> WorldProcessor<J, J::Receipt> {
         requires fits { (seen J.key_of self.old).turn < 2 ^ 63 }
         ensures key { IfOk result (λ key.
             key ≡ (claimed sides.Local (seen J.key_of self.old)).key) }
-        ensures ok { OnOk result
-            (seen J.key_of self.new ≡ claims sides.Local (seen J.key_of self.old)) }
-        ensures err { OnErr result (seen J.key_of self.new ≡ seen J.key_of self.old) }
-        ensures given { KeepsGiven J.gives self.old self.new }
+        ensures step { MakesIfOk J.key_of J.gives (claims sides.Local) result self.old self.new }
     {
         self.records.reserve(1)?;
         let callback = take_front(&mut self.own);
@@ -145,10 +141,7 @@ impl<J: Job> WorldProcessor<J, J::Receipt> {
         requires ready { can_claim sides.Hand (seen J.key_of self.old) ≡ true }
         requires fits { (seen J.key_of self.old).turn < 2 ^ 63 }
         ensures key { IfOk result (λ key. key ≡ (claimed sides.Hand (seen J.key_of self.old)).key) }
-        ensures ok { OnOk result
-            (seen J.key_of self.new ≡ claims sides.Hand (seen J.key_of self.old)) }
-        ensures err { OnErr result (seen J.key_of self.new ≡ seen J.key_of self.old) }
-        ensures given { KeepsGiven J.gives self.old self.new }
+        ensures step { MakesIfOk J.key_of J.gives (claims sides.Hand) result self.old self.new }
     {
         self.records.reserve(1)?;
         let callback = take_first(&mut self.held);
@@ -168,8 +161,7 @@ impl<J: Job> WorldProcessor<J, J::Receipt> {
     /// The claim that runs has run.
     pub fn finish(&mut self)
         requires { (seen J.key_of self.old).turn < 2 ^ 63 }
-        ensures finishes { seen J.key_of self.new ≡ finishes (seen J.key_of self.old) }
-        ensures given { KeepsGiven J.gives self.old self.new }
+        ensures step { Makes J.key_of J.gives finishes self.old self.new }
     {
         self.turn += 1;
         self.running = None;
@@ -177,8 +169,7 @@ impl<J: Job> WorldProcessor<J, J::Receipt> {
 
     /// Why a claim isn't enabled.
     pub fn why_no_claim(&self, by: Side) -> Stop
-        ensures { result
-            ≡ (if has_none by (seen J.key_of self.now) then stops.Empty else stops.Turn) }
+        ensures { result ≡ no_claim by (seen J.key_of self.now) }
     {
         match by {
             Side::Local => stop_of(count_done(&self.own) == 0),

@@ -9,6 +9,7 @@ ghost use Rattle.rcu_world_law.specs.Steps.{front};
 ghost use Rattle.rcu_world_processor.specs.Batches.{batch, batches, bypassed};
 ghost use Rattle.rcu_world_processor.specs.Views.{seen, fresh_call, records_of};
 ghost use Rattle.rcu_world_processor.specs.Waits.{call, calls, waiting};
+ghost use Rattle.rcu_world_processor.specs.Gains.{Gains};
 
 use crate::batches::{is_bare, is_spent, take_batch, take_first};
 use crate::bypass::flush;
@@ -22,10 +23,7 @@ use std::mem;
 /// Takes the jobs out of a batch, behind the others. There is room.
 fn take_jobs<J: Job>(left: &mut Batch<J>, jobs: &mut Vec<J>)
     requires { vec_len jobs.old + length (batch J.key_of left.old) ≤ vec_capacity jobs.old }
-    ensures keys { map J.key_of jobs.new.items
-        ≡ map J.key_of jobs.old.items ++ map key_of (batch J.key_of left.old) }
-    ensures len { vec_len jobs.new ≡ vec_len jobs.old + length (batch J.key_of left.old) }
-    ensures capacity { vec_capacity jobs.old ≤ vec_capacity jobs.new }
+    ensures jobs { Gains J.key_of (batch J.key_of left.old) jobs.old jobs.new }
 {
     while !is_spent(left) {
         jobs.push_reserved(take_first(left).job);
@@ -36,11 +34,7 @@ fn take_jobs<J: Job>(left: &mut Batch<J>, jobs: &mut Vec<J>)
 fn take_lane<J: Job>(lane: &mut VecDeque<Batch<J>>, jobs: &mut Vec<J>)
     requires { vec_len jobs.old + length (flattened (batches J.key_of lane.old.items))
         ≤ vec_capacity jobs.old }
-    ensures keys { map J.key_of jobs.new.items
-        ≡ map J.key_of jobs.old.items ++ map key_of (flattened (batches J.key_of lane.old.items)) }
-    ensures len { vec_len jobs.new
-        ≡ vec_len jobs.old + length (flattened (batches J.key_of lane.old.items)) }
-    ensures capacity { vec_capacity jobs.old ≤ vec_capacity jobs.new }
+    ensures jobs { Gains J.key_of (flattened (batches J.key_of lane.old.items)) jobs.old jobs.new }
 {
     while !is_bare(lane) {
         let mut first = take_batch(lane);
@@ -70,10 +64,7 @@ fn is_empty<J: Job>(left: &VecDeque<Callback<J>>) -> bool
 /// Takes the jobs out of some callbacks, behind the others. There is room.
 fn take_calls<J: Job>(mut left: VecDeque<Callback<J>>, jobs: &mut Vec<J>)
     requires { vec_len jobs.old + length (calls J.key_of left.items) ≤ vec_capacity jobs.old }
-    ensures keys { map J.key_of jobs.new.items
-        ≡ map J.key_of jobs.old.items ++ map key_of (calls J.key_of left.items) }
-    ensures len { vec_len jobs.new ≡ vec_len jobs.old + length (calls J.key_of left.items) }
-    ensures capacity { vec_capacity jobs.old ≤ vec_capacity jobs.new }
+    ensures jobs { Gains J.key_of (calls J.key_of left.items) jobs.old jobs.new }
 {
     while !is_empty(&left) {
         jobs.push_reserved(take_call(&mut left).job);
@@ -84,11 +75,7 @@ fn take_calls<J: Job>(mut left: VecDeque<Callback<J>>, jobs: &mut Vec<J>)
 fn take_waiting<J: Job>(list: &mut Segments<J>, alloc: Global, jobs: &mut Vec<J>)
     requires { vec_len jobs.old + length (map call_of (waiting J.key_of list.old))
         ≤ vec_capacity jobs.old }
-    ensures keys { map J.key_of jobs.new.items
-        ≡ map J.key_of jobs.old.items ++ map key_of (map call_of (waiting J.key_of list.old)) }
-    ensures len { vec_len jobs.new
-        ≡ vec_len jobs.old + length (map call_of (waiting J.key_of list.old)) }
-    ensures capacity { vec_capacity jobs.old ≤ vec_capacity jobs.new }
+    ensures jobs { Gains J.key_of (map call_of (waiting J.key_of list.old)) jobs.old jobs.new }
 {
     let all = mem::replace(list, Segments::new(alloc));
     take_calls(all.into_callbacks(), jobs);
@@ -97,10 +84,7 @@ fn take_waiting<J: Job>(list: &mut Segments<J>, alloc: Global, jobs: &mut Vec<J>
 /// Takes the jobs out of a bypass list, behind the others. There is room.
 fn take_bypass<J: Job>(bypass: &mut Bypass<J>, jobs: &mut Vec<J>)
     requires { vec_len jobs.old + length (bypassed J.key_of bypass.old) ≤ vec_capacity jobs.old }
-    ensures keys { map J.key_of jobs.new.items
-        ≡ map J.key_of jobs.old.items ++ map key_of (bypassed J.key_of bypass.old) }
-    ensures len { vec_len jobs.new ≡ vec_len jobs.old + length (bypassed J.key_of bypass.old) }
-    ensures capacity { vec_capacity jobs.old ≤ vec_capacity jobs.new }
+    ensures jobs { Gains J.key_of (bypassed J.key_of bypass.old) jobs.old jobs.new }
 {
     let mut all = flush(bypass);
     take_jobs(&mut all, jobs);
@@ -135,19 +119,11 @@ fn take_joined<J: Job>(
         ++ (flattened (batches J.key_of done_lane.old.items)
         ++ (batch J.key_of out.old ++ map call_of (waiting J.key_of joined.old))))
         ≤ vec_capacity jobs.old }
-    ensures keys { map J.key_of jobs.new.items
-        ≡ map J.key_of jobs.old.items
-        ++ map key_of
+    ensures jobs { Gains J.key_of
         (batch J.key_of held.old
         ++ (flattened (batches J.key_of done_lane.old.items)
-        ++ (batch J.key_of out.old ++ map call_of (waiting J.key_of joined.old)))) }
-    ensures len { vec_len jobs.new
-        ≡ vec_len jobs.old
-        + length
-        (batch J.key_of held.old
-        ++ (flattened (batches J.key_of done_lane.old.items)
-        ++ (batch J.key_of out.old ++ map call_of (waiting J.key_of joined.old)))) }
-    ensures capacity { vec_capacity jobs.old ≤ vec_capacity jobs.new }
+        ++ (batch J.key_of out.old ++ map call_of (waiting J.key_of joined.old))))
+        jobs.old jobs.new }
 {
     take_jobs(held, jobs);
     take_lane(done_lane, jobs);
@@ -167,17 +143,10 @@ fn take_bypassed<J: Job>(
         (batch J.key_of drawn.old
         ++ (flattened (batches J.key_of lane.old.items) ++ bypassed J.key_of bypass.old))
         ≤ vec_capacity jobs.old }
-    ensures keys { map J.key_of jobs.new.items
-        ≡ map J.key_of jobs.old.items
-        ++ map key_of
+    ensures jobs { Gains J.key_of
         (batch J.key_of drawn.old
-        ++ (flattened (batches J.key_of lane.old.items) ++ bypassed J.key_of bypass.old)) }
-    ensures len { vec_len jobs.new
-        ≡ vec_len jobs.old
-        + length
-        (batch J.key_of drawn.old
-        ++ (flattened (batches J.key_of lane.old.items) ++ bypassed J.key_of bypass.old)) }
-    ensures capacity { vec_capacity jobs.old ≤ vec_capacity jobs.new }
+        ++ (flattened (batches J.key_of lane.old.items) ++ bypassed J.key_of bypass.old))
+        jobs.old jobs.new }
 {
     take_jobs(drawn, jobs);
     take_lane(lane, jobs);

@@ -3,7 +3,8 @@
 ghost use Rattle.std.specs.Prelude.{◌≡◌, true, not, length};
 ghost use Rattle.rcu_world_law.specs.Places.{remaining_callbacks};
 ghost use Rattle.rcu_world_processor.specs.Leaving.{IsCounted};
-ghost use Rattle.rcu_world_processor.specs.Views.{seen, KeepsGiven};
+ghost use Rattle.rcu_world_processor.specs.Views.{seen};
+ghost use Rattle.rcu_world_processor.specs.Makes.{Makes};
 
 use crate::processor::WorldProcessor;
 use rcu_jobs::Job;
@@ -18,8 +19,7 @@ impl<J: Job> WorldProcessor<J, J::Receipt> {
 
     /// Nothing is accepted from now on.
     pub fn shut(&mut self)
-        ensures shuts { seen J.key_of self.new ≡ record (seen J.key_of self.old) { shut = true } }
-        ensures given { KeepsGiven J.gives self.old self.new }
+        ensures step { Makes J.key_of J.gives (λ c. record c { shut = true }) self.old self.new }
     {
         self.shut = true;
     }

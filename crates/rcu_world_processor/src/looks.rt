@@ -2,12 +2,13 @@
 
 ghost use Rattle.std.specs.Prelude.{◌≡◌, ◌≤◌, ◌&&◌, not, None, if◌then◌else◌};
 ghost use Rattle.rcu_world_law.specs.LabelledLists.{MayAccelerate, newest, advance};
-ghost use Rattle.rcu_world_law.specs.Lists.{is_none, needed_with};
+ghost use Rattle.rcu_world_law.specs.Lists.{is_none};
 ghost use Rattle.rcu_numbers.specs.Numbers.{snap_of};
 ghost use Rattle.rcu_numbers.specs.declared.sequence.TheConstants.{GREATEST_NUMBER};
 ghost use Rattle.rcu_world_law.specs.Steps.{looks, hand_looks, group_looks};
-ghost use Rattle.rcu_world_processor.specs.Members.{forgets, is_wanting};
-ghost use Rattle.rcu_world_processor.specs.Views.{seen, KeepsGiven};
+ghost use Rattle.rcu_world_processor.specs.Members.{forgets, is_wanting, most_with};
+ghost use Rattle.rcu_world_processor.specs.Views.{seen};
+ghost use Rattle.rcu_world_processor.specs.Makes.{Makes};
 
 use crate::processor::WorldProcessor;
 use crate::waits::look_at;
@@ -28,8 +29,7 @@ impl<J: Job> WorldProcessor<J, J::Receipt> {
         requires may { MayAccelerate
             (snap_of (newest number (advance number (seen J.key_of self.old).own)))
             (advance number (seen J.key_of self.old).own) }
-        ensures looks { seen J.key_of self.new ≡ looks number (seen J.key_of self.old) }
-        ensures given { KeepsGiven J.gives self.old self.new }
+        ensures step { Makes J.key_of J.gives (looks number) self.old self.new }
     {
         self.wanted = look_at(&mut self.own, number);
         self.sight = number;
@@ -37,8 +37,7 @@ impl<J: Job> WorldProcessor<J, J::Receipt> {
 
     /// The hand's look at the number.
     pub fn look_hand(&mut self, number: u64)
-        ensures looks { seen J.key_of self.new ≡ hand_looks number (seen J.key_of self.old) }
-        ensures given { KeepsGiven J.gives self.old self.new }
+        ensures step { Makes J.key_of J.gives (hand_looks number) self.old self.new }
     {
         self.hand_sight = number;
     }
@@ -50,10 +49,8 @@ impl<J: Job> WorldProcessor<J, J::Receipt> {
         requires may { MayAccelerate
             (snap_of (newest number (advance number (seen J.key_of self.old).joined)))
             (advance number (seen J.key_of self.old).joined) }
-        ensures looks { seen J.key_of self.new
-            ≡ (if member then group_looks number (seen J.key_of self.old) else seen J.key_of
-            self.old) }
-        ensures given { KeepsGiven J.gives self.old self.new }
+        ensures step { Makes J.key_of J.gives (λ c. if member then group_looks number c else c)
+            self.old self.new }
     {
         if member {
             self.group_wanted = look_at(&mut self.joined, number);
@@ -69,9 +66,7 @@ impl<J: Job> WorldProcessor<J, J::Receipt> {
 
     /// What its own list wants is asked for.
     pub fn forget(&mut self)
-        ensures forgets { seen J.key_of self.new
-            ≡ record (seen J.key_of self.old) { wanted = None } }
-        ensures given { KeepsGiven J.gives self.old self.new }
+        ensures step { Makes J.key_of J.gives (λ c. record c { wanted = None }) self.old self.new }
     {
         self.wanted = None;
     }
@@ -85,8 +80,7 @@ impl<J: Job> WorldProcessor<J, J::Receipt> {
 
     /// The greater of `most` and what is wanted for this processor, where it is a member.
     pub fn most_as(&self, member: bool, most: u64) -> u64
-        ensures { result
-            ≡ (if member then needed_with most (seen J.key_of self.now).group_wanted else most) }
+        ensures { result ≡ most_with member most (seen J.key_of self.now) }
     {
         if !member {
             return most;
@@ -99,9 +93,8 @@ impl<J: Job> WorldProcessor<J, J::Receipt> {
 
     /// What is wanted for this processor is asked for, where it is a member.
     pub fn forget_as(&mut self, member: bool)
-        ensures forgets { seen J.key_of self.new
-            ≡ (if member then forgets (seen J.key_of self.old) else seen J.key_of self.old) }
-        ensures given { KeepsGiven J.gives self.old self.new }
+        ensures step { Makes J.key_of J.gives (λ c. if member then forgets c else c)
+            self.old self.new }
     {
         if member {
             self.group_wanted = None;

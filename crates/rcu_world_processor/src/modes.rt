@@ -1,11 +1,12 @@
 //! The mode of a processor, what is asked of it, and whether it was urged.
 
-ghost use Rattle.std.specs.Prelude.{◌≡◌, ◌/◌, true, false, not, nat_le, ◌&&◌, ◌||◌, if◌then◌else◌, [], IsOk, OnOk, OnErr};
+ghost use Rattle.std.specs.Prelude.{◌≡◌, ◌/◌, true, false, nat_le, ◌&&◌, if◌then◌else◌, [], IsOk};
 ghost use Rattle.rcu_jobs.specs.declared.modes.Mode.TheVariants.{Local};
-ghost use Rattle.rcu_jobs.specs.Modes.{is_offloaded, is_offloading, is_deoffloading};
+ghost use Rattle.rcu_jobs.specs.Modes.{is_offloaded, is_deoffloading};
 ghost use Rattle.rcu_world_law.specs.Steps.{pours, leaves, heeds, settles};
-ghost use Rattle.rcu_world_processor.specs.Turns.{is_switching};
-ghost use Rattle.rcu_world_processor.specs.Views.{seen, KeepsGiven};
+ghost use Rattle.rcu_world_processor.specs.Turns.{is_switching, can_switch};
+ghost use Rattle.rcu_world_processor.specs.Views.{seen};
+ghost use Rattle.rcu_world_processor.specs.Makes.{Makes, MakesIfOk};
 
 use crate::bypass::{is_clear, pour_all};
 use crate::processor::WorldProcessor;
@@ -14,9 +15,7 @@ use std::alloc::AllocError;
 
 /// Whether a switch is asked for that can be made; `clear` says whether the bypass list is empty.
 fn can_switch(mode: Mode, asked: bool, clear: bool) -> bool
-    ensures { result
-        ≡ (if asked then not (is_offloaded mode) else
-        (is_offloading mode || (is_offloaded mode && clear))) }
+    ensures { result ≡ can_switch mode asked clear }
 {
     match mode {
         Mode::Offloaded => !asked && clear,
@@ -39,16 +38,14 @@ fn settled(mode: Mode, left: u64, turn: u64) -> Mode
 impl<J: Job> WorldProcessor<J, J::Receipt> {
     /// Offloading is asked for, or against.
     pub fn ask(&mut self, on: bool)
-        ensures asks { seen J.key_of self.new ≡ record (seen J.key_of self.old) { asked = on } }
-        ensures given { KeepsGiven J.gives self.old self.new }
+        ensures step { Makes J.key_of J.gives (λ c. record c { asked = on }) self.old self.new }
     {
         self.asked = on;
     }
 
     /// A barrier urges it.
     pub fn urge(&mut self)
-        ensures urges { seen J.key_of self.new ≡ record (seen J.key_of self.old) { urged = true } }
-        ensures given { KeepsGiven J.gives self.old self.new }
+        ensures step { Makes J.key_of J.gives (λ c. record c { urged = true }) self.old self.new }
     {
         self.urged = true;
     }
@@ -62,8 +59,7 @@ impl<J: Job> WorldProcessor<J, J::Receipt> {
 
     /// It has heard that it was urged.
     pub fn hear(&mut self)
-        ensures hears { seen J.key_of self.new ≡ record (seen J.key_of self.old) { urged = false } }
-        ensures given { KeepsGiven J.gives self.old self.new }
+        ensures step { Makes J.key_of J.gives (λ c. record c { urged = false }) self.old self.new }
     {
         self.urged = false;
     }
@@ -91,18 +87,15 @@ impl<J: Job> WorldProcessor<J, J::Receipt> {
 
     /// Local from Deoffloading, once the turn has reached all that was accepted before the processor left.
     pub fn settle(&mut self)
-        ensures settles { seen J.key_of self.new ≡ settles (seen J.key_of self.old) }
-        ensures given { KeepsGiven J.gives self.old self.new }
+        ensures step { Makes J.key_of J.gives settles self.old self.new }
     {
         self.mode = settled(self.mode, self.left, self.turn);
     }
 
     /// Pours the own list into the bypass list. On an error nothing has moved.
     fn pour(&mut self) -> Result<(), AllocError>
-        ensures ok { OnOk result (seen J.key_of self.new ≡ pours (seen J.key_of self.old)) }
-        ensures err { OnErr result (seen J.key_of self.new ≡ seen J.key_of self.old) }
+        ensures step { MakesIfOk J.key_of J.gives pours result self.old self.new }
         ensures none { (seen J.key_of self.old).own ≡ [] → IsOk result }
-        ensures given { KeepsGiven J.gives self.old self.new }
     {
         pour_all(&mut self.own, &mut self.bypass)?;
         self.mode = Mode::Offloaded;
@@ -110,8 +103,7 @@ impl<J: Job> WorldProcessor<J, J::Receipt> {
     }
 
     fn leave(&mut self)
-        ensures leaves { seen J.key_of self.new ≡ leaves (seen J.key_of self.old) }
-        ensures given { KeepsGiven J.gives self.old self.new }
+        ensures step { Makes J.key_of J.gives leaves self.old self.new }
     {
         self.mode = Mode::Deoffloading;
         self.left = self.count;
@@ -121,9 +113,8 @@ impl<J: Job> WorldProcessor<J, J::Receipt> {
     fn pour_or_wait(&mut self) -> bool
         requires mode { is_offloaded (seen J.key_of self.old).mode ≡ false }
         requires asked { (seen J.key_of self.old).asked ≡ true }
-        ensures heeds { seen J.key_of self.new ≡ heeds result (seen J.key_of self.old) }
+        ensures step { Makes J.key_of J.gives (heeds result) self.old self.new }
         ensures none { (seen J.key_of self.old).own ≡ [] → result ≡ true }
-        ensures given { KeepsGiven J.gives self.old self.new }
     {
         match self.pour() {
             Ok(()) => true,
@@ -136,9 +127,8 @@ impl<J: Job> WorldProcessor<J, J::Receipt> {
 
     /// Heeds what is asked, and says whether there was room to pour. An empty own list wants none.
     pub fn heed(&mut self) -> bool
-        ensures heeds { seen J.key_of self.new ≡ heeds result (seen J.key_of self.old) }
+        ensures step { Makes J.key_of J.gives (heeds result) self.old self.new }
         ensures none { (seen J.key_of self.old).own ≡ [] → result ≡ true }
-        ensures given { KeepsGiven J.gives self.old self.new }
     {
         if !self.is_switching() {
             return true;

@@ -1,11 +1,13 @@
 //! How callbacks move on, batch by batch: from the bypass list over the lane to the group, and over the done lane to the hand.
 
-ghost use Rattle.std.specs.Prelude.{◌≡◌, ◌≤◌, ◌&&◌, true, not, OnOk, OnErr};
+ghost use Rattle.std.specs.Prelude.{◌≡◌, ◌≤◌, ◌&&◌, true, not};
 ghost use Rattle.rcu_world_law.specs.Lists.{is_nil};
 ghost use Rattle.rcu_world_law.specs.Releases.{pace_after_put};
 ghost use Rattle.rcu_world_law.specs.Steps.{with_pace, puts, draws, joins, given, fetches};
 ghost use Rattle.rcu_world_processor.specs.Giving.{gives_done, gives_out, gives_by_case};
-ghost use Rattle.rcu_world_processor.specs.Views.{seen, KeepsGiven};
+ghost use Rattle.rcu_world_processor.specs.Views.{seen};
+ghost use Rattle.rcu_world_processor.specs.Makes.{Makes, MakesIfOk};
+ghost use Rattle.rcu_world_processor.specs.Turns.{can_draw, can_fetch};
 
 use crate::batches::{is_bare, is_spent, move_batch, put_batch};
 use crate::bypass::{is_clear, release};
@@ -28,12 +30,8 @@ impl<J: Job> WorldProcessor<J, J::Receipt> {
     ///
     /// Refusal 2, want of memory: nothing changed, the kinds and the kept moment neither.
     pub fn put(&mut self, moment: Option<u64>) -> Result<(), AllocError>
-        ensures ok { OnOk result
-            (seen J.key_of self.new
-            ≡ with_pace (pace_after_put moment (seen J.key_of self.old))
-            (puts (seen J.key_of self.old))) }
-        ensures err { OnErr result (seen J.key_of self.new ≡ seen J.key_of self.old) }
-        ensures given { KeepsGiven J.gives self.old self.new }
+        ensures step { MakesIfOk J.key_of J.gives
+            (λ c. with_pace (pace_after_put moment c) (puts c)) result self.old self.new }
     {
         self.lane.reserve(1)?;
         release(&mut self.bypass, &mut self.lane, moment);
@@ -42,9 +40,7 @@ impl<J: Job> WorldProcessor<J, J::Receipt> {
 
     /// Whether a batch stands on the lane, and none waits that was drawn.
     pub fn can_draw(&self) -> bool
-        ensures { result
-            ≡ (not (is_nil (seen J.key_of self.now).lane) && is_nil
-            (seen J.key_of self.now).drawn) }
+        ensures { result ≡ can_draw (seen J.key_of self.now) }
     {
         !is_bare(&self.lane) && is_spent(&self.drawn)
     }
@@ -52,8 +48,7 @@ impl<J: Job> WorldProcessor<J, J::Receipt> {
     /// Draws the first batch of the lane.
     pub fn draw(&mut self)
         requires { not (is_nil (seen J.key_of self.old).lane) ≡ true }
-        ensures draws { seen J.key_of self.new ≡ draws (seen J.key_of self.old) }
-        ensures given { KeepsGiven J.gives self.old self.new }
+        ensures step { Makes J.key_of J.gives draws self.old self.new }
     {
         move_batch(&mut self.lane, &mut self.drawn);
     }
@@ -71,9 +66,7 @@ impl<J: Job> WorldProcessor<J, J::Receipt> {
     ///
     /// Refusal 2, want of memory: nothing changed.
     pub fn join(&mut self) -> Result<(), AllocError>
-        ensures ok { OnOk result (seen J.key_of self.new ≡ joins (seen J.key_of self.old)) }
-        ensures err { OnErr result (seen J.key_of self.new ≡ seen J.key_of self.old) }
-        ensures given { KeepsGiven J.gives self.old self.new }
+        ensures step { MakesIfOk J.key_of J.gives joins result self.old self.new }
     {
         join_bare(&mut self.joined, &mut self.drawn)?;
         Ok(())
@@ -92,10 +85,7 @@ impl<J: Job> WorldProcessor<J, J::Receipt> {
 
     /// The done ones at the front of the group's list go to the done lane.
     fn give_done(&mut self, blimit: u64) -> Result<(), AllocError>
-        ensures ok { OnOk result
-            (seen J.key_of self.new ≡ gives_done blimit (seen J.key_of self.old)) }
-        ensures err { OnErr result (seen J.key_of self.new ≡ seen J.key_of self.old) }
-        ensures given { KeepsGiven J.gives self.old self.new }
+        ensures step { MakesIfOk J.key_of J.gives (gives_done blimit) result self.old self.new }
     {
         self.done_lane.reserve(1)?;
         let given = take_given(&mut self.joined, blimit)?;
@@ -105,9 +95,7 @@ impl<J: Job> WorldProcessor<J, J::Receipt> {
 
     /// What waits goes to the done lane.
     fn give_out(&mut self) -> Result<(), AllocError>
-        ensures ok { OnOk result (seen J.key_of self.new ≡ gives_out (seen J.key_of self.old)) }
-        ensures err { OnErr result (seen J.key_of self.new ≡ seen J.key_of self.old) }
-        ensures given { KeepsGiven J.gives self.old self.new }
+        ensures step { MakesIfOk J.key_of J.gives gives_out result self.old self.new }
     {
         self.done_lane.reserve(1)?;
         put_batch(&mut self.done_lane, self.out.take_all());
@@ -120,10 +108,7 @@ impl<J: Job> WorldProcessor<J, J::Receipt> {
     ///
     /// Refusal 2, want of memory: nothing changed.
     pub fn give(&mut self, blimit: u64) -> Result<(), AllocError>
-        ensures ok { OnOk result
-            (seen J.key_of self.new ≡ gives_by_case blimit (seen J.key_of self.old)) }
-        ensures err { OnErr result (seen J.key_of self.new ≡ seen J.key_of self.old) }
-        ensures given { KeepsGiven J.gives self.old self.new }
+        ensures step { MakesIfOk J.key_of J.gives (gives_by_case blimit) result self.old self.new }
     {
         if is_spent(&self.out) {
             self.give_done(blimit)
@@ -134,9 +119,7 @@ impl<J: Job> WorldProcessor<J, J::Receipt> {
 
     /// Whether a batch stands on the done lane, and the hand holds none.
     pub fn can_fetch(&self) -> bool
-        ensures { result
-            ≡ (is_nil (seen J.key_of self.now).held && not
-            (is_nil (seen J.key_of self.now).done_lane)) }
+        ensures { result ≡ can_fetch (seen J.key_of self.now) }
     {
         is_spent(&self.held) && !is_bare(&self.done_lane)
     }
@@ -144,8 +127,7 @@ impl<J: Job> WorldProcessor<J, J::Receipt> {
     /// The hand takes the first batch of the done lane.
     pub fn fetch(&mut self)
         requires { not (is_nil (seen J.key_of self.old).done_lane) ≡ true }
-        ensures fetches { seen J.key_of self.new ≡ fetches (seen J.key_of self.old) }
-        ensures given { KeepsGiven J.gives self.old self.new }
+        ensures step { Makes J.key_of J.gives fetches self.old self.new }
     {
         move_batch(&mut self.done_lane, &mut self.held);
     }

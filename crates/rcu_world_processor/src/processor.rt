@@ -1,6 +1,6 @@
 //! What a processor has.
 
-ghost use Rattle.std.specs.Prelude.{◌≡◌, if◌then◌else◌};
+ghost use Rattle.std.specs.Prelude.{◌≡◌};
 ghost use Rattle.rcu_world_law.specs.States.{opening_cpu};
 ghost use Rattle.rcu_world_processor.specs.Views.{seen, records_of, AreGiven};
 

@@ -1,6 +1,6 @@
 //! Lists of segments, in the words of the law.
 
-ghost use Rattle.std.specs.Prelude.{◌≡◌, ℕ, ◌+◌, ◌≤◌, ◌++◌, ◌∷◌, [], true, false, map, take, drop, min, OnOk, OnErr, IfOk};
+ghost use Rattle.std.specs.Prelude.{◌≡◌, ℕ, ◌+◌, ◌≤◌, ◌++◌, ◌∷◌, [], false, map, take, drop, min, OnOk, OnErr, IfOk};
 ghost use Rattle.rcu_world_law.specs.LabelledLists.{MayAccelerate, advance, bare, call_of, done_count, looked, newest, wanted_by_look};
 ghost use Rattle.rcu_world_law.specs.Lists.{tail};
 ghost use Rattle.rcu_numbers.specs.Numbers.{snap_of};

@@ -1,3 +1,4 @@
 pub mod Outcomes
+pub mod Answers
 pub mod Printed
 pub mod Scripts

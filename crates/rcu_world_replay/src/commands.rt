@@ -1,18 +1,20 @@
 //! The commands of a script: the call that each makes, and the line of its answer.
 
-ghost use Rattle.std.specs.Prelude.{◌≡◌, ◌<◌, ◌≤◌, ◌++◌, ℕ, length, true, false, IfErr, IfOk, OnOk, None};
+ghost use Rattle.std.specs.Prelude.{◌<◌, length, IfErr, OnOk, None};
 ghost use Rattle.std.specs.Io.KnownBytes.{Appends};
-ghost use Rattle.rcuo_script.specs.Faults.{IsFaultOfOutput, IsWantOfMemory};
+ghost use Rattle.rcuo_script.specs.Faults.{IsFaultOfOutput};
 ghost use Rattle.rcu_world.specs.Turns.{IsAtRest};
 ghost use Rattle.rcu_world.specs.Views.{state};
 ghost use Rattle.rcu_world.specs.Worlds.{IsWorld};
 ghost use Rattle.rcu_world_replay.specs.Outcomes.{IsBarrier, IsCall, IsDriver, IsGroup, IsHand, IsPoll, IsQuiet, IsShut, IsSwitch, IsTick, shown, shown_one};
+ghost use Rattle.rcu_world.specs.Stays.{StaysWorld};
+ghost use Rattle.rcu_world_replay.specs.Answers.{AnswersAs};
 
 use rcu_jobs::Job;
 use rcu_status::counts;
 use rcu_world::World;
 use rcuo_script::{Fault, Line, Verb, write_lists};
-use std::alloc::Global;
+use std::alloc::{AllocError, Global};
 use std::io::Write;
 
 /// `call` and `lazy`: the job goes in, or is dropped where it is refused.
@@ -22,8 +24,7 @@ pub fn call<J: Job>(world: &mut World<J>, verb: Verb, cpu: u64, moment: u64, job
     requires rest { IsAtRest (state J.key_of world.old.core) }
     ensures line { IsCall (state J.key_of world.old.core) verb cpu moment (J.key_of job) result
         (state J.key_of world.new.core) }
-    ensures kept { IsWorld J.key_of J.gives world.new.core }
-    ensures rest { IsAtRest (state J.key_of world.new.core) }
+    ensures stays { StaysWorld J.key_of J.gives world.old.core world.new.core }
 {
     if cpu >= world.processors() {
         return Line::no_such(verb, cpu);
@@ -48,14 +49,11 @@ pub fn call<J: Job>(world: &mut World<J>, verb: Verb, cpu: u64, moment: u64, job
 }
 
 /// `quiet`: a report of a quiescent state.
-pub fn quiet<J: Job>(world: &mut World<J>, cpu: u64) -> Result<Line, Fault>
+pub fn quiet<J: Job>(world: &mut World<J>, cpu: u64) -> Result<Line, AllocError>
     requires world { IsWorld J.key_of J.gives world.old.core }
     requires rest { IsAtRest (state J.key_of world.old.core) }
-    ensures line { IfOk result (λ line.
-        IsQuiet (state J.key_of world.old.core) cpu line (state J.key_of world.new.core)) }
-    ensures why { IfErr result IsWantOfMemory }
-    ensures kept { IsWorld J.key_of J.gives world.new.core }
-    ensures rest { IsAtRest (state J.key_of world.new.core) }
+    ensures answers { AnswersAs J.key_of J.gives (λ old line new. IsQuiet old cpu line new) result
+        world.old.core world.new.core }
 {
     if cpu >= world.processors() {
         return Ok(Line::no_such(Verb::Quiet, cpu));
@@ -67,14 +65,11 @@ pub fn quiet<J: Job>(world: &mut World<J>, cpu: u64) -> Result<Line, Fault>
 }
 
 /// `tick`: a processor's turn.
-pub fn tick<J: Job>(world: &mut World<J>, cpu: u64, moment: u64) -> Result<Line, Fault>
+pub fn tick<J: Job>(world: &mut World<J>, cpu: u64, moment: u64) -> Result<Line, AllocError>
     requires world { IsWorld J.key_of J.gives world.old.core }
     requires rest { IsAtRest (state J.key_of world.old.core) }
-    ensures line { IfOk result (λ line.
-        IsTick (state J.key_of world.old.core) cpu moment line (state J.key_of world.new.core)) }
-    ensures why { IfErr result IsWantOfMemory }
-    ensures kept { IsWorld J.key_of J.gives world.new.core }
-    ensures rest { IsAtRest (state J.key_of world.new.core) }
+    ensures answers { AnswersAs J.key_of J.gives (λ old line new. IsTick old cpu moment line new)
+        result world.old.core world.new.core }
 {
     if cpu >= world.processors() {
         return Ok(Line::no_such(Verb::Tick, cpu));
@@ -88,27 +83,20 @@ pub fn tick<J: Job>(world: &mut World<J>, cpu: u64, moment: u64) -> Result<Line,
 }
 
 /// `driver`: a turn of the driver.
-pub fn driver<J: Job>(world: &mut World<J>) -> Result<Line, Fault>
+pub fn driver<J: Job>(world: &mut World<J>) -> Result<Line, AllocError>
     requires world { IsWorld J.key_of J.gives world.old.core }
     requires rest { IsAtRest (state J.key_of world.old.core) }
-    ensures line { IfOk result (λ line.
-        IsDriver (state J.key_of world.old.core) line (state J.key_of world.new.core)) }
-    ensures why { IfErr result IsWantOfMemory }
-    ensures kept { IsWorld J.key_of J.gives world.new.core }
-    ensures rest { IsAtRest (state J.key_of world.new.core) }
+    ensures answers { AnswersAs J.key_of J.gives IsDriver result world.old.core world.new.core }
 {
     Ok(Line::Driver(world.driver_turn()?))
 }
 
 /// `group`: a group's turn.
-pub fn group<J: Job>(world: &mut World<J>, group: u64) -> Result<Line, Fault>
+pub fn group<J: Job>(world: &mut World<J>, group: u64) -> Result<Line, AllocError>
     requires world { IsWorld J.key_of J.gives world.old.core }
     requires rest { IsAtRest (state J.key_of world.old.core) }
-    ensures line { IfOk result (λ line.
-        IsGroup (state J.key_of world.old.core) group line (state J.key_of world.new.core)) }
-    ensures why { IfErr result IsWantOfMemory }
-    ensures kept { IsWorld J.key_of J.gives world.new.core }
-    ensures rest { IsAtRest (state J.key_of world.new.core) }
+    ensures answers { AnswersAs J.key_of J.gives (λ old line new. IsGroup old group line new) result
+        world.old.core world.new.core }
 {
     if !world.has_group(group) {
         return Ok(Line::no_such(Verb::Group, group));
@@ -123,14 +111,11 @@ pub fn group<J: Job>(world: &mut World<J>, group: u64) -> Result<Line, Fault>
 
 /// `hand`: a hand's turn.
 #[tactic(auto, using(crate::proofs::Refusals::no_hand))]
-pub fn hand<J: Job>(world: &mut World<J>, cpu: u64) -> Result<Line, Fault>
+pub fn hand<J: Job>(world: &mut World<J>, cpu: u64) -> Result<Line, AllocError>
     requires world { IsWorld J.key_of J.gives world.old.core }
     requires rest { IsAtRest (state J.key_of world.old.core) }
-    ensures line { IfOk result (λ line.
-        IsHand (state J.key_of world.old.core) cpu line (state J.key_of world.new.core)) }
-    ensures why { IfErr result IsWantOfMemory }
-    ensures kept { IsWorld J.key_of J.gives world.new.core }
-    ensures rest { IsAtRest (state J.key_of world.new.core) }
+    ensures answers { AnswersAs J.key_of J.gives (λ old line new. IsHand old cpu line new) result
+        world.old.core world.new.core }
 {
     if cpu >= world.processors() {
         return Ok(Line::no_such(Verb::Hand, cpu));
@@ -152,8 +137,7 @@ pub fn switch<J: Job>(world: &mut World<J>, verb: Verb, cpu: u64) -> Line
     requires rest { IsAtRest (state J.key_of world.old.core) }
     ensures line { IsSwitch (state J.key_of world.old.core) verb cpu result
         (state J.key_of world.new.core) }
-    ensures kept { IsWorld J.key_of J.gives world.new.core }
-    ensures rest { IsAtRest (state J.key_of world.new.core) }
+    ensures stays { StaysWorld J.key_of J.gives world.old.core world.new.core }
 {
     let answer = if verb == Verb::Offload {
         world.offload(cpu)
@@ -171,33 +155,27 @@ pub fn switch<J: Job>(world: &mut World<J>, verb: Verb, cpu: u64) -> Line
 }
 
 /// `barrier`: opens a barrier, in place of the one that was open.
-pub fn barrier<J: Job>(world: &mut World<J>, opened: &mut Option<u64>) -> Result<Line, Fault>
+pub fn barrier<J: Job>(world: &mut World<J>, opened: &mut Option<u64>) -> Result<Line, AllocError>
     requires world { IsWorld J.key_of J.gives world.old.core }
     requires rest { IsAtRest (state J.key_of world.old.core) }
-    ensures line { IfOk result (λ line.
-        IsBarrier (state J.key_of world.old.core) line (state J.key_of world.new.core) opened.new) }
-    ensures why { IfErr result IsWantOfMemory }
-    ensures kept { IsWorld J.key_of J.gives world.new.core }
-    ensures rest { IsAtRest (state J.key_of world.new.core) }
+    ensures answers { AnswersAs J.key_of J.gives (λ old line new. IsBarrier old line new opened.new)
+        result world.old.core world.new.core }
 {
     let Ok(name) = world.barrier(None, &[]) else {
         // (a barrier without tickets is refused for want of memory alone)
-        return Err(Fault::memory());
+        return Err(AllocError);
     };
     *opened = Some(name);
     Ok(Line::Opened)
 }
 
 /// `poll`: asks whether the barrier that is open has passed. If it has, it is open no longer.
-pub fn poll<J: Job>(world: &mut World<J>, opened: &mut Option<u64>) -> Result<Line, Fault>
+pub fn poll<J: Job>(world: &mut World<J>, opened: &mut Option<u64>) -> Result<Line, AllocError>
     requires world { IsWorld J.key_of J.gives world.old.core }
     requires rest { IsAtRest (state J.key_of world.old.core) }
-    ensures line { IfOk result (λ line.
-        IsPoll (state J.key_of world.old.core) opened.old line (state J.key_of world.new.core)
-        opened.new) }
-    ensures why { IfErr result IsWantOfMemory }
-    ensures kept { IsWorld J.key_of J.gives world.new.core }
-    ensures rest { IsAtRest (state J.key_of world.new.core) }
+    ensures answers { AnswersAs J.key_of J.gives
+        (λ old line new. IsPoll old opened.old line new opened.new) result
+        world.old.core world.new.core }
 {
     let Some(name) = *opened else {
         return Ok(Line::NoBarrier);
@@ -210,14 +188,10 @@ pub fn poll<J: Job>(world: &mut World<J>, opened: &mut Option<u64>) -> Result<Li
 }
 
 /// `shut`: shuts all processors.
-pub fn shut<J: Job>(alloc: Global, world: &mut World<J>) -> Result<Line, Fault>
+pub fn shut<J: Job>(alloc: Global, world: &mut World<J>) -> Result<Line, AllocError>
     requires world { IsWorld J.key_of J.gives world.old.core }
     requires rest { IsAtRest (state J.key_of world.old.core) }
-    ensures line { IfOk result (λ line.
-        IsShut (state J.key_of world.old.core) line (state J.key_of world.new.core)) }
-    ensures why { IfErr result IsWantOfMemory }
-    ensures kept { IsWorld J.key_of J.gives world.new.core }
-    ensures rest { IsAtRest (state J.key_of world.new.core) }
+    ensures answers { AnswersAs J.key_of J.gives IsShut result world.old.core world.new.core }
 {
     let last = world.shut()?;
     Ok(Line::Shut(counts(alloc, &last)?))

@@ -1,9 +1,9 @@
 //! The commands of a script, one call of a world each, and the totals.
 
-ghost use Rattle.std.specs.Prelude.{◌≡◌, IfErr, IfOk, OnOk, count_by, false, vec_len};
+ghost use Rattle.std.specs.Prelude.{◌≡◌, IfErr, OnOk, count_by, false, vec_len};
 ghost use Rattle.std.specs.Option.{is_some};
 ghost use Rattle.rcuo_script.specs.Calls.{is_barrier, is_call, is_show};
-ghost use Rattle.rcuo_script.specs.Faults.{IsFaultOfOutput, IsWantOfMemory};
+ghost use Rattle.rcuo_script.specs.Faults.{IsFaultOfOutput};
 ghost use Rattle.rcuo_script.specs.Scripts.{PrintsScript, Writes};
 ghost use Rattle.rcu_world_replay.specs.Printed.{IsAnswer, Prints};
 ghost use Rattle.rcu_world_replay.specs.Scripts.{Replays};
@@ -11,13 +11,15 @@ ghost use Rattle.rcu_jobs.specs.Promised.{Promised};
 ghost use Rattle.rcu_world.specs.Turns.{IsAtRest};
 ghost use Rattle.rcu_world.specs.Views.{state};
 ghost use Rattle.rcu_world.specs.Worlds.{IsWorld};
+ghost use Rattle.rcu_world.specs.Stays.{StaysWorld};
+ghost use Rattle.rcu_world_replay.specs.Answers.{AnswersAs};
 
 use crate::commands::{barrier, call, driver, group, hand, poll, quiet, show, shut, switch, tick};
 use rcu_jobs::{BoxedJob, Job};
 use rcu_setup::{Command, Setup};
 use rcu_world::World;
 use rcuo_script::{Fault, Line, Verb, is_show, job_for, write_line, write_totals};
-use std::alloc::Global;
+use std::alloc::{AllocError, Global};
 use std::collections::VecDeque;
 use std::io::Write;
 
@@ -85,18 +87,15 @@ pub fn answer<J: Job<Receipt = u64>>(
     opened: &mut Option<u64>,
     command: &Command,
     job: Option<J>,
-) -> Result<Line, Fault>
+) -> Result<Line, AllocError>
     requires world { IsWorld J.key_of J.gives world.old.core }
     requires rest { IsAtRest (state J.key_of world.old.core) }
     requires job { is_some job ≡ is_call command.now }
     requires line { is_show command.now ≡ false }
-    ensures line { IfOk result (λ line.
-        IsAnswer J.key_of (state J.key_of world.old.core) opened.old command.now job line
-        (state J.key_of world.new.core) opened.new) }
-    ensures why { IfErr result IsWantOfMemory }
+    ensures answers { AnswersAs J.key_of J.gives
+        (λ old line new. IsAnswer J.key_of old opened.old command.now job line new opened.new)
+        result world.old.core world.new.core }
     ensures barrier { is_barrier command.now ≡ false → opened.new ≡ opened.old }
-    ensures kept { IsWorld J.key_of J.gives world.new.core }
-    ensures rest { IsAtRest (state J.key_of world.new.core) }
 {
     match (command, job) {
         (Command::Call { cpu, moment, .. }, Some(job)) => {
@@ -136,8 +135,7 @@ fn perform<J: Job<Receipt = u64>, W: Write>(
         Prints J.key_of (state J.key_of world.old.core) opened.old command.now job text
         (state J.key_of world.new.core) opened.new)) }
     ensures why { IfErr result IsFaultOfOutput }
-    ensures kept { IsWorld J.key_of J.gives world.new.core }
-    ensures rest { IsAtRest (state J.key_of world.new.core) }
+    ensures stays { StaysWorld J.key_of J.gives world.old.core world.new.core }
 {
     if is_show(command) {
         return show(alloc, world, writer);

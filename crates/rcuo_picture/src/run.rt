@@ -1,11 +1,10 @@
 //! The run of a script over the core, command by command.
 
 ghost use Rattle.std.specs.Option.{is_some};
-ghost use Rattle.std.specs.Prelude.{◌≡◌, IfErr, IfOk, IfSome, None, false, string_bytes, true, vec_len};
+ghost use Rattle.std.specs.Prelude.{◌≡◌, IfOk, IfSome, None, false, string_bytes, true, vec_len};
 ghost use Rattle.rcuo_picture.specs.Keys.{IsKey, key_in};
 ghost use Rattle.rcuo_picture.specs.Steps.{HasAnswer, step_text};
 ghost use Rattle.rcuo_script.specs.Calls.{is_call, is_show};
-ghost use Rattle.rcuo_script.specs.Faults.{IsWantOfMemory};
 ghost use Rattle.rcu_world.specs.Turns.{IsAtRest};
 ghost use Rattle.rcu_world.specs.Views.{state};
 ghost use Rattle.rcu_world.specs.Worlds.{IsWorld};
@@ -16,8 +15,8 @@ use rcu_setup::{Command, Setup};
 use rcu_world::World;
 use rcu_world_law::marks::Mark;
 use rcu_world_replay::answer;
-use rcuo_script::{Fault, Line, is_show};
-use std::alloc::Global;
+use rcuo_script::{Line, is_show};
+use std::alloc::{AllocError, Global};
 
 /// The most commands of a script that are drawn: more can't be read.
 pub const MOST_STEPS: usize = 500;
@@ -120,9 +119,8 @@ fn shown(lists: Lists, ran: u64) -> Shown {
 }
 
 /// What all processors show.
-fn all_shown(alloc: Global, world: &World<KeyJob>) -> Result<Vec<Shown>, Fault>
+fn all_shown(alloc: Global, world: &World<KeyJob>) -> Result<Vec<Shown>, AllocError>
     requires { IsWorld key_in IsKey world.now.core }
-    ensures why { IfErr result IsWantOfMemory }
 {
     let mut all = Vec::new(alloc);
     let history = world.history();
@@ -150,12 +148,11 @@ fn perform(
     opened: &mut Option<u64>,
     command: &Command,
     key: u64,
-) -> Result<Step, Fault>
+) -> Result<Step, AllocError>
     requires world { IsWorld key_in IsKey world.old.core }
     requires rest { IsAtRest (state key_in world.old.core) }
     ensures kept { IsWorld key_in IsKey world.new.core }
     ensures rest { IsAtRest (state key_in world.new.core) }
-    ensures why { IfErr result IsWantOfMemory }
     ensures show { is_show command.now ≡ true → IfOk result (λ step. step.line ≡ None) }
     ensures line { is_show command.now ≡ false → IfOk result (λ step.
         HasAnswer key (state key_in world.old.core) opened.old command.now step.line
@@ -182,9 +179,7 @@ fn perform(
 }
 
 /// Of each processor whether it has a hand.
-fn hands(alloc: Global, world: &World<KeyJob>) -> Result<Vec<bool>, Fault>
-    ensures why { IfErr result IsWantOfMemory }
-{
+fn hands(alloc: Global, world: &World<KeyJob>) -> Result<Vec<bool>, AllocError> {
     let mut hands = Vec::new(alloc);
     for cpu in 0..world.processors() {
         hands.push(world.has_hand(cpu))?;
@@ -193,9 +188,8 @@ fn hands(alloc: Global, world: &World<KeyJob>) -> Result<Vec<bool>, Fault>
 }
 
 /// The groups that have a part.
-fn groups(alloc: Global, world: &World<KeyJob>) -> Result<Vec<u64>, Fault>
+fn groups(alloc: Global, world: &World<KeyJob>) -> Result<Vec<u64>, AllocError>
     requires { IsWorld key_in IsKey world.now.core }
-    ensures why { IfErr result IsWantOfMemory }
 {
     let mut groups = Vec::new(alloc);
     for group in 0..world.processors() {
@@ -211,8 +205,7 @@ fn groups(alloc: Global, world: &World<KeyJob>) -> Result<Vec<u64>, Fault>
 /// # Errors
 ///
 /// Want of memory.
-pub fn play(alloc: Global, setup: &Setup) -> Result<Run, Fault>
-    ensures why { IfErr result IsWantOfMemory }
+pub fn play(alloc: Global, setup: &Setup) -> Result<Run, AllocError>
     ensures commands { IfOk result (λ run. run.commands ≡ vec_len setup.now.script) }
 {
     let mut world = World::new(alloc, setup.shape)?;

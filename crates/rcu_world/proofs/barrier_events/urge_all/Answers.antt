@@ -14,7 +14,7 @@ loop-i-preserved g c =
     let l : c.loop-i.i < length c.loop-i.processors.items = omega arith in
     let k : c.loop-i.i < length (all_seen g.J.Job.key_of c.loop-i.processors.items) = subst (λ n. c.loop-i.i < n) (sym (length-map c.loop-i.processors.items (seen g.J.Job.key_of))) l in
     let s : seen g.J.Job.key_of c.urge.new.self ≡ urge_step c.loop-i.i (seen g.J.Job.key_of c.index_mut-p.result.now) =
-    c.urge.ensures.urges in
+    c.urge.ensures.step.made in
     let m : set (all_seen g.J.Job.key_of c.loop-i.processors.items) c.loop-i.i (seen g.J.Job.key_of c.urge.new.self) ≡ all_seen g.J.Job.key_of (set c.loop-i.processors.items c.loop-i.i c.urge.new.self) = sym (map-set (seen g.J.Job.key_of) c.loop-i.processors.items c.loop-i.i c.urge.new.self) in
     record {
       done = subst (λ x. each_cpu urge_step 0 (all_seen g.J.Job.key_of c.args.processors.now.items)
@@ -24,7 +24,7 @@ loop-i-preserved g c =
       rest = subst (λ x. drop (c.loop-i.i + 1) x ≡ drop (c.loop-i.i + 1) (all_seen g.J.Job.key_of c.args.processors.now.items)) m
           (drop-set-lt (c.loop-i.i + 1) (all_seen g.J.Job.key_of c.loop-i.processors.items) c.loop-i.i (seen g.J.Job.key_of c.urge.new.self) (omega arith) ∙ drop_again c.loop-i.i _ _ c.loop-i.invariant.rest);
       len = length-set c.loop-i.processors.items c.loop-i.i c.urge.new.self ∙ c.loop-i.invariant.len;
-      given = λ mark a. kept_at (AreGiven g.J.Job.gives mark) c.loop-i.processors.items c.loop-i.i c.index_mut-p.result.now c.urge.new.self l c.index_mut-p.ensures.value (c.urge.ensures.given mark) (c.loop-i.invariant.given mark a);
+      given = λ mark a. kept_at (AreGiven g.J.Job.gives mark) c.loop-i.processors.items c.loop-i.i c.index_mut-p.result.now c.urge.new.self l c.index_mut-p.ensures.value (c.urge.ensures.step.given mark) (c.loop-i.invariant.given mark a);
     }
 
 pub returns-clause-urges : goal.returns-clause-urges

@@ -30,7 +30,7 @@ loop-i-preserved g c =
     let l : c.loop-i.i < length c.loop-i.processors.items = omega arith in
     let k : c.loop-i.i < length (all_seen g.J.Job.key_of c.loop-i.processors.items) = subst (λ n. c.loop-i.i < n) (sym (length-map c.loop-i.processors.items (seen g.J.Job.key_of))) l in
     let s : seen g.J.Job.key_of c.look_as.new.self ≡ group_step c.args.offloadable.now.items c.args.stride c.args.group c.args.number c.loop-i.i (seen g.J.Job.key_of c.index_mut-p.result.now) =
-    c.look_as.ensures.looks ∙ ap (λ b. cond b (group_looks c.args.number (seen g.J.Job.key_of c.index_mut-p.result.now)) (seen g.J.Job.key_of c.index_mut-p.result.now)) c.is_member_of-member.ensures in
+    c.look_as.ensures.step.made ∙ ap (λ b. cond b (group_looks c.args.number (seen g.J.Job.key_of c.index_mut-p.result.now)) (seen g.J.Job.key_of c.index_mut-p.result.now)) c.is_member_of-member.ensures in
     let m : set (all_seen g.J.Job.key_of c.loop-i.processors.items) c.loop-i.i (seen g.J.Job.key_of c.look_as.new.self) ≡ all_seen g.J.Job.key_of (set c.loop-i.processors.items c.loop-i.i c.look_as.new.self) = sym (map-set (seen g.J.Job.key_of) c.loop-i.processors.items c.loop-i.i c.look_as.new.self) in
     record {
       done = subst (λ x. each_cpu (group_step c.args.offloadable.now.items c.args.stride c.args.group c.args.number) 0 (all_seen g.J.Job.key_of c.args.processors.now.items)
@@ -40,7 +40,7 @@ loop-i-preserved g c =
       rest = subst (λ x. drop (c.loop-i.i + 1) x ≡ drop (c.loop-i.i + 1) (all_seen g.J.Job.key_of c.args.processors.now.items)) m
           (drop-set-lt (c.loop-i.i + 1) (all_seen g.J.Job.key_of c.loop-i.processors.items) c.loop-i.i (seen g.J.Job.key_of c.look_as.new.self) (omega arith) ∙ drop_again c.loop-i.i _ _ c.loop-i.invariant.rest);
       len = length-set c.loop-i.processors.items c.loop-i.i c.look_as.new.self ∙ c.loop-i.invariant.len;
-      given = λ mark a. kept_at (AreGiven g.J.Job.gives mark) c.loop-i.processors.items c.loop-i.i c.index_mut-p.result.now c.look_as.new.self l c.index_mut-p.ensures.value (c.look_as.ensures.given mark) (c.loop-i.invariant.given mark a);
+      given = λ mark a. kept_at (AreGiven g.J.Job.gives mark) c.loop-i.processors.items c.loop-i.i c.index_mut-p.result.now c.look_as.new.self l c.index_mut-p.ensures.value (c.look_as.ensures.step.given mark) (c.loop-i.invariant.given mark a);
     }
 
 pub returns-clause-looks : goal.returns-clause-looks

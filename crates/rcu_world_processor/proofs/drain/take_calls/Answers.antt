@@ -7,8 +7,7 @@ use Rattle.rcu_world_processor.proofs.Taking.{none_left, none_taken, one_less, o
 use Rattle.rcu_world_processor.proofs.drain.take_calls.Goals as goal
 
 pub loop-jobs-preserved : goal.loop-jobs-preserved
-loop-jobs-preserved g c =
-    let k = g.J.Job.key_of in
+loop-jobs-preserved g c = let k = g.J.Job.key_of in
     let xs = calls k c.loop-jobs.left.items in
     let i = c.loop-jobs.invariant in
     let e : is_nil xs ≡ false = search rules in
@@ -20,8 +19,15 @@ loop-jobs-preserved g c =
       capacity = omega (arith, c.push_reserved.ensures.capacity, i.capacity);
     }
 
-pub returns-clause-keys : goal.returns-clause-keys
-returns-clause-keys g c = let e : is_nil (calls g.J.Job.key_of c.loop-jobs.left.items) ≡ true = search rules in none_taken g.J.Job.key_of c.loop-jobs.jobs.items (calls g.J.Job.key_of c.loop-jobs.left.items) _ e c.loop-jobs.invariant.keys
-
-pub returns-clause-len : goal.returns-clause-len
-returns-clause-len g c = let e : is_nil (calls g.J.Job.key_of c.loop-jobs.left.items) ≡ true = search rules in omega (arith, none_left (calls g.J.Job.key_of c.loop-jobs.left.items) e, c.loop-jobs.invariant.len)
+pub returns : goal.returns
+returns g c = record {
+  jobs = record {
+    keys = (
+        let e : is_nil (calls g.J.Job.key_of c.loop-jobs.left.items) ≡ true = search rules in none_taken g.J.Job.key_of c.loop-jobs.jobs.items (calls g.J.Job.key_of c.loop-jobs.left.items) _ e c.loop-jobs.invariant.keys
+        );
+    len = (
+        let e : is_nil (calls g.J.Job.key_of c.loop-jobs.left.items) ≡ true = search rules in omega (arith, none_left (calls g.J.Job.key_of c.loop-jobs.left.items) e, c.loop-jobs.invariant.len)
+        );
+    capacity = search rules;
+  };
+}

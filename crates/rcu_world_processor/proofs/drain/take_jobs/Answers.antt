@@ -1,4 +1,4 @@
-use Rattle.std.proofs.Common.{◌≡◌, ◌∙◌, ◌++◌, map, true, false, ap, arith, sym, length}
+use Rattle.std.proofs.Common.{rules, ◌≡◌, ◌∙◌, ◌++◌, map, true, false, ap, arith, sym, length}
 use Rattle.rcu_world_law.specs.Calls.{Call}
 use Rattle.rcu_world_law.specs.Lists.{is_nil}
 use Rattle.rcu_world_law.specs.Places.{key_of}
@@ -7,8 +7,7 @@ use Rattle.rcu_world_processor.proofs.Taking.{none_left, none_taken, one_less, o
 use Rattle.rcu_world_processor.proofs.drain.take_jobs.Goals as goal
 
 pub loop-jobs-preserved : goal.loop-jobs-preserved
-loop-jobs-preserved g c =
-    let k = g.J.Job.key_of in
+loop-jobs-preserved g c = let k = g.J.Job.key_of in
     let xs = batch k c.loop-jobs.left in
     let i = c.loop-jobs.invariant in
     let e : is_nil xs ≡ false = sym c.is_spent.ensures ∙ c.loop-jobs-test.true in
@@ -20,11 +19,18 @@ loop-jobs-preserved g c =
       capacity = omega (arith, c.push_reserved.ensures.capacity, i.capacity);
     }
 
-pub returns-clause-keys : goal.returns-clause-keys
-returns-clause-keys g c = let e : is_nil (batch g.J.Job.key_of c.loop-jobs.left) ≡ true = sym c.is_spent.ensures ∙ c.loop-jobs-test.false in none_taken g.J.Job.key_of c.loop-jobs.jobs.items (batch g.J.Job.key_of c.loop-jobs.left) _ e c.loop-jobs.invariant.keys
-
-pub returns-clause-len : goal.returns-clause-len
-returns-clause-len g c = let e : is_nil (batch g.J.Job.key_of c.loop-jobs.left) ≡ true = sym c.is_spent.ensures ∙ c.loop-jobs-test.false in omega (arith, none_left (batch g.J.Job.key_of c.loop-jobs.left) e, c.loop-jobs.invariant.len)
+pub returns : goal.returns
+returns g c = record {
+  jobs = record {
+    keys = (
+        let e : is_nil (batch g.J.Job.key_of c.loop-jobs.left) ≡ true = sym c.is_spent.ensures ∙ c.loop-jobs-test.false in none_taken g.J.Job.key_of c.loop-jobs.jobs.items (batch g.J.Job.key_of c.loop-jobs.left) _ e c.loop-jobs.invariant.keys
+        );
+    len = (
+        let e : is_nil (batch g.J.Job.key_of c.loop-jobs.left) ≡ true = sym c.is_spent.ensures ∙ c.loop-jobs-test.false in omega (arith, none_left (batch g.J.Job.key_of c.loop-jobs.left) e, c.loop-jobs.invariant.len)
+        );
+    capacity = search rules;
+  };
+}
 
 pub push_reserved-requires : goal.push_reserved-requires
 push_reserved-requires g c = let xs = batch g.J.Job.key_of c.loop-jobs.left in

@@ -1,11 +1,12 @@
 use Rattle.std.proofs.Common.{◌≡◌, ◌<◌, ◌≤◌, ◌∙◌, Bool, true, false, length, refl, sym, subst}
-use Rattle.rcu_world_law.specs.States.{cpu_at}
 use Rattle.rcu_world.specs.Ready.{IsRefusal}
-use Rattle.rcu_world.specs.Turns.{IsAtRest, Leads, call_events}
+use Rattle.rcu_world.specs.Turns.{Leads, call_events}
 use Rattle.rcu_world.specs.Views.{state}
-use Rattle.rcu_world.specs.Worlds.{IsWorld}
 use Rattle.rcu_world_replay.proofs.Answering.{called, if_err, if_ok, on_err, on_ok, refused_call, says_lazy}
 use Rattle.rcu_world_replay.proofs.Refusals.{no_call_line}
+use Rattle.rcu_world.proofs.Staying.{stays_same}
+use Rattle.rcu_world.specs.Stays.{StaysWorld}
+use Rattle.rcu_world.specs.Calls.{IsTicket}
 use Rattle.rcu_world_replay.proofs.commands.call.Goals as goal
 use Rattle.rcu_world_replay.proofs.commands.call.Goals.{then-eq, else-eq}
 
@@ -16,41 +17,17 @@ returns-then-cpu-processors-clause-line g c =
 
 pub returns-in-Ok-clause-line : goal.returns-in-Ok-clause-line
 returns-in-Ok-clause-line g c = elim c.if-eq.branch [
-  | then-eq w ↦ called (state g.J.Job.key_of c.args.world.now.core) (state g.J.Job.key_of c.if-eq.world.core) c.args.cpu c.args.moment (g.J.Job.key_of c.args.job) c.args.verb true (sym (says_lazy c.args.verb) ∙ sym c.eq.ensures ∙ w.if-eq.true) _ (if_ok w.answer-is (λ t. (t.cpu ≡ c.args.cpu) × (t.number ≡ (cpu_at (state g.J.Job.key_of c.args.world.now.core) c.args.cpu).count)) c.in-Ok.is w.call_rcu_lazy-answer.ensures.ticket).1 (subst (λ x. (room : Bool) × Leads (state g.J.Job.key_of c.args.world.now.core) (call_events c.args.cpu c.args.moment true (g.J.Job.key_of c.args.job) room (state g.J.Job.key_of c.args.world.now.core)) (state g.J.Job.key_of x.core)) (sym w.world-is) (on_ok w.answer-is c.in-Ok.is w.call_rcu_lazy-answer.ensures.events))
-  | else-eq w ↦ called (state g.J.Job.key_of c.args.world.now.core) (state g.J.Job.key_of c.if-eq.world.core) c.args.cpu c.args.moment (g.J.Job.key_of c.args.job) c.args.verb false (sym (says_lazy c.args.verb) ∙ sym c.eq.ensures ∙ w.if-eq.false) _ (if_ok w.answer-is (λ t. (t.cpu ≡ c.args.cpu) × (t.number ≡ (cpu_at (state g.J.Job.key_of c.args.world.now.core) c.args.cpu).count)) c.in-Ok.is w.call_rcu-answer.ensures.ticket).1 (subst (λ x. (room : Bool) × Leads (state g.J.Job.key_of c.args.world.now.core) (call_events c.args.cpu c.args.moment false (g.J.Job.key_of c.args.job) room (state g.J.Job.key_of c.args.world.now.core)) (state g.J.Job.key_of x.core)) (sym w.world-is) (on_ok w.answer-is c.in-Ok.is w.call_rcu-answer.ensures.events))
+  | then-eq w ↦ called (state g.J.Job.key_of c.args.world.now.core) (state g.J.Job.key_of c.if-eq.world.core) c.args.cpu c.args.moment (g.J.Job.key_of c.args.job) c.args.verb true (sym (says_lazy c.args.verb) ∙ sym c.eq.ensures ∙ w.if-eq.true) _ (if_ok w.answer-is (IsTicket (state g.J.Job.key_of c.args.world.now.core) c.args.cpu) c.in-Ok.is w.call_rcu_lazy-answer.ensures.called.ticket).number (subst (λ x. (room : Bool) × Leads (state g.J.Job.key_of c.args.world.now.core) (call_events c.args.cpu c.args.moment true (g.J.Job.key_of c.args.job) room (state g.J.Job.key_of c.args.world.now.core)) (state g.J.Job.key_of x.core)) (sym w.world-is) (on_ok w.answer-is c.in-Ok.is w.call_rcu_lazy-answer.ensures.called.events))
+  | else-eq w ↦ called (state g.J.Job.key_of c.args.world.now.core) (state g.J.Job.key_of c.if-eq.world.core) c.args.cpu c.args.moment (g.J.Job.key_of c.args.job) c.args.verb false (sym (says_lazy c.args.verb) ∙ sym c.eq.ensures ∙ w.if-eq.false) _ (if_ok w.answer-is (IsTicket (state g.J.Job.key_of c.args.world.now.core) c.args.cpu) c.in-Ok.is w.call_rcu-answer.ensures.called.ticket).number (subst (λ x. (room : Bool) × Leads (state g.J.Job.key_of c.args.world.now.core) (call_events c.args.cpu c.args.moment false (g.J.Job.key_of c.args.job) room (state g.J.Job.key_of c.args.world.now.core)) (state g.J.Job.key_of x.core)) (sym w.world-is) (on_ok w.answer-is c.in-Ok.is w.call_rcu-answer.ensures.called.events))
 ]
 
 pub returns-in-Err-clause-line : goal.returns-in-Err-clause-line
 returns-in-Err-clause-line g c =
     let there : c.args.cpu < length (state g.J.Job.key_of c.args.world.now.core).cpus = subst (λ n. c.args.cpu < n) c.processors.ensures c.if-cpu-processors.false in
     elim c.if-eq.branch [
-      | then-eq w ↦ (refl, refl, c.number.ensures ∙ refused_call (state g.J.Job.key_of c.args.world.now.core) c.args.cpu c.args.job c.in-Err.refused there (if_err w.answer-is (IsRefusal (state g.J.Job.key_of c.args.world.now.core) c.args.cpu c.args.job) c.in-Err.is w.call_rcu_lazy-answer.ensures.refused), subst (λ x. state g.J.Job.key_of x.core ≡ (state g.J.Job.key_of c.args.world.now.core)) (sym w.world-is) (on_err w.answer-is c.in-Err.is w.call_rcu_lazy-answer.ensures.same))
-      | else-eq w ↦ (refl, refl, c.number.ensures ∙ refused_call (state g.J.Job.key_of c.args.world.now.core) c.args.cpu c.args.job c.in-Err.refused there (if_err w.answer-is (IsRefusal (state g.J.Job.key_of c.args.world.now.core) c.args.cpu c.args.job) c.in-Err.is w.call_rcu-answer.ensures.refused), subst (λ x. state g.J.Job.key_of x.core ≡ (state g.J.Job.key_of c.args.world.now.core)) (sym w.world-is) (on_err w.answer-is c.in-Err.is w.call_rcu-answer.ensures.same))
+      | then-eq w ↦ (refl, refl, c.number.ensures ∙ refused_call (state g.J.Job.key_of c.args.world.now.core) c.args.cpu c.args.job c.in-Err.refused there (if_err w.answer-is (IsRefusal (state g.J.Job.key_of c.args.world.now.core) c.args.cpu c.args.job) c.in-Err.is w.call_rcu_lazy-answer.ensures.called.refused), subst (λ x. state g.J.Job.key_of x.core ≡ (state g.J.Job.key_of c.args.world.now.core)) (sym w.world-is) (on_err w.answer-is c.in-Err.is w.call_rcu_lazy-answer.ensures.called.same))
+      | else-eq w ↦ (refl, refl, c.number.ensures ∙ refused_call (state g.J.Job.key_of c.args.world.now.core) c.args.cpu c.args.job c.in-Err.refused there (if_err w.answer-is (IsRefusal (state g.J.Job.key_of c.args.world.now.core) c.args.cpu c.args.job) c.in-Err.is w.call_rcu-answer.ensures.called.refused), subst (λ x. state g.J.Job.key_of x.core ≡ (state g.J.Job.key_of c.args.world.now.core)) (sym w.world-is) (on_err w.answer-is c.in-Err.is w.call_rcu-answer.ensures.called.same))
     ]
-
-pub returns-in-Ok-clause-kept : goal.returns-in-Ok-clause-kept
-returns-in-Ok-clause-kept g c = elim c.if-eq.branch [
-  | then-eq w ↦ subst (λ x. IsWorld g.J.Job.key_of g.J.Job.gives x.core) (sym w.world-is) w.call_rcu_lazy-answer.ensures.kept
-  | else-eq w ↦ subst (λ x. IsWorld g.J.Job.key_of g.J.Job.gives x.core) (sym w.world-is) w.call_rcu-answer.ensures.kept
-]
-
-pub returns-in-Ok-clause-rest : goal.returns-in-Ok-clause-rest
-returns-in-Ok-clause-rest g c = elim c.if-eq.branch [
-  | then-eq w ↦ subst (λ x. IsAtRest (state g.J.Job.key_of x.core)) (sym w.world-is) w.call_rcu_lazy-answer.ensures.rest
-  | else-eq w ↦ subst (λ x. IsAtRest (state g.J.Job.key_of x.core)) (sym w.world-is) w.call_rcu-answer.ensures.rest
-]
-
-pub returns-in-Err-clause-kept : goal.returns-in-Err-clause-kept
-returns-in-Err-clause-kept g c = elim c.if-eq.branch [
-  | then-eq w ↦ subst (λ x. IsWorld g.J.Job.key_of g.J.Job.gives x.core) (sym w.world-is) w.call_rcu_lazy-answer.ensures.kept
-  | else-eq w ↦ subst (λ x. IsWorld g.J.Job.key_of g.J.Job.gives x.core) (sym w.world-is) w.call_rcu-answer.ensures.kept
-]
-
-pub returns-in-Err-clause-rest : goal.returns-in-Err-clause-rest
-returns-in-Err-clause-rest g c = elim c.if-eq.branch [
-  | then-eq w ↦ subst (λ x. IsAtRest (state g.J.Job.key_of x.core)) (sym w.world-is) w.call_rcu_lazy-answer.ensures.rest
-  | else-eq w ↦ subst (λ x. IsAtRest (state g.J.Job.key_of x.core)) (sym w.world-is) w.call_rcu-answer.ensures.rest
-]
 
 pub processors-requires-send-J : goal.processors-requires-send-J
 processors-requires-send-J g c κs within = c.type_bounds.send-J
@@ -78,3 +55,18 @@ call_rcu_lazy-answer-requires-after_bounds g c κs within = (assumption, (c.requ
 
 pub call_rcu-answer-requires-after_bounds : goal.call_rcu-answer-requires-after_bounds
 call_rcu-answer-requires-after_bounds g c κs within = (assumption, (c.requires.world, (subst (λ n. c.args.cpu < n) c.processors.ensures c.if-cpu-processors.false, c.requires.rest)))
+
+pub returns-in-Ok-clause-stays : goal.returns-in-Ok-clause-stays
+returns-in-Ok-clause-stays g c = elim c.if-eq.branch [
+  | then-eq w ↦ subst (λ x. StaysWorld g.J.Job.key_of g.J.Job.gives c.args.world.now.core x.core) (sym w.world-is) w.call_rcu_lazy-answer.ensures.called.stays
+  | else-eq w ↦ subst (λ x. StaysWorld g.J.Job.key_of g.J.Job.gives c.args.world.now.core x.core) (sym w.world-is) w.call_rcu-answer.ensures.called.stays
+]
+
+pub returns-in-Err-clause-stays : goal.returns-in-Err-clause-stays
+returns-in-Err-clause-stays g c = elim c.if-eq.branch [
+  | then-eq w ↦ subst (λ x. StaysWorld g.J.Job.key_of g.J.Job.gives c.args.world.now.core x.core) (sym w.world-is) w.call_rcu_lazy-answer.ensures.called.stays
+  | else-eq w ↦ subst (λ x. StaysWorld g.J.Job.key_of g.J.Job.gives c.args.world.now.core x.core) (sym w.world-is) w.call_rcu-answer.ensures.called.stays
+]
+
+pub returns-then-cpu-processors-clause-stays : goal.returns-then-cpu-processors-clause-stays
+returns-then-cpu-processors-clause-stays g c = stays_same c.requires.world

@@ -1,7 +1,8 @@
-use Rattle.std.proofs.Common.{◌<◌, ◌≤◌, refl, subst, sym}
+use Rattle.std.proofs.Common.{rules, ◌<◌, ◌≤◌, refl, subst, sym}
 use Rattle.rcu_world.specs.Views.{state}
 use Rattle.rcu_world.proofs.Wholes.{if_ok_never}
 use Rattle.rcu_world_replay.specs.Outcomes.{IsQuiet}
+use Rattle.rcu_world.proofs.Staying.{stays_same}
 use Rattle.rcu_world_replay.proofs.commands.quiet.Goals as goal
 
 pub processors-requires-send-J : goal.processors-requires-send-J
@@ -22,8 +23,34 @@ processors-requires-after_bounds g c κs within = assumption
 pub quiescent-requires-after_bounds : goal.quiescent-requires-after_bounds
 quiescent-requires-after_bounds g c κs within = (assumption, (c.requires.world, (subst (λ n. c.args.cpu < n) c.processors.ensures c.if-cpu-processors.false, c.requires.rest)))
 
-pub returns-then-cpu-processors-clause-line : goal.returns-then-cpu-processors-clause-line
-returns-then-cpu-processors-clause-line g c = subst (λ l. IsQuiet (state g.J.Job.key_of c.args.world.now.core) c.args.cpu l (state g.J.Job.key_of c.args.world.now.core)) (sym c.no_such.ensures) (subst (λ n. n ≤ c.args.cpu) c.processors.ensures c.if-cpu-processors.true, refl, refl)
+pub returns-then-cpu-processors : goal.returns-then-cpu-processors
+returns-then-cpu-processors g c = record {
+  answers = record {
+    line = subst (λ l. IsQuiet (state g.J.Job.key_of c.args.world.now.core) c.args.cpu l (state g.J.Job.key_of c.args.world.now.core)) (sym c.no_such.ensures) (subst (λ n. n ≤ c.args.cpu) c.processors.ensures c.if-cpu-processors.true, refl, refl);
+    stays = stays_same c.requires.world;
+  };
+}
 
-pub returns-in_err-seq-clause-line : goal.returns-in_err-seq-clause-line
-returns-in_err-seq-clause-line g c = if_ok_never _ _ c.from_residual.ensures
+pub returns-in_err-seq : goal.returns-in_err-seq
+returns-in_err-seq g c = record {
+  answers = record {
+    line = if_ok_never _ _ c.from_residual.ensures;
+    stays = c.quiescent.ensures.stays;
+  };
+}
+
+pub returns-in-Some : goal.returns-in-Some
+returns-in-Some g c = record {
+  answers = record {
+    line = search rules;
+    stays = c.quiescent.ensures.stays;
+  };
+}
+
+pub returns-in-None : goal.returns-in-None
+returns-in-None g c = record {
+  answers = record {
+    line = search rules;
+    stays = c.quiescent.ensures.stays;
+  };
+}

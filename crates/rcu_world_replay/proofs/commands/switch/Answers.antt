@@ -1,44 +1,32 @@
 use Rattle.std.proofs.Common.{◌∙◌, true, false, refl, sym, subst}
 use Rattle.rcu_world_law.specs.Events.CoreEvent.{Ask}
-use Rattle.rcu_world.specs.Turns.{IsAtRest, Leads, where_enabled}
+use Rattle.rcu_world.specs.Turns.{Leads, where_enabled}
 use Rattle.rcu_world.specs.Views.{state}
-use Rattle.rcu_world.specs.Worlds.{IsWorld}
 use Rattle.rcu_world_replay.proofs.Answering.{asked, says_offload}
+use Rattle.rcu_world.specs.Stays.{StaysWorld}
 use Rattle.rcu_world_replay.proofs.commands.switch.Goals as goal
 use Rattle.rcu_world_replay.proofs.commands.switch.Goals.{then-eq, else-eq}
 
 pub returns-in-Ok-clause-line : goal.returns-in-Ok-clause-line
 returns-in-Ok-clause-line g c = elim c.if-eq.branch [
-  | then-eq w ↦ (refl, refl, sym w.offload-answer.ensures.answer ∙ sym w.answer-is ∙ c.in-Ok.is, asked (state g.J.Job.key_of c.args.world.now.core) _ c.args.cpu c.args.verb true (sym (says_offload c.args.verb) ∙ sym c.eq.ensures ∙ w.if-eq.true) (subst (λ x. Leads (state g.J.Job.key_of c.args.world.now.core) (where_enabled (Ask c.args.cpu true) (state g.J.Job.key_of c.args.world.now.core)) (state g.J.Job.key_of x.core)) (sym w.world-is) w.offload-answer.ensures.events))
-  | else-eq w ↦ (refl, refl, sym w.deoffload-answer.ensures.answer ∙ sym w.answer-is ∙ c.in-Ok.is, asked (state g.J.Job.key_of c.args.world.now.core) _ c.args.cpu c.args.verb false (sym (says_offload c.args.verb) ∙ sym c.eq.ensures ∙ w.if-eq.false) (subst (λ x. Leads (state g.J.Job.key_of c.args.world.now.core) (where_enabled (Ask c.args.cpu false) (state g.J.Job.key_of c.args.world.now.core)) (state g.J.Job.key_of x.core)) (sym w.world-is) w.deoffload-answer.ensures.events))
-]
-
-pub returns-in-Ok-clause-kept : goal.returns-in-Ok-clause-kept
-returns-in-Ok-clause-kept g c = elim c.if-eq.branch [
-  | then-eq w ↦ subst (λ x. IsWorld g.J.Job.key_of g.J.Job.gives x.core) (sym w.world-is) w.offload-answer.ensures.kept
-  | else-eq w ↦ subst (λ x. IsWorld g.J.Job.key_of g.J.Job.gives x.core) (sym w.world-is) w.deoffload-answer.ensures.kept
-]
-
-pub returns-in-Ok-clause-rest : goal.returns-in-Ok-clause-rest
-returns-in-Ok-clause-rest g c = elim c.if-eq.branch [
-  | then-eq w ↦ subst (λ x. IsAtRest (state g.J.Job.key_of x.core)) (sym w.world-is) w.offload-answer.ensures.rest
-  | else-eq w ↦ subst (λ x. IsAtRest (state g.J.Job.key_of x.core)) (sym w.world-is) w.deoffload-answer.ensures.rest
+  | then-eq w ↦ (refl, refl, sym w.offload-answer.ensures.answer ∙ sym w.answer-is ∙ c.in-Ok.is, asked (state g.J.Job.key_of c.args.world.now.core) _ c.args.cpu c.args.verb true (sym (says_offload c.args.verb) ∙ sym c.eq.ensures ∙ w.if-eq.true) (subst (λ x. Leads (state g.J.Job.key_of c.args.world.now.core) (where_enabled (Ask c.args.cpu true) (state g.J.Job.key_of c.args.world.now.core)) (state g.J.Job.key_of x.core)) (sym w.world-is) w.offload-answer.ensures.events.leads))
+  | else-eq w ↦ (refl, refl, sym w.deoffload-answer.ensures.answer ∙ sym w.answer-is ∙ c.in-Ok.is, asked (state g.J.Job.key_of c.args.world.now.core) _ c.args.cpu c.args.verb false (sym (says_offload c.args.verb) ∙ sym c.eq.ensures ∙ w.if-eq.false) (subst (λ x. Leads (state g.J.Job.key_of c.args.world.now.core) (where_enabled (Ask c.args.cpu false) (state g.J.Job.key_of c.args.world.now.core)) (state g.J.Job.key_of x.core)) (sym w.world-is) w.deoffload-answer.ensures.events.leads))
 ]
 
 pub returns-in-Err-clause-line : goal.returns-in-Err-clause-line
 returns-in-Err-clause-line g c = elim c.if-eq.branch [
-  | then-eq w ↦ (refl, refl, (c.in-Err.fault, sym w.offload-answer.ensures.answer ∙ sym w.answer-is ∙ c.in-Err.is, c.number.ensures), asked (state g.J.Job.key_of c.args.world.now.core) _ c.args.cpu c.args.verb true (sym (says_offload c.args.verb) ∙ sym c.eq.ensures ∙ w.if-eq.true) (subst (λ x. Leads (state g.J.Job.key_of c.args.world.now.core) (where_enabled (Ask c.args.cpu true) (state g.J.Job.key_of c.args.world.now.core)) (state g.J.Job.key_of x.core)) (sym w.world-is) w.offload-answer.ensures.events))
-  | else-eq w ↦ (refl, refl, (c.in-Err.fault, sym w.deoffload-answer.ensures.answer ∙ sym w.answer-is ∙ c.in-Err.is, c.number.ensures), asked (state g.J.Job.key_of c.args.world.now.core) _ c.args.cpu c.args.verb false (sym (says_offload c.args.verb) ∙ sym c.eq.ensures ∙ w.if-eq.false) (subst (λ x. Leads (state g.J.Job.key_of c.args.world.now.core) (where_enabled (Ask c.args.cpu false) (state g.J.Job.key_of c.args.world.now.core)) (state g.J.Job.key_of x.core)) (sym w.world-is) w.deoffload-answer.ensures.events))
+  | then-eq w ↦ (refl, refl, (c.in-Err.fault, sym w.offload-answer.ensures.answer ∙ sym w.answer-is ∙ c.in-Err.is, c.number.ensures), asked (state g.J.Job.key_of c.args.world.now.core) _ c.args.cpu c.args.verb true (sym (says_offload c.args.verb) ∙ sym c.eq.ensures ∙ w.if-eq.true) (subst (λ x. Leads (state g.J.Job.key_of c.args.world.now.core) (where_enabled (Ask c.args.cpu true) (state g.J.Job.key_of c.args.world.now.core)) (state g.J.Job.key_of x.core)) (sym w.world-is) w.offload-answer.ensures.events.leads))
+  | else-eq w ↦ (refl, refl, (c.in-Err.fault, sym w.deoffload-answer.ensures.answer ∙ sym w.answer-is ∙ c.in-Err.is, c.number.ensures), asked (state g.J.Job.key_of c.args.world.now.core) _ c.args.cpu c.args.verb false (sym (says_offload c.args.verb) ∙ sym c.eq.ensures ∙ w.if-eq.false) (subst (λ x. Leads (state g.J.Job.key_of c.args.world.now.core) (where_enabled (Ask c.args.cpu false) (state g.J.Job.key_of c.args.world.now.core)) (state g.J.Job.key_of x.core)) (sym w.world-is) w.deoffload-answer.ensures.events.leads))
 ]
 
-pub returns-in-Err-clause-kept : goal.returns-in-Err-clause-kept
-returns-in-Err-clause-kept g c = elim c.if-eq.branch [
-  | then-eq w ↦ subst (λ x. IsWorld g.J.Job.key_of g.J.Job.gives x.core) (sym w.world-is) w.offload-answer.ensures.kept
-  | else-eq w ↦ subst (λ x. IsWorld g.J.Job.key_of g.J.Job.gives x.core) (sym w.world-is) w.deoffload-answer.ensures.kept
+pub returns-in-Ok-clause-stays : goal.returns-in-Ok-clause-stays
+returns-in-Ok-clause-stays g c = elim c.if-eq.branch [
+  | then-eq w ↦ subst (λ x. StaysWorld g.J.Job.key_of g.J.Job.gives c.args.world.now.core x.core) (sym w.world-is) w.offload-answer.ensures.events.stays
+  | else-eq w ↦ subst (λ x. StaysWorld g.J.Job.key_of g.J.Job.gives c.args.world.now.core x.core) (sym w.world-is) w.deoffload-answer.ensures.events.stays
 ]
 
-pub returns-in-Err-clause-rest : goal.returns-in-Err-clause-rest
-returns-in-Err-clause-rest g c = elim c.if-eq.branch [
-  | then-eq w ↦ subst (λ x. IsAtRest (state g.J.Job.key_of x.core)) (sym w.world-is) w.offload-answer.ensures.rest
-  | else-eq w ↦ subst (λ x. IsAtRest (state g.J.Job.key_of x.core)) (sym w.world-is) w.deoffload-answer.ensures.rest
+pub returns-in-Err-clause-stays : goal.returns-in-Err-clause-stays
+returns-in-Err-clause-stays g c = elim c.if-eq.branch [
+  | then-eq w ↦ subst (λ x. StaysWorld g.J.Job.key_of g.J.Job.gives c.args.world.now.core x.core) (sym w.world-is) w.offload-answer.ensures.events.stays
+  | else-eq w ↦ subst (λ x. StaysWorld g.J.Job.key_of g.J.Job.gives c.args.world.now.core x.core) (sym w.world-is) w.deoffload-answer.ensures.events.stays
 ]

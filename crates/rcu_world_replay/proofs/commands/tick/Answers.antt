@@ -1,7 +1,8 @@
-use Rattle.std.proofs.Common.{◌<◌, ◌≤◌, refl, subst, sym}
+use Rattle.std.proofs.Common.{rules, ◌<◌, ◌≤◌, refl, subst, sym}
 use Rattle.rcu_world.specs.Views.{state}
 use Rattle.rcu_world.proofs.Wholes.{if_ok_never}
 use Rattle.rcu_world_replay.specs.Outcomes.{IsTick}
+use Rattle.rcu_world.proofs.Staying.{stays_same}
 use Rattle.rcu_world_replay.proofs.commands.tick.Goals as goal
 
 pub processors-requires-send-J : goal.processors-requires-send-J
@@ -22,8 +23,26 @@ processors-requires-after_bounds g c κs within = assumption
 pub tick-requires-after_bounds : goal.tick-requires-after_bounds
 tick-requires-after_bounds g c κs within = (assumption, (c.requires.world, (subst (λ n. c.args.cpu < n) c.processors.ensures c.if-cpu-processors.false, c.requires.rest)))
 
-pub returns-then-cpu-processors-clause-line : goal.returns-then-cpu-processors-clause-line
-returns-then-cpu-processors-clause-line g c = subst (λ l. IsTick (state g.J.Job.key_of c.args.world.now.core) c.args.cpu c.args.moment l (state g.J.Job.key_of c.args.world.now.core)) (sym c.no_such.ensures) (subst (λ n. n ≤ c.args.cpu) c.processors.ensures c.if-cpu-processors.true, refl, refl)
+pub returns-then-cpu-processors : goal.returns-then-cpu-processors
+returns-then-cpu-processors g c = record {
+  answers = record {
+    line = subst (λ l. IsTick (state g.J.Job.key_of c.args.world.now.core) c.args.cpu c.args.moment l (state g.J.Job.key_of c.args.world.now.core)) (sym c.no_such.ensures) (subst (λ n. n ≤ c.args.cpu) c.processors.ensures c.if-cpu-processors.true, refl, refl);
+    stays = stays_same c.requires.world;
+  };
+}
 
-pub returns-in_err-ticked-clause-line : goal.returns-in_err-ticked-clause-line
-returns-in_err-ticked-clause-line g c = if_ok_never _ _ c.from_residual.ensures
+pub returns-in_err-ticked : goal.returns-in_err-ticked
+returns-in_err-ticked g c = record {
+  answers = record {
+    line = if_ok_never _ _ c.from_residual.ensures;
+    stays = c.tick.ensures.stays;
+  };
+}
+
+pub returns : goal.returns
+returns g c = record {
+  answers = record {
+    line = (subst (λ n. c.args.cpu < n) c.processors.ensures c.if-cpu-processors.false, refl, refl, c.in_ok-ticked.ensures.events);
+    stays = c.tick.ensures.stays;
+  };
+}

@@ -28,8 +28,8 @@ loop-command-init g c = record {
 
 pub loop-command-preserved : goal.loop-command-preserved
 loop-command-preserved g c = record {
-  world = c.perform.ensures.kept;
-  rest = c.perform.ensures.rest;
+  world = c.perform.ensures.stays.kept;
+  rest = c.perform.ensures.stays.rest c.loop-command.invariant.rest;
   printed = let w = c.in_ok-perform.ensures.prints in let l = c.loop-command in let key_of = g.J.Job.key_of in
       printed_more (Prints key_of) (state key_of c.args.world.now.core) c.args.setup.now.script.items c.args.jobs.items l.left.items c.job_for-job.new.jobs.items
       (g.W.Write.contents c.args.writer.now) (g.W.Write.contents l.writer) (g.W.Write.contents c.perform.new.writer) l.command-index (state key_of l.world.core) (state key_of c.perform.new.world.core) l.opened c.perform.new.opened

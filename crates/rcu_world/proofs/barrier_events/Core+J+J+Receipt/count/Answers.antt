@@ -1,4 +1,4 @@
-use Rattle.std.proofs.Common.{◌∙◌, ◌&&◌, None, Some, sym, ap, arith, refl, set}
+use Rattle.std.proofs.Common.{rules, ◌∙◌, ◌&&◌, None, Some, sym, ap, arith, refl, set}
 use Rattle.rcu_world_law.specs.States.{Barrier, has}
 use Rattle.rcu_world_law.specs.Lists.{is_none}
 use Rattle.rcu_world_law.specs.States.{count_at}
@@ -16,15 +16,21 @@ count-requires g c =
     let b = barrier_sizes g.J.Job.key_of c.args.self.now c.args.barrier c.index_mut-b.result.now c.requires.core (omega arith) c.index_mut-b.ensures.value in
     omega (arith, b.0)
 
-pub returns-clause-answers : goal.returns-clause-answers
-returns-clause-answers g c =
-    let w = state g.J.Job.key_of c.args.self.now in
-    let h = has_at g.J.Job.key_of c.args.self.now c.args.cpu (omega arith) in
-    let n = c.count-count.ensures ∙ ap (λ x. x.count) (seen_at g.J.Job.key_of c.args.self.now.processors.items c.args.cpu c.index.result.now (omega arith) c.index.ensures) in
-    barred g.J.Job.key_of c.args.self.now c.args.barrier c.index_mut-b.result.now c.count.new.self (λ x. has w c.args.cpu && is_none (count_at x c.args.cpu)) (counts_cpu w c.args.cpu)
-    c.args.self.now.history.items None (omega arith) c.index_mut-b.ensures.value c.if-b.false
-    (ap (λ x. x && is_none (count_at (barrier c.index_mut-b.result.now) c.args.cpu)) h ∙ sym c.is_uncounted.ensures ∙ c.if-not-is_uncounted.false)
-    (c.count.ensures ∙ ap {B = Barrier} (λ k. record (barrier c.index_mut-b.result.now) { counts = set c.index_mut-b.result.now.counts.items c.args.cpu (Some k) }) n) refl
+pub returns : goal.returns
+returns g c = record {
+  answers = record {
+    step = (
+        let w = state g.J.Job.key_of c.args.self.now in
+        let h = has_at g.J.Job.key_of c.args.self.now c.args.cpu (omega arith) in
+        let n = c.count-count.ensures ∙ ap (λ x. x.count) (seen_at g.J.Job.key_of c.args.self.now.processors.items c.args.cpu c.index.result.now (omega arith) c.index.ensures) in
+        barred g.J.Job.key_of c.args.self.now c.args.barrier c.index_mut-b.result.now c.count.new.self (λ x. has w c.args.cpu && is_none (count_at x c.args.cpu)) (counts_cpu w c.args.cpu)
+        c.args.self.now.history.items None (omega arith) c.index_mut-b.ensures.value c.if-b.false
+        (ap (λ x. x && is_none (count_at (barrier c.index_mut-b.result.now) c.args.cpu)) h ∙ sym c.is_uncounted.ensures ∙ c.if-not-is_uncounted.false)
+        (c.count.ensures ∙ ap {B = Barrier} (λ k. record (barrier c.index_mut-b.result.now) { counts = set c.index_mut-b.result.now.counts.items c.args.cpu (Some k) }) n) refl
+        );
+    given = λ a. a;
+  };
+}
 
 pub count-count-requires-send-J : goal.count-count-requires-send-J
 count-count-requires-send-J g c κs within = c.type_bounds.send-J
@@ -35,16 +41,39 @@ count-count-requires-send-J-Receipt g c κs within = c.type_bounds.send-J-Receip
 pub count-count-requires-after_bounds : goal.count-count-requires-after_bounds
 count-count-requires-after_bounds g c κs within = processor_fits (param 0 g.row.J) (param 1 g.row.J-Receipt) assumption
 
-pub returns-then-j-len-clause-answers : goal.returns-then-j-len-clause-answers
-returns-then-j-len-clause-answers g c = (unopened g.J.Job.key_of c.args.self.now c.args.barrier _ (omega arith), refl, refl)
+pub returns-then-j-len : goal.returns-then-j-len
+returns-then-j-len g c = record {
+  answers = record {
+    step = (unopened g.J.Job.key_of c.args.self.now c.args.barrier _ (omega arith), refl, refl);
+    given = λ a. a;
+  };
+}
 
-pub returns-then-i-len-clause-answers : goal.returns-then-i-len-clause-answers
-returns-then-i-len-clause-answers g c = (second_fails _ _ (absent g.J.Job.key_of c.args.self.now c.args.cpu _ (omega arith)), refl, refl)
+pub returns-then-i-len : goal.returns-then-i-len
+returns-then-i-len g c = record {
+  answers = record {
+    step = (second_fails _ _ (absent g.J.Job.key_of c.args.self.now c.args.cpu _ (omega arith)), refl, refl);
+    given = λ a. a;
+  };
+}
 
-pub returns-then-b-clause-answers : goal.returns-then-b-clause-answers
-returns-then-b-clause-answers g c = let r = has_passed g.J.Job.key_of c.args.self.now c.args.barrier c.index_mut-b.result.now _ (omega arith) c.index_mut-b.ensures.value c.if-b.true in (r.0, r.1, refl)
+pub returns-then-b : goal.returns-then-b
+returns-then-b g c = record {
+  answers = record {
+    step = (
+        let r = has_passed g.J.Job.key_of c.args.self.now c.args.barrier c.index_mut-b.result.now _ (omega arith) c.index_mut-b.ensures.value c.if-b.true in (r.0, r.1, refl)
+        );
+    given = λ a. a;
+  };
+}
 
-pub returns-then-not-is_uncounted-clause-answers : goal.returns-then-not-is_uncounted-clause-answers
-returns-then-not-is_uncounted-clause-answers g c =
-    let r = barrier_skipped g.J.Job.key_of c.args.self.now c.args.barrier c.index_mut-b.result.now (λ x. has (state g.J.Job.key_of c.args.self.now) c.args.cpu && is_none (count_at x c.args.cpu)) (omega arith) c.index_mut-b.ensures.value (second_fails (has (state g.J.Job.key_of c.args.self.now) c.args.cpu) _ (sym c.is_uncounted.ensures ∙ c.if-not-is_uncounted.true)) in
-    (r.0, r.1, refl)
+pub returns-then-not-is_uncounted : goal.returns-then-not-is_uncounted
+returns-then-not-is_uncounted g c = record {
+  answers = record {
+    step = (
+        let r = barrier_skipped g.J.Job.key_of c.args.self.now c.args.barrier c.index_mut-b.result.now (λ x. has (state g.J.Job.key_of c.args.self.now) c.args.cpu && is_none (count_at x c.args.cpu)) (omega arith) c.index_mut-b.ensures.value (second_fails (has (state g.J.Job.key_of c.args.self.now) c.args.cpu) _ (sym c.is_uncounted.ensures ∙ c.if-not-is_uncounted.true)) in
+        (r.0, r.1, refl)
+        );
+    given = λ a. a;
+  };
+}

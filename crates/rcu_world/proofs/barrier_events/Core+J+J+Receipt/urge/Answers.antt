@@ -5,11 +5,13 @@ use denote.Param.{param}
 use Rattle.rcu_world.proofs.Sizes.{processor_fits}
 use Rattle.rcu_world.proofs.barrier_events.Core+J+J+Receipt.urge.Goals as goal
 
-pub returns-clause-answers : goal.returns-clause-answers
-returns-clause-answers g c = (refl, ap {B = State} (λ x. record (state g.J.Job.key_of c.args.self.now) { cpus = x }) c.urge_all.ensures.urges, refl)
-
-pub returns-clause-given : goal.returns-clause-given
-returns-clause-given g c = c.urge_all.ensures.given c.args.self.now.qhimark
+pub returns : goal.returns
+returns g c = record {
+  answers = record {
+    step = (refl, ap {B = State} (λ x. record (state g.J.Job.key_of c.args.self.now) { cpus = x }) c.urge_all.ensures.urges, refl);
+    given = c.urge_all.ensures.given c.args.self.now.qhimark;
+  };
+}
 
 pub urge_all-requires-send-J : goal.urge_all-requires-send-J
 urge_all-requires-send-J g c κs within = c.type_bounds.send-J

@@ -1,4 +1,4 @@
-use Rattle.std.proofs.Common.{◌<◌, ◌∙◌, ◌++◌, ◌∷◌, [], false, true, length, subst, ap, arith, refl, sym}
+use Rattle.std.proofs.Common.{rules, ◌<◌, ◌∙◌, ◌++◌, ◌∷◌, [], false, true, length, subst, ap, arith, refl, sym}
 use Rattle.std.proofs.lemmas.List.{length-map}
 use Rattle.rcu_world_law.specs.declared.marks.Mark.TheVariants.{Reported}
 use Rattle.rcu_world_law.specs.States.{State}
@@ -11,16 +11,26 @@ use Rattle.rcu_world.proofs.Seen.{has_at}
 use Rattle.rcu_world.proofs.board_events.Core+J+J+Receipt.report.Goals as goal
 use Rattle.rcu_world.proofs.board_events.Core+J+J+Receipt.report.Goals.{then-owes+in-Ok, else-owes}
 
-pub returns-then-i-len-clause-answers : goal.returns-then-i-len-clause-answers
-returns-then-i-len-clause-answers g c = (not_there g.J.Job.key_of c.args.self.now c.args.cpu (omega (arith, c.args.self.now.processors.ok.0)), refl, refl)
+pub returns-then-i-len : goal.returns-then-i-len
+returns-then-i-len g c = record {
+  answers = record {
+    step = (not_there g.J.Job.key_of c.args.self.now c.args.cpu (omega (arith, c.args.self.now.processors.ok.0)), refl, refl);
+    given = λ a. a;
+  };
+}
 
-pub returns-in-Err-clause-answers : goal.returns-in-Err-clause-answers
-returns-in-Err-clause-answers g c = (
-  has_at g.J.Job.key_of c.args.self.now c.args.cpu (omega (arith, c.args.self.now.processors.ok.0)),
-  ap {B = State} (λ x. record (state g.J.Job.key_of c.args.self.now) { history = x }) c.reserve.ensures.items,
-  refl,
-  sym c.owes.ensures ∙ c.if-owes.true,
-)
+pub returns-in-Err : goal.returns-in-Err
+returns-in-Err g c = record {
+  answers = record {
+    step = (
+      has_at g.J.Job.key_of c.args.self.now c.args.cpu (omega (arith, c.args.self.now.processors.ok.0)),
+      ap {B = State} (λ x. record (state g.J.Job.key_of c.args.self.now) { history = x }) c.reserve.ensures.items,
+      refl,
+      sym c.owes.ensures ∙ c.if-owes.true,
+    );
+    given = λ a. a;
+  };
+}
 
 pub report-requires : goal.report-requires
 report-requires g c =
@@ -30,26 +40,29 @@ report-requires g c =
       | else-owes w ↦ rw w.self-is there
     ]
 
-pub returns-clause-answers : goal.returns-clause-answers
-returns-clause-answers g c =
-    let old = state g.J.Job.key_of c.args.self.now in
-    let there = has_at g.J.Job.key_of c.args.self.now c.args.cpu (omega (arith, c.args.self.now.processors.ok.0)) in
-    elim c.if-owes.branch [
-      | then-owes+in-Ok w ↦ (
-        there,
-        rw (c.report.ensures, w.self-is)
-            (reported old c.args.cpu true w.push_reserved.new.self.items (sym c.owes.ensures ∙ w.if-owes.true) (w.push_reserved.ensures.items ∙ ap (λ h. h ++ Reported c.args.cpu ∷ []) w.reserve.ensures.items)),
-        refl,
-      )
-      | else-owes w ↦ (
-        there,
-        rw (c.report.ensures, w.self-is) (reported old c.args.cpu false c.args.self.now.history.items (sym c.owes.ensures ∙ w.if-owes.false) refl),
-        refl,
-      )
-    ]
-
-pub returns-clause-given : goal.returns-clause-given
-returns-clause-given g c = elim c.if-owes.branch [
-  | then-owes+in-Ok w ↦ subst (λ (s : Core g.row.J.Denot g.row.J-Receipt.Denot). AllGiven g.J.Job.gives s) (sym w.self-is)
-  | else-owes w ↦ subst (λ (s : Core g.row.J.Denot g.row.J-Receipt.Denot). AllGiven g.J.Job.gives s) (sym w.self-is)
-]
+pub returns : goal.returns
+returns g c = record {
+  answers = record {
+    step = (
+        let old = state g.J.Job.key_of c.args.self.now in
+        let there = has_at g.J.Job.key_of c.args.self.now c.args.cpu (omega (arith, c.args.self.now.processors.ok.0)) in
+        elim c.if-owes.branch [
+          | then-owes+in-Ok w ↦ (
+            there,
+            rw (c.report.ensures, w.self-is)
+                (reported old c.args.cpu true w.push_reserved.new.self.items (sym c.owes.ensures ∙ w.if-owes.true) (w.push_reserved.ensures.items ∙ ap (λ h. h ++ Reported c.args.cpu ∷ []) w.reserve.ensures.items)),
+            refl,
+          )
+          | else-owes w ↦ (
+            there,
+            rw (c.report.ensures, w.self-is) (reported old c.args.cpu false c.args.self.now.history.items (sym c.owes.ensures ∙ w.if-owes.false) refl),
+            refl,
+          )
+        ]
+        );
+    given = elim c.if-owes.branch [
+      | then-owes+in-Ok w ↦ subst (λ (s : Core g.row.J.Denot g.row.J-Receipt.Denot). AllGiven g.J.Job.gives s) (sym w.self-is)
+      | else-owes w ↦ subst (λ (s : Core g.row.J.Denot g.row.J-Receipt.Denot). AllGiven g.J.Job.gives s) (sym w.self-is)
+    ];
+  };
+}

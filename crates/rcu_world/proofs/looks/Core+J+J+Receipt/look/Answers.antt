@@ -1,4 +1,4 @@
-use Rattle.std.proofs.Common.{◌∙◌, ap, arith, refl, subst, sym}
+use Rattle.std.proofs.Common.{rules, ◌∙◌, ap, arith, refl, subst, sym}
 use Rattle.rcu_world_law.specs.Steps.{looks}
 use Rattle.rcu_world_processor.specs.Views.{seen}
 use Rattle.rcu_world.specs.Members.{IsLookable}
@@ -8,11 +8,13 @@ use Rattle.rcu_world.proofs.Entering.{not_there}
 use Rattle.rcu_world.proofs.Sizes.{processor_fits}
 use Rattle.rcu_world.proofs.looks.Core+J+J+Receipt.look.Goals as goal
 
-pub returns-clause-answers : goal.returns-clause-answers
-returns-clause-answers g c = happened g.J.Job.key_of c.args.self.now c.args.cpu c.index_mut-p.result.now c.look.new.self (looks c.args.self.now.board.number) (omega arith) c.index_mut-p.ensures.value (c.look.ensures.looks ∙ ap (λ s. looks s (seen g.J.Job.key_of c.index_mut-p.result.now)) c.number-number.ensures)
-
-pub returns-clause-given : goal.returns-clause-given
-returns-clause-given g c = given_at g.J.Job.gives c.args.self.now c.args.cpu c.index_mut-p.result.now c.look.new.self (omega arith) c.index_mut-p.ensures.value c.look.ensures.given
+pub returns : goal.returns
+returns g c = record {
+  answers = record {
+    step = happened g.J.Job.key_of c.args.self.now c.args.cpu c.index_mut-p.result.now c.look.new.self (looks c.args.self.now.board.number) (omega arith) c.index_mut-p.ensures.value (c.look.ensures.step.made ∙ ap (λ s. looks s (seen g.J.Job.key_of c.index_mut-p.result.now)) c.number-number.ensures);
+    given = given_at g.J.Job.gives c.args.self.now c.args.cpu c.index_mut-p.result.now c.look.new.self (omega arith) c.index_mut-p.ensures.value c.look.ensures.step.given;
+  };
+}
 
 pub look-requires-send-J : goal.look-requires-send-J
 look-requires-send-J g c κs within = c.type_bounds.send-J
@@ -23,5 +25,10 @@ look-requires-send-J-Receipt g c κs within = c.type_bounds.send-J-Receipt
 pub look-requires-after_bounds : goal.look-requires-after_bounds
 look-requires-after_bounds g c κs within = let l = subst (λ s. IsLookable s (seen g.J.Job.key_of c.index_mut-p.result.now).own) (sym c.number-number.ensures) (lookable_at g.J.Job.key_of c.args.self.now c.args.cpu c.index_mut-p.result.now c.requires.core (omega arith) c.index_mut-p.ensures.value) in (processor_fits (param 0 g.row.J) (param 1 g.row.J-Receipt) assumption, (l.small, l.may))
 
-pub returns-then-i-len-clause-answers : goal.returns-then-i-len-clause-answers
-returns-then-i-len-clause-answers g c = (not_there g.J.Job.key_of c.args.self.now c.args.cpu (omega arith), refl, refl)
+pub returns-then-i-len : goal.returns-then-i-len
+returns-then-i-len g c = record {
+  answers = record {
+    step = (not_there g.J.Job.key_of c.args.self.now c.args.cpu (omega arith), refl, refl);
+    given = λ a. a;
+  };
+}

@@ -1,4 +1,4 @@
-use Rattle.std.proofs.Common.{◌∙◌, ap, sym, arith, refl, subst}
+use Rattle.std.proofs.Common.{rules, ◌∙◌, ap, sym, arith, refl, subst}
 use Rattle.rcu_world_law.specs.States.{State}
 use Rattle.rcu_world_law.specs.Steps.{group_looks}
 use Rattle.rcu_world_law.specs.Events.{each_cpu}
@@ -9,21 +9,27 @@ use denote.Param.{param}
 use Rattle.rcu_world.proofs.Sizes.{processor_fits}
 use Rattle.rcu_world.proofs.looks.Core+J+J+Receipt.look_group.Goals as goal
 
-pub returns-then-not-has_member-clause-answers : goal.returns-then-not-has_member-clause-answers
-returns-then-not-has_member-clause-answers g c =
-    (sym (any_same (state g.J.Job.key_of c.args.self.now) c.args.group is_any 0 (all_seen g.J.Job.key_of c.args.self.now.processors.items) (omega arith)) ∙ sym c.has_member.ensures ∙ c.if-not-has_member.true, refl, refl)
+pub returns-then-not-has_member : goal.returns-then-not-has_member
+returns-then-not-has_member g c = record {
+  answers = record {
+    step = (sym (any_same (state g.J.Job.key_of c.args.self.now) c.args.group is_any 0 (all_seen g.J.Job.key_of c.args.self.now.processors.items) (omega arith)) ∙ sym c.has_member.ensures ∙ c.if-not-has_member.true, refl, refl);
+    given = λ a. a;
+  };
+}
 
-pub returns-clause-answers : goal.returns-clause-answers
-returns-clause-answers g c = (
-  sym (any_same (state g.J.Job.key_of c.args.self.now) c.args.group is_any 0 (all_seen g.J.Job.key_of c.args.self.now.processors.items) (omega arith)) ∙ sym c.has_member.ensures ∙ c.if-not-has_member.false,
-  ap {B = State} (λ x. record (state g.J.Job.key_of c.args.self.now) { cpus = x })
-      (c.look_members.ensures.looks ∙ ap (λ s. each_cpu (group_step c.args.self.now.offloadable.items c.args.self.now.stride c.args.group s) 0 (all_seen g.J.Job.key_of c.args.self.now.processors.items)) c.number-number.ensures
-      ∙ each_same (state g.J.Job.key_of c.args.self.now) c.args.group (group_looks c.args.self.now.board.number) 0 (all_seen g.J.Job.key_of c.args.self.now.processors.items) (omega arith)),
-  refl,
-)
-
-pub returns-clause-given : goal.returns-clause-given
-returns-clause-given g c = c.look_members.ensures.given c.args.self.now.qhimark
+pub returns : goal.returns
+returns g c = record {
+  answers = record {
+    step = (
+      sym (any_same (state g.J.Job.key_of c.args.self.now) c.args.group is_any 0 (all_seen g.J.Job.key_of c.args.self.now.processors.items) (omega arith)) ∙ sym c.has_member.ensures ∙ c.if-not-has_member.false,
+      ap {B = State} (λ x. record (state g.J.Job.key_of c.args.self.now) { cpus = x })
+          (c.look_members.ensures.looks ∙ ap (λ s. each_cpu (group_step c.args.self.now.offloadable.items c.args.self.now.stride c.args.group s) 0 (all_seen g.J.Job.key_of c.args.self.now.processors.items)) c.number-number.ensures
+          ∙ each_same (state g.J.Job.key_of c.args.self.now) c.args.group (group_looks c.args.self.now.board.number) 0 (all_seen g.J.Job.key_of c.args.self.now.processors.items) (omega arith)),
+      refl,
+    );
+    given = c.look_members.ensures.given c.args.self.now.qhimark;
+  };
+}
 
 pub look_members-requires-send-J : goal.look_members-requires-send-J
 look_members-requires-send-J g c κs within = c.type_bounds.send-J

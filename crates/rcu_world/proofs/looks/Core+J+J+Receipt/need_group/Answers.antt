@@ -1,4 +1,4 @@
-use Rattle.std.proofs.Common.{◌∙◌, ap, sym, arith, refl}
+use Rattle.std.proofs.Common.{rules, ◌∙◌, ap, sym, arith, refl}
 use Rattle.rcu_world_law.specs.States.{State}
 use Rattle.rcu_world_law.specs.Events.{most_wanted}
 use Rattle.rcu_world_processor.specs.Members.{is_wanting, forgets}
@@ -8,22 +8,28 @@ use denote.Param.{param}
 use Rattle.rcu_world.proofs.Sizes.{processor_fits}
 use Rattle.rcu_world.proofs.looks.Core+J+J+Receipt.need_group.Goals as goal
 
-pub returns-then-not-wants_member-clause-answers : goal.returns-then-not-wants_member-clause-answers
-returns-then-not-wants_member-clause-answers g c =
-    (sym (any_same (state g.J.Job.key_of c.args.self.now) c.args.group is_wanting 0 (all_seen g.J.Job.key_of c.args.self.now.processors.items) (omega arith)) ∙ sym c.wants_member.ensures ∙ c.if-not-wants_member.true, refl, refl)
+pub returns-then-not-wants_member : goal.returns-then-not-wants_member
+returns-then-not-wants_member g c = record {
+  answers = record {
+    step = (sym (any_same (state g.J.Job.key_of c.args.self.now) c.args.group is_wanting 0 (all_seen g.J.Job.key_of c.args.self.now.processors.items) (omega arith)) ∙ sym c.wants_member.ensures ∙ c.if-not-wants_member.true, refl, refl);
+    given = λ a. a;
+  };
+}
 
-pub returns-clause-answers : goal.returns-clause-answers
-returns-clause-answers g c = (
-  sym (any_same (state g.J.Job.key_of c.args.self.now) c.args.group is_wanting 0 (all_seen g.J.Job.key_of c.args.self.now.processors.items) (omega arith)) ∙ sym c.wants_member.ensures ∙ c.if-not-wants_member.false,
-  ap {B = State} (λ x. record (state g.J.Job.key_of c.args.self.now) { needed = x; cpus = all_seen g.J.Job.key_of c.forget_members.new.processors.items })
-      (c.most_wanted-self.ensures ∙ most_same (state g.J.Job.key_of c.args.self.now) c.args.group c.args.self.now.needed 0 (all_seen g.J.Job.key_of c.args.self.now.processors.items) (omega arith))
-      ∙ ap {B = State} (λ x. record (state g.J.Job.key_of c.args.self.now) { needed = most_wanted (state g.J.Job.key_of c.args.self.now) c.args.group c.args.self.now.needed 0 (all_seen g.J.Job.key_of c.args.self.now.processors.items); cpus = x })
-      (c.forget_members.ensures.forgets ∙ each_same (state g.J.Job.key_of c.args.self.now) c.args.group forgets 0 (all_seen g.J.Job.key_of c.args.self.now.processors.items) (omega arith)),
-  refl,
-)
-
-pub returns-clause-given : goal.returns-clause-given
-returns-clause-given g c = c.forget_members.ensures.given c.args.self.now.qhimark
+pub returns : goal.returns
+returns g c = record {
+  answers = record {
+    step = (
+      sym (any_same (state g.J.Job.key_of c.args.self.now) c.args.group is_wanting 0 (all_seen g.J.Job.key_of c.args.self.now.processors.items) (omega arith)) ∙ sym c.wants_member.ensures ∙ c.if-not-wants_member.false,
+      ap {B = State} (λ x. record (state g.J.Job.key_of c.args.self.now) { needed = x; cpus = all_seen g.J.Job.key_of c.forget_members.new.processors.items })
+          (c.most_wanted-self.ensures ∙ most_same (state g.J.Job.key_of c.args.self.now) c.args.group c.args.self.now.needed 0 (all_seen g.J.Job.key_of c.args.self.now.processors.items) (omega arith))
+          ∙ ap {B = State} (λ x. record (state g.J.Job.key_of c.args.self.now) { needed = most_wanted (state g.J.Job.key_of c.args.self.now) c.args.group c.args.self.now.needed 0 (all_seen g.J.Job.key_of c.args.self.now.processors.items); cpus = x })
+          (c.forget_members.ensures.forgets ∙ each_same (state g.J.Job.key_of c.args.self.now) c.args.group forgets 0 (all_seen g.J.Job.key_of c.args.self.now.processors.items) (omega arith)),
+      refl,
+    );
+    given = c.forget_members.ensures.given c.args.self.now.qhimark;
+  };
+}
 
 pub wants_member-requires-send-J : goal.wants_member-requires-send-J
 wants_member-requires-send-J g c κs within = c.type_bounds.send-J

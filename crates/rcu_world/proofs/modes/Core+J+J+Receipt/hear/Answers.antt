@@ -1,15 +1,17 @@
-use Rattle.std.proofs.Common.{◌∙◌, sym, arith, refl, None, get_or, false}
+use Rattle.std.proofs.Common.{rules, ◌∙◌, sym, arith, refl, None, get_or, false}
 use Rattle.rcu_world.proofs.Seen.{stepped, given_at, absent}
 use denote.Param.{param}
 use Rattle.rcu_world.proofs.Sizes.{processor_fits, second_fails}
 use Rattle.rcu_world.proofs.modes.Core+J+J+Receipt.hear.Goals as goal
 
-pub returns-clause-answers : goal.returns-clause-answers
-returns-clause-answers g c = stepped g.J.Job.key_of c.args.self.now c.args.cpu c.index_mut-p.result.now c.hear.new.self (λ x. get_or c.args.self.now.offloadable.items c.args.cpu false) (λ x. record x { urged = false }) (λ x. None) c.args.self.now.history.items
-    (omega arith) c.index_mut-p.ensures.value (sym c.is_set.ensures ∙ c.if-not-is_set.false) c.hear.ensures.hears refl
-
-pub returns-clause-given : goal.returns-clause-given
-returns-clause-given g c = given_at g.J.Job.gives c.args.self.now c.args.cpu c.index_mut-p.result.now c.hear.new.self (omega arith) c.index_mut-p.ensures.value c.hear.ensures.given
+pub returns : goal.returns
+returns g c = record {
+  answers = record {
+    step = stepped g.J.Job.key_of c.args.self.now c.args.cpu c.index_mut-p.result.now c.hear.new.self (λ x. get_or c.args.self.now.offloadable.items c.args.cpu false) (λ x. record x { urged = false }) (λ x. None) c.args.self.now.history.items
+        (omega arith) c.index_mut-p.ensures.value (sym c.is_set.ensures ∙ c.if-not-is_set.false) c.hear.ensures.step.made refl;
+    given = given_at g.J.Job.gives c.args.self.now c.args.cpu c.index_mut-p.result.now c.hear.new.self (omega arith) c.index_mut-p.ensures.value c.hear.ensures.step.given;
+  };
+}
 
 pub hear-requires-send-J : goal.hear-requires-send-J
 hear-requires-send-J g c κs within = c.type_bounds.send-J
@@ -20,8 +22,18 @@ hear-requires-send-J-Receipt g c κs within = c.type_bounds.send-J-Receipt
 pub hear-requires-after_bounds : goal.hear-requires-after_bounds
 hear-requires-after_bounds g c κs within = processor_fits (param 0 g.row.J) (param 1 g.row.J-Receipt) assumption
 
-pub returns-then-i-len-clause-answers : goal.returns-then-i-len-clause-answers
-returns-then-i-len-clause-answers g c = (absent g.J.Job.key_of c.args.self.now c.args.cpu _ (omega arith), refl, refl)
+pub returns-then-i-len : goal.returns-then-i-len
+returns-then-i-len g c = record {
+  answers = record {
+    step = (absent g.J.Job.key_of c.args.self.now c.args.cpu _ (omega arith), refl, refl);
+    given = λ a. a;
+  };
+}
 
-pub returns-then-not-is_set-clause-answers : goal.returns-then-not-is_set-clause-answers
-returns-then-not-is_set-clause-answers g c = (second_fails _ _ (sym c.is_set.ensures ∙ c.if-not-is_set.true), refl, refl)
+pub returns-then-not-is_set : goal.returns-then-not-is_set
+returns-then-not-is_set g c = record {
+  answers = record {
+    step = (second_fails _ _ (sym c.is_set.ensures ∙ c.if-not-is_set.true), refl, refl);
+    given = λ a. a;
+  };
+}

@@ -6,20 +6,8 @@ use Rattle.rcu_world.proofs.worlds.World.attempt.Goals as goal
 pub returns-in-Done-clause-rest : goal.returns-in-Done-clause-rest
 returns-in-Done-clause-rest g c = λ k i. rest_took g.J.Job.key_of _ c.args.event _ c.in-Done.ensures.step.1 k i
 
-pub returns-in-Done-clause-len : goal.returns-in-Done-clause-len
-returns-in-Done-clause-len g c = length_took g.J.Job.key_of _ c.args.event _ c.in-Done.ensures.step.1
-
 pub returns-in-Due-clause-rest : goal.returns-in-Due-clause-rest
 returns-in-Due-clause-rest g c = λ k i. rest_took g.J.Job.key_of _ c.args.event _ c.in-Due.ensures.step.1 k i
-
-pub returns-in-Due-clause-len : goal.returns-in-Due-clause-len
-returns-in-Due-clause-len g c = length_took g.J.Job.key_of _ c.args.event _ c.in-Due.ensures.step.1
-
-pub returns-in-Done-clause-shape : goal.returns-in-Done-clause-shape
-returns-in-Done-clause-shape g c = shape_took g.J.Job.key_of _ c.args.event _ c.in-Done.ensures.step.1
-
-pub returns-in-Due-clause-shape : goal.returns-in-Due-clause-shape
-returns-in-Due-clause-shape g c = shape_took g.J.Job.key_of _ c.args.event _ c.in-Due.ensures.step.1
 
 pub returns-in-Done-clause-leads : goal.returns-in-Done-clause-leads
 returns-in-Done-clause-leads g c = took g.J.Job.key_of _ c.args.event _ c.in-Done.ensures.step.0 c.in-Done.ensures.step.1
@@ -45,17 +33,11 @@ returns-in-Done-clause-enabled g c = sym c.in-Done.ensures.step.0
 pub returns-in-Done-clause-room : goal.returns-in-Done-clause-room
 returns-in-Done-clause-room g c = λ n. refl
 
-pub returns-in-Done-clause-kept : goal.returns-in-Done-clause-kept
-returns-in-Done-clause-kept g c = c.step.ensures.kept
-
 pub returns-in-Due-clause-enabled : goal.returns-in-Due-clause-enabled
 returns-in-Due-clause-enabled g c = sym c.in-Due.ensures.step.0
 
 pub returns-in-Due-clause-room : goal.returns-in-Due-clause-room
 returns-in-Due-clause-room g c = λ n. refl
-
-pub returns-in-Due-clause-kept : goal.returns-in-Due-clause-kept
-returns-in-Due-clause-kept g c = c.step.ensures.kept
 
 pub returns-in-Skipped-clause-enabled : goal.returns-in-Skipped-clause-enabled
 returns-in-Skipped-clause-enabled g c = sym c.in-Skipped.ensures.step.0
@@ -78,23 +60,33 @@ returns-clause-room g c = λ n. sym n ∙ c.in-Memory.ensures.step.3
 pub returns-in-Skipped-clause-rest : goal.returns-in-Skipped-clause-rest
 returns-in-Skipped-clause-rest g c = λ k i. subst IsAtRest (sym c.in-Skipped.ensures.step.1) i
 
-pub returns-in-Skipped-clause-len : goal.returns-in-Skipped-clause-len
-returns-in-Skipped-clause-len g c = ap (λ w. length w.cpus) c.in-Skipped.ensures.step.1
-
-pub returns-in-Skipped-clause-shape : goal.returns-in-Skipped-clause-shape
-returns-in-Skipped-clause-shape g c = ap (λ w. w.shape) c.in-Skipped.ensures.step.1
-
-pub returns-in-Skipped-clause-kept : goal.returns-in-Skipped-clause-kept
-returns-in-Skipped-clause-kept g c = c.step.ensures.kept
-
 pub returns-clause-rest : goal.returns-clause-rest
 returns-clause-rest g c = λ k i. subst IsAtRest (sym c.in-Memory.ensures.step.1) i
 
-pub returns-clause-len : goal.returns-clause-len
-returns-clause-len g c = ap (λ w. length w.cpus) c.in-Memory.ensures.step.1
+pub returns-in-Done-clause-keeps : goal.returns-in-Done-clause-keeps
+returns-in-Done-clause-keeps g c = record {
+  kept = c.step.ensures.kept;
+  shape = shape_took g.J.Job.key_of _ c.args.event _ c.in-Done.ensures.step.1;
+  len = length_took g.J.Job.key_of _ c.args.event _ c.in-Done.ensures.step.1;
+}
 
-pub returns-clause-shape : goal.returns-clause-shape
-returns-clause-shape g c = ap (λ w. w.shape) c.in-Memory.ensures.step.1
+pub returns-in-Due-clause-keeps : goal.returns-in-Due-clause-keeps
+returns-in-Due-clause-keeps g c = record {
+  kept = c.step.ensures.kept;
+  shape = shape_took g.J.Job.key_of _ c.args.event _ c.in-Due.ensures.step.1;
+  len = length_took g.J.Job.key_of _ c.args.event _ c.in-Due.ensures.step.1;
+}
 
-pub returns-clause-kept : goal.returns-clause-kept
-returns-clause-kept g c = c.step.ensures.kept
+pub returns-in-Skipped-clause-keeps : goal.returns-in-Skipped-clause-keeps
+returns-in-Skipped-clause-keeps g c = record {
+  kept = c.step.ensures.kept;
+  shape = ap (λ w. w.shape) c.in-Skipped.ensures.step.1;
+  len = ap (λ w. length w.cpus) c.in-Skipped.ensures.step.1;
+}
+
+pub returns-clause-keeps : goal.returns-clause-keeps
+returns-clause-keeps g c = record {
+  kept = c.step.ensures.kept;
+  shape = ap (λ w. w.shape) c.in-Memory.ensures.step.1;
+  len = ap (λ w. length w.cpus) c.in-Memory.ensures.step.1;
+}

@@ -5,19 +5,17 @@ use Rattle.rcu_world.specs.Views.{state}
 use Rattle.rcu_world.proofs.Leading.{leads_then}
 use Rattle.std.proofs.lemmas.List.{length-map}
 use Rattle.rcu_world.specs.Barrings.{barrier}
+use Rattle.rcu_world.proofs.Staying.{stays_by, stays_same, stays_still, stays_then}
 use Rattle.rcu_world.proofs.worlds.World.barrier.Goals as goal
 
 pub returns-clause-events : goal.returns-clause-events
 returns-clause-events g c =
-    let k = subst (λ n. Leads (state g.J.Job.key_of c.attempt.new.self.core) (upto (counts_for c.len-barrier.result) n (state g.J.Job.key_of c.attempt.new.self.core)) (state g.J.Job.key_of c.count_all.new.self.core)) c.attempt.ensures.len c.count_all.ensures.events in
+    let k = subst (λ n. Leads (state g.J.Job.key_of c.attempt.new.self.core) (upto (counts_for c.len-barrier.result) n (state g.J.Job.key_of c.attempt.new.self.core)) (state g.J.Job.key_of c.count_all.new.self.core)) c.attempt.ensures.keeps.len c.count_all.ensures.events.leads in
     leads_then (where_enabled (Open c.len-barrier.result)) (and_then (upto (counts_for c.len-barrier.result) (length (state g.J.Job.key_of c.args.self.now.core).cpus)) (where_enabled Urge)) _ _ _ c.in-Ok.ensures.leads.1
     (leads_then (upto (counts_for c.len-barrier.result) (length (state g.J.Job.key_of c.args.self.now.core).cpus)) (where_enabled Urge) _ _ _ k c.perform.ensures.leads.1)
 
 pub returns-clause-answer : goal.returns-clause-answer
 returns-clause-answer g c = (sym c.in_default.ensures, c.len-barrier.ensures ∙ c.args.self.now.core.barriers.ok.0 ∙ sym (length-map c.args.self.now.core.barriers.items barrier))
-
-pub returns-clause-rest : goal.returns-clause-rest
-returns-clause-rest g c = c.perform.ensures.rest refl (c.count_all.ensures.rest (c.attempt.ensures.rest refl c.requires.rest))
 
 pub barrier_fault-requires-send-J : goal.barrier_fault-requires-send-J
 barrier_fault-requires-send-J g c κs within = c.type_bounds.send-J
@@ -40,9 +38,6 @@ returns-in-Err-clause-answer g c = inr (sym c.in_default.ensures, refl)
 pub returns-in-Err-clause-same : goal.returns-in-Err-clause-same
 returns-in-Err-clause-same g c = c.in-Err.ensures.err
 
-pub returns-in-Err-clause-rest : goal.returns-in-Err-clause-rest
-returns-in-Err-clause-rest g c = subst IsAtRest (sym c.in-Err.ensures.err) c.requires.rest
-
 pub attempt-requires-send-J : goal.attempt-requires-send-J
 attempt-requires-send-J g c κs within = c.type_bounds.send-J
 
@@ -59,7 +54,7 @@ pub count_all-requires-send-J-Receipt : goal.count_all-requires-send-J-Receipt
 count_all-requires-send-J-Receipt g c κs within = c.type_bounds.send-J-Receipt
 
 pub count_all-requires-after_bounds : goal.count_all-requires-after_bounds
-count_all-requires-after_bounds g c κs within = (assumption, c.attempt.ensures.kept)
+count_all-requires-after_bounds g c κs within = (assumption, c.attempt.ensures.keeps.kept)
 
 pub perform-requires-send-J : goal.perform-requires-send-J
 perform-requires-send-J g c κs within = c.type_bounds.send-J
@@ -68,7 +63,13 @@ pub perform-requires-send-J-Receipt : goal.perform-requires-send-J-Receipt
 perform-requires-send-J-Receipt g c κs within = c.type_bounds.send-J-Receipt
 
 pub perform-requires-after_bounds : goal.perform-requires-after_bounds
-perform-requires-after_bounds g c κs within = (assumption, (c.count_all.ensures.kept, refl))
+perform-requires-after_bounds g c κs within = (assumption, (c.count_all.ensures.events.stays.kept, refl))
 
-pub returns-clause-len : goal.returns-clause-len
-returns-clause-len g c = c.perform.ensures.len ∙ c.count_all.ensures.len ∙ c.attempt.ensures.len
+pub returns-in-Some-clause-stays : goal.returns-in-Some-clause-stays
+returns-in-Some-clause-stays g c = stays_same c.requires.world
+
+pub returns-in-Err-clause-stays : goal.returns-in-Err-clause-stays
+returns-in-Err-clause-stays g c = stays_still c.attempt.ensures.keeps c.in-Err.ensures.err
+
+pub returns-clause-stays : goal.returns-clause-stays
+returns-clause-stays g c = stays_then (stays_by c.attempt.ensures.keeps (c.attempt.ensures.rest refl)) (stays_then c.count_all.ensures.events.stays (stays_by c.perform.ensures.keeps (c.perform.ensures.rest refl)))

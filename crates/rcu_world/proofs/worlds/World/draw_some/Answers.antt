@@ -7,6 +7,7 @@ use Rattle.rcu_world.proofs.Drawing.{drawn_all, drawn_empty, drawn_none, drawn_o
 use Rattle.rcu_world.proofs.Leading.{seen_there}
 use denote.Param.{param}
 use Rattle.rcu_world.proofs.Fitting.{fits_there}
+use Rattle.rcu_world.proofs.Staying.{stays_by, stays_same, stays_then}
 use Rattle.rcu_world.proofs.worlds.World.draw_some.Goals as goal
 
 pub drawn_len-drawn-requires-send-J : goal.drawn_len-drawn-requires-send-J
@@ -23,66 +24,64 @@ loop-batch-init g c = record {
   drawn = drawn_none c.args.cpu (state g.J.Job.key_of c.args.self.now.core);
   most = omega arith;
   there = c.requires.there;
-  len = refl;
-  shape = refl;
-  rest = λ r. r;
-  kept = c.requires.world;
+  stays = stays_same c.requires.world;
 }
 
 pub returns-then-not-perform-clause-events : goal.returns-then-not-perform-clause-events
-returns-then-not-perform-clause-events g c = drawn_empty c.args.cpu c.loop-batch.batch _ _ _ _ c.loop-batch.invariant.drawn (sym c.perform.ensures.enabled ∙ c.if-not-perform.true) c.perform.ensures.leads.1
+returns-then-not-perform-clause-events g c = record {
+  made = drawn_empty c.args.cpu c.loop-batch.batch _ _ _ _ c.loop-batch.invariant.drawn (sym c.perform.ensures.enabled ∙ c.if-not-perform.true) c.perform.ensures.leads.1;
+  stays = stays_then c.loop-batch.invariant.stays (stays_by c.perform.ensures.keeps (c.perform.ensures.rest refl));
+}
 
 pub returns-then-not-join-clause-events : goal.returns-then-not-join-clause-events
-returns-then-not-join-clause-events g c =
-    let i = c.loop-batch.invariant in
-    let l : c.args.cpu < length c.perform.new.self.core.processors.items = subst (λ n. c.args.cpu < n) (sym c.perform.ensures.len ∙ length-map c.perform.new.self.core.processors.items (seen g.J.Job.key_of)) i.there in
-    let s = seen_there g.J.Job.key_of c.perform.new.self.core c.args.cpu c.index.result.now l c.index.ensures in
-    drawn_waits c.args.cpu c.loop-batch.batch _ _ _ _ c.loop-batch.took c.drawn_len-drawn.result (omega arith) i.there i.drawn (sym c.perform.ensures.enabled ∙ c.if-not-perform.false) c.perform.ensures.leads.1
-    (waits_where c.args.cpu c.join.result _ _ c.if-not-join.true c.join.ensures.leads) (c.drawn_len-drawn.ensures ∙ ap {A = Cpu} (λ x. length x.drawn) s)
+returns-then-not-join-clause-events g c = record {
+  made = (
+      let i = c.loop-batch.invariant in
+      let l : c.args.cpu < length c.perform.new.self.core.processors.items = subst (λ n. c.args.cpu < n) (sym c.perform.ensures.keeps.len ∙ length-map c.perform.new.self.core.processors.items (seen g.J.Job.key_of)) i.there in
+      let s = seen_there g.J.Job.key_of c.perform.new.self.core c.args.cpu c.index.result.now l c.index.ensures in
+      drawn_waits c.args.cpu c.loop-batch.batch _ _ _ _ c.loop-batch.took c.drawn_len-drawn.result (omega arith) i.there i.drawn (sym c.perform.ensures.enabled ∙ c.if-not-perform.false) c.perform.ensures.leads.1
+      (waits_where c.args.cpu c.join.result _ _ c.if-not-join.true c.join.ensures.events.leads) (c.drawn_len-drawn.ensures ∙ ap {A = Cpu} (λ x. length x.drawn) s)
+      );
+  stays = stays_then c.loop-batch.invariant.stays (stays_then (stays_by c.perform.ensures.keeps (c.perform.ensures.rest refl)) c.join.ensures.events.stays);
+}
 
 pub overflow_add-took : goal.overflow_add-took
 overflow_add-took g c =
-    let l : c.args.cpu < length c.perform.new.self.core.processors.items = subst (λ n. c.args.cpu < n) (sym c.perform.ensures.len ∙ length-map c.perform.new.self.core.processors.items (seen g.J.Job.key_of)) c.loop-batch.invariant.there in
+    let l : c.args.cpu < length c.perform.new.self.core.processors.items = subst (λ n. c.args.cpu < n) (sym c.perform.ensures.keeps.len ∙ length-map c.perform.new.self.core.processors.items (seen g.J.Job.key_of)) c.loop-batch.invariant.there in
     let s = seen_there g.J.Job.key_of c.perform.new.self.core c.args.cpu c.index.result.now l c.index.ensures in
-    let f = few_drawn (state g.J.Job.key_of c.perform.new.self.core) c.args.cpu c.perform.ensures.kept.fit (subst (λ n. c.args.cpu < n) (sym c.perform.ensures.len) c.loop-batch.invariant.there) in
+    let f = few_drawn (state g.J.Job.key_of c.perform.new.self.core) c.args.cpu c.perform.ensures.keeps.kept.fit (subst (λ n. c.args.cpu < n) (sym c.perform.ensures.keeps.len) c.loop-batch.invariant.there) in
     omega (arith, c.loop-batch.invariant.most, f, c.drawn_len-drawn.ensures ∙ ap {A = Cpu} (λ x. length x.drawn) s)
 
 pub returns-then-not-join-clause-most : goal.returns-then-not-join-clause-most
 returns-then-not-join-clause-most g c =
-    let l : c.args.cpu < length c.perform.new.self.core.processors.items = subst (λ n. c.args.cpu < n) (sym c.perform.ensures.len ∙ length-map c.perform.new.self.core.processors.items (seen g.J.Job.key_of)) c.loop-batch.invariant.there in
+    let l : c.args.cpu < length c.perform.new.self.core.processors.items = subst (λ n. c.args.cpu < n) (sym c.perform.ensures.keeps.len ∙ length-map c.perform.new.self.core.processors.items (seen g.J.Job.key_of)) c.loop-batch.invariant.there in
     let s = seen_there g.J.Job.key_of c.perform.new.self.core c.args.cpu c.index.result.now l c.index.ensures in
-    let f = few_drawn (state g.J.Job.key_of c.perform.new.self.core) c.args.cpu c.perform.ensures.kept.fit (subst (λ n. c.args.cpu < n) (sym c.perform.ensures.len) c.loop-batch.invariant.there) in
+    let f = few_drawn (state g.J.Job.key_of c.perform.new.self.core) c.args.cpu c.perform.ensures.keeps.kept.fit (subst (λ n. c.args.cpu < n) (sym c.perform.ensures.keeps.len) c.loop-batch.invariant.there) in
     omega (arith, c.loop-batch.invariant.most, f, c.drawn_len-drawn.ensures ∙ ap {A = Cpu} (λ x. length x.drawn) s)
 
 pub loop-batch-preserved : goal.loop-batch-preserved
 loop-batch-preserved g c =
     let i = c.loop-batch.invariant in
-    let l : c.args.cpu < length c.perform.new.self.core.processors.items = subst (λ n. c.args.cpu < n) (sym c.perform.ensures.len ∙ length-map c.perform.new.self.core.processors.items (seen g.J.Job.key_of)) i.there in
+    let l : c.args.cpu < length c.perform.new.self.core.processors.items = subst (λ n. c.args.cpu < n) (sym c.perform.ensures.keeps.len ∙ length-map c.perform.new.self.core.processors.items (seen g.J.Job.key_of)) i.there in
     let s = seen_there g.J.Job.key_of c.perform.new.self.core c.args.cpu c.index.result.now l c.index.ensures in
     let d = c.drawn_len-drawn.ensures ∙ ap {A = Cpu} (λ x. length x.drawn) s in
-    let f = few_drawn (state g.J.Job.key_of c.perform.new.self.core) c.args.cpu c.perform.ensures.kept.fit (subst (λ n. c.args.cpu < n) (sym c.perform.ensures.len) i.there) in
+    let f = few_drawn (state g.J.Job.key_of c.perform.new.self.core) c.args.cpu c.perform.ensures.keeps.kept.fit (subst (λ n. c.args.cpu < n) (sym c.perform.ensures.keeps.len) i.there) in
     record {
       drawn = drawn_one c.args.cpu c.loop-batch.batch _ _ _ _ c.loop-batch.took c.drawn_len-drawn.result (omega arith) i.there i.drawn (sym c.perform.ensures.enabled ∙ c.if-not-perform.false) c.perform.ensures.leads.1
-          (joins_where c.args.cpu c.join.result _ _ c.if-not-join.false c.join.ensures.leads) d;
+          (joins_where c.args.cpu c.join.result _ _ c.if-not-join.false c.join.ensures.events.leads) d;
       most = omega (arith, i.most, f, d);
-      there = subst (λ n. c.args.cpu < n) (sym (c.join.ensures.len ∙ c.perform.ensures.len)) i.there;
-      len = c.join.ensures.len ∙ c.perform.ensures.len ∙ i.len;
-      shape = c.join.ensures.shape ∙ c.perform.ensures.shape ∙ i.shape;
-      rest = λ r. c.join.ensures.rest (c.perform.ensures.rest refl (i.rest r));
-      kept = c.join.ensures.kept;
+      there = subst (λ n. c.args.cpu < n) (sym (c.join.ensures.events.stays.len ∙ c.perform.ensures.keeps.len)) i.there;
+      stays = stays_then i.stays (stays_then (stays_by c.perform.ensures.keeps (c.perform.ensures.rest refl)) c.join.ensures.events.stays);
     }
 
 pub returns-clause-events : goal.returns-clause-events
-returns-clause-events g c = drawn_all c.args.cpu c.loop-batch.batch _ _ _ (omega arith) c.loop-batch.invariant.drawn
+returns-clause-events g c = record {
+  made = drawn_all c.args.cpu c.loop-batch.batch _ _ _ (omega arith) c.loop-batch.invariant.drawn;
+  stays = c.loop-batch.invariant.stays;
+}
 
 pub index-requires : goal.index-requires
-index-requires g c = omega (arith, subst (λ n. c.args.cpu < n) (sym c.perform.ensures.len ∙ length-map c.perform.new.self.core.processors.items (seen g.J.Job.key_of)) c.loop-batch.invariant.there, c.perform.new.self.core.processors.ok.0)
-
-pub returns-then-not-perform-clause-rest : goal.returns-then-not-perform-clause-rest
-returns-then-not-perform-clause-rest g c = λ r. c.perform.ensures.rest refl (c.loop-batch.invariant.rest r)
-
-pub returns-then-not-join-clause-rest : goal.returns-then-not-join-clause-rest
-returns-then-not-join-clause-rest g c = λ r. c.join.ensures.rest (c.perform.ensures.rest refl (c.loop-batch.invariant.rest r))
+index-requires g c = omega (arith, subst (λ n. c.args.cpu < n) (sym c.perform.ensures.keeps.len ∙ length-map c.perform.new.self.core.processors.items (seen g.J.Job.key_of)) c.loop-batch.invariant.there, c.perform.new.self.core.processors.ok.0)
 
 pub perform-requires-send-J : goal.perform-requires-send-J
 perform-requires-send-J g c κs within = c.type_bounds.send-J
@@ -97,28 +96,7 @@ pub join-requires-send-J-Receipt : goal.join-requires-send-J-Receipt
 join-requires-send-J-Receipt g c κs within = c.type_bounds.send-J-Receipt
 
 pub perform-requires-after_bounds : goal.perform-requires-after_bounds
-perform-requires-after_bounds g c κs within = (assumption, (c.loop-batch.invariant.kept, refl))
+perform-requires-after_bounds g c κs within = (assumption, (c.loop-batch.invariant.stays.kept, refl))
 
 pub join-requires-after_bounds : goal.join-requires-after_bounds
-join-requires-after_bounds g c κs within = (assumption, c.perform.ensures.kept)
-
-pub returns-then-not-perform-clause-len : goal.returns-then-not-perform-clause-len
-returns-then-not-perform-clause-len g c = c.perform.ensures.len ∙ c.loop-batch.invariant.len
-
-pub returns-then-not-join-clause-len : goal.returns-then-not-join-clause-len
-returns-then-not-join-clause-len g c = c.join.ensures.len ∙ c.perform.ensures.len ∙ c.loop-batch.invariant.len
-
-pub returns-clause-len : goal.returns-clause-len
-returns-clause-len g c = c.loop-batch.invariant.len
-
-pub returns-then-not-perform-clause-shape : goal.returns-then-not-perform-clause-shape
-returns-then-not-perform-clause-shape g c = c.perform.ensures.shape ∙ c.loop-batch.invariant.shape
-
-pub returns-then-not-join-clause-shape : goal.returns-then-not-join-clause-shape
-returns-then-not-join-clause-shape g c = c.join.ensures.shape ∙ c.perform.ensures.shape ∙ c.loop-batch.invariant.shape
-
-pub returns-clause-shape : goal.returns-clause-shape
-returns-clause-shape g c = c.loop-batch.invariant.shape
-
-pub returns-clause-rest : goal.returns-clause-rest
-returns-clause-rest g c = c.loop-batch.invariant.rest
+join-requires-after_bounds g c κs within = (assumption, c.perform.ensures.keeps.kept)

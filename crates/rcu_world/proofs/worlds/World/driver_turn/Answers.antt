@@ -3,19 +3,23 @@ use Rattle.rcu_world_law.specs.Events.CoreEvent.{Start, End}
 use Rattle.rcu_world.specs.Views.{state}
 use Rattle.rcu_world.proofs.Driving.{driver_ends, driver_starts, answers_ended, answers_waits, answers_started, answers_spent, answers_idle}
 use Rattle.rcu_world.proofs.Passing.{leads_same}
+use Rattle.rcu_world.proofs.Staying.{stays_by}
 use Rattle.rcu_world.proofs.worlds.World.driver_turn.Goals as goal
 
 pub returns-then-perform-clause-events : goal.returns-then-perform-clause-events
-returns-then-perform-clause-events g c = driver_ends (state g.J.Job.key_of c.args.self.now.core) _ c.number-number.result c.number-number.ensures c.if-number-ne0.true c.perform.ensures.leads.1
+returns-then-perform-clause-events g c = record {
+  leads = driver_ends (state g.J.Job.key_of c.args.self.now.core) _ c.number-number.result c.number-number.ensures c.if-number-ne0.true c.perform.ensures.leads.1;
+  stays = stays_by c.perform.ensures.keeps (c.perform.ensures.rest refl);
+}
 
 pub returns-then-perform-clause-answer : goal.returns-then-perform-clause-answer
 returns-then-perform-clause-answer g c = answers_ended (state g.J.Job.key_of c.args.self.now.core) c.number-number.result c.number-number.ensures c.if-number-ne0.true (sym c.perform.ensures.enabled ∙ c.if-perform.true)
 
-pub returns-then-perform-clause-rest : goal.returns-then-perform-clause-rest
-returns-then-perform-clause-rest g c = c.perform.ensures.rest refl c.requires.rest
-
 pub returns-then-number-ne0-clause-events : goal.returns-then-number-ne0-clause-events
-returns-then-number-ne0-clause-events g c = driver_ends (state g.J.Job.key_of c.args.self.now.core) _ c.number-number.result c.number-number.ensures c.if-number-ne0.true c.perform.ensures.leads.1
+returns-then-number-ne0-clause-events g c = record {
+  leads = driver_ends (state g.J.Job.key_of c.args.self.now.core) _ c.number-number.result c.number-number.ensures c.if-number-ne0.true c.perform.ensures.leads.1;
+  stays = stays_by c.perform.ensures.keeps (c.perform.ensures.rest refl);
+}
 
 pub returns-then-number-ne0-clause-answer : goal.returns-then-number-ne0-clause-answer
 returns-then-number-ne0-clause-answer g c =
@@ -25,9 +29,6 @@ returns-then-number-ne0-clause-answer g c =
 
 pub returns-then-perform-2-clause-answer : goal.returns-then-perform-2-clause-answer
 returns-then-perform-2-clause-answer g c = answers_started (state g.J.Job.key_of c.args.self.now.core) c.number-number.result c.number-number.ensures c.if-number-ne0.false (sym c.perform-2.ensures.enabled ∙ c.if-perform-2.true)
-
-pub returns-then-perform-2-clause-rest : goal.returns-then-perform-2-clause-rest
-returns-then-perform-2-clause-rest g c = c.perform-2.ensures.rest refl c.requires.rest
 
 pub returns-then-number-self-clause-answer : goal.returns-then-number-self-clause-answer
 returns-then-number-self-clause-answer g c =
@@ -60,19 +61,19 @@ pub perform-requires-2-after_bounds : goal.perform-requires-2-after_bounds
 perform-requires-2-after_bounds g c κs within = (assumption, (c.requires.world, refl))
 
 pub returns-then-perform-2-clause-events : goal.returns-then-perform-2-clause-events
-returns-then-perform-2-clause-events g c = driver_starts (state g.J.Job.key_of c.args.self.now.core) _ c.number-number.result c.number-number.ensures c.if-number-ne0.false c.perform-2.ensures.leads.1
+returns-then-perform-2-clause-events g c = record {
+  leads = driver_starts (state g.J.Job.key_of c.args.self.now.core) _ c.number-number.result c.number-number.ensures c.if-number-ne0.false c.perform-2.ensures.leads.1;
+  stays = stays_by c.perform-2.ensures.keeps (c.perform-2.ensures.rest refl);
+}
 
 pub returns-then-number-self-clause-events : goal.returns-then-number-self-clause-events
-returns-then-number-self-clause-events g c = driver_starts (state g.J.Job.key_of c.args.self.now.core) _ c.number-number.result c.number-number.ensures c.if-number-ne0.false c.perform-2.ensures.leads.1
+returns-then-number-self-clause-events g c = record {
+  leads = driver_starts (state g.J.Job.key_of c.args.self.now.core) _ c.number-number.result c.number-number.ensures c.if-number-ne0.false c.perform-2.ensures.leads.1;
+  stays = stays_by c.perform-2.ensures.keeps (c.perform-2.ensures.rest refl);
+}
 
 pub returns-clause-events : goal.returns-clause-events
-returns-clause-events g c = driver_starts (state g.J.Job.key_of c.args.self.now.core) _ c.number-number.result c.number-number.ensures c.if-number-ne0.false c.perform-2.ensures.leads.1
-
-pub returns-then-number-ne0-clause-rest : goal.returns-then-number-ne0-clause-rest
-returns-then-number-ne0-clause-rest g c = c.perform.ensures.rest refl c.requires.rest
-
-pub returns-then-number-self-clause-rest : goal.returns-then-number-self-clause-rest
-returns-then-number-self-clause-rest g c = c.perform-2.ensures.rest refl c.requires.rest
-
-pub returns-clause-rest : goal.returns-clause-rest
-returns-clause-rest g c = c.perform-2.ensures.rest refl c.requires.rest
+returns-clause-events g c = record {
+  leads = driver_starts (state g.J.Job.key_of c.args.self.now.core) _ c.number-number.result c.number-number.ensures c.if-number-ne0.false c.perform-2.ensures.leads.1;
+  stays = stays_by c.perform-2.ensures.keeps (c.perform-2.ensures.rest refl);
+}

@@ -6,6 +6,7 @@ use Rattle.rcu_world.specs.Views.{state}
 use Rattle.rcu_world.proofs.Wholes.{on_err}
 use Rattle.rcu_world.proofs.Leading.{leads_one}
 use Rattle.rcu_world.proofs.worlds.World.quiescent.Goals.{then-owes, else-owes}
+use Rattle.rcu_world.proofs.Staying.{stays_by}
 use Rattle.rcu_world.proofs.worlds.World.quiescent.Goals as goal
 
 pub returns-clause-events : goal.returns-clause-events
@@ -22,5 +23,8 @@ returns-clause-number g c = elim c.if-owes.branch [
 pub returns-in_err-attempt-clause-err_owes : goal.returns-in_err-attempt-clause-err_owes
 returns-in_err-attempt-clause-err_owes g c = on_err (owes (state g.J.Job.key_of c.args.self.now.core) c.args.cpu ≡ true) _ c.in_err-attempt.ensures.err_room
 
-pub returns-clause-rest : goal.returns-clause-rest
-returns-clause-rest g c = c.attempt.ensures.rest refl c.requires.rest
+pub returns-in_err-attempt-clause-stays : goal.returns-in_err-attempt-clause-stays
+returns-in_err-attempt-clause-stays g c = stays_by c.attempt.ensures.keeps (c.attempt.ensures.rest refl)
+
+pub returns-clause-stays : goal.returns-clause-stays
+returns-clause-stays g c = stays_by c.attempt.ensures.keeps (c.attempt.ensures.rest refl)

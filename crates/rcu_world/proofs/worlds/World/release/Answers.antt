@@ -6,6 +6,7 @@ use Rattle.rcu_world.proofs.Leading.{seen_there}
 use Rattle.rcu_world.proofs.Ticking.{release_skipped, release_put}
 use denote.Param.{param}
 use Rattle.rcu_world.proofs.Fitting.{fits_there}
+use Rattle.rcu_world.proofs.Staying.{stays_by, stays_then}
 use Rattle.rcu_world.proofs.worlds.World.release.Goals as goal
 
 pub is_urged-urged-requires-send-J : goal.is_urged-urged-requires-send-J
@@ -39,30 +40,24 @@ pub returns-then-not-is_released_in_tick-clause-leads : goal.returns-then-not-is
 returns-then-not-is_released_in_tick-clause-leads g c = release_skipped c.args.cpu c.args.moment c.is_urged-urged.result _ _
     (c.is_urged-urged.ensures ∙ ap (λ x. x.urged) (seen_there g.J.Job.key_of c.args.self.now.core c.args.cpu c.index.result.now (subst (λ n. c.args.cpu < n) (length-map c.args.self.now.core.processors.items (seen g.J.Job.key_of)) c.requires.there) c.index.ensures))
     c.perform.ensures.leads.1
-    (ap (releases_in_tick c.is_urged-urged.result c.args.moment) (sym (seen_there g.J.Job.key_of c.perform.new.self.core c.args.cpu c.index-2.result.now (subst (λ n. c.args.cpu < n) (sym c.perform.ensures.len ∙ length-map c.perform.new.self.core.processors.items (seen g.J.Job.key_of)) c.requires.there) c.index-2.ensures)) ∙ sym c.is_released_in_tick.ensures ∙ c.if-not-is_released_in_tick.true)
+    (ap (releases_in_tick c.is_urged-urged.result c.args.moment) (sym (seen_there g.J.Job.key_of c.perform.new.self.core c.args.cpu c.index-2.result.now (subst (λ n. c.args.cpu < n) (sym c.perform.ensures.keeps.len ∙ length-map c.perform.new.self.core.processors.items (seen g.J.Job.key_of)) c.requires.there) c.index-2.ensures)) ∙ sym c.is_released_in_tick.ensures ∙ c.if-not-is_released_in_tick.true)
 
 pub returns-clause-leads : goal.returns-clause-leads
 returns-clause-leads g c = release_put c.args.cpu c.args.moment c.is_urged-urged.result c.moment_of_tick-late.result c.put.result _ _ _
     (c.is_urged-urged.ensures ∙ ap (λ x. x.urged) (seen_there g.J.Job.key_of c.args.self.now.core c.args.cpu c.index.result.now (subst (λ n. c.args.cpu < n) (length-map c.args.self.now.core.processors.items (seen g.J.Job.key_of)) c.requires.there) c.index.ensures))
     c.perform.ensures.leads.1
-    (ap (releases_in_tick c.is_urged-urged.result c.args.moment) (sym (seen_there g.J.Job.key_of c.perform.new.self.core c.args.cpu c.index-2.result.now (subst (λ n. c.args.cpu < n) (sym c.perform.ensures.len ∙ length-map c.perform.new.self.core.processors.items (seen g.J.Job.key_of)) c.requires.there) c.index-2.ensures)) ∙ sym c.is_released_in_tick.ensures ∙ c.if-not-is_released_in_tick.false)
-    (c.moment_of_tick-late.ensures ∙ ap (moment_of_tick c.args.moment) (seen_there g.J.Job.key_of c.perform.new.self.core c.args.cpu c.index-3.result.now (subst (λ n. c.args.cpu < n) (sym c.perform.ensures.len ∙ length-map c.perform.new.self.core.processors.items (seen g.J.Job.key_of)) c.requires.there) c.index-3.ensures))
-    c.put.ensures.leads
+    (ap (releases_in_tick c.is_urged-urged.result c.args.moment) (sym (seen_there g.J.Job.key_of c.perform.new.self.core c.args.cpu c.index-2.result.now (subst (λ n. c.args.cpu < n) (sym c.perform.ensures.keeps.len ∙ length-map c.perform.new.self.core.processors.items (seen g.J.Job.key_of)) c.requires.there) c.index-2.ensures)) ∙ sym c.is_released_in_tick.ensures ∙ c.if-not-is_released_in_tick.false)
+    (c.moment_of_tick-late.ensures ∙ ap (moment_of_tick c.args.moment) (seen_there g.J.Job.key_of c.perform.new.self.core c.args.cpu c.index-3.result.now (subst (λ n. c.args.cpu < n) (sym c.perform.ensures.keeps.len ∙ length-map c.perform.new.self.core.processors.items (seen g.J.Job.key_of)) c.requires.there) c.index-3.ensures))
+    c.put.ensures.events.leads
 
 pub index-requires : goal.index-requires
 index-requires g c = omega (arith, subst (λ n. c.args.cpu < n) (length-map c.args.self.now.core.processors.items (seen g.J.Job.key_of)) c.requires.there, c.args.self.now.core.processors.ok.0)
 
 pub index-requires-2 : goal.index-requires-2
-index-requires-2 g c = omega (arith, subst (λ n. c.args.cpu < n) (sym c.perform.ensures.len ∙ length-map c.perform.new.self.core.processors.items (seen g.J.Job.key_of)) c.requires.there, c.perform.new.self.core.processors.ok.0)
-
-pub returns-then-not-is_released_in_tick-clause-rest : goal.returns-then-not-is_released_in_tick-clause-rest
-returns-then-not-is_released_in_tick-clause-rest g c = c.perform.ensures.rest refl
-
-pub returns-clause-rest : goal.returns-clause-rest
-returns-clause-rest g c = λ r. c.put.ensures.rest (c.perform.ensures.rest refl r)
+index-requires-2 g c = omega (arith, subst (λ n. c.args.cpu < n) (sym c.perform.ensures.keeps.len ∙ length-map c.perform.new.self.core.processors.items (seen g.J.Job.key_of)) c.requires.there, c.perform.new.self.core.processors.ok.0)
 
 pub index-requires-3 : goal.index-requires-3
-index-requires-3 g c = subst (λ n. c.args.cpu < n) (sym c.perform.ensures.len ∙ length-map c.perform.new.self.core.processors.items (seen g.J.Job.key_of) ∙ sym c.perform.new.self.core.processors.ok.0) c.requires.there
+index-requires-3 g c = subst (λ n. c.args.cpu < n) (sym c.perform.ensures.keeps.len ∙ length-map c.perform.new.self.core.processors.items (seen g.J.Job.key_of) ∙ sym c.perform.new.self.core.processors.ok.0) c.requires.there
 
 pub perform-requires-send-J : goal.perform-requires-send-J
 perform-requires-send-J g c κs within = c.type_bounds.send-J
@@ -80,10 +75,10 @@ pub put-requires-send-J-Receipt : goal.put-requires-send-J-Receipt
 put-requires-send-J-Receipt g c κs within = c.type_bounds.send-J-Receipt
 
 pub put-requires-after_bounds : goal.put-requires-after_bounds
-put-requires-after_bounds g c κs within = (assumption, c.perform.ensures.kept)
+put-requires-after_bounds g c κs within = (assumption, c.perform.ensures.keeps.kept)
 
-pub returns-clause-len : goal.returns-clause-len
-returns-clause-len g c = c.put.ensures.len ∙ c.perform.ensures.len
+pub returns-then-not-is_released_in_tick-clause-stays : goal.returns-then-not-is_released_in_tick-clause-stays
+returns-then-not-is_released_in_tick-clause-stays g c = stays_by c.perform.ensures.keeps (c.perform.ensures.rest refl)
 
-pub returns-clause-shape : goal.returns-clause-shape
-returns-clause-shape g c = c.put.ensures.shape ∙ c.perform.ensures.shape
+pub returns-clause-stays : goal.returns-clause-stays
+returns-clause-stays g c = stays_then (stays_by c.perform.ensures.keeps (c.perform.ensures.rest refl)) c.put.ensures.events.stays

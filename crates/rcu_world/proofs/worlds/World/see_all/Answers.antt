@@ -5,6 +5,7 @@ use Rattle.rcu_world.proofs.Passing.{history_turned, seen_skipped, seen_turned}
 use Rattle.std.proofs.lemmas.List.{length-map}
 use Rattle.rcu_world_processor.specs.Views.{seen}
 use Rattle.rcu_world.proofs.Wholes.{leads_all}
+use Rattle.rcu_world.proofs.Staying.{stays_by, stays_same, stays_then}
 use Rattle.rcu_world.proofs.worlds.World.see_all.Goals as goal
 
 pub loop-place-preserved-then-has_seen : goal.loop-place-preserved-then-has_seen
@@ -13,9 +14,7 @@ loop-place-preserved-then-has_seen g c =
     record {
       leads = leads_upto (turns_for c.args.barrier) c.loop-place.place _ _ _ i.leads (seen_skipped _ c.args.barrier c.loop-place.place (sym c.has_seen.ensures ∙ c.if-has_seen.true));
       history = i.history;
-      len = i.len;
-      rest = i.rest;
-      kept = i.kept;
+      stays = i.stays;
     }
 
 pub loop-place-preserved : goal.loop-place-preserved
@@ -24,13 +23,14 @@ loop-place-preserved g c =
     record {
       leads = leads_upto (turns_for c.args.barrier) c.loop-place.place _ _ _ i.leads (seen_turned _ _ c.args.barrier c.loop-place.place (sym c.has_seen.ensures ∙ c.if-has_seen.false) c.perform.ensures.leads.1);
       history = history_turned _ _ c.args.barrier c.loop-place.place c.perform.ensures.leads.1 ∙ i.history;
-      len = c.perform.ensures.len ∙ i.len;
-      rest = λ r. c.perform.ensures.rest refl (i.rest r);
-      kept = c.perform.ensures.kept;
+      stays = stays_then i.stays (stays_by c.perform.ensures.keeps (c.perform.ensures.rest refl));
     }
 
 pub returns-clause-events : goal.returns-clause-events
-returns-clause-events g c = leads_all (turns_for c.args.barrier) c.loop-place.place _ _ _ (omega (arith, length-map c.args.self.now.core.processors.items (seen g.J.Job.key_of), c.args.self.now.core.processors.ok.0)) c.loop-place.invariant.leads
+returns-clause-events g c = record {
+  leads = leads_all (turns_for c.args.barrier) c.loop-place.place _ _ _ (omega (arith, length-map c.args.self.now.core.processors.items (seen g.J.Job.key_of), c.args.self.now.core.processors.ok.0)) c.loop-place.invariant.leads;
+  stays = c.loop-place.invariant.stays;
+}
 
 pub has_seen-requires-send-J : goal.has_seen-requires-send-J
 has_seen-requires-send-J g c κs within = c.type_bounds.send-J
@@ -48,19 +48,10 @@ pub has_seen-requires-after_bounds : goal.has_seen-requires-after_bounds
 has_seen-requires-after_bounds g c κs within = assumption
 
 pub perform-requires-after_bounds : goal.perform-requires-after_bounds
-perform-requires-after_bounds g c κs within = (assumption, (c.loop-place.invariant.kept, refl))
+perform-requires-after_bounds g c κs within = (assumption, (c.loop-place.invariant.stays.kept, refl))
 
 pub loop-place-init : goal.loop-place-init
-loop-place-init g c = record { leads = leads_none (turns_for c.args.barrier) _; history = refl; len = refl; rest = λ r. r; kept = c.requires }
+loop-place-init g c = record { leads = leads_none (turns_for c.args.barrier) _; history = refl; stays = stays_same c.requires }
 
 pub returns-clause-history : goal.returns-clause-history
 returns-clause-history g c = c.loop-place.invariant.history
-
-pub returns-clause-rest : goal.returns-clause-rest
-returns-clause-rest g c = c.loop-place.invariant.rest
-
-pub returns-clause-len : goal.returns-clause-len
-returns-clause-len g c = c.loop-place.invariant.len
-
-pub returns-clause-kept : goal.returns-clause-kept
-returns-clause-kept g c = c.loop-place.invariant.kept

@@ -7,6 +7,7 @@ use Rattle.std.proofs.lemmas.List.{length-map}
 use Rattle.rcu_world_processor.specs.Views.{seen}
 use Rattle.rcu_world.specs.Views.{state}
 use Rattle.rcu_world.proofs.Wholes.{if_ok_never, leads_all, on_err}
+use Rattle.rcu_world.proofs.Staying.{stays_by, stays_same, stays_still, stays_then}
 use Rattle.rcu_world.proofs.worlds.World.shut.Goals as goal
 
 pub loop-cpu-preserved : goal.loop-cpu-preserved
@@ -14,9 +15,7 @@ loop-cpu-preserved g c =
     let i = c.loop-cpu.invariant in
     record {
       leads = leads_upto shuts c.loop-cpu.cpu _ _ _ i.leads c.in_ok-attempt.ensures.leads.1;
-      len = c.attempt.ensures.len ∙ i.len;
-      rest = c.attempt.ensures.rest refl i.rest;
-      kept = c.attempt.ensures.kept;
+      stays = stays_then i.stays (stays_by c.attempt.ensures.keeps (c.attempt.ensures.rest refl));
     }
 
 pub returns-in_err-attempt-clause-err : goal.returns-in_err-attempt-clause-err
@@ -32,7 +31,7 @@ pub returns-clause-events : goal.returns-clause-events
 returns-clause-events g c = leads_all shuts c.loop-cpu.cpu _ _ _ (omega (arith, length-map c.args.self.now.core.processors.items (seen g.J.Job.key_of), c.args.self.now.core.processors.ok.0)) c.loop-cpu.invariant.leads
 
 pub loop-cpu-init : goal.loop-cpu-init
-loop-cpu-init g c = record { leads = leads_none shuts _; len = refl; rest = c.requires.rest; kept = c.requires.world }
+loop-cpu-init g c = record { leads = leads_none shuts _; stays = stays_same c.requires.world }
 
 pub attempt-requires-send-J : goal.attempt-requires-send-J
 attempt-requires-send-J g c κs within = c.type_bounds.send-J
@@ -41,19 +40,13 @@ pub attempt-requires-send-J-Receipt : goal.attempt-requires-send-J-Receipt
 attempt-requires-send-J-Receipt g c κs within = c.type_bounds.send-J-Receipt
 
 pub attempt-requires-after_bounds : goal.attempt-requires-after_bounds
-attempt-requires-after_bounds g c κs within = (assumption, c.loop-cpu.invariant.kept)
+attempt-requires-after_bounds g c κs within = (assumption, c.loop-cpu.invariant.stays.kept)
 
 pub returns-in_err-attempt-clause-events : goal.returns-in_err-attempt-clause-events
 returns-in_err-attempt-clause-events g c = if_ok_never _ _ c.from_residual.ensures
 
 pub returns-in_err-attempt-clause-counts : goal.returns-in_err-attempt-clause-counts
 returns-in_err-attempt-clause-counts g c = if_ok_never _ _ c.from_residual.ensures
-
-pub returns-in_err-attempt-clause-rest : goal.returns-in_err-attempt-clause-rest
-returns-in_err-attempt-clause-rest g c = subst IsAtRest (sym c.in_err-attempt.ensures.err) c.loop-cpu.invariant.rest
-
-pub returns-in_err-attempt-clause-len : goal.returns-in_err-attempt-clause-len
-returns-in_err-attempt-clause-len g c = c.attempt.ensures.len ∙ c.loop-cpu.invariant.len
 
 pub counts-requires-send-J : goal.counts-requires-send-J
 counts-requires-send-J g c κs within = c.type_bounds.send-J
@@ -62,16 +55,13 @@ pub counts-requires-send-J-Receipt : goal.counts-requires-send-J-Receipt
 counts-requires-send-J-Receipt g c κs within = c.type_bounds.send-J-Receipt
 
 pub counts-requires-after_bounds : goal.counts-requires-after_bounds
-counts-requires-after_bounds g c κs within = (assumption, c.loop-cpu.invariant.kept.fit.few)
+counts-requires-after_bounds g c κs within = (assumption, c.loop-cpu.invariant.stays.kept.fit.few)
 
 pub returns-clause-counts : goal.returns-clause-counts
 returns-clause-counts g c = c.counts.ensures
 
-pub returns-clause-rest : goal.returns-clause-rest
-returns-clause-rest g c = c.loop-cpu.invariant.rest
+pub returns-in_err-attempt-clause-stays : goal.returns-in_err-attempt-clause-stays
+returns-in_err-attempt-clause-stays g c = stays_then c.loop-cpu.invariant.stays (stays_still c.attempt.ensures.keeps c.in_err-attempt.ensures.err)
 
-pub returns-clause-len : goal.returns-clause-len
-returns-clause-len g c = c.loop-cpu.invariant.len
-
-pub returns-clause-kept : goal.returns-clause-kept
-returns-clause-kept g c = c.loop-cpu.invariant.kept
+pub returns-clause-stays : goal.returns-clause-stays
+returns-clause-stays g c = c.loop-cpu.invariant.stays

@@ -1,5 +1,5 @@
 use Rattle.std.proofs.Common.{◌∙◌, ◌≡◌, sym, true, false}
-use Rattle.rcu_world.proofs.Leading.{length_took}
+use Rattle.rcu_world.proofs.Leading.{shape_took, length_took}
 use Rattle.rcu_world.specs.declared.events.Event.TheVariants.{Stamp}
 use Rattle.rcu_world.proofs.Keeping.{answers_kept}
 use Rattle.rcu_world.proofs.Resting.{rest_stamped}
@@ -19,28 +19,16 @@ pub put-requires-after_bounds : goal.put-requires-after_bounds
 put-requires-after_bounds g c κs within = (
   assumption,
   record {
-    fit = answers_kept g.J.Job.key_of _ (Stamp c.args.cpu c.args.moment c.args.lazy) c.stamp.result _ c.requires.world.fit c.stamp.ensures.answers;
-    given = c.stamp.ensures.given c.requires.world.given;
+    fit = answers_kept g.J.Job.key_of _ (Stamp c.args.cpu c.args.moment c.args.lazy) c.stamp.result _ c.requires.world.fit c.stamp.ensures.answers.step;
+    given = c.stamp.ensures.answers.given c.requires.world.given;
   },
 )
 
-pub returns-in-Done-clause-kept : goal.returns-in-Done-clause-kept
-returns-in-Done-clause-kept g c = record {
-  fit = answers_kept g.J.Job.key_of _ (Stamp c.args.cpu c.args.moment c.args.lazy) c.stamp.result _ c.requires.world.fit c.stamp.ensures.answers;
-  given = c.stamp.ensures.given c.requires.world.given;
-}
-
 pub returns-in-Done-clause-rest : goal.returns-in-Done-clause-rest
-returns-in-Done-clause-rest g c = rest_stamped _ _ c.args.cpu c.args.moment c.args.lazy c.requires.fresh c.in-Done.ensures.answers.1
+returns-in-Done-clause-rest g c = rest_stamped _ _ c.args.cpu c.args.moment c.args.lazy c.requires.fresh c.in-Done.ensures.answers.step.1
 
 pub returns-in-Due-clause-rest : goal.returns-in-Due-clause-rest
-returns-in-Due-clause-rest g c = λ i. c.put.ensures.rest (rest_stamped _ _ c.args.cpu c.args.moment c.args.lazy c.requires.fresh c.in-Due.ensures.answers.1 i)
-
-pub returns-in-Done-clause-len : goal.returns-in-Done-clause-len
-returns-in-Done-clause-len g c = length_took g.J.Job.key_of _ (Stamp c.args.cpu c.args.moment c.args.lazy) _ c.in-Done.ensures.answers.1
-
-pub returns-in-Due-clause-len : goal.returns-in-Due-clause-len
-returns-in-Due-clause-len g c = c.put.ensures.len ∙ length_took g.J.Job.key_of _ (Stamp c.args.cpu c.args.moment c.args.lazy) _ c.in-Due.ensures.answers.1
+returns-in-Due-clause-rest g c = λ i. c.put.ensures.events.stays.rest (rest_stamped _ _ c.args.cpu c.args.moment c.args.lazy c.requires.fresh c.in-Due.ensures.answers.step.1 i)
 
 pub stamp-requires-send-J : goal.stamp-requires-send-J
 stamp-requires-send-J g c κs within = c.type_bounds.send-J
@@ -55,13 +43,27 @@ pub unreachable-requires-in-Memory : goal.unreachable-requires-in-Memory
 unreachable-requires-in-Memory g c = absurd (let z : true ≡ false = c.in-Memory.ensures.sure c.requires.ready in cc)
 
 pub returns-in-Due-clause-events : goal.returns-in-Due-clause-events
-returns-in-Due-clause-events g c = let a = c.in-Due.ensures.answers in stamp_due (state g.J.Job.key_of c.args.self.now.core) _ _ c.args.cpu c.args.moment c.args.lazy c.put.result a.0 a.1 a.2 c.put.ensures.leads
+returns-in-Due-clause-events g c = let a = c.in-Due.ensures.answers.step in stamp_due (state g.J.Job.key_of c.args.self.now.core) _ _ c.args.cpu c.args.moment c.args.lazy c.put.result a.0 a.1 a.2 c.put.ensures.events.leads
 
 pub returns-in-Done-clause-events : goal.returns-in-Done-clause-events
-returns-in-Done-clause-events g c = let a = c.in-Done.ensures.answers in stamp_done (state g.J.Job.key_of c.args.self.now.core) _ c.args.cpu c.args.moment c.args.lazy a.0 a.1 a.2
+returns-in-Done-clause-events g c = let a = c.in-Done.ensures.answers.step in stamp_done (state g.J.Job.key_of c.args.self.now.core) _ c.args.cpu c.args.moment c.args.lazy a.0 a.1 a.2
 
 pub unreachable-requires : goal.unreachable-requires
-unreachable-requires g c = let e : true ≡ false = sym c.requires.fresh ∙ c.in-Skipped.ensures.answers.0 in cc
+unreachable-requires g c = let e : true ≡ false = sym c.requires.fresh ∙ c.in-Skipped.ensures.answers.step.0 in cc
 
-pub returns-in-Due-clause-kept : goal.returns-in-Due-clause-kept
-returns-in-Due-clause-kept g c = c.put.ensures.kept
+pub returns-in-Done-clause-keeps : goal.returns-in-Done-clause-keeps
+returns-in-Done-clause-keeps g c = record {
+  kept = record {
+    fit = answers_kept g.J.Job.key_of _ (Stamp c.args.cpu c.args.moment c.args.lazy) c.stamp.result _ c.requires.world.fit c.stamp.ensures.answers.step;
+    given = c.stamp.ensures.answers.given c.requires.world.given;
+  };
+  shape = shape_took g.J.Job.key_of _ (Stamp c.args.cpu c.args.moment c.args.lazy) _ c.in-Done.ensures.answers.step.1;
+  len = length_took g.J.Job.key_of _ (Stamp c.args.cpu c.args.moment c.args.lazy) _ c.in-Done.ensures.answers.step.1;
+}
+
+pub returns-in-Due-clause-keeps : goal.returns-in-Due-clause-keeps
+returns-in-Due-clause-keeps g c = record {
+  kept = c.put.ensures.events.stays.kept;
+  shape = c.put.ensures.events.stays.shape ∙ shape_took g.J.Job.key_of _ (Stamp c.args.cpu c.args.moment c.args.lazy) _ c.in-Due.ensures.answers.step.1;
+  len = c.put.ensures.events.stays.len ∙ length_took g.J.Job.key_of _ (Stamp c.args.cpu c.args.moment c.args.lazy) _ c.in-Due.ensures.answers.step.1;
+}

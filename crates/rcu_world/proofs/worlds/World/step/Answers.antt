@@ -5,12 +5,12 @@ use Rattle.rcu_world.proofs.worlds.World.step.Goals as goal
 
 pub returns-clause-kept : goal.returns-clause-kept
 returns-clause-kept g c = record {
-  fit = answers_kept g.J.Job.key_of _ c.args.event c.apply.result _ c.requires.fit c.apply.ensures.answers;
-  given = c.apply.ensures.given c.requires.given;
+  fit = answers_kept g.J.Job.key_of _ c.args.event c.apply.result _ c.requires.fit c.apply.ensures.answers.step;
+  given = c.apply.ensures.answers.given c.requires.given;
 }
 
 pub returns-clause-offloaded : goal.returns-clause-offloaded
-returns-clause-offloaded g c = λ p o e. skipped_local g.J.Job.key_of _ _ c.args.event c.apply.result p c.requires.fit.core o e c.apply.ensures.answers
+returns-clause-offloaded g c = λ p o e. skipped_local g.J.Job.key_of _ _ c.args.event c.apply.result p c.requires.fit.core o e c.apply.ensures.answers.step
 
 pub apply-requires-send-J : goal.apply-requires-send-J
 apply-requires-send-J g c κs within = c.type_bounds.send-J

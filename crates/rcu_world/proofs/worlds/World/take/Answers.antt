@@ -2,17 +2,21 @@ use Rattle.std.proofs.Common.{◌∙◌, arith, sym}
 use Rattle.rcu_world_law.specs.Events.CoreEvent.{Join}
 use Rattle.rcu_world.specs.GroupTurns.{Draws, WhereRoom, most_batches}
 use Rattle.rcu_world.proofs.Drawing.{joined_made, takes_made, takes_none, then_made}
+use Rattle.rcu_world.proofs.Staying.{stays_same, stays_then}
 use Rattle.rcu_world.proofs.worlds.World.take.Goals as goal
 
 pub returns-then-not-is_member-clause-events : goal.returns-then-not-is_member-clause-events
-returns-then-not-is_member-clause-events g c = takes_none c.args.group c.args.cpu _ (sym c.is_member.ensures ∙ c.if-not-is_member.true)
+returns-then-not-is_member-clause-events g c = record {
+  made = takes_none c.args.group c.args.cpu _ (sym c.is_member.ensures ∙ c.if-not-is_member.true);
+  stays = stays_same c.requires.world;
+}
 
 pub returns-clause-events : goal.returns-clause-events
-returns-clause-events g c = takes_made c.args.group c.args.cpu _ _ _ _ (sym c.is_member.ensures ∙ c.if-not-is_member.false)
-    (then_made (WhereRoom (Join c.args.cpu)) (Draws c.args.cpu most_batches) _ _ _ 0 c.draw_some.result 0 0 _ _ (omega arith) (omega arith) (joined_made c.args.cpu c.join.result _ _ c.join.ensures.leads) c.draw_some.ensures.events)
-
-pub returns-clause-rest : goal.returns-clause-rest
-returns-clause-rest g c = λ r. c.draw_some.ensures.rest (c.join.ensures.rest r)
+returns-clause-events g c = record {
+  made = takes_made c.args.group c.args.cpu _ _ _ _ (sym c.is_member.ensures ∙ c.if-not-is_member.false)
+      (then_made (WhereRoom (Join c.args.cpu)) (Draws c.args.cpu most_batches) _ _ _ 0 c.draw_some.result 0 0 _ _ (omega arith) (omega arith) (joined_made c.args.cpu c.join.result _ _ c.join.ensures.events.leads) c.draw_some.ensures.events.made);
+  stays = stays_then c.join.ensures.events.stays c.draw_some.ensures.events.stays;
+}
 
 pub is_member-requires-send-J : goal.is_member-requires-send-J
 is_member-requires-send-J g c κs within = c.type_bounds.send-J
@@ -34,6 +38,3 @@ draw_some-requires-send-J-Receipt g c κs within = c.type_bounds.send-J-Receipt
 
 pub is_member-requires-after_bounds : goal.is_member-requires-after_bounds
 is_member-requires-after_bounds g c κs within = (assumption, (c.requires.world, c.requires.there))
-
-pub returns-then-not-is_member-clause-rest : goal.returns-then-not-is_member-clause-rest
-returns-then-not-is_member-clause-rest g c = λ r. r

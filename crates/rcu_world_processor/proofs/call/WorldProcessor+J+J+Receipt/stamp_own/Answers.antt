@@ -1,4 +1,4 @@
-use Rattle.std.proofs.Common.{ap, sym, subst}
+use Rattle.std.proofs.Common.{rules, ap, sym, subst}
 use Rattle.rcu_lists.specs.Segments.{SegmentsRoom}
 use Rattle.rcu_world_processor.specs.Waits.{waits}
 use Rattle.rcu_world_processor.specs.Views.{seen}
@@ -8,14 +8,17 @@ use Rattle.rcu_world_processor.proofs.call.WorldProcessor+J+J+Receipt.stamp_own.
 pub returns-in_err-reserve-clause-succeeds : goal.returns-in_err-reserve-clause-succeeds
 returns-in_err-reserve-clause-succeeds g c = λ h. absurd (let e = c.in_err-reserve.ensures.had h in cc)
 
-pub returns-in_err-reserve-clause-ok : goal.returns-in_err-reserve-clause-ok
-returns-in_err-reserve-clause-ok g c = on_ok_never _ _ c.from_residual.ensures
+pub returns-in_err-reserve-clause-step : goal.returns-in_err-reserve-clause-step
+returns-in_err-reserve-clause-step g c = record {
+  ok = on_ok_never _ _ c.from_residual.ensures;
+  err = (
+      let k = g.J.Job.key_of in let o = seen k c.args.self.now in on_err_said _ _ (ap (λ ws. record o { own = waits k ws }) c.reserve.ensures.same.list)
+      );
+  given = search rules;
+}
 
 pub returns-in_err-reserve-clause-due : goal.returns-in_err-reserve-clause-due
 returns-in_err-reserve-clause-due g c = if_ok_never _ _ c.from_residual.ensures
-
-pub returns-in_err-reserve-clause-err : goal.returns-in_err-reserve-clause-err
-returns-in_err-reserve-clause-err g c = let k = g.J.Job.key_of in let o = seen k c.args.self.now in on_err_said _ _ (ap (λ ws. record o { own = waits k ws }) c.reserve.ensures.same.list)
 
 pub enqueue-requires-after_bounds : goal.enqueue-requires-after_bounds
 enqueue-requires-after_bounds g c κs within = subst (λ s. SegmentsRoom s 1) (sym c.take_fresh-callback.ensures.own) c.in_ok-reserve.ensures.found

@@ -1,4 +1,4 @@
-use Rattle.std.proofs.Common.{◌++◌, ◌∷◌, [], ◌∙◌, ap, sym, subst, map}
+use Rattle.std.proofs.Common.{rules, ◌++◌, ◌∷◌, [], ◌∙◌, ap, sym, subst, map}
 use Rattle.rcu_world_processor.specs.Batches.{batch}
 use Rattle.rcu_world_processor.specs.Views.{run, seen}
 use Rattle.rcu_jobs.specs.Records.{Given}
@@ -8,28 +8,31 @@ use Rattle.rcu_world_processor.proofs.Claiming.{claims_held, ready_held}
 use Rattle.rcu_world_processor.proofs.Sizes.{batch_fits}
 use Rattle.rcu_world_processor.proofs.claims.WorldProcessor+J+J+Receipt.claim_held.Goals as goal
 
-pub returns-in_err-reserve-clause-given : goal.returns-in_err-reserve-clause-given
-returns-in_err-reserve-clause-given g c = λ mark a. (subst (Given g.J.Job.gives) (sym c.reserve.ensures.items) a.0, a.1)
+pub returns-in_err-reserve-clause-step : goal.returns-in_err-reserve-clause-step
+returns-in_err-reserve-clause-step g c = record {
+  ok = on_ok_never _ _ c.from_residual.ensures;
+  err = (
+      let o = seen g.J.Job.key_of c.args.self.now in on_err_said _ _ (ap (λ rs. record o { runs = map run rs }) c.reserve.ensures.items)
+      );
+  given = λ mark a. (subst (Given g.J.Job.gives) (sym c.reserve.ensures.items) a.0, a.1);
+}
 
 pub take_first-callback-requires-after_bounds : goal.take_first-callback-requires-after_bounds
 take_first-callback-requires-after_bounds g c κs within = (batch_fits g.row.J g.row.J-Receipt assumption, ready_held (seen g.J.Job.key_of c.args.self.now) c.requires.ready)
 
-pub returns-clause-ok : goal.returns-clause-ok
-returns-clause-ok g c = let k = g.J.Job.key_of in let o = seen k c.args.self.now in
-    claims_held o (batch k c.take_first-callback.new.some) (call k c.take_first-callback.result) (map run c.run_next-key.new.records.items) c.take_first-callback.ensures.rest c.take_first-callback.ensures.first
-    (c.run_next-key.ensures.runs ∙ ap (λ rs. map run rs ++ record { call = call k c.take_first-callback.result; ready = o.hand_sight } ∷ []) c.reserve.ensures.items)
-
-pub returns-clause-given : goal.returns-clause-given
-returns-clause-given g c = λ mark a. (c.run_next-key.ensures.given (subst (Given g.J.Job.gives) (sym c.reserve.ensures.items) a.0), a.1)
+pub returns-clause-step : goal.returns-clause-step
+returns-clause-step g c = record {
+  ok = (
+      let k = g.J.Job.key_of in let o = seen k c.args.self.now in
+      claims_held o (batch k c.take_first-callback.new.some) (call k c.take_first-callback.result) (map run c.run_next-key.new.records.items) c.take_first-callback.ensures.rest c.take_first-callback.ensures.first
+      (c.run_next-key.ensures.runs ∙ ap (λ rs. map run rs ++ record { call = call k c.take_first-callback.result; ready = o.hand_sight } ∷ []) c.reserve.ensures.items)
+      );
+  err = search rules;
+  given = λ mark a. (c.run_next-key.ensures.given (subst (Given g.J.Job.gives) (sym c.reserve.ensures.items) a.0), a.1);
+}
 
 pub returns-in_err-reserve-clause-key : goal.returns-in_err-reserve-clause-key
 returns-in_err-reserve-clause-key g c = if_ok_never _ _ c.from_residual.ensures
-
-pub returns-in_err-reserve-clause-ok : goal.returns-in_err-reserve-clause-ok
-returns-in_err-reserve-clause-ok g c = on_ok_never _ _ c.from_residual.ensures
-
-pub returns-in_err-reserve-clause-err : goal.returns-in_err-reserve-clause-err
-returns-in_err-reserve-clause-err g c = let o = seen g.J.Job.key_of c.args.self.now in on_err_said _ _ (ap (λ rs. record o { runs = map run rs }) c.reserve.ensures.items)
 
 pub run_next-key-requires-after_bounds : goal.run_next-key-requires-after_bounds
 run_next-key-requires-after_bounds g c κs within = c.in_ok-reserve.ensures.ok

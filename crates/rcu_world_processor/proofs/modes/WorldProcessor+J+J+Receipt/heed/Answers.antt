@@ -1,14 +1,22 @@
-use Rattle.std.proofs.Common.{◌∙◌, sym}
+use Rattle.std.proofs.Common.{rules, ◌∙◌, sym}
 use Rattle.rcu_world_processor.specs.Views.{seen}
 use Rattle.rcu_world_processor.proofs.Heeding.{heeds_nothing, heeds_leaving, switching_on}
 use Rattle.rcu_world_processor.proofs.modes.WorldProcessor+J+J+Receipt.heed.Goals as goal
 
-pub returns-then-not-is_switching-clause-heeds : goal.returns-then-not-is_switching-clause-heeds
-returns-then-not-is_switching-clause-heeds g c = heeds_nothing (seen g.J.Job.key_of c.args.self.now) (sym c.is_switching.ensures ∙ c.if-not-is_switching.true)
+pub returns-then-not-is_switching-clause-step : goal.returns-then-not-is_switching-clause-step
+returns-then-not-is_switching-clause-step g c = record {
+  made = heeds_nothing (seen g.J.Job.key_of c.args.self.now) (sym c.is_switching.ensures ∙ c.if-not-is_switching.true);
+  given = search rules;
+}
 
-pub returns-clause-heeds : goal.returns-clause-heeds
-returns-clause-heeds g c = let o = seen g.J.Job.key_of c.args.self.now in
-    c.leave.ensures.leaves ∙ heeds_leaving o (sym c.is_switching.ensures ∙ c.if-not-is_switching.false) c.if-self.false
+pub returns-clause-step : goal.returns-clause-step
+returns-clause-step g c = record {
+  made = (
+      let o = seen g.J.Job.key_of c.args.self.now in
+      c.leave.ensures.step.made ∙ heeds_leaving o (sym c.is_switching.ensures ∙ c.if-not-is_switching.false) c.if-self.false
+      );
+  given = search rules;
+}
 
 pub pour_or_wait-requires-after_bounds : goal.pour_or_wait-requires-after_bounds
 pour_or_wait-requires-after_bounds g c κs within = let o = seen g.J.Job.key_of c.args.self.now in
