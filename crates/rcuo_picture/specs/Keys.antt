@@ -1,6 +1,6 @@
 -- What the jobs of a picture promise: each answers its key.
 use Rattle.std.specs.Prelude.{◌≡◌, ℕ}
-use Rattle.rcuo_picture.specs.declared.run.KeyJob.{KeyJob}
+use Rattle.rcuo_picture.specs.declared.runs.KeyJob.{KeyJob}
 
 abbrev pub key_in : KeyJob → ℕ
 key_in job = job.key

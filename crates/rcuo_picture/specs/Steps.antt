@@ -3,7 +3,7 @@ use Rattle.std.specs.Prelude.{◌≡◌, ℕ, List, Option, Some, None, IfSome, 
 use Rattle.rcu_world_replay.specs.Printed.{IsAnswer}
 use Rattle.rcu_world_law.specs.States.{State}
 use Rattle.rcuo_picture.specs.Keys.{key_in}
-use Rattle.rcuo_picture.specs.declared.run.KeyJob.{KeyJob}
+use Rattle.rcuo_picture.specs.declared.runs.KeyJob.{KeyJob}
 use Rattle.rcuo_script.specs.Lines.{line_text}
 use Rattle.rcuo_script.specs.declared.lines.Line.{Line}
 use Rattle.rcu_setup.specs.declared.line.Command.{Command}

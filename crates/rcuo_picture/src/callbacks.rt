@@ -3,7 +3,7 @@
 use crate::pen::Pen;
 use crate::places::{Place, place_of};
 use crate::rows::{COLUMN, left_of, middle_of};
-use crate::run::{Run, Step};
+use crate::runs::{Run, Step};
 use rcuo_script::{Line, Verb};
 use std::io::Write;
 

@@ -5,7 +5,7 @@ use crate::legend::{LEGEND_HEIGHT, write_legend};
 use crate::marks::write_answer;
 use crate::pen::Pen;
 use crate::rows::{COLUMN, LEFT, Row, TOP, bottom_of, left_of, middle_of};
-use crate::run::{MOST_STEPS, Run, Step};
+use crate::runs::{MOST_STEPS, Run, Step};
 use rcu_jobs::{DriverTurn, Mode};
 use rcuo_script::Line;
 use std::io::Write;

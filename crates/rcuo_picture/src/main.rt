@@ -13,12 +13,12 @@ mod page;
 mod pen;
 mod places;
 mod rows;
-mod run;
+mod runs;
 mod words;
 
 use page::write_page;
 use rcuo_script::{Fault, setup_of, write_fault};
-use run::play;
+use runs::play;
 use std::io;
 use std::io::Write;
 use std::process::ExitCode;

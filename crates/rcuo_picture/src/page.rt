@@ -3,7 +3,7 @@
 use crate::drawing::write_picture;
 use crate::pen::Pen;
 use crate::rows::{Row, rows_of};
-use crate::run::Run;
+use crate::runs::Run;
 use crate::words::Form;
 use std::alloc::Global;
 use std::io;

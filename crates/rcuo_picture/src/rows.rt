@@ -1,6 +1,6 @@
 //! The rows of a picture, from above, and where columns and rows lie in it. All lengths are in pixels.
 
-use crate::run::Run;
+use crate::runs::Run;
 use std::alloc::{AllocError, Global};
 use std::fmt;
 
