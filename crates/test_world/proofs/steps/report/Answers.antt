@@ -1,0 +1,8 @@
+use Rattle.test_world.proofs.AtRest.{rests}
+use Rattle.test_world.proofs.steps.report.Goals as goal
+
+pub returns-in_err-reported : goal.returns-in_err-reported
+returns-in_err-reported g c = rests g.J.Job.key_of g.J.Job.gives c.args.world.now.core c.quiescent.new.self.core c.requires c.quiescent.ensures.stays
+
+pub returns : goal.returns
+returns g c = rests g.J.Job.key_of g.J.Job.gives c.args.world.now.core c.quiescent.new.self.core c.requires c.quiescent.ensures.stays
