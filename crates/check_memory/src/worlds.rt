@@ -207,7 +207,8 @@ fn run_events(alloc: Global, refusals: &mut Refusals, world: &mut World<Work>) -
         "not all events came back",
     )?;
     stands(before == shown(world)?, Growth::WorldRun, "a list changed")?;
-    stands(world.run(back).is_ok(), Growth::WorldRun, "refused again")
+    stands(world.run(back).is_ok(), Growth::WorldRun, "refused again")?;
+    Ok(())
 }
 
 /// Closes the world, or tries it again.
@@ -262,7 +263,7 @@ fn perform_all(
 {
     progress.perform_all(world)?;
     run_events(alloc, &mut progress.refusals, world)?;
-    shown(world)
+    Ok(shown(world)?)
 }
 
 /// The scenario: `World::new`, each call of the table, `run`, `close`.
