@@ -6,14 +6,14 @@ ghost use Rattle.rcu_board.specs.declared.board.Board.{Board};
 ghost use Rattle.rcu_board.specs.declared.board.Seat.{Seat};
 ghost use Rattle.rcu_board.specs.declared.board.Role.TheVariants.{Processor, Driver, Control};
 ghost use Rattle.rcu_board.specs.Roles.{MayClaim, MayCount, cpu_of_role};
-ghost use Rattle.rcu_board.specs.Words.{accepts_word, asks_word, board_word, halt_word, needed_word, turns_word, urge_word};
+ghost use Rattle.rcu_board.specs.Words.{accepts_word, asks_word, board_word, halt_word, needed_word, reports_word, turns_word, urge_word};
 ghost use Rattle.rcu_board.specs.declared.board.Role.{Role};
 ghost use Rattle.bench_board.specs.Stays.{HasStepped, StaysSeat};
-ghost use Rattle.rcu_board.specs.Seats.{view, AtBoard, accepted_of, fresh_of};
+ghost use Rattle.rcu_board.specs.Seats.{view, AtBoard, accepted_of, fresh_of, own_word};
 
 use rcu_board::{
-    Board, Claimed, Seat, accept, ask, asked, claim, count_of, finish, halt, halted, heard, look,
-    need, needed, report, shut_one, turn_of, urge,
+    Board, Claimed, Seat, accept, ask, asked, claim, come_back, count_of, finish, halt, halted,
+    heard, leave, look, need, needed, shut_one, sighted, turn_of, urge,
 };
 
 /// How many numbers there are to accept or to claim.
@@ -56,17 +56,34 @@ impl Kind for Look {
     }
 }
 
-pub(crate) struct Report;
+/// A step by which the processor is away, and the one by which it is back.
+pub(crate) struct Away;
 
-impl Kind for Report {
-    ghost ready = { λ board seat number. seat.role ≡ Processor 0 };
+impl Kind for Away {
+    ghost ready = { λ board seat number. (seat.role ≡ Processor 0) × (own_word (view seat) ≡ 0) };
 
-    ghost word = { λ board role. board_word };
+    ghost word = { λ board role. reports_word (cpu_of_role role) };
+
+    ghost steps = { 2 };
+
+    fn step(board: &Board, seat: &mut Seat, _number: u64) -> bool {
+        leave(board, seat, 0);
+        come_back(board, seat) == 0
+    }
+}
+
+/// The driver's look at a report word.
+pub(crate) struct Sighted;
+
+impl Kind for Sighted {
+    ghost ready = { λ board seat number. seat.role ≡ Driver };
+
+    ghost word = { λ board role. reports_word 0 };
 
     ghost steps = { 1 };
 
     fn step(board: &Board, seat: &mut Seat, _number: u64) -> bool {
-        report(board, seat);
+        sighted(board, seat, 0);
         true
     }
 }

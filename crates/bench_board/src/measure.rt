@@ -3,13 +3,15 @@
 ghost use Rattle.std.specs.Prelude.{◌≡◌, ◌≤◌, ◌<◌, ◌+◌, ◌-◌, ◌*◌, IsTrue};
 ghost use Rattle.std.specs.Thread.{IsSync};
 ghost use Rattle.rcu_board.specs.Views.{sight};
-ghost use Rattle.rcu_board.specs.Words.{board_word};
-ghost use Rattle.bench_board.specs.Stays.{HasStepped, StaysSeat};
+ghost use Rattle.rcu_board.specs.Words.{reports_word};
+ghost use Rattle.rcu_board.specs.Opened.{IsNewProcessor};
+ghost use Rattle.bench_board.specs.Stays.{HasStepped, Reports, StaysSeat};
 ghost use Rattle.rcu_board.specs.Seats.{view, AtBoard};
 
 use crate::kinds::{Kind, Look};
-use rcu_board::{Board, Role, Seat, end, look, report, start};
-use rcu_numbers::GREATEST_NUMBER;
+use rcu_board::{Board, Role, Seat, end, look, sighted, start};
+use rcu_numbers::LAST_NUMBER;
+use rcu_part_steps::report_quiescent_state;
 use std::num::nearest_u64_to_f64;
 use std::rt::Clock;
 use std::sync::Wait;
@@ -150,28 +152,42 @@ pub(crate) fn measure<K: Kind, O: Kind, R: Threads + Wait + Sync + Clock + Print
     Ok(1)
 }
 
-/// Starts, reports and ends grace periods. Answers whether all were made.
-fn repeat_grace_periods(board: &Board, driver: &mut Seat, processor: &mut Seat, rounds: u64) -> bool
+/// Starts grace periods, which the one processor of the board reports in, and ends them. `passed` is the last one that the
+/// processor passed, and is kept up to date. Answers whether all were made.
+fn repeat_grace_periods(
+    board: &Board,
+    driver: &mut Seat,
+    processor: &mut Seat,
+    passed: &mut u64,
+    rounds: u64,
+) -> bool
     requires board { AtBoard board.now driver.old × AtBoard board.now processor.old }
-    requires who { (driver.old.role ≡ Role.Driver) × (processor.old.role ≡ Role.Processor 0) }
+    requires one { board.now.processors ≡ 1 }
+    requires who { (driver.old.role ≡ Role.Driver) × Reports processor.old passed.old }
     ensures same { StaysSeat driver.old driver.new × StaysSeat processor.old processor.new }
+    ensures reports { Reports processor.new passed.new }
     ensures ended { IsTrue result
         → sight (view driver.new) ≡ sight (view driver.old) + 4 * rounds }
-    ensures reported { IsTrue result → HasStepped board_word rounds processor.old processor.new }
+    ensures reported { IsTrue result
+        → HasStepped (reports_word 0) rounds processor.old processor.new }
 {
-    let mut seq = look(board, driver).seq();
+    let mut seq = look(board, driver);
     if seq % 4 != 0 {
         return false;
     }
     for _round in 0..rounds {
-        if seq >= GREATEST_NUMBER {
+        if seq >= LAST_NUMBER {
             return false;
         }
         start(board, driver, seq);
-        report(board, processor);
-        if end(board, driver, seq + 1).is_err() {
+        let Some(counted) = report_quiescent_state(board, processor, 0, *passed) else {
+            return false;
+        };
+        *passed = counted;
+        if sighted(board, driver, 0) / 2 != seq + 1 {
             return false;
         }
+        end(board, driver, seq + 1);
         seq += 4;
     }
     true
@@ -184,12 +200,13 @@ fn grace_periods_beside<R: Threads + Wait + Sync>(
     driver: Seat,
     processor: Seat,
     hand: Seat,
+    passed: u64,
     rounds: u64,
 ) -> bool
     requires board { AtBoard board.now driver × AtBoard board.now processor
         × AtBoard board.now hand }
-    requires some { 0 < board.now.processors }
-    requires who { (driver.role ≡ Role.Driver) × (processor.role ≡ Role.Processor 0) }
+    requires one { board.now.processors ≡ 1 }
+    requires who { (driver.role ≡ Role.Driver) × Reports processor passed }
 {
     let flag = AtomicBool::new(false);
     let stopped = &flag;
@@ -197,15 +214,16 @@ fn grace_periods_beside<R: Threads + Wait + Sync>(
         rt,
         move || -> bool
             requires { AtBoard board.now driver × AtBoard board.now processor
-                × (driver.role ≡ Role.Driver) × (processor.role ≡ Role.Processor 0) }
+                × (board.now.processors ≡ 1) × (driver.role ≡ Role.Driver)
+                × Reports processor passed }
         {
-            let (mut driver, mut processor) = (driver, processor);
-            let all = repeat_grace_periods(board, &mut driver, &mut processor, rounds);
+            let (mut driver, mut processor, mut passed) = (driver, processor, passed);
+            let all = repeat_grace_periods(board, &mut driver, &mut processor, &mut passed, rounds);
             stopped.store(true, Ordering::SeqCst);
             all
         },
         move || -> ()
-            requires { IsSync R.row × AtBoard board.now hand × (0 < board.now.processors) }
+            requires { IsSync R.row × AtBoard board.now hand × (board.now.processors ≡ 1) }
         { repeat_until::<Look, R>(rt, board, hand, stopped) },
     );
     all
@@ -222,16 +240,17 @@ pub(crate) fn measure_grace_periods<R: Threads + Wait + Sync + Clock + Print>(
 ) -> io::Result<u64>
     requires board { AtBoard board.now driver × AtBoard board.now processor
         × AtBoard board.now hand }
-    requires some { 0 < board.now.processors }
-    requires who { (driver.role ≡ Role.Driver) × (processor.role ≡ Role.Processor 0) }
+    requires one { board.now.processors ≡ 1 }
+    requires who { (driver.role ≡ Role.Driver) × IsNewProcessor board.now 0 processor }
 {
+    let mut passed = 0;
     let first = Instant::now(rt)?;
-    if !repeat_grace_periods(board, &mut driver, &mut processor, plan.rounds) {
+    if !repeat_grace_periods(board, &mut driver, &mut processor, &mut passed, plan.rounds) {
         return Ok(0);
     }
     let alone = first.elapsed(rt)?;
     let second = Instant::now(rt)?;
-    if !grace_periods_beside(rt, board, driver, processor, hand, plan.rounds) {
+    if !grace_periods_beside(rt, board, driver, processor, hand, passed, plan.rounds) {
         return Ok(0);
     }
     print_row(

@@ -1,8 +1,8 @@
 //! The rows: which kind of step each measures, and which other kind steps on the same word beside it.
 
 use crate::kinds::{
-    Accept, Ask, Asked, Claim, Count, Halt, Halted, Hear, Look, Need, Needed, Report, Shut, Turn,
-    Urge,
+    Accept, Ask, Asked, Away, Claim, Count, Halt, Halted, Hear, Look, Need, Needed, Shut, Sighted,
+    Turn, Urge,
 };
 use crate::measure::{Plan, measure, measure_grace_periods};
 use crate::seats::open_one;
@@ -23,7 +23,7 @@ fn time_look<R: Threads + Wait + Sync + Clock + Print>(
     measure::<Look, Look, R>(rt, &board, each.processor, each.hand, "look", plan)
 }
 
-fn time_report<R: Threads + Wait + Sync + Clock + Print>(
+fn time_away<R: Threads + Wait + Sync + Clock + Print>(
     rt: &R,
     alloc: Global,
     plan: Plan,
@@ -31,7 +31,25 @@ fn time_report<R: Threads + Wait + Sync + Clock + Print>(
     let Some((board, each)) = open_one(alloc)? else {
         return Ok(0);
     };
-    measure::<Report, Look, R>(rt, &board, each.processor, each.hand, "report", plan)
+    measure::<Away, Sighted, R>(
+        rt,
+        &board,
+        each.processor,
+        each.driver,
+        "leave and come_back",
+        plan,
+    )
+}
+
+fn time_sighted<R: Threads + Wait + Sync + Clock + Print>(
+    rt: &R,
+    alloc: Global,
+    plan: Plan,
+) -> io::Result<u64> {
+    let Some((board, each)) = open_one(alloc)? else {
+        return Ok(0);
+    };
+    measure::<Sighted, Away, R>(rt, &board, each.driver, each.processor, "sighted", plan)
 }
 
 fn time_need<R: Threads + Wait + Sync + Clock + Print>(
@@ -208,7 +226,8 @@ fn board_rows<R: Threads + Wait + Sync + Clock + Print>(
     plan: Plan,
 ) -> io::Result<u64> {
     let mut rows = time_look(rt, alloc, plan)?;
-    rows = rows.wrapping_add(time_report(rt, alloc, plan)?);
+    rows = rows.wrapping_add(time_away(rt, alloc, plan)?);
+    rows = rows.wrapping_add(time_sighted(rt, alloc, plan)?);
     rows = rows.wrapping_add(time_grace_periods(rt, alloc, plan)?);
     rows = rows.wrapping_add(time_need(rt, alloc, plan)?);
     Ok(rows.wrapping_add(time_needed(rt, alloc, plan)?))

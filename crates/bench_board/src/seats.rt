@@ -58,7 +58,7 @@ fn take_apart(shape: Shape, board: &Board, seats: Seats) -> Option<OneOfEach>
 /// Opens a board, and takes its seats apart; None where it is not as its shape asks.
 pub(crate) fn open_one(alloc: Global) -> Result<Option<(Board, OneOfEach)>, AllocError>
     ensures board { IfOk result (λ found.
-        IfSome found (λ t. (0 < t.0.processors) × (owes_of t.0.offloadable 0 ≡ 1))) }
+        IfSome found (λ t. (t.0.processors ≡ 1) × (owes_of t.0.offloadable 0 ≡ 1))) }
     ensures processor { IfOk result (λ found.
         IfSome found (λ t. IsNewProcessor t.0 0 t.1.processor)) }
     ensures hand { IfOk result (λ found.
@@ -73,7 +73,7 @@ pub(crate) fn open_one(alloc: Global) -> Result<Option<(Board, OneOfEach)>, Allo
         return Ok(None);
     };
     let (board, seats) = open_board(alloc, shape)?;
-    if board.processors() == 0 || !board.is_offloadable(0) {
+    if board.processors() != 1 || !board.is_offloadable(0) {
         return Ok(None);
     }
     let Some(each) = take_apart(shape, &board, seats) else {

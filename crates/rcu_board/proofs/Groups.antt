@@ -1,7 +1,8 @@
 -- Seats that are made and joined keep the rule.
 use Rattle.rcu_board.specs.Views.{tally, one_if, control_count, joined_word, joined_words, given_control, with_control, Every, total, seen_at, sight, accepted_count, one_if_claim, one_if_on, claimed, runs, cpus, one_if_equal, own_count, driver_count, spent, joined_tallies, joined, given_plain, plain, rest_own, first_own, given_own, with_own}
-use Rattle.rcu_board.specs.Laws.{OddEquals, AskLawInView, Each, BoardRule, ViewAlone, BoardLawInView, AcceptLawInView, TurnLawInView, Reported}
-use Rattle.rcu_board.specs.Words.{words_of, is_asks, asks_word, accepts_word, turns_word}
+use Rattle.rcu_board.specs.Laws.{OddEquals, AskLawInView, Each, BoardRule, ViewAlone, BoardLawInView, AcceptLawInView, TurnLawInView, OwnLaw, ReportLawInView}
+use Rattle.rcu_board.specs.Quiets.{Chain}
+use Rattle.rcu_board.specs.Words.{words_of, is_asks, asks_word, accepts_word, turns_word, reports_word, period_of}
 use Rattle.std.proofs.Common.{◌≡◌, ℕ, zero, suc, ◌+◌, ◌-◌, ◌*◌, ◌%◌, ◌/◌, ◌<◌, ◌≤◌, Bool, true, false, cond, ◌||◌, List, [], ◌∷◌, ◌++◌, length, get_or, set, sym, refl, ap, ◌∙◌, subst, ⊎_elim, ◌⊎◌, inl, inr, arith, max}
 use mathlib.Core.Option.{some}
 use native.Mathlib.Decide.{dec_le, ℕ_discrete}
@@ -13,7 +14,7 @@ use Rattle.rcu_board.specs.declared.view.View.{View}
 use Rattle.rcu_board.specs.declared.view.Own.{Own}
 use Rattle.rcu_board.specs.declared.view.Claim.{Claim}
 use Rattle.rcu_board.specs.declared.view.Accepted.{Accepted}
-use Rattle.rcu_board.proofs.Asks.{no_true, accepts_not, turns_not, asks_is}
+use Rattle.rcu_board.proofs.Asks.{no_true, accepts_not, turns_not, reports_not, asks_is}
 use Rattle.rcu_board.proofs.Turns.{turn_counts, turn_law}
 use Rattle.rcu_board.proofs.Views.{every, every_nil, every_more, every_append, total-append, total-set, two_of, each_set}
 
@@ -92,6 +93,9 @@ asks_joined a true x y z f g e = g refl
 asks_joined true false x y z f g e = f refl
 asks_joined false false x y z f g e = absurd (no_true e)
 
+half_max : (a b x : ℕ) → a / 2 ≤ x → b / 2 ≤ x → max a b / 2 ≤ x
+half_max a b x h k = dite (dec_le a b) (λ le. let e : max a b ≡ b = omega arith in omega arith) (λ gt. let e : max a b ≡ a = omega arith in omega arith)
+
 pub joins : (n seats id other : ℕ) (v w : View) → 0 < v.weight → 0 < w.weight → Joins (BoardRule n seats) id v other w (joined v w) spent
 joins n seats id other v w live live' s k at apart at' =
     let there : get_elem? s.views other ≡ some w = sym (set_else s.views id other (joined v w) apart) ∙ at' in
@@ -114,13 +118,16 @@ joins n seats id other v w live live' s k at apart at' =
       words = k.words;
       board = record {
         word = k.board.word;
-        within = k.board.within;
         in_views = let x : ℕ = get_or s.words 0 0 in let hv = k.board.in_views id v at in let hw = k.board.in_views other w there in each (BoardLawInView x) k.board.in_views record {
           sight = let e = g 0 refl (omega arith) in let p = hv.sight in let q = hw.sight in omega arith;
           driver = λ d. let e = g 0 refl (omega arith) in let p = hv.sight in let q = hw.sight in ⊎_elim (λ t. let f = hv.driver t in omega arith) (λ t. let f = hw.driver t in omega arith) (or_split v.drives w.drives d);
-          reports = every_append (λ (o : Own). Reported x o.cpu o.reports) v.own w.own hv.reports hw.reports;
-        } record { sight = omega arith; driver = λ d. absurd (no_true d); reports = every_nil (λ (o : Own). Reported x o.cpu o.reports) };
+        } record { sight = omega arith; driver = λ d. absurd (no_true d) };
       };
+      accounted = k.accounted;
+      report = λ p low. let x : ℕ = get_or s.words (reports_word p) 0 in let hv = k.report p low id v at in let hw = k.report p low other w there in let e = g (reports_word p) (reports_not p) (omega arith) in each (ReportLawInView p x) (k.report p low) record {
+        below = let m = half_max (seen_at v (reports_word p)) (seen_at w (reports_word p)) (period_of x) hv.below hw.below in omega (arith, ap period_of e);
+        own = every_append (λ (o : Own). o.cpu ≡ p → OwnLaw x o) v.own w.own hv.own hw.own;
+      } record { below = omega arith; own = every_nil (λ (o : Own). o.cpu ≡ p → OwnLaw x o) };
       needed = let x : ℕ = get_or s.words 1 0 in each (λ u. seen_at u 1 ≤ x) k.needed (let e = g 1 refl (omega arith) in let p = k.needed id v at in let q = k.needed other w there in omega arith) (omega arith);
       accept = λ p low. let x : ℕ = get_or s.words (accepts_word p) 0 in let hv = k.accept p low id v at in let hw = k.accept p low other w there in let e = g (accepts_word p) (accepts_not p) (omega arith) in each (AcceptLawInView p x) (k.accept p low) record {
         sight = let a = hv.sight in let c = hw.sight in omega arith;
@@ -149,12 +156,13 @@ joins n seats id other v w live live' s k at apart at' =
       alone = each (ViewAlone n) k.alone record {
         no_seat = λ e. absurd (omega arith);
         seen_long = λ _. joined-words-long w.controls 0 v.seen w.seen (words_of n) lv lw;
-        steps_long = λ _. joined-tallies-long v.steps w.steps (4 + 3 * n) (tv.steps_long live) (tw.steps_long live');
+        steps_long = λ _. joined-tallies-long v.steps w.steps (4 + 4 * n) (tv.steps_long live) (tw.steps_long live');
         processors = subst (Every (λ (q : ℕ). q < n)) (sym (cpus-append v.own w.own)) (every_append (λ (q : ℕ). q < n) (cpus v.own) (cpus w.own) tv.processors tw.processors);
         stamps = every_append (λ (o : Own). Every (λ (a : Accepted). a.stamp ≤ sight b) o.accepted) v.own w.own (stamps v sv v.own tv.stamps) (stamps w sw w.own tw.stamps);
         running = every_append (λ (c : Claim). 0 < claimed c.cpu c.number b) v.running w.running (every (λ (c : Claim). 0 < claimed c.cpu c.number v) (λ (c : Claim). 0 < claimed c.cpu c.number b) (λ c h. let e = total-append (one_if_claim c.cpu c.number) v.claims w.claims in omega arith) v.running tv.running)
             (every (λ (c : Claim). 0 < claimed c.cpu c.number w) (λ (c : Claim). 0 < claimed c.cpu c.number b) (λ c h. let e = total-append (one_if_claim c.cpu c.number) v.claims w.claims in omega arith) w.running tw.running);
         claims = every_append (λ (c : Claim). c.sight ≤ sight b) v.claims w.claims (sights v sv tv.claims) (sights w sw tw.claims);
+        quiets = every_append (λ (o : Own). Chain 0 o.quiets (period_of o.word)) v.own w.own tv.quiets tw.quiets;
       } record {
         no_seat = λ _. refl;
         seen_long = λ e. absurd (omega arith);
@@ -163,6 +171,7 @@ joins n seats id other v w live live' s k at apart at' =
         stamps = every_nil (λ (o : Own). Every (λ (a : Accepted). a.stamp ≤ 0) o.accepted);
         claims = every_nil (λ (c : Claim). c.sight ≤ 0);
         running = every_nil (λ (c : Claim). 0 < claimed c.cpu c.number spent);
+        quiets = every_nil (λ (o : Own). Chain 0 o.quiets (period_of o.word));
       };
       seats = record {
         processor = λ p low. sum (own_count p) (ap (total (one_if_equal p)) (cpus-append v.own w.own) ∙ total-append (one_if_equal p) (cpus v.own) (cpus w.own)) refl ∙ k.seats.processor p low;
@@ -224,11 +233,14 @@ module _ (n seats id : ℕ) (v : View) (lo ro : List Own) (lc rc : Bool) (big : 
     words = k.words;
     board = record {
       word = k.board.word;
-      within = k.board.within;
       in_views = let x : ℕ = get_or s.words 0 0 in let h = k.board.in_views id v at in each (BoardLawInView x) k.board.in_views
-          (record { sight = h.sight; driver = h.driver; reports = lefts (λ (o : Own). Reported x o.cpu o.reports) h.reports })
-          (record { sight = h.sight; driver = λ d. absurd (no_true d); reports = rights (λ (o : Own). Reported x o.cpu o.reports) h.reports });
+          (record { sight = h.sight; driver = h.driver })
+          (record { sight = h.sight; driver = λ d. absurd (no_true d) });
     };
+    accounted = k.accounted;
+    report = λ p low. let x : ℕ = get_or s.words (reports_word p) 0 in let h = k.report p low id v at in each (ReportLawInView p x) (k.report p low)
+        (record { below = h.below; own = lefts (λ (o : Own). o.cpu ≡ p → OwnLaw x o) h.own })
+        (record { below = h.below; own = rights (λ (o : Own). o.cpu ≡ p → OwnLaw x o) h.own });
     needed = let x : ℕ = get_or s.words 1 0 in let h = k.needed id v at in each (λ u. seen_at u 1 ≤ x) k.needed h h;
     accept = λ p low. let x : ℕ = get_or s.words (accepts_word p) 0 in let h = k.accept p low id v at in each (AcceptLawInView p x) (k.accept p low)
         (record { sight = h.sight; odd_sight = h.odd_sight; merged = h.merged; count = lefts (λ (o : Own). o.cpu ≡ p → x / 2 ≡ accepted_count o) h.count; shut = λ c. h.shut (left_flag c) })
@@ -247,6 +259,7 @@ module _ (n seats id : ℕ) (v : View) (lo ro : List Own) (lc rc : Bool) (big : 
       stamps = lefts (λ (o : Own). Every (λ (a : Accepted). a.stamp ≤ sight v) o.accepted) t.stamps;
       claims = t.claims;
       running = t.running;
+      quiets = lefts (λ (o : Own). Chain 0 o.quiets (period_of o.word)) t.quiets;
     } record {
       no_seat = λ e. absurd (omega arith);
       seen_long = λ _. t.seen_long (omega arith);
@@ -255,6 +268,7 @@ module _ (n seats id : ℕ) (v : View) (lo ro : List Own) (lc rc : Bool) (big : 
       stamps = rights (λ (o : Own). Every (λ (a : Accepted). a.stamp ≤ sight v) o.accepted) t.stamps;
       claims = every_nil (λ (c : Claim). c.sight ≤ sight v);
       running = every_nil (λ (c : Claim). 0 < claimed c.cpu c.number Right);
+      quiets = rights (λ (o : Own). Chain 0 o.quiets (period_of o.word)) t.quiets;
     };
     seats = record {
       processor = λ p low. sum (own_count p) (shared p) ∙ k.seats.processor p low;

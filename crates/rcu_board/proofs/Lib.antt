@@ -1,6 +1,7 @@
 pub mod Apart
 pub mod Asks
 pub mod Views
+pub mod Chains
 pub mod Turns
 pub mod Moved
 pub mod BoardSteps

@@ -1,7 +1,8 @@
 -- The steps on the other words keep the rule.
 use Rattle.rcu_board.specs.Views.{one_if, Every, total, seen_at, sight, accepted_count, fresh_count, one_if_claim, one_if_on, claimed, runs, cpus, one_if_equal, own_count, control_count}
-use Rattle.rcu_board.specs.Laws.{OddEquals, BoardRule, ViewAlone, AcceptLawInView, TurnLawInView, Reported}
-use Rattle.rcu_board.specs.Words.{urge_word, accepts_word, turns_word, asks_word, cpu_of}
+use Rattle.rcu_board.specs.Laws.{OddEquals, BoardRule, ViewAlone, AcceptLawInView, TurnLawInView, OwnLaw, ReportLawInView}
+use Rattle.rcu_board.specs.Quiets.{Chain}
+use Rattle.rcu_board.specs.Words.{urge_word, accepts_word, turns_word, asks_word, reports_word, period_of, cpu_of}
 use Rattle.rcu_board.specs.Plays.{SeatState, touched, Loading, Switching, Needing, accept_own, accepted, Accepting, Counting, Shutting, claim_of, claiming, Claiming, finished, Finishing, urged, Urging, Hearing}
 use Rattle.std.proofs.Common.{◌≡◌, ◌≢◌, ℕ, zero, suc, ◌+◌, ◌*◌, ◌%◌, ◌/◌, ◌^◌, ◌<◌, ◌≤◌, Bool, true, cond, eqb, ltb, None, List, [], ◌∷◌, ◌++◌, map, length, get_or, set, sym, refl, ap, ◌∙◌, subst, arith, eq-eqb, ne_eqb, max}
 use mathlib.Core.Logic.{dite}
@@ -14,7 +15,6 @@ use Rattle.std.specs.Int.{bit_at}
 use Rattle.std.proofs.lemmas.Nat.Bits.{bit_at_or, bit_at_lowest, bit_at-suc, bit_at-zero, same_from_bits}
 use Rattle.atomic_table.specs.Table.{State, Act, Valid, step, keeps, carried_after, stepped, Allows}
 use Rattle.atomic_table.proofs.Lists.{exchanged}
-use Rattle.rcu_numbers.specs.Words.{number_of}
 use Rattle.rcu_board.specs.declared.view.View.{View}
 use Rattle.rcu_board.specs.declared.view.Own.{Own}
 use Rattle.rcu_board.specs.declared.view.Claim.{Claim}
@@ -26,16 +26,16 @@ use Rattle.rcu_board.proofs.BoardSteps.{seen_here, seen_else, alone_touched, bes
 
 -- ---- what a step on a word but the board's shares
 
-module _ (n seats : ℕ) (s : State ℕ View) (k : BoardRule n seats s) (id : ℕ) (v : View) (at : get_elem? s.views id ≡ some v) (live : 0 < v.weight) (i : ℕ) (not_board : i ≢ 0) (near : i < 4 + 3 * n) where
+module _ (n seats : ℕ) (s : State ℕ View) (k : BoardRule n seats s) (id : ℕ) (v : View) (at : get_elem? s.views id ≡ some v) (live : 0 < v.weight) (i : ℕ) (not_board : i ≢ 0) (near : i < 4 + 4 * n) where
   -- what the view says by itself still holds where its lists of own, claims and running are
   pub still_alone : (x : ℕ) (w : View) → w.weight ≡ v.weight → w.drives ≡ v.drives → w.seen ≡ v.seen → w.steps ≡ v.steps
       → cpus w.own ≡ cpus v.own
       → Every (λ (o : Own). Every (λ (a : Accepted). a.stamp ≤ sight v) o.accepted) w.own
-      → Every (λ (c : Claim). c.sight ≤ sight v) w.claims → Every (λ (c : Claim). 0 < claimed c.cpu c.number w) w.running → ViewAlone n (touched i x w)
-  still_alone x w weight drives seen steps owns stamps sights running = let same : sight v ≡ sight (touched i x w) = ap number_of (ap (λ (l : List ℕ). get_or l 0 0) (sym seen) ∙ sym (seen_else w i x 0 (λ e. not_board (sym e)))) in
+      → Every (λ (c : Claim). c.sight ≤ sight v) w.claims → Every (λ (c : Claim). 0 < claimed c.cpu c.number w) w.running → Every (λ (o : Own). Chain 0 o.quiets (period_of o.word)) w.own → ViewAlone n (touched i x w)
+  still_alone x w weight drives seen steps owns stamps sights running quiets = let same : sight v ≡ sight (touched i x w) = ap (λ (l : List ℕ). get_or l 0 0) (sym seen) ∙ sym (seen_else w i x 0 (λ e. not_board (sym e))) in
       alone_touched n v w i x (k.alone id v at) live weight drives seen steps owns
       (subst (λ (z : ℕ). Every (λ (o : Own). Every (λ (a : Accepted). a.stamp ≤ z) o.accepted) w.own) same stamps)
-      (subst (λ (z : ℕ). Every (λ (c : Claim). c.sight ≤ z) w.claims) same sights) running
+      (subst (λ (z : ℕ). Every (λ (c : Claim). c.sight ≤ z) w.claims) same sights) running quiets
 
   now_seen : (x : ℕ) (w : View) → w.seen ≡ v.seen → seen_at (touched i x w) i ≡ x
   now_seen x w e = seen_here w i x (omega (arith, ap length e, (k.alone id v at).seen_long live))
@@ -54,10 +54,13 @@ module _ (n seats : ℕ) (s : State ℕ View) (k : BoardRule n seats s) (id : �
   pub loaded : let x : ℕ = get_or s.words i 0 in BoardRule n seats (after s i x id (touched i x v))
   loaded = let x : ℕ = get_or s.words i 0 in let t = k.alone id v at in let w : View = touched i x v in
       let now : seen_at w i ≡ x = now_seen x v refl in
-      moved n seats s k id v w at live i x near (still_alone x v refl refl refl refl refl t.stamps t.claims t.running)
-      (beside_touched i x v v refl refl refl refl refl refl refl (λ _ y h. h) (λ p _ y h. h) (λ p _ y h. h) (λ p _. ((λ j. refl), refl)))
+      moved n seats s k id v w at live i x near (still_alone x v refl refl refl refl refl t.stamps t.claims t.running t.quiets)
+      (beside_touched i x v v refl refl refl refl refl refl refl (λ p _ y h. h) (λ p _ y h. h) (λ p _ y h. h) (λ p _. ((λ j. refl), refl)))
       record {
         board = λ e. absurd (not_board e);
+        numbers = λ e. absurd (not_board e);
+        reports = λ p low e. let here : seen_at w (reports_word p) ≡ x = ap (λ (j : ℕ). seen_at w j) (sym e) ∙ now in let old = subst (λ (j : ℕ). ReportLawInView p (get_or s.words j 0) v) (sym e) (k.report p low id v at) in
+            ((λ _ _ h. h), record { below = omega (arith, ap period_of here); own = old.own }, λ _ u _ _ _ h. h);
         needed = λ e. (omega (arith, ap (λ (j : ℕ). seen_at w j) e, now), omega arith);
         accepts = λ p low e. let here : seen_at w (accepts_word p) ≡ x = ap (λ (j : ℕ). seen_at w j) (sym e) ∙ now in let old = subst (λ (j : ℕ). AcceptLawInView p (get_or s.words j 0) v) (sym e) (k.accept p low id v at) in
             (record { sight = omega (arith, here); odd_sight = λ _. here; merged = old.merged; count = old.count; shut = λ _. ap (λ (z : ℕ). z % 2) here }, λ _ u _ _ _ h. h);
@@ -69,10 +72,10 @@ module _ (n seats : ℕ) (s : State ℕ View) (k : BoardRule n seats s) (id : �
       }
 
   -- a store of 0 or 1 in a word of control's
-  pub stored : v.controls ≡ true → i ≢ 1 → ((p : ℕ) → i ≢ accepts_word p) → ((p : ℕ) → i ≢ turns_word p) → (y : ℕ) → y < 2 → BoardRule n seats (after s i y id (touched i y v))
-  stored mine a b c y bit = let t = k.alone id v at in moved n seats s k id v (touched i y v) at live i y near (still_alone y v refl refl refl refl refl t.stamps t.claims t.running)
-      (beside_touched i y v v refl refl refl refl refl refl refl (λ _ z h. h) (λ p _ z h. h) (λ p _ z h. h) (λ p _. ((λ j. refl), refl)))
-      record { board = λ e. absurd (not_board e); needed = λ e. absurd (a e); accepts = λ p _ e. absurd (b p e); turns = λ p _ e. absurd (c p e); asks = λ p low e. (bit, (λ _. ap (λ (j : ℕ). seen_at (touched i y v) j) (sym e) ∙ now_seen y v refl), λ j u ne there nt _ its. absurd (one_control j u ne there mine its)); halt = λ _. bit }
+  pub stored : v.controls ≡ true → i ≢ 1 → ((p : ℕ) → i ≢ accepts_word p) → ((p : ℕ) → i ≢ turns_word p) → ((p : ℕ) → i ≢ reports_word p) → (y : ℕ) → y < 2 → BoardRule n seats (after s i y id (touched i y v))
+  stored mine a b c d y bit = let t = k.alone id v at in moved n seats s k id v (touched i y v) at live i y near (still_alone y v refl refl refl refl refl t.stamps t.claims t.running t.quiets)
+      (beside_touched i y v v refl refl refl refl refl refl refl (λ p _ z h. h) (λ p _ z h. h) (λ p _ z h. h) (λ p _. ((λ j. refl), refl)))
+      record { board = λ e. absurd (not_board e); numbers = λ e. absurd (not_board e); reports = λ p _ e. absurd (d p e); needed = λ e. absurd (a e); accepts = λ p _ e. absurd (b p e); turns = λ p _ e. absurd (c p e); asks = λ p low e. (bit, (λ _. ap (λ (j : ℕ). seen_at (touched i y v) j) (sym e) ∙ now_seen y v refl), λ j u ne there nt _ its. absurd (one_control j u ne there mine its)); halt = λ _. bit }
 
 -- ---- loads and stores
 
@@ -99,10 +102,10 @@ module _ (n seats slots id : ℕ) (m : SeatState) (live : 0 < m.0.weight) where
   load_halt_allowed s k _ at _ = (touched 2 (get_or s.words 2 0) m.0, keeps, tt, loaded n seats s k id m.0 at live 2 (λ e. omega arith) (omega arith), record { view = refl; small = k.halt })
 
   pub store_ask_allowed : m.0.controls ≡ true → (p new : ℕ) → p < n → new < 2 → Allows (BoardRule n seats) slots id m (asks_word p) (λ _. new) (λ _. Switching (step slots (asks_word p) new 0 none) m new)
-  store_ask_allowed mine p new low bit s k _ at _ = let i : ℕ = asks_word p in (touched i new m.0, keeps, tt, stored n seats s k id m.0 at live i (λ e. omega arith) (omega arith) mine (λ e. omega arith) (λ q e. omega arith) (λ q e. omega arith) new bit, record { view = refl; small = bit })
+  store_ask_allowed mine p new low bit s k _ at _ = let i : ℕ = asks_word p in (touched i new m.0, keeps, tt, stored n seats s k id m.0 at live i (λ e. omega arith) (omega arith) mine (λ e. omega arith) (λ q e. omega arith) (λ q e. omega arith) (λ q e. omega arith) new bit, record { view = refl; small = bit })
 
   pub store_halt_allowed : m.0.controls ≡ true → (new : ℕ) → new < 2 → Allows (BoardRule n seats) slots id m 2 (λ _. new) (λ _. Switching (step slots 2 new 0 none) m new)
-  store_halt_allowed mine new bit s k _ at _ = (touched 2 new m.0, keeps, tt, stored n seats s k id m.0 at live 2 (λ e. omega arith) (omega arith) mine (λ e. omega arith) (λ q e. omega arith) (λ q e. omega arith) new bit, record { view = refl; small = bit })
+  store_halt_allowed mine new bit s k _ at _ = (touched 2 new m.0, keeps, tt, stored n seats s k id m.0 at live 2 (λ e. omega arith) (omega arith) mine (λ e. omega arith) (λ q e. omega arith) (λ q e. omega arith) (λ q e. omega arith) new bit, record { view = refl; small = bit })
 
   pub need_allowed : (new : ℕ) → Allows (BoardRule n seats) slots id m 1 (λ y. max y new) (Needing (step slots 1 new 0 none) m)
   need_allowed new s k _ at _ = let x : ℕ = get_or s.words 1 0 in let y : ℕ = max x new in let v : View = m.0 in let w : View = touched 1 y v in let t = k.alone id v at in
@@ -110,9 +113,9 @@ module _ (n seats slots id : ℕ) (m : SeatState) (live : 0 < m.0.weight) where
         w,
         keeps,
         tt,
-        moved n seats s k id v w at live 1 y (omega arith) (still_alone n seats s k id v at live 1 (λ e. omega arith) (omega arith) y v refl refl refl refl refl t.stamps t.claims t.running)
-            (beside_touched 1 y v v refl refl refl refl refl refl refl (λ _ z h. h) (λ p _ z h. h) (λ p _ z h. h) (λ p _. ((λ j. refl), refl)))
-            record { board = λ e. absurd (omega arith); needed = λ _. (omega (arith, now), omega arith); accepts = λ p _ e. absurd (omega arith); turns = λ p _ e. absurd (omega arith); asks = λ p _ e. absurd (omega arith); halt = λ e. absurd (omega arith) },
+        moved n seats s k id v w at live 1 y (omega arith) (still_alone n seats s k id v at live 1 (λ e. omega arith) (omega arith) y v refl refl refl refl refl t.stamps t.claims t.running t.quiets)
+            (beside_touched 1 y v v refl refl refl refl refl refl refl (λ p _ z h. h) (λ p _ z h. h) (λ p _ z h. h) (λ p _. ((λ j. refl), refl)))
+            record { board = λ e. absurd (omega arith); numbers = λ e. absurd (omega arith); reports = λ p _ e. absurd (omega arith); needed = λ _. (omega (arith, now), omega arith); accepts = λ p _ e. absurd (omega arith); turns = λ p _ e. absurd (omega arith); asks = λ p _ e. absurd (omega arith); halt = λ e. absurd (omega arith) },
         record { view = refl; later = k.needed id v at },
       )
 
@@ -132,6 +135,8 @@ module _ (n seats : ℕ) (s : State ℕ View) (k : BoardRule n seats s) (id : �
       → SteppedWord n id s.views (accepts_word p) x y w
   here_accepts y w mine others = let x : ℕ = get_or s.words (accepts_word p) 0 in record {
     board = λ e. absurd (omega arith);
+    numbers = λ e. absurd (omega arith);
+    reports = λ q _ e. absurd (omega arith);
     needed = λ e. absurd (omega arith);
     accepts = λ q _ e. let same : p ≡ q = omega arith in subst (λ (j : ℕ). AcceptLawInView j y w × OtherViews n id s.views (AcceptLawInView j x) (AcceptLawInView j y)) same (mine, others);
     turns = λ q _ e. absurd (omega arith);
@@ -143,6 +148,8 @@ module _ (n seats : ℕ) (s : State ℕ View) (k : BoardRule n seats s) (id : �
       → SteppedWord n id s.views (turns_word p) x y w
   here_turns y w mine others turning = let x : ℕ = get_or s.words (turns_word p) 0 in record {
     board = λ e. absurd (omega arith);
+    numbers = λ e. absurd (omega arith);
+    reports = λ q _ e. absurd (omega arith);
     needed = λ e. absurd (omega arith);
     accepts = λ q _ e. absurd (omega arith);
     turns = λ q _ e. let same : p ≡ q = omega arith in subst (λ (j : ℕ). TurnLawInView j y w × OtherViews n id s.views (TurnLawInView j x) (TurnLawInView j y) × TurnCounts j y (set s.views id w)) same (mine, others, turning);
@@ -154,7 +161,7 @@ module _ (n seats slots id : ℕ) (m : SeatState) (live : 0 < m.0.weight) (p : �
   pub shut_allowed : m.0.controls ≡ true → Allows (BoardRule n seats) slots id m (accepts_word p) (λ y. bit_or y 1) (Shutting (step slots (accepts_word p) 1 0 none) m)
   shut_allowed commanding s k _ at _ = let i : ℕ = accepts_word p in let x : ℕ = get_or s.words i 0 in let y : ℕ = x / 2 * 2 + 1 in let v : View = m.0 in let w : View = touched i y v in
       let t = k.alone id v at in let a = k.accept p low id v at in
-      let off : i ≢ 0 = λ e. omega arith in let near : i < 4 + 3 * n = omega arith in
+      let off : i ≢ 0 = λ e. omega arith in let near : i < 4 + 4 * n = omega arith in
       let now : seen_at w i ≡ y = now_seen n seats s k id v at live i off near y v refl in
       let half : y / 2 ≡ x / 2 = omega arith in
       let count : (u : View) → Every (λ (o : Own). o.cpu ≡ p → x / 2 ≡ accepted_count o) u.own → Every (λ (o : Own). o.cpu ≡ p → y / 2 ≡ accepted_count o) u.own
@@ -171,8 +178,8 @@ module _ (n seats slots id : ℕ) (m : SeatState) (live : 0 < m.0.weight) (p : �
         w,
         keeps,
         tt,
-        subst (λ (z : ℕ). BoardRule n seats (after s i z id w)) (sym (or_one x)) (moved n seats s k id v w at live i y near (still_alone n seats s k id v at live i off near y v refl refl refl refl refl t.stamps t.claims t.running)
-            (beside_touched i y v v refl refl refl refl refl refl refl (λ _ z h. h) (λ p _ z h. h) (λ p _ z h. h) (λ p _. ((λ j. refl), refl)))
+        subst (λ (z : ℕ). BoardRule n seats (after s i z id w)) (sym (or_one x)) (moved n seats s k id v w at live i y near (still_alone n seats s k id v at live i off near y v refl refl refl refl refl t.stamps t.claims t.running t.quiets)
+            (beside_touched i y v v refl refl refl refl refl refl refl (λ p _ z h. h) (λ p _ z h. h) (λ p _ z h. h) (λ p _. ((λ j. refl), refl)))
             (here_accepts n seats s k id v at live p low y w mine others)),
         record { view = refl; later = a.sight; final = a.odd_sight },
       )
@@ -181,7 +188,7 @@ module _ (n seats slots id : ℕ) (m : SeatState) (live : 0 < m.0.weight) (p : �
       → Allows (BoardRule n seats) slots id m (accepts_word p) (λ y. either (eqb y (2 * c)) (2 * c + 2) y) (Accepting (step slots (accepts_word p) (2 * c) (2 * c + 2) (some key)) m)
   accept_allowed o key c only is clean counts s k _ at _ = let i : ℕ = accepts_word p in let x : ℕ = get_or s.words i 0 in let y : ℕ = 2 * c + 2 in let v : View = m.0 in
       let t = k.alone id v at in let a = k.accept p low id v at in
-      let off : i ≢ 0 = λ e. omega arith in let near : i < 4 + 3 * n = omega arith in
+      let off : i ≢ 0 = λ e. omega arith in let near : i < 4 + 4 * n = omega arith in
       let near_own = the_one (λ (u : ℕ). u < n) o.cpu (subst (λ (l : List Own). Every (λ (u : ℕ). u < n) (cpus l)) only t.processors) in let one_own : own_count o.cpu v ≡ 1 = ap (λ (l : List Own). total (one_if_equal o.cpu) (cpus l)) only ∙ (let e = at_same o.cpu o.cpu refl in omega arith) in
       let was : x / 2 ≡ accepted_count o = the_one (λ (u : Own). u.cpu ≡ p → x / 2 ≡ accepted_count u) o (subst (Every (λ (u : Own). u.cpu ≡ p → x / 2 ≡ accepted_count u)) only a.count) is in
       let none_fresh : fresh_count o.fresh ≡ 0 = ap fresh_count clean in
@@ -213,9 +220,9 @@ module _ (n seats slots id : ℕ) (m : SeatState) (live : 0 < m.0.weight) (p : �
             (still_alone n seats s k id v at live i off near y v' refl refl refl refl
             (cpus-map f (λ u. refl) v.own)
             (every_map (λ (u : Own). Every (λ (b : Accepted). b.stamp ≤ sight v) u.accepted) (λ (u : Own). Every (λ (b : Accepted). b.stamp ≤ sight v) u.accepted) f (λ u h. h) v.own t.stamps)
-            t.claims t.running)
+            t.claims t.running (every_map (λ (u : Own). Chain 0 u.quiets (period_of u.word)) (λ (u : Own). Chain 0 u.quiets (period_of u.word)) f (λ u h. h) v.own t.quiets))
             (beside_touched i y v v' refl refl refl refl refl refl (cpus-map f (λ u. refl) v.own)
-            (λ _ z. every_map (λ (u : Own). Reported z u.cpu u.reports) (λ (u : Own). Reported z u.cpu u.reports) f (λ u h. h) v.own)
+            (λ r _ z. every_map (λ (u : Own). u.cpu ≡ r → OwnLaw z u) (λ (u : Own). u.cpu ≡ r → OwnLaw z u) f (λ u h e. let l = h e in record { below = l.below; away = l.away; here = l.here }) v.own)
             (λ q away z _. subst (λ (l : List Own). Every (λ (u : Own). u.cpu ≡ q → z / 2 ≡ accepted_count u) (map f l)) (sym only)
             (every_one (λ (u : Own). u.cpu ≡ q → z / 2 ≡ accepted_count u) (f o) (λ e. absurd (away (omega arith)))))
             (λ q _ z h. h) (λ q _. ((λ j. refl), refl)))
@@ -263,7 +270,7 @@ module _ (n seats slots id : ℕ) (m : SeatState) (live : 0 < m.0.weight) (p : �
   pub claim_allowed : (q : ℕ) → m.0.running ≡ [] → Allows (BoardRule n seats) slots id m (turns_word p) (λ y. either (eqb y (2 * q)) (2 * q + 1) y) (Claiming (step slots (turns_word p) (2 * q) (2 * q + 1) none) m)
   claim_allowed q rests s k _ at _ = let i : ℕ = turns_word p in let x : ℕ = get_or s.words i 0 in let y : ℕ = 2 * q + 1 in let v : View = m.0 in
       let t = k.alone id v at in let a = (k.turn p low).in_views id v at in let turning = turn_counts _ _ _ (k.turn p low) in
-      let off : i ≢ 0 = λ e. omega arith in let near : i < 4 + 3 * n = omega arith in
+      let off : i ≢ 0 = λ e. omega arith in let near : i < 4 + 4 * n = omega arith in
       exchanged x (2 * q) y (λ z. (w : View) × (b : Act ℕ) × Valid s.homes m.1 b × BoardRule n seats (stepped s i z id m.1 w b) × Claiming (step slots i (2 * q) y none) m x (w, carried_after m.1 b))
       (λ hit. let c : Claim = claim_of p q v in let v' : View = record v { claims = v.claims ++ c ∷ []; running = c ∷ [] } in let w : View = claiming i y p q v in
       let now : seen_at w i ≡ y = now_seen n seats s k id v at live i off near y v' refl in
@@ -282,8 +289,8 @@ module _ (n seats slots id : ℕ) (m : SeatState) (live : 0 < m.0.weight) (p : �
         moved n seats s k id v w at live i y near
             (still_alone n seats s k id v at live i off near y v' refl refl refl refl refl t.stamps
             (every_append (λ (d : Claim). d.sight ≤ sight v) v.claims (c ∷ []) t.claims (every_one (λ (d : Claim). d.sight ≤ sight v) c (omega arith)))
-            (every_one (λ (d : Claim). 0 < claimed d.cpu d.number v') c (let f = total-append (one_if_claim p q) v.claims (c ∷ []) in let g = claim_here p q c refl refl in omega arith)))
-            (beside_touched i y v v' refl refl refl refl refl refl refl (λ _ z h. h) (λ q _ z h. h)
+            (every_one (λ (d : Claim). 0 < claimed d.cpu d.number v') c (let f = total-append (one_if_claim p q) v.claims (c ∷ []) in let g = claim_here p q c refl refl in omega arith)) t.quiets)
+            (beside_touched i y v v' refl refl refl refl refl refl refl (λ q _ z h. h) (λ q _ z h. h)
             (λ r away z _. every_one (λ (d : Claim). d.cpu ≡ r → z ≡ 2 * d.number + 1) c (λ e. absurd (away (omega arith))))
             (λ r away. let apart : p ≢ r = λ e. away (omega arith) in (
               (λ j. let f = total-append (one_if_claim r j) v.claims (c ∷ []) in let g = claim_other p r j c refl apart in omega arith),
@@ -294,11 +301,11 @@ module _ (n seats slots id : ℕ) (m : SeatState) (live : 0 < m.0.weight) (p : �
       ))
       (λ miss. (touched i x v, keeps, tt, loaded n seats s k id v at live i off near, record { won = λ hit. absurd (miss hit); lost = λ _. refl; later = a.sight }))
 
-  pub finish_allowed : (c : Claim) → m.0.running ≡ c ∷ [] → c.cpu ≡ p → c.number < 1000000
+  pub finish_allowed : (c : Claim) → m.0.running ≡ c ∷ [] → c.cpu ≡ p → c.number < 9007199254740992
       → Allows (BoardRule n seats) slots id m (turns_word p) (λ y. (y + 1) % 2 ^ 64) (Finishing (step slots (turns_word p) 1 0 none) m)
   finish_allowed c runs_it is small s k _ at _ = let i : ℕ = turns_word p in let x : ℕ = get_or s.words i 0 in let y : ℕ = x + 1 in let v : View = m.0 in
       let t = k.alone id v at in let a = (k.turn p low).in_views id v at in let turning = turn_counts _ _ _ (k.turn p low) in
-      let off : i ≢ 0 = λ e. omega arith in let near : i < 4 + 3 * n = omega arith in
+      let off : i ≢ 0 = λ e. omega arith in let near : i < 4 + 4 * n = omega arith in
       let odd : x ≡ 2 * c.number + 1 = the_one (λ (d : Claim). d.cpu ≡ p → x ≡ 2 * d.number + 1) c (subst (Every (λ (d : Claim). d.cpu ≡ p → x ≡ 2 * d.number + 1)) runs_it a.running) is in
       let v' : View = record v { running = [] } in let w : View = finished i y v in
       let now : seen_at w i ≡ y = now_seen n seats s k id v at live i off near y v' refl in
@@ -315,8 +322,8 @@ module _ (n seats slots id : ℕ) (m : SeatState) (live : 0 < m.0.weight) (p : �
         keeps,
         tt,
         subst (λ (z : ℕ). BoardRule n seats (after s i z id w)) fits (moved n seats s k id v w at live i y near
-            (still_alone n seats s k id v at live i off near y v' refl refl refl refl refl t.stamps t.claims (every_nil (λ (d : Claim). 0 < claimed d.cpu d.number v')))
-            (beside_touched i y v v' refl refl refl refl refl refl refl (λ _ z h. h) (λ q _ z h. h)
+            (still_alone n seats s k id v at live i off near y v' refl refl refl refl refl t.stamps t.claims (every_nil (λ (d : Claim). 0 < claimed d.cpu d.number v')) t.quiets)
+            (beside_touched i y v v' refl refl refl refl refl refl refl (λ q _ z h. h) (λ q _ z h. h)
             (λ r away z _. every_nil (λ (d : Claim). d.cpu ≡ r → z ≡ 2 * d.number + 1))
             (λ r away. ((λ j. refl), (let f : runs r v ≡ total (one_if_on r) (c ∷ []) = ap (total (one_if_on r)) runs_it in let g = on_other p r c is (λ e. away (omega arith)) in omega arith))))
             (here_turns n seats s k id v at live p low y w mine others next)),
@@ -329,10 +336,12 @@ module _ (n seats slots id : ℕ) (m : SeatState) (live : 0 < m.0.weight) (i : �
   urge_goes : (s : State ℕ View) (k : BoardRule n seats s) → get_elem? s.views id ≡ some m.0 → (y left : ℕ) → BoardRule n seats (after s i y id (urged i (get_or s.words i 0) left m.0))
   urge_goes s k at y left = let v : View = m.0 in let x : ℕ = get_or s.words i 0 in let v' : View = record v { left = left } in let t = k.alone id v at in
       moved n seats s k id v (urged i x left v) at live i y (omega arith)
-      (still_alone n seats s k id v at live i (λ e. omega arith) (omega arith) x v' refl refl refl refl refl t.stamps t.claims t.running)
-      (beside_touched i x v v' refl refl refl refl refl refl refl (λ _ z h. h) (λ p _ z h. h) (λ p _ z h. h) (λ p _. ((λ j. refl), refl)))
+      (still_alone n seats s k id v at live i (λ e. omega arith) (omega arith) x v' refl refl refl refl refl t.stamps t.claims t.running t.quiets)
+      (beside_touched i x v v' refl refl refl refl refl refl refl (λ p _ z h. h) (λ p _ z h. h) (λ p _ z h. h) (λ p _. ((λ j. refl), refl)))
       record {
         board = λ e. absurd (omega arith);
+        numbers = λ e. absurd (omega arith);
+        reports = λ p _ e. absurd (omega arith);
         needed = λ e. absurd (omega arith);
         accepts = λ p low e. absurd (omega arith);
         turns = λ p low e. absurd (omega arith);

@@ -1,44 +1,55 @@
 -- The rule of a board, law by law: docs/specification/definitions.md, "The running parts: laws". A quoted sentence is one of that section.
-use Rattle.std.specs.Prelude.{◌≡◌, ℕ, ◌+◌, ◌*◌, ◌/◌, ◌%◌, ◌<◌, ◌≤◌, true, false, List, length, slice_index}
+use Rattle.std.specs.Prelude.{◌≡◌, ℕ, ◌+◌, ◌-◌, ◌*◌, ◌/◌, ◌%◌, ◌<◌, ◌≤◌, true, false, List, length, slice_index}
 use Rattle.rcu_numbers.specs.declared.shape.TheConstants.{MOST_PROCESSORS}
-use Rattle.rcu_numbers.specs.declared.sequence.TheConstants.{GREATEST_NUMBER}
+use Rattle.rcu_numbers.specs.declared.sequence.TheConstants.{LAST_NUMBER}
 use mathlib.Core.Option.{some}
 use lib.ListN.{get_elem?}
 use Rattle.atomic_table.specs.Table.{State}
-use Rattle.rcu_numbers.specs.Words.{number_of, mask_of, all_of, owes_of}
-use Rattle.rcu_board.specs.Words.{words_of, board_word, needed_word, halt_word, accepts_word, turns_word, asks_word, is_asks}
+use Rattle.rcu_board.specs.Words.{words_of, board_word, needed_word, halt_word, accepts_word, turns_word, asks_word, reports_word, period_of, away_of, is_asks}
+use Rattle.rcu_board.specs.Quiets.{Chain}
 use Rattle.rcu_board.specs.Views.{seen_at, sight, tally, Every, total, cpus, own_count, driver_count, control_count, accepted_count, claimed, runs, spent}
+use Rattle.rcu_board.specs.declared.view.Own.{Own}
 use Rattle.rcu_board.specs.declared.view.View.{View}
 
 -- said of each view
 abbrev pub Each : List View → (View → Type 0) → Type 0
 Each views P = (id : ℕ) (v : View) → get_elem? views id ≡ some v → P v
 
--- ---- board law: x is the board word
+-- ---- number law: s is N
 
-pub record IsBoard (x : ℕ) : Type 0 where
+pub record IsNumber (s : ℕ) : Type 0 where
   -- it is idle or in progress
-  pub state : number_of x % 4 < 2
-  -- "At number 4j the mask is 0"
-  pub idle : number_of x % 4 ≡ 0 → mask_of x ≡ 0
-  pub small : number_of x ≤ GREATEST_NUMBER
+  pub state : s % 4 < 2
+  pub small : s ≤ LAST_NUMBER
 
--- "At number 4j+1, bit q is set exactly where q has made j counted reports; else q has made j+1. At number 4j [..] each processor has made j."
-abbrev pub Reported : ℕ → ℕ → ℕ → Type 0
-Reported x q reports = (number_of x % 4 ≡ 0 → reports ≡ number_of x / 4) × (number_of x % 4 ≡ 1 → reports + owes_of x q ≡ number_of x / 4 + 1)
-
-pub record BoardLawInView (x : ℕ) (v : View) : Type 0 where
-  pub reports : Every (λ o. Reported x o.cpu o.reports) v.own
+pub record BoardLawInView (s : ℕ) (v : View) : Type 0 where
   -- "The driver's sight is the number."
-  pub driver : v.drives ≡ true → sight v ≡ number_of x
+  pub driver : v.drives ≡ true → sight v ≡ s
   -- "no board sight [..] is above the number", and so no stamp and no claim's sight, which are not above the view's own sight (ViewAlone)
-  pub sight : sight v ≤ number_of x
+  pub sight : sight v ≤ s
 
-pub record BoardLaw (n x : ℕ) (views : List View) : Type 0 where
-  pub word : IsBoard x
-  -- a bit for each processor, and no other: those from n on are clear
-  pub within : mask_of x ≤ all_of n
-  pub in_views : Each views (BoardLawInView x)
+pub record BoardLaw (s : ℕ) (views : List View) : Type 0 where
+  pub word : IsNumber s
+  pub in_views : Each views (BoardLawInView s)
+
+-- ---- report law, which crosses two words: s is N, x is Q_p
+
+pub record Accounted (s x : ℕ) : Type 0 where
+  -- at 4j p was accounted for in the grace period that has ended last
+  pub idle : s % 4 ≡ 0 → period_of x ≡ s - 3
+  -- at 4j + 1 in this one, or it owes, and was in the one before
+  pub busy : s % 4 ≡ 1 → (owed : ℕ) × (owed < 2) × (period_of x ≡ s - 4 * owed)
+
+-- what p's own seat knows, o, which alone leaves and comes back, and alone steps there while it is not away
+pub record OwnLaw (x : ℕ) (o : Own) : Type 0 where
+  pub below : period_of o.word ≤ period_of x
+  pub away : away_of o.word ≡ away_of x
+  pub here : away_of x ≡ 0 → o.word ≡ x
+
+pub record ReportLawInView (p x : ℕ) (v : View) : Type 0 where
+  -- r never falls
+  pub below : period_of (seen_at v (reports_word p)) ≤ period_of x
+  pub own : Every (λ o. o.cpu ≡ p → OwnLaw x o) v.own
 
 -- "and no sight of `needed` above that word", which is x
 abbrev pub NeededLaw : ℕ → List View → Type 0
@@ -108,6 +119,8 @@ pub record ViewAlone (n : ℕ) (v : View) : Type 0 where
   -- no stamp and no claim's sight is above the board sight
   pub stamps : Every (λ o. Every (λ a. a.stamp ≤ sight v) o.accepted) v.own
   pub claims : Every (λ c. c.sight ≤ sight v) v.claims
+  -- each grace period in which p was accounted for is one that it reported in or was away in, as far as p knows
+  pub quiets : Every (λ o. Chain 0 o.quiets (period_of o.word)) v.own
   -- what runs was claimed by the view itself
   pub running : Every (λ c. 0 < claimed c.cpu c.number v) v.running
 
@@ -126,7 +139,9 @@ pub record SeatLaw (n all : ℕ) (views : List View) : Type 0 where
 pub record BoardRule (n all : ℕ) (s : State ℕ View) : Type 0 where
   pub few : n ≤ MOST_PROCESSORS
   pub words : length s.words ≡ words_of n
-  pub board : BoardLaw n (slice_index s.words board_word) s.views
+  pub board : BoardLaw (slice_index s.words board_word) s.views
+  pub accounted : (p : ℕ) → p < n → Accounted (slice_index s.words board_word) (slice_index s.words (reports_word p))
+  pub report : (p : ℕ) → p < n → Each s.views (ReportLawInView p (slice_index s.words (reports_word p)))
   pub needed : NeededLaw (slice_index s.words needed_word) s.views
   pub accept : (p : ℕ) → p < n → AcceptLaw p (slice_index s.words (accepts_word p)) s.views
   pub turn : (p : ℕ) → p < n → TurnLaw p (slice_index s.words (turns_word p)) s.views

@@ -1,6 +1,7 @@
 pub mod Words
 pub mod Padding
 pub mod Views
+pub mod Quiets
 pub mod Laws
 pub mod Plays
 pub mod Roles

@@ -1,11 +1,12 @@
 -- What each kind of step does to the view of the seat that steps, and what the rule teaches at it. A play is a fact about the step, the seat before, the number found (at a store, the one stored) and the seat after.
-use Rattle.std.specs.Prelude.{◌≡◌, ◌≢◌, ℕ, ◌+◌, ◌*◌, ◌/◌, ◌%◌, ◌<◌, ◌≤◌, true, cond, nat_lt, Option, Some, None, List, [], ◌∷◌, ◌++◌, map, length, slice_index, slice_set, max, bit_or, bit_and}
+use Rattle.std.specs.Prelude.{◌≡◌, ◌≢◌, ℕ, ◌+◌, ◌-◌, ◌*◌, ◌/◌, ◌%◌, ◌<◌, ◌≤◌, ◌⊎◌, true, false, cond, nat_lt, Option, Some, None, List, [], ◌∷◌, ◌++◌, map, slice_index, slice_set, max, bit_or, bit_and}
 use mathlib.Core.Option.{some}
 use Rattle.atomic_table.specs.Table.{Me, Step}
-use Rattle.rcu_numbers.specs.Words.{number_of, mask_of, packed, all_of, owes_of}
-use Rattle.rcu_board.specs.Words.{words_of, cpu_of, accepts_word}
+use Rattle.rcu_numbers.specs.declared.sequence.TheConstants.{LAST_NUMBER}
+use Rattle.rcu_board.specs.Words.{cpu_of, accepts_word, period_of, away_of}
+use Rattle.rcu_board.specs.Quiets.{Passed}
 use Rattle.rcu_board.specs.Views.{Every, seen_at, sight, own_count, claimed, runs, accepted_count}
-use Rattle.rcu_board.specs.Laws.{IsBoard, OddEquals, Reported}
+use Rattle.rcu_board.specs.Laws.{IsNumber, Accounted, OddEquals}
 use Rattle.rcu_board.specs.declared.view.Accepted.{Accepted}
 use Rattle.rcu_board.specs.declared.view.Own.{Own}
 use Rattle.rcu_board.specs.declared.view.Claim.{Claim}
@@ -33,42 +34,64 @@ with_stamp s xs (Some key) = xs ++ record { key = key; stamp = s } ∷ []
 abbrev pub stamp_own : ℕ → Own → Own
 stamp_own s o = record o { accepted = with_stamp s o.accepted o.fresh; fresh = None }
 
--- the mask of the board word x has bits of the board's processors alone
-abbrev pub IsWithin : ℕ → View → Type 0
-IsWithin x v = (n : ℕ) → length v.seen ≡ words_of n → mask_of x ≤ all_of n
-
 -- look: the board sight, and the missing stamp
 abbrev pub looked : ℕ → View → View
-looked r v = touched 0 r (record v { own = map (stamp_own (number_of r)) v.own })
+looked r v = touched 0 r (record v { own = map (stamp_own r) v.own })
 
 pub record Looking (st : Step ℕ) (m : SeatState) (r : ℕ) (n : SeatState) : Type 0 where
   pub view : n ≡ (looked r m.0, m.1)
-  pub word : IsBoard r
-  pub within : IsWithin r m.0
-  pub later : sight m.0 ≤ number_of r
-  pub driver : m.0.drives ≡ true → sight m.0 ≡ number_of r
+  pub number : IsNumber r
+  pub later : sight m.0 ≤ r
+  pub driver : m.0.drives ≡ true → sight m.0 ≡ r
 
+-- start, end: the driver's store to N
+abbrev pub Driving : Step ℕ → SeatState → ℕ → SeatState → Type 0
+Driving st m r n = n ≡ (touched 0 st.first m.0, m.1)
+
+-- q's own step, which leaves x there
+abbrev pub stepped_own : (ℕ → Own → Own) → ℕ → ℕ → View → View
+stepped_own f i x v = touched i x (record v { own = map (f x) v.own })
+
+-- report: q's store of 2s to Q_q, by which it is accounted for in one grace period more
 abbrev pub report_own : ℕ → Own → Own
-report_own r o = record o { reports = o.reports + owes_of r o.cpu }
-
--- report: the board sight, and the count where the bit was set
-abbrev pub reported : ℕ → View → View
-reported r v = touched 0 r (record v { own = map (report_own r) v.own })
+report_own x o = record o { word = x; quiets = o.quiets ++ record { from = period_of o.word; to = period_of x; away = false } ∷ [] }
 
 pub record Reporting (st : Step ℕ) (m : SeatState) (r : ℕ) (n : SeatState) : Type 0 where
-  pub view : n ≡ (reported r m.0, m.1)
-  pub word : IsBoard r
-  pub within : IsWithin r m.0
-  pub later : sight m.0 ≤ number_of r
-  pub counted : (o : Own) → m.0.own ≡ o ∷ [] → owes_of r o.cpu ≡ 1 → number_of r ≡ 4 * o.reports + 1
+  pub view : n ≡ (stepped_own report_own st.word st.first m.0, m.1)
+  pub next : (o : Own) → m.0.own ≡ o ∷ [] → period_of o.word ≡ period_of st.first - 4
+  pub later : period_of (seen_at m.0 st.word) ≤ period_of st.first
 
--- start, end: the driver's exchange, which wins where no processor owes a report
-pub record Driving (st : Step ℕ) (m : SeatState) (r : ℕ) (n : SeatState) : Type 0 where
-  pub won : r ≡ st.first → n ≡ (touched 0 st.second m.0, m.1)
-  pub lost : r ≢ st.first → n ≡ (touched 0 r m.0, m.1)
-  pub number : number_of r ≡ sight m.0
-  pub within : IsWithin r m.0
-  pub idle : sight m.0 % 4 ≡ 0 → r ≡ packed (sight m.0) 0
+-- leave: q's store to Q_q
+abbrev pub leave_own : ℕ → Own → Own
+leave_own x o = record o { word = x }
+
+pub record Leaving (st : Step ℕ) (m : SeatState) (r : ℕ) (n : SeatState) : Type 0 where
+  pub view : n ≡ (stepped_own leave_own st.word st.first m.0, m.1)
+  pub later : period_of (seen_at m.0 st.word) ≤ period_of st.first
+
+-- come_back: q takes its mark away, and learns r
+abbrev pub return_own : ℕ → Own → Own
+return_own x o = record o { word = x; quiets = o.quiets ++ record { from = period_of o.word; to = period_of x; away = true } ∷ [] }
+
+pub record Returning (st : Step ℕ) (m : SeatState) (r : ℕ) (n : SeatState) : Type 0 where
+  pub view : n ≡ (stepped_own return_own st.word (r - 1) m.0, m.1)
+  pub away : away_of r ≡ 1
+  pub grows : (o : Own) → m.0.own ≡ o ∷ [] → period_of o.word ≤ period_of r
+  pub later : period_of (seen_at m.0 st.word) ≤ period_of (r - 1)
+  pub small : period_of r ≤ LAST_NUMBER
+
+-- the driver's load of some Q_q
+pub record Sighting (st : Step ℕ) (m : SeatState) (r : ℕ) (n : SeatState) : Type 0 where
+  pub view : n ≡ (touched st.word r m.0, m.1)
+  pub later : period_of (seen_at m.0 st.word) ≤ period_of r
+  pub law : Accounted (sight m.0) r
+
+-- meet: the driver's exchange on some Q_q
+pub record Meeting (st : Step ℕ) (m : SeatState) (r : ℕ) (n : SeatState) : Type 0 where
+  pub won : r ≡ st.first → n ≡ (touched st.word st.second m.0, m.1)
+  pub lost : r ≢ st.first → n ≡ (touched st.word r m.0, m.1)
+  pub later : period_of (seen_at m.0 st.word) ≤ period_of r
+  pub law : Accounted (sight m.0) r
 
 -- need: the greater of the number and the word
 pub record Needing (st : Step ℕ) (m : SeatState) (r : ℕ) (n : SeatState) : Type 0 where
@@ -149,16 +172,16 @@ Hearing st m r n = n ≡ (urged st.word r (bit_and r st.first) m.0, m.1)
 abbrev pub all_seats : ℕ
 all_seats = 128
 
--- the board word found says what each processor of the view has reported, and no stamp and no claim is later
+-- the number found: no stamp and no claim is later
 pub record GatheredBoardLaw (x : ℕ) (v : View) : Type 0 where
-  pub board : IsBoard x
-  pub reports : Every (λ (o : Own). Reported x o.cpu o.reports) v.own
-  pub stamps : Every (λ (o : Own). Every (λ (a : Accepted). a.stamp ≤ number_of x) o.accepted) v.own
-  pub sights : Every (λ (c : Claim). c.sight ≤ number_of x) v.claims
+  pub board : IsNumber x
+  pub stamps : Every (λ (o : Own). Every (λ (a : Accepted). a.stamp ≤ x) o.accepted) v.own
+  pub sights : Every (λ (c : Claim). c.sight ≤ x) v.claims
 
 pub record LastLooking (st : Step ℕ) (m : SeatState) (r : ℕ) (n : SeatState) : Type 0 where
   pub view : n ≡ (touched 0 r m.0, m.1)
-  pub later : sight m.0 ≤ number_of r
+  pub later : sight m.0 ≤ r
+  pub now : sight n.0 ≡ r
   pub stands : GatheredBoardLaw r m.0
 
 -- the view has claimed each number below the turn once, and no other, and its claim runs where the turn word x is odd
@@ -183,3 +206,21 @@ pub record LastCounting (st : Step ℕ) (m : SeatState) (r : ℕ) (n : SeatState
   pub view : n ≡ (touched st.word r m.0, m.1)
   pub later : seen_at m.0 st.word ≤ r
   pub counted : m.0.weight ≡ all_seats → GatheredAcceptLaw (cpu_of st.word) r m.0
+
+-- p passed the grace period s by a report in it or by being away, or it is away still, from a time on before s
+abbrev pub PassedBy : ℕ → Own → Type 0
+PassedBy s o = Passed s o.quiets ⊎ ((away_of o.word ≡ 1) × (period_of o.word < s))
+
+-- the view has p's lists once, and p passed each grace period that has ended
+pub record GatheredReportLaw (p x : ℕ) (v : View) : Type 0 where
+  pub once : own_count p v ≡ 1
+  pub passed : Every (λ (o : Own). o.cpu ≡ p → (s : ℕ) → s % 4 ≡ 1 → s ≤ period_of x → PassedBy s o) v.own
+  -- where p is here, it knows its report word
+  pub here : Every (λ (o : Own). o.cpu ≡ p → away_of o.word ≡ 0 → o.word ≡ x) v.own
+  pub ended : (s : ℕ) → s % 4 ≡ 1 → s < sight v → s ≤ period_of x
+  pub accounted : Accounted (sight v) x
+
+pub record LastSighting (st : Step ℕ) (m : SeatState) (r : ℕ) (n : SeatState) : Type 0 where
+  pub view : n ≡ (touched st.word r m.0, m.1)
+  pub later : period_of (seen_at m.0 st.word) ≤ period_of r
+  pub settled : m.0.weight ≡ all_seats → GatheredReportLaw (cpu_of st.word) r m.0

@@ -1,6 +1,6 @@
 -- Who a seat is, and who may make which step: docs/specification/tables.md, "Kinds of atomic step".
 use Rattle.std.specs.Prelude.{◌≡◌, ℕ, ◌+◌, ◌*◌, ◌<◌, ◌≤◌, true, [], ◌∷◌, length}
-use Rattle.rcu_numbers.specs.declared.sequence.TheConstants.{GREATEST_NUMBER}
+use Rattle.rcu_numbers.specs.declared.sequence.TheConstants.{LAST_NUMBER}
 use Rattle.atomic_table.specs.Table.{Me}
 use Rattle.rcu_board.specs.Views.{sight, cpus}
 use Rattle.rcu_board.specs.declared.board.Role.{Role}
@@ -11,15 +11,15 @@ use Rattle.rcu_board.specs.declared.view.View.{View}
 pub record CanStep (words : ℕ) (m : Me ℕ View) : Type 0 where
   pub carries_nothing : m.1 ≡ []
   pub live : 0 < m.0.weight
-  pub small : sight m.0 ≤ GREATEST_NUMBER
+  pub small : sight m.0 ≤ LAST_NUMBER
   pub seen_long : length m.0.seen ≡ words
   pub steps_long : length m.0.steps ≡ words
 
 -- what a seat of this role has besides
 pub record SeatOfRole (role : Role) (words : ℕ) (m : Me ℕ View) : Type 0 where
   pub can_step : CanStep words m
-  pub processor : (p : ℕ) → role ≡ Processor p → 5 + 3 * p < words
-  pub hand : (p : ℕ) → role ≡ Hand p → 5 + 3 * p < words
+  pub processor : (p : ℕ) → role ≡ Processor p → 6 + 4 * p < words
+  pub hand : (p : ℕ) → role ≡ Hand p → 6 + 4 * p < words
   pub own : (p : ℕ) → role ≡ Processor p → cpus m.0.own ≡ p ∷ []
   pub driver : role ≡ Driver → m.0.drives ≡ true
   pub control : role ≡ Control → m.0.controls ≡ true
@@ -50,13 +50,13 @@ IsControl (Group g) = ⊥
 IsControl Driver = ⊥
 IsControl Control = Unit {0}
 
--- a processor or a group
+-- a processor, a group or control
 abbrev pub MayNeed : Role → Type 0
 MayNeed (Processor p) = Unit {0}
 MayNeed (Hand p) = ⊥
 MayNeed (Group g) = Unit {0}
 MayNeed Driver = ⊥
-MayNeed Control = ⊥
+MayNeed Control = Unit {0}
 
 -- a processor or control
 abbrev pub MayCount : Role → Type 0

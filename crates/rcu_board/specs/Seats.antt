@@ -1,8 +1,8 @@
 -- Words for the clauses of steps.
-use Rattle.std.specs.Prelude.{◌≡◌, ℕ, ◌+◌, ◌%◌, ◌<◌, ◌≤◌, List, [], ◌∷◌, length, Option, None}
-use Rattle.rcu_numbers.specs.declared.shape.TheConstants.{MOST_CALLBACKS}
+use Rattle.std.specs.Prelude.{◌≡◌, ℕ, ◌+◌, ◌/◌, ◌%◌, ◌<◌, ◌≤◌, List, [], ◌∷◌, length, Option, None}
+use Rattle.rcu_numbers.specs.declared.shape.TheConstants.{MOST_CALLS}
 use Rattle.rcu_numbers.specs.Words.{owes_of}
-use Rattle.rcu_board.specs.Words.{halt_word, accepts_word, turns_word}
+use Rattle.rcu_board.specs.Words.{halt_word, accepts_word, turns_word, reports_word, period_of, away_of}
 use Rattle.rcu_board.specs.Views.{seen_at, sight, fresh_count}
 use Rattle.rcu_board.specs.Memory.{id_of}
 use Rattle.rcu_board.specs.Roles.{IsProcessor, cpu_of_role}
@@ -37,6 +37,7 @@ pub record NeverFalls (n : ℕ) (v w : View) : Type 0 where
   pub needed : seen_at v 1 ≤ seen_at w 1
   pub accepts : (p : ℕ) → p < n → seen_at v (accepts_word p) ≤ seen_at w (accepts_word p)
   pub turns : (p : ℕ) → p < n → seen_at v (turns_word p) ≤ seen_at w (turns_word p)
+  pub reports : (p : ℕ) → p < n → period_of (seen_at v (reports_word p)) ≤ period_of (seen_at w (reports_word p))
   pub shut : (p : ℕ) → p < n → SawShut p v → seen_at w (accepts_word p) ≡ seen_at v (accepts_word p)
 
 -- it is the same seat, and whatever it knows besides, none of its sights has fallen
@@ -48,13 +49,27 @@ pub record SameSeat (s t : Seat) : Type 0 where
 
 -- ---- the processor whose seat it is
 
-abbrev pub first_reports : List Own → ℕ
-first_reports [] = 0
-first_reports (o ∷ os) = o.reports
+abbrev pub first_word : List Own → ℕ
+first_word [] = 0
+first_word (o ∷ os) = o.word
 
--- the counted reports
+-- what a processor's seat knows of its own report word
+abbrev pub own_word : View → ℕ
+own_word v = first_word v.own
+
+-- how many grace periods the processor passed, as far as it knows: the numbers 1, 5, .. up to that of its report word
 abbrev pub reports_of : View → ℕ
-reports_of v = first_reports v.own
+reports_of v = (period_of (own_word v) + 3) / 4
+
+abbrev pub IsAway : View → Type 0
+IsAway v = away_of (own_word v) ≡ 1
+
+abbrev pub IsHere : View → Type 0
+IsHere v = away_of (own_word v) ≡ 0
+
+-- the driver has seen of every processor that it was accounted for in the grace period seq
+abbrev pub AllAccounted : ℕ → ℕ → View → Type 0
+AllAccounted n seq v = (p : ℕ) → p < n → period_of (seen_at v (reports_word p)) ≡ seq
 
 abbrev pub first_accepted : List Own → List Accepted
 first_accepted [] = []
@@ -91,7 +106,7 @@ pub record IsRunning (p : ℕ) (v : View) : Type 0 where
   pub claim : Claim
   pub alone : v.running ≡ claim ∷ []
   pub cpu : claim.cpu ≡ p
-  pub small : claim.number < MOST_CALLBACKS
+  pub small : claim.number < MOST_CALLS
 
 -- ---- urging
 

@@ -26,7 +26,7 @@ pub struct Board {
     pub(crate) words: Words,
     pub(crate) processors: u64,
     pub(crate) offloadable: u32,
-    ghost sized: { (id_of words).words ≡ LINE_WORDS * (4 + 3 * processors) },
+    ghost sized: { (id_of words).words ≡ LINE_WORDS * (4 + 4 * processors) },
     ghost framed: { words.table.shared.key.processors ≡ processors },
     ghost few: { processors ≤ MOST_PROCESSORS },
 }

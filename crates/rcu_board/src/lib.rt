@@ -15,11 +15,11 @@ mod steps;
 mod view;
 
 pub use board::{Board, Frame, Gathered, Role, Seat};
-pub use gather::{last_count_of, last_look, last_turn_of, merge};
+pub use gather::{last_count_of, last_look, last_report_of, last_turn_of, merge};
 pub use open::{Seats, open_board};
 pub use plays::Rule;
 pub use steps::{
-    Claimed, accept, ask, asked, claim, count_of, end, finish, halt, halted, heard, look, need,
-    needed, report, shut_one, start, turn_of, urge,
+    Claimed, accept, ask, asked, claim, come_back, count_of, end, finish, halt, halted, heard,
+    leave, look, meet, need, needed, report, shut_one, sighted, start, turn_of, urge,
 };
-pub use view::{Accepted, Claim, Own, View};
+pub use view::{Accepted, Claim, Own, Quiet, View};

@@ -1,25 +1,26 @@
 //! The steps of the running seats, each on one word (docs/specification/tables.md, "Kinds of atomic step"). Each asks
 //! that its seat is one of those that the table names.
 
-ghost use Rattle.std.specs.Prelude.{◌≡◌, ◌≢◌, ℕ, ◌+◌, ◌*◌, ◌/◌, ◌%◌, ◌<◌, ◌≤◌, ◌↔◌, IsTrue, IfSome, IfNone, IsNone, IfOk, IfErr, OnOk, None, [], length, max, bit_or, bit_and};
+ghost use Rattle.std.specs.Prelude.{◌≡◌, ◌≢◌, ℕ, ◌+◌, ◌-◌, ◌*◌, ◌/◌, ◌%◌, ◌<◌, ◌≤◌, ◌↔◌, IsTrue, IfSome, IfNone, IsNone, IfOk, IfErr, None, [], length, max, bit_or, bit_and};
 ghost use Rattle.std.specs.Int.{from_bool};
-ghost use Rattle.rcu_numbers.specs.declared.shape.TheConstants.{MOST_CALLBACKS};
-ghost use Rattle.rcu_numbers.specs.declared.sequence.TheConstants.{GREATEST_NUMBER};
+ghost use Rattle.rcu_numbers.specs.declared.shape.TheConstants.{MOST_CALLS};
+ghost use Rattle.rcu_numbers.specs.declared.sequence.TheConstants.{LAST_NUMBER};
 ghost use Rattle.rcu_numbers.specs.Numbers.{IsIdle, IsInProgress};
-ghost use Rattle.rcu_numbers.specs.Words.{Owes, packed, all_of, all_but_of, owes_of};
-ghost use Rattle.rcu_board.specs.Words.{accepts_word, turns_word, asks_word, urge_word, bits_of};
+ghost use Rattle.rcu_numbers.specs.Words.{all_of, all_but_of, owes_of};
+ghost use Rattle.rcu_board.specs.Words.{accepts_word, turns_word, asks_word, urge_word, reports_word, period_of};
 ghost use Rattle.rcu_board.specs.Views.{sight, seen_at};
-ghost use Rattle.rcu_board.specs.Laws.{IsBoard};
-ghost use Rattle.rcu_board.specs.Plays.{touched, looked, reported, accepted, claiming, finished, urged};
+ghost use Rattle.rcu_board.specs.Laws.{IsNumber, Accounted};
+ghost use Rattle.rcu_board.specs.Plays.{touched, looked, stepped_own, report_own, leave_own, return_own, accepted, claiming, finished, urged};
 ghost use Rattle.rcu_board.specs.Roles.{IsProcessor, IsDriver, IsControl, MayNeed, MayCount, MayClaim, MayHalt, cpu_of_role};
-ghost use Rattle.rcu_board.specs.Seats.{view, AtBoard, SameSeat, SawShut, MayHear, IsRunning, running_number, reports_of, accepted_of, fresh_of, count_of_own};
+ghost use Rattle.rcu_board.specs.Seats.{view, AtBoard, SameSeat, SawShut, MayHear, IsRunning, running_number, own_word, IsAway, IsHere, AllAccounted, accepted_of, fresh_of, count_of_own};
 ghost use Rattle.rcu_board.specs.Claims.{IfWon, IfNot};
 
 use crate::board::{Board, Role, Seat};
 use crate::plays::{
-    Accept, Claim, Count, Drive, Finish, Hear, Load, Look, Need, Report, Shut, Switch, Urge,
+    Accept, Claim, Count, Drive, Finish, Hear, Leave, Load, Look, Meet, Need, Report, Return, Shut,
+    Sight, Switch, Urge,
 };
-use rcu_numbers::{BoardWord, all_but, all_processors, ended};
+use rcu_numbers::{all_but, all_processors};
 
 /// The word of the number and the mask.
 pub(crate) const BOARD_WORD: usize = 0;
@@ -39,91 +40,173 @@ pub(crate) const FIRST_TURNS: usize = 4;
 /// Where the word stands that says what processor 0 is asked to be.
 pub(crate) const FIRST_ASKS: usize = 5;
 
+/// Where the report word of processor 0 stands.
+pub(crate) const FIRST_REPORTS: usize = 6;
+
 /// How many words a processor has.
-pub(crate) const WORDS_EACH: usize = 3;
+pub(crate) const WORDS_EACH: usize = 4;
 
 // ---- the board word and `needed`
 
-/// Loads the board word. A number of the seat's own that was accepted and has no stamp gets the number seen.
-pub fn look(board: &Board, seat: &mut Seat) -> BoardWord
+/// Loads the number. A number of the seat's own that was accepted and has no stamp gets the number seen.
+pub fn look(board: &Board, seat: &mut Seat) -> u64
     requires { AtBoard board.now seat.old }
     ensures same { SameSeat seat.old seat.new }
-    ensures view { view seat.new ≡ looked (bits_of result) (view seat.old) }
-    ensures sight { sight (view seat.new) ≡ result.seq }
-    ensures word { IsBoard (bits_of result) }
-    ensures within { result.mask ≤ all_of board.now.processors }
-    ensures driver { seat.old.role ≡ Role.Driver → result.seq ≡ sight (view seat.old) }
+    ensures view { view seat.new ≡ looked result (view seat.old) }
+    ensures number { IsNumber result }
+    ensures sight { sight (view seat.new) ≡ result }
+    ensures driver { seat.old.role ≡ Role.Driver → result ≡ sight (view seat.old) }
 {
-    BoardWord::from_bits(board.words.load::<Look>(&mut seat.seat, BOARD_WORD))
+    board.words.load::<Look>(&mut seat.seat, BOARD_WORD)
 }
 
-/// Clears the bit of the seat's processor, and answers the word as it was. The report is counted where the bit was set.
-pub fn report(board: &Board, seat: &mut Seat) -> BoardWord
+/// Starts a grace period, where the driver's sight `seq` is idle. No other seat steps there, so a store does.
+pub fn start(board: &Board, seat: &mut Seat, seq: u64)
+    requires board { AtBoard board.now seat.old }
+    requires who { IsDriver seat.old.role }
+    requires seen { sight (view seat.old) ≡ seq }
+    requires idle { IsIdle seq }
+    requires left { seq < LAST_NUMBER }
+    ensures same { SameSeat seat.old seat.new }
+    ensures view { view seat.new ≡ touched 0 (seq + 1) (view seat.old) }
+    ensures sight { sight (view seat.new) ≡ seq + 1 }
+{
+    board
+        .words
+        .store::<Drive>(&mut seat.seat, BOARD_WORD, seq + 1);
+}
+
+/// Ends the grace period `seq`, where the driver has seen of every processor that it was accounted for.
+pub fn end(board: &Board, seat: &mut Seat, seq: u64)
+    requires board { AtBoard board.now seat.old }
+    requires who { IsDriver seat.old.role }
+    requires seen { sight (view seat.old) ≡ seq }
+    requires busy { IsInProgress seq }
+    requires small { seq ≤ LAST_NUMBER }
+    requires all { AllAccounted board.now.processors seq (view seat.old) }
+    ensures same { SameSeat seat.old seat.new }
+    ensures view { view seat.new ≡ touched 0 (seq + 3) (view seat.old) }
+    ensures sight { sight (view seat.new) ≡ seq + 3 }
+{
+    board
+        .words
+        .store::<Drive>(&mut seat.seat, BOARD_WORD, seq + 3);
+}
+
+/// Reports a quiescent state of the seat's processor in the grace period `seq`, which it looked at, and for which it owes.
+pub fn report(board: &Board, seat: &mut Seat, seq: u64)
     requires board { AtBoard board.now seat.old }
     requires who { IsProcessor seat.old.role }
+    requires here { IsHere (view seat.old) }
+    requires seen { sight (view seat.old) ≡ seq }
+    requires busy { IsInProgress seq }
+    requires small { seq ≤ LAST_NUMBER }
+    requires owes { period_of (own_word (view seat.old)) < seq }
     ensures same { SameSeat seat.old seat.new }
-    ensures view { view seat.new ≡ reported (bits_of result) (view seat.old) }
-    ensures word { IsBoard (bits_of result) }
-    ensures within { result.mask ≤ all_of board.now.processors }
-    ensures counted { Owes result (cpu_of_role seat.old.role)
-        → result.seq ≡ 4 * reports_of (view seat.old) + 1 }
+    ensures view { view seat.new
+        ≡ stepped_own report_own (reports_word (cpu_of_role seat.old.role)) (2 * seq)
+        (view seat.old) }
+    ensures counted { period_of (own_word (view seat.old)) ≡ seq - 4 }
+{
+    let Role::Processor(p) = seat.role else {
+        unreachable!()
+    };
+    board.words.store::<Report>(
+        &mut seat.seat,
+        FIRST_REPORTS + WORDS_EACH * p as usize,
+        2 * seq,
+    );
+}
+
+/// The seat's processor is away from now on. `period` is the last grace period in which it was accounted for.
+pub fn leave(board: &Board, seat: &mut Seat, period: u64)
+    requires board { AtBoard board.now seat.old }
+    requires who { IsProcessor seat.old.role }
+    requires here { own_word (view seat.old) ≡ 2 * period }
+    requires small { period ≤ LAST_NUMBER }
+    ensures same { SameSeat seat.old seat.new }
+    ensures view { view seat.new
+        ≡ stepped_own leave_own (reports_word (cpu_of_role seat.old.role)) (2 * period + 1)
+        (view seat.old) }
+{
+    let Role::Processor(p) = seat.role else {
+        unreachable!()
+    };
+    board.words.store::<Leave>(
+        &mut seat.seat,
+        FIRST_REPORTS + WORDS_EACH * p as usize,
+        2 * period + 1,
+    );
+}
+
+/// The seat's processor is back, and answers in which grace period it was last accounted for.
+pub fn come_back(board: &Board, seat: &mut Seat) -> u64
+    requires board { AtBoard board.now seat.old }
+    requires who { IsProcessor seat.old.role }
+    requires away { IsAway (view seat.old) }
+    ensures same { SameSeat seat.old seat.new }
+    ensures view { view seat.new
+        ≡ stepped_own return_own (reports_word (cpu_of_role seat.old.role)) (2 * result)
+        (view seat.old) }
+    ensures later { period_of (own_word (view seat.old)) ≤ result }
+    ensures small { result ≤ LAST_NUMBER }
 {
     let Role::Processor(p) = seat.role else {
         unreachable!()
     };
     let found = board
         .words
-        .fetch_and::<Report>(&mut seat.seat, BOARD_WORD, all_but(p));
-    BoardWord::from_bits(found)
+        .fetch_sub::<Return>(&mut seat.seat, FIRST_REPORTS + WORDS_EACH * p as usize, 1);
+    found / 2
 }
 
-/// Starts a grace period, where the seat's sight `seq` is idle. It always wins, since the driver's sight is the number.
-pub fn start(board: &Board, seat: &mut Seat, seq: u64)
+/// Loads the report word of processor `p`.
+pub fn sighted(board: &Board, seat: &mut Seat, p: u64) -> u64
     requires board { AtBoard board.now seat.old }
     requires who { IsDriver seat.old.role }
-    requires seen { sight (view seat.old) ≡ seq }
-    requires idle { IsIdle seq }
-    requires left { seq < GREATEST_NUMBER }
+    requires processor { p < board.now.processors }
     ensures same { SameSeat seat.old seat.new }
-    ensures view { view seat.new
-        ≡ touched 0 (packed (seq + 1) (all_of board.now.processors)) (view seat.old) }
-    ensures sight { sight (view seat.new) ≡ seq + 1 }
+    ensures view { view seat.new ≡ touched (reports_word p) result (view seat.old) }
+    ensures law { Accounted (sight (view seat.old)) result }
 {
-    let idle = BoardWord::pack(seq, 0).bits();
-    let begun = BoardWord::pack(seq + 1, all_processors(board.processors)).bits();
     board
         .words
-        .compare_exchange::<Drive>(&mut seat.seat, BOARD_WORD, idle, begun);
+        .load::<Sight>(&mut seat.seat, FIRST_REPORTS + WORDS_EACH * p as usize)
 }
 
-/// Ends the grace period `seq` that the seat sees in progress.
+/// Accounts for processor `p` in the grace period `seq` on its behalf, where it is away still and was last accounted for
+/// in `period`.
 ///
 /// # Errors
 ///
-/// The word as it was, where some processor still owes a report.
-pub fn end(board: &Board, seat: &mut Seat, seq: u64) -> Result<(), BoardWord>
+/// The word as it was, where `p` came back.
+pub fn meet(board: &Board, seat: &mut Seat, p: u64, period: u64, seq: u64) -> Result<(), u64>
     requires board { AtBoard board.now seat.old }
     requires who { IsDriver seat.old.role }
+    requires processor { p < board.now.processors }
     requires seen { sight (view seat.old) ≡ seq }
     requires busy { IsInProgress seq }
+    requires small { seq ≤ LAST_NUMBER }
+    requires owes { period < seq }
     ensures same { SameSeat seat.old seat.new }
-    ensures ended { OnOk result (view seat.new ≡ touched 0 (packed (seq + 3) 0) (view seat.old)) }
-    ensures next { OnOk result (sight (view seat.new) ≡ seq + 3) }
-    ensures waits { IfErr result (λ word.
-        view seat.new ≡ touched 0 (bits_of word) (view seat.old)) }
-    ensures number { IfErr result (λ word. word.seq ≡ seq) }
-    ensures owed { IfErr result (λ word. word.mask ≢ 0) }
-    ensures within { IfErr result (λ word. word.mask ≤ all_of board.now.processors) }
+    ensures won { IfOk result (λ _.
+        view seat.new ≡ touched (reports_word p) (2 * seq + 1) (view seat.old)) }
+    ensures lost { IfErr result (λ word.
+        view seat.new ≡ touched (reports_word p) word (view seat.old)) }
+    ensures law { IfErr result (λ word. Accounted seq word) }
+    ensures other { IfErr result (λ word. word ≢ 2 * period + 1) }
 {
-    let clear = BoardWord::pack(seq, 0).bits();
-    let over = BoardWord::pack(ended(seq), 0).bits();
-    let found = board
-        .words
-        .compare_exchange::<Drive>(&mut seat.seat, BOARD_WORD, clear, over);
-    if found == clear {
+    let old = 2 * period + 1;
+    let found = board.words.compare_exchange::<Meet>(
+        &mut seat.seat,
+        FIRST_REPORTS + WORDS_EACH * p as usize,
+        old,
+        2 * seq + 1,
+    );
+    if found == old {
         return Ok(());
     }
-    Err(BoardWord::from_bits(found))
+    Err(found)
 }
 
 /// Asks for the number `seq`, and answers the greatest number that was asked for before.
@@ -157,7 +240,7 @@ pub fn accept(board: &Board, seat: &mut Seat, count: u64, key: u64) -> Option<u6
     requires who { IsProcessor seat.old.role }
     requires count { length (accepted_of (view seat.old)) ≡ count }
     requires stamped { fresh_of (view seat.old) ≡ None }
-    requires small { count < MOST_CALLBACKS }
+    requires small { count < MOST_CALLS }
     ensures same { SameSeat seat.old seat.new }
     ensures number { IfSome result (λ number. number ≡ count) }
     ensures won { IfSome result (λ number.
@@ -230,7 +313,7 @@ pub fn claim(board: &Board, seat: &mut Seat, number: u64) -> Claimed
     requires board { AtBoard board.now seat.old }
     requires who { MayClaim seat.old.role }
     requires rests { (view seat.old).running ≡ [] }
-    requires small { number < MOST_CALLBACKS }
+    requires small { number < MOST_CALLS }
     ensures same { SameSeat seat.old seat.new }
     ensures won { let p = cpu_of_role seat.old.role in
         IfWon result

@@ -95,6 +95,7 @@ pub struct Closed<J: Job> {
     pub ran: Vec<Vec<Record<J::Receipt>>>,
     /// `back[p]` has the jobs of the remaining numbers, in order.
     pub back: Vec<Vec<J>>,
-    /// `reports[q]` is how many counted reports `q` made; its k-th, from 0, has the stamp `4k + 1`.
+    /// `reports[q]` is how many grace periods `q` passed, by a report or by being away; its k-th,
+    /// from 0, is the one with the number `4k + 1`.
     pub reports: Vec<u64>,
 }

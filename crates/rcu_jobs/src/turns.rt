@@ -52,8 +52,8 @@ pub enum DriverTurn {
     Started(u64),
     /// It ended a grace period; the number is this one now.
     Ended(u64),
-    /// The processors of this mask still owe a report.
-    Waits(u32),
+    /// The processor of this number is the first that still owes a report.
+    Waits(u64),
     /// Refusal 1: a grace period is needed that can't be numbered.
     Spent,
 }

@@ -7,10 +7,10 @@ mod sequence;
 mod shape;
 mod word;
 
-pub use sequence::{GREATEST_NUMBER, NumbersSpent, done, ended, snap, started};
+pub use sequence::{GREATEST_NUMBER, LAST_NUMBER, NumbersSpent, done, ended, snap, started};
 pub use shape::{
-    DEFAULT_BLIMIT, DEFAULT_LIMIT, DEFAULT_QHIMARK, MOST_CALLBACKS, MOST_PROCESSORS, Shape,
-    default_stride,
+    DEFAULT_BLIMIT, DEFAULT_LIMIT, DEFAULT_QHIMARK, MOST_CALLBACKS, MOST_CALLS, MOST_PROCESSORS,
+    Shape, default_stride,
 };
 pub use word::{BoardWord, all_but, all_processors, word_laws};
 

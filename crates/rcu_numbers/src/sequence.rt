@@ -10,6 +10,9 @@ use std::fmt;
 /// grace period starts from it.
 pub const GREATEST_NUMBER: u64 = 2147483644;
 
+/// The greatest grace-period number of the running parts, 2^62 - 4.
+pub const LAST_NUMBER: u64 = 4611686018427387900;
+
 /// Refusal 1: no further grace period can be numbered.
 #[derive(Clone, Copy, Debug, PartialEq, Eq)]
 pub struct NumbersSpent;
@@ -55,7 +58,7 @@ pub fn ended(seq: u64) -> u64
 /// What a callback waits for whose processor saw `seq` after its acceptance: the least number at which a grace
 /// period that began after the look has ended.
 pub fn snap(seq: u64) -> u64
-    requires { seq ≤ GREATEST_NUMBER }
+    requires { seq ≤ LAST_NUMBER }
     ensures least { IsSnap seq result }
     ensures value { result ≡ snap_of seq }
 {

@@ -9,6 +9,10 @@ pub const MOST_PROCESSORS: u64 = 32;
 /// The greatest value of `blimit`, `qhimark` and `limit`.
 pub const MOST_CALLBACKS: u64 = 1000000;
 
+/// How many callbacks a processor of the running parts accepts in its life at most, 2^53: those of 1,024 processors together
+/// are still counted in 64 bits.
+pub const MOST_CALLS: u64 = 9007199254740992;
+
 /// How many callbacks a turn runs or gives where nothing else is said.
 pub const DEFAULT_BLIMIT: u64 = 10;
 

@@ -1,14 +1,15 @@
 -- What the last loads say of all records.
-use Rattle.std.proofs.Common.{◌≡◌, ℕ, zero, suc, ◌+◌, ◌*◌, ◌/◌, ◌%◌, ◌<◌, ◌≤◌, cond, ltb, Option, Some, None, List, [], ◌∷◌, ◌++◌, map, length, take, drop, get_or, sym, ap, ◌∙◌, refl, subst, arith}
-use mathlib.Core.Logic.{dite}
-use native.Mathlib.Decide.{ℕ_discrete}
+use Rattle.std.proofs.Common.{◌≡◌, ℕ, zero, suc, ◌+◌, ◌*◌, ◌/◌, ◌%◌, ◌<◌, ◌≤◌, cond, ltb, Option, Some, None, List, [], ◌∷◌, ◌++◌, inl, inr, map, length, take, drop, get_or, sym, ap, ◌∙◌, refl, subst, arith}
 use Rattle.std.specs.List.{All}
 use Rattle.std.proofs.lemmas.Bool.Decides.{nat_tests}
 use Rattle.std.proofs.lemmas.List.{length-drop, length-map}
-use Rattle.rcu_board.specs.Laws.{OddEquals, Reported}
-use Rattle.rcu_board.specs.Seats.{accepted_of, first_accepted, first_fresh, first_reports, reports_of}
+use Rattle.rcu_board.specs.Laws.{OddEquals}
+use Rattle.rcu_board.specs.Plays.{PassedBy}
+use Rattle.rcu_board.specs.Quiets.{Passed}
+use Rattle.rcu_board.specs.Seats.{accepted_of, first_accepted, first_fresh, first_word, own_word}
 use Rattle.rcu_board.specs.Views.{Every, accepted_count, claimed, cpus, fresh_count, one_if_claim, seen_at, total}
-use Rattle.rcu_board.specs.Words.{accepts_word, turns_word, words_of}
+use Rattle.rcu_board.specs.Words.{accepts_word, away_of, period_of, turns_word, words_of}
+use Rattle.rcu_board.specs.declared.view.Accepted.{Accepted as Entry}
 use Rattle.rcu_board.specs.declared.view.Claim.{Claim}
 use Rattle.rcu_board.specs.declared.view.Own.{Own}
 use Rattle.rcu_board.specs.declared.view.View.{View}
@@ -18,13 +19,11 @@ use Rattle.rcu_part_close.specs.Ends.{AreOnceBelow, IsEnd, IsSoundEnd}
 use Rattle.rcu_jobs.specs.declared.callback.Callback.{Callback}
 use Rattle.rcu_jobs.specs.declared.callback.Record.{Record}
 use Rattle.rcu_numbers.specs.Numbers.{snap_of}
-use Rattle.rcu_numbers.specs.Words.{number_of}
-use Rattle.rcu_numbers.proofs.WordLaws.{owes-lt}
 use Rattle.rcu_part_order.specs.Order.{between, times}
 use Rattle.rcu_part_order.specs.Places.{Accepted, numbered}
 use Rattle.rcu_part_order.specs.Callbacks.{numbered_callback}
 use Rattle.rcu_part_order.specs.Records.{AreSeenBy, numbered_record, numbered_records}
-use Rattle.rcu_part_close.specs.Closing.{Closes, ClosesAs, CpuEnd, Ends, EndsAs, HaveEnded, IsGraced, calls_left, processors_of, seats_of}
+use Rattle.rcu_part_close.specs.Closing.{Closes, CpuEnd, Ends, EndsAs, HaveEnded, IsGraced, IsGracedBy, HasPassed, calls_left, processors_of, seats_of}
 use Rattle.rcu_part_close.specs.Gathered.{gather}
 use Rattle.rcu_part_steps.specs.Places.{accepted_entry, accepted_list, claim_of}
 use Rattle.rcu_part_close.specs.Parts.{HandClaims, HandPart, IsAtRest, IsSoundPart, hand_ran, hand_views, views_of}
@@ -32,26 +31,42 @@ use Rattle.rcu_part_close.proofs.Claims.{cpu_at, no_claims, row_at}
 use Rattle.rcu_part_close.proofs.Gathers.{gather_claims, gather_each, gather_seen, gather_sights}
 use Rattle.std.proofs.lemmas.List.Elements.{All-cons, All-head, All-map, All-nil, All-tail, All-weaker}
 use Rattle.rcu_lemmas.proofs.All.{All-append_left, All-append_right, All-both, All-unmap}
-use Rattle.rcu_part_close.proofs.Every.{every_all}
+use Rattle.rcu_part_close.proofs.Every.{every_all, every_both}
 
 -- ---- the grace period
 
--- the first grace period after the stamp has ended by the sight, and every processor has reported in it
-graced : (stamp ready number reports : ℕ) → snap_of stamp ≤ ready → ready ≤ number → number / 4 ≤ reports → (j : ℕ) × (j < reports) × (stamp < 4 * j + 1) × (4 * j + 1 < ready)
-graced stamp ready number reports a b c = ((stamp + 3) / 4, omega arith, omega arith, omega arith)
+-- what the last report word w of processor k says of its lists: how it passed each grace period, and that it knows the word where it is here
+abbrev PassesTo : ℕ → ℕ → Own → Type 0
+PassesTo k w o = o.cpu ≡ k → (s : ℕ) → s % 4 ≡ 1 → s ≤ period_of w → PassedBy s o
 
-reports_enough : (x p reports : ℕ) → number_of x % 4 < 2 → Reported x p reports → number_of x / 4 ≤ reports
-reports_enough x p reports state r = let o = owes-lt x p in dite (ℕ_discrete (number_of x % 4) 0) (λ z. let a = r.0 z in omega arith) (λ z. let b = r.1 (omega arith) in omega arith)
+abbrev Knows : ℕ → ℕ → Own → Type 0
+Knows k w o = o.cpu ≡ k → away_of o.word ≡ 0 → o.word ≡ w
 
-own_enough : (x p : ℕ) (os : List Own) → number_of x % 4 < 2 → cpus os ≡ p ∷ [] → Every (λ o. Reported x o.cpu o.reports) os → number_of x / 4 ≤ first_reports os
+-- the grace period s is among those that the processor whose view it is passed
+abbrev HasCounted : ℕ → View → Type 0
+HasCounted s v = (s ≤ period_of (own_word v)) × HasPassed s v
+
+-- one that is not away still passed it before
+by_then : (s : ℕ) (o : Own) → away_of o.word ≡ 0 → PassedBy s o → Passed s o.quiets
+by_then s o here (inl p) = p
+by_then s o here (inr q) = absurd (omega (arith, here, q.0))
+
+own_passed : (p s w : ℕ) (os : List Own) → cpus os ≡ p ∷ [] → away_of (first_word os) ≡ 0 → Every (λ (o : Own). PassesTo p w o × Knows p w o) os → s % 4 ≡ 1 → s ≤ period_of w
+    → (s ≤ period_of (first_word os)) × Every (λ (o : Own). Passed s o.quiets) os
 unfolding Every
-own_enough x p [] state e h = absurd (omega (arith, ap length e))
-own_enough x p (o ∷ os) state e h = reports_enough x o.cpu o.reports state h.0
+own_passed p s w [] e here h busy le = absurd (omega (arith, ap length e))
+own_passed p s w (o ∷ []) e here h busy le =
+    let cpu : o.cpu ≡ p = ap (λ (l : List ℕ). get_or l 0 0) e in
+    let same : o.word ≡ w = h.0.1 cpu here in
+    ((let low : s ≤ w / 2 = le in omega (arith, same, low)), (by_then s o here (h.0.0 cpu s busy le), tt))
+own_passed p s w (o ∷ q ∷ os) e here h busy le = let two : length (cpus (o ∷ q ∷ os)) ≡ 1 = ap length e in absurd (omega arith)
 
-own_reported : (x p : ℕ) (os : List Own) → cpus os ≡ p ∷ [] → Every (λ o. Reported x o.cpu o.reports) os → Reported x p (first_reports os)
-unfolding Every
-own_reported x p [] e h = absurd (omega (arith, ap length e))
-own_reported x p (o ∷ os) e h = subst (λ (q : ℕ). Reported x q o.reports) (ap (λ (l : List ℕ). get_or l 0 0) e) h.0
+-- the first grace period after the stamp has ended by the sight, and the processor has passed it
+graced : {R : Type 0} → (x : ℕ) (r : Record R) (w : View) → snap_of r.stamp ≤ r.ready → r.ready ≤ x → ((s : ℕ) → s % 4 ≡ 1 → s < x → HasCounted s w) → IsGracedBy r w
+graced x r w ripe low pass =
+    let j : ℕ = (r.stamp + 3) / 4 in
+    let counted = pass (4 * j + 1) (omega arith) (omega (arith, ripe, low)) in
+    (j, (let c = counted.0 in omega arith), omega arith, omega (arith, ripe), counted.1)
 
 -- ---- the accepted count
 
@@ -119,16 +134,27 @@ module _ {J R : Type 0} (key_of : J → ℕ) (gives : ℕ → R → Type 0) (n x
 
   -- what is known of each view
   abbrev Stands : View → Type 0
-  Stands w = Every (λ (o : Own). Reported x o.cpu o.reports) w.own × Every (λ (c : Claim). c.sight ≤ number_of x) w.claims
+  Stands w = Every (λ (o : Own). Every (λ (a : Entry). a.stamp ≤ x) o.accepted) w.own × Every (λ (c : Claim). c.sight ≤ x) w.claims
 
   stands : All (λ (e : CpuEnd J R). All Stands (views_of e.part)) es
   stands = all_seats Stands es (All-append_right Stands (v ∷ others) (seats_of es)
-      (gather_each (λ (o : Own). Reported x o.cpu o.reports) (λ (c : Claim). c.sight ≤ number_of x) v (others ++ seats_of es) h.settled.board.reports h.settled.board.sights))
+      (gather_each (λ (o : Own). Every (λ (a : Entry). a.stamp ≤ x) o.accepted) (λ (c : Claim). c.sight ≤ x) v (others ++ seats_of es) h.settled.board.stamps h.settled.board.sights))
 
-  enough : All (λ (w : View). number_of x / 4 ≤ reports_of w) (processors_of es)
-  enough = All-map (λ (w : View). number_of x / 4 ≤ reports_of w) (λ (e : CpuEnd J R). e.part.view) es
-      (All-both Rests (λ (e : CpuEnd J R). All Stands (views_of e.part)) (λ (e : CpuEnd J R). number_of x / 4 ≤ reports_of e.part.view) es
-      (λ e r s. own_enough x e.part.cpu e.part.view.own h.settled.board.board.state r.own_cpu (All-head Stands e.part.view (hand_views e.part.hand) s).0) h.at_rest stands)
+  -- each processor passed each grace period that has ended
+  passes : All (λ (w : View). (s : ℕ) → s % 4 ≡ 1 → s < x → HasCounted s w) (processors_of es)
+  passes = All-map (λ (w : View). (s : ℕ) → s % 4 ≡ 1 → s < x → HasCounted s w) (λ (e : CpuEnd J R). e.part.view) es
+      (λ k d lt. let e = get_or es k d in
+      let near : k < n = omega (arith, lt, h.all) in
+      let cpu : e.part.cpu ≡ k = (let z = cpu_at 0 k es d lt h.row in omega arith) in
+      let word = (h.settled.reports k near).0 in
+      let law = (h.settled.reports k near).1 in
+      let rest = h.at_rest k d lt in
+      let P : Own → Type 0 = λ o. PassesTo k word o × Knows k word o in
+      let S : View → Type 0 = λ w. Every P w.own × Every (λ (c : Claim). c.sight ≤ x) w.claims in
+      let both = every_both (PassesTo k word) (Knows k word) Whole.own law.passed law.here in
+      let all = all_seats S es (All-append_right S (v ∷ others) (seats_of es) (gather_each P (λ (c : Claim). c.sight ≤ x) v (others ++ seats_of es) both h.settled.board.sights)) in
+      let mine = All-head S e.part.view (hand_views e.part.hand) (all k d lt) in
+      λ s busy less. own_passed k s word e.part.view.own (rest.own_cpu ∙ ap (λ (c : ℕ). c ∷ []) cpu) rest.here mine.0 busy (law.ended s busy less))
 
   -- how often all views claimed number j of the k-th processor
   claims_at : (k j : ℕ) (d : CpuEnd J R) → k < length es → total (claimed k j) Views ≡ times j (numbered_records (get_or es k d).part.own) + times j (numbered_records (hand_ran (get_or es k d).part.hand))
@@ -161,7 +187,7 @@ module _ {J R : Type 0} (key_of : J → ℕ) (gives : ℕ → R → Type 0) (n x
       let turn = h.settled.turns k near in
       let count = h.settled.counts k near in
       let m = ran_at k near in
-      let number = number_of x in
+      let number = x in
       let once = once_at k near d lt in
       let done = h.ended k d lt in
       let end = end_at k near d lt in
@@ -181,8 +207,8 @@ module _ {J R : Type 0} (key_of : J → ℕ) (gives : ℕ → R → Type 0) (n x
         left = done.left (accepted_list e.part.view) m rest.places once ∙ ap (λ (i : ℕ). drop i (numbered 0 (accepted_list e.part.view))) long;
         claims = λ j. ap (λ (p : ℕ). total (claimed p j) Views) cpu ∙ (all_claimed_at k j near ∙ ap (λ (i : ℕ). between 0 i j) long);
         graced = All-both (λ (r : Record R). snap_of r.stamp ≤ r.ready) (λ (r : Record R). r.ready ≤ number) (IsGraced (processors_of es)) e.ran
-            (λ r ripe low. All-weaker (λ (w : View). number / 4 ≤ reports_of w) (λ (w : View). (j : ℕ) × (j < reports_of w) × (r.stamp < 4 * j + 1) × (4 * j + 1 < r.ready))
-            (λ w many. graced r.stamp r.ready number (reports_of w) ripe low many) (processors_of es) enough) end.ripe seen;
+            (λ r ripe low. All-weaker (λ (w : View). (s : ℕ) → s % 4 ≡ 1 → s < x → HasCounted s w) (IsGracedBy r)
+            (λ w pass. graced x r w ripe low pass) (processors_of es) passes) end.ripe seen;
         turns = subst (λ (p : ℕ). All (λ (w : View). seen_at w (turns_word p) / 2 ≤ length e.ran) Views) (sym cpu)
             (All-weaker (λ (w : View). seen_at w (turns_word k) ≤ seen_at Whole (turns_word k)) (λ (w : View). seen_at w (turns_word k) / 2 ≤ length e.ran) (λ w low. let t = turn.1 in omega (arith, low, t, long)) Views sights);
         shut = subst (λ (p : ℕ). All (λ (w : View). seen_at w (accepts_word p) % 2 ≡ 1 → seen_at w (accepts_word p) / 2 ≡ length (accepted_list e.part.view)) Views) (sym cpu)
@@ -204,8 +230,3 @@ module _ {J R : Type 0} (key_of : J → ℕ) (gives : ℕ → R → Type 0) (n x
 
   pub closes : All (λ (e : CpuEnd J R). IsSoundPart key_of gives e.part) es → Closes key_of gives v others es
   closes sound k d lt = record { ends = ends_at k d lt; sound = sound_at k d lt (sound k d lt) }
-
-  -- and of the reports of each
-  pub reported : All (λ (e : CpuEnd J R). Reported x e.part.cpu (reports_of e.part.view)) es
-  reported = All-both Rests (λ (e : CpuEnd J R). All Stands (views_of e.part)) (λ (e : CpuEnd J R). Reported x e.part.cpu (reports_of e.part.view)) es
-      (λ e r s. own_reported x e.part.cpu e.part.view.own r.own_cpu (All-head Stands e.part.view (hand_views e.part.hand) s).0) h.at_rest stands

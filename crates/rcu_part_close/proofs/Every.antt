@@ -19,3 +19,8 @@ module _ {A : Type 0} where
   every_all P [] h k d lt = absurd (omega arith)
   every_all P (x ∷ xs) h zero d lt = h.0
   every_all P (x ∷ xs) h (suc k) d lt = every_all P xs h.1 k d (omega arith)
+
+  pub every_both : (P Q : A → Type 0) (xs : List A) → Every P xs → Every Q xs → Every (λ x. P x × Q x) xs
+  unfolding Every
+  every_both P Q [] h k = tt
+  every_both P Q (x ∷ xs) h k = ((h.0, k.0), every_both P Q xs h.1 k.1)

@@ -5,3 +5,4 @@ pub mod Gathers
 pub mod Claims
 pub mod Closings
 pub mod Loads
+pub mod OwnReports

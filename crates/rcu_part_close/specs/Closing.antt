@@ -1,7 +1,8 @@
 -- What `close` promises, over plain data: docs/specification/promises.md, "Headline on the running parts", close.
 use Rattle.std.specs.Prelude.{◌≡◌, ℕ, suc, ◌+◌, ◌*◌, ◌/◌, ◌%◌, ◌<◌, ◌≤◌, List, [], ◌∷◌, ◌++◌, map, length, drop, All}
+use Rattle.rcu_board.specs.Quiets.{Passed}
 use Rattle.rcu_board.specs.Seats.{reports_of}
-use Rattle.rcu_board.specs.Views.{claimed, seen_at, total}
+use Rattle.rcu_board.specs.Views.{Every, claimed, seen_at, total}
 use Rattle.rcu_board.specs.Words.{accepts_word, turns_word, words_of}
 use Rattle.rcu_board.specs.declared.view.View.{View}
 use Rattle.rcu_part_close.specs.Ends.{EndsWith, IsEnd, IsSoundEnd, left_of}
@@ -16,10 +17,18 @@ use Rattle.rcu_part_close.specs.Gathered.{IsSettled, gather}
 use Rattle.rcu_part_steps.specs.Places.{accepted_list}
 use Rattle.rcu_part_close.specs.Parts.{CpuPart, IsAtRest, hand_drawn, hand_ran, hand_taken, views_of}
 
--- For each processor, of which this is the view, some counted report, its j-th from 0, has a number between the record's
--- stamp and the sight by which it ran.
+-- The processor whose view this is passed the grace period s, by a report in it or by being away.
+abbrev pub HasPassed : ℕ → View → Type 0
+HasPassed s v = Every (λ o. Passed s o.quiets) v.own
+
+-- Some grace period that this processor passed, the j-th from 0 of those that it counts, has a number between the record's stamp and
+-- the sight by which it ran.
+abbrev pub IsGracedBy : {R : Type 0} → Record R → View → Type 0
+IsGracedBy r v = (j : ℕ) × (j < reports_of v) × (r.stamp < 4 * j + 1) × (4 * j + 1 < r.ready) × HasPassed (4 * j + 1) v
+
+-- That is so for each processor, of which this is the view.
 abbrev pub IsGraced : {R : Type 0} → List View → Record R → Type 0
-IsGraced processors r = All (λ v. (j : ℕ) × (j < reports_of v) × (r.stamp < 4 * j + 1) × (4 * j + 1 < r.ready)) processors
+IsGraced processors r = All (IsGracedBy r) processors
 
 -- A processor with its hand, and what is left of it: its records and the jobs that are handed back.
 pub record CpuEnd (J R : Type 0) : Type 0 where

@@ -1,6 +1,6 @@
 -- What is known of the parts of one open as they come to rest, over plain data: docs/specification/definitions.md, "The running parts: laws".
 use Rattle.std.specs.Prelude.{◌≡◌, ℕ, Option, Some, None, List, [], ◌∷◌, map}
-use Rattle.rcu_board.specs.Seats.{fresh_of}
+use Rattle.rcu_board.specs.Seats.{IsHere, fresh_of}
 use Rattle.rcu_board.specs.Views.{cpus}
 use Rattle.rcu_board.specs.declared.view.View.{View}
 use Rattle.rcu_part_close.specs.Ends.{AreInPlace, AreSound}
@@ -57,6 +57,8 @@ module _ {J R : Type 0} where
     -- the processor's view has its lists, and each accepted number has its stamp
     pub own_cpu : cpus c.view.own ≡ c.cpu ∷ []
     pub stamped : fresh_of c.view ≡ None
+    -- the processor is not away
+    pub here : IsHere c.view
     -- the law of places
     pub places : AreInPlace (accepted_list c.view) c.own (hand_ran c.hand) c.lists (hand_taken c.hand)
     -- the records are those of the claims, each with the claim's board sight, by which its wait was over

@@ -1,8 +1,10 @@
 //! Laws over plain data, which have no code.
 
-ghost use Rattle.std.specs.Prelude.{◌≡◌, ◌<◌, ◌≤◌, ◌∷◌, ◌++◌, ℕ, List, All, false, length};
-ghost use Rattle.rcu_board.specs.Laws.{Reported};
-ghost use Rattle.rcu_board.specs.Seats.{reports_of};
+ghost use Rattle.std.specs.Prelude.{◌≡◌, ◌+◌, ◌*◌, ◌/◌, ◌<◌, ◌≤◌, ◌∷◌, ◌++◌, ℕ, List, All, false, length};
+ghost use mathlib.Core.Option.{some};
+ghost use lib.ListN.{get_elem?};
+ghost use Rattle.rcu_board.specs.Quiets.{Chain};
+ghost use Rattle.rcu_board.specs.declared.view.Quiet.{Quiet};
 ghost use Rattle.rcu_board.specs.Views.{claimed, seen_at, tally, total};
 ghost use Rattle.rcu_board.specs.Words.{is_asks};
 ghost use Rattle.rcu_board.specs.declared.view.View.{View};
@@ -27,15 +29,21 @@ pub fn gathering()
 {}
 
 /// Where the parts of one open have ended, each processor and its hand by [`end_offloadable`](crate::end_offloadable) or
-/// [`end_local`](crate::end_local), the last loads say of each what `close` promises, also of its jobs where these were sound, and
-/// the last board word how many counted reports it made (see [`crate::reports_by`]).
+/// [`end_local`](crate::end_local), the last loads say of each what `close` promises, also of its jobs where these were
+/// sound.
 pub fn closing<J: Job>()
     ensures ends { (n x : ℕ) (v : View) (others : List View) (es : List (CpuEnd J J.Receipt))
         → HaveEnded J.key_of J.gives n x v others es → Ends v others es }
     ensures closes { (n x : ℕ) (v : View) (others : List View) (es : List (CpuEnd J J.Receipt))
         → HaveEnded J.key_of J.gives n x v others es
         → All (λ e. IsSoundPart J.key_of J.gives e.part) es → Closes J.key_of J.gives v others es }
-    ensures reports { (n x : ℕ) (v : View) (others : List View) (es : List (CpuEnd J J.Receipt))
-        → HaveEnded J.key_of J.gives n x v others es
-        → All (λ e. Reported x e.part.cpu (reports_of e.part.view)) es }
+{}
+
+/// A processor that was never away passed each grace period by a report: its k-th from 0 was made in the grace period 4k + 1,
+/// and it made as many as its report word counts.
+pub fn reporting()
+    ensures numbers { (to k : ℕ) (x : Quiet) (quiets : List Quiet) → Chain 0 quiets to
+        → All (λ q. q.away ≡ false) quiets → get_elem? quiets k ≡ some x → x.to ≡ 4 * k + 1 }
+    ensures count { (to : ℕ) (quiets : List Quiet) → Chain 0 quiets to
+        → All (λ q. q.away ≡ false) quiets → length quiets ≡ (to + 3) / 4 }
 {}

@@ -13,6 +13,6 @@ mod processor_end;
 mod taken;
 
 pub use ended::ProcessorEnd;
-pub use last_loads::{reports_by, settle};
-pub use laws::{closing, gathering};
+pub use last_loads::settle;
+pub use laws::{closing, gathering, reporting};
 pub use processor_end::{end_local, end_offloadable};

@@ -1,3 +1,4 @@
 pub mod Counting
 pub mod Tickets
 pub mod Waiting
+pub mod Rounds

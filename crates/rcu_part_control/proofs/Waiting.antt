@@ -1,12 +1,12 @@
 -- One poll after another: steps on turn words alone.
-use Rattle.std.proofs.Common.{◌≡◌, ℕ, ◌+◌, ◌<◌, ◌≤◌, ◌∙◌, Option, Some, None, refl, subst, arith}
+use Rattle.std.proofs.Common.{◌≡◌, ℕ, ◌+◌, ◌≤◌, ◌∙◌, Option, Some, None, refl, subst, arith}
 use Rattle.rcu_board.specs.Words.{turns_word}
 use Rattle.rcu_board.specs.declared.view.View.{View}
 use Rattle.rcu_jobs.specs.declared.Counts.{Counts}
 use Rattle.rcu_jobs.specs.declared.Passed.{Passed}
 use Rattle.rcu_part_control.specs.Barriers.{PollsBy}
 use Rattle.rcu_part_control.specs.declared.barrier.Barrier.{Barrier}
-use Rattle.rcu_board.specs.Frames.{KeepsLists, StepsOnEach, StepsWithin}
+use Rattle.rcu_board.specs.Frames.{StepsOnEach, StepsWithin}
 use Rattle.rcu_board.proofs.Stepping.{untouched_again}
 
 pub within_itself : (word_of : ℕ → ℕ) (n : ℕ) (v : View) → StepsWithin word_of n v v

@@ -16,8 +16,8 @@ use std::sync::Arc;
 /// Control: it asks for switches, shuts, opens barriers and halts.
 #[derive(Drop)]
 pub struct Control {
-    board: Arc<Board, Global>,
-    seat: Seat,
+    pub(crate) board: Arc<Board, Global>,
+    pub(crate) seat: Seat,
     ghost here: { AtBoard (arc_value board) seat },
     ghost role: { seat.role ≡ Role.Control },
     ghost bare: { IsBare (view seat) },

@@ -9,6 +9,7 @@ mod control;
 mod driver;
 mod loops;
 mod pause;
+mod poll;
 
 pub use barrier::{Barrier, ReadsTurns, open_barrier};
 pub use control::Control;

@@ -90,13 +90,13 @@ module _ {X : Type 0} where
     pub each : List ℕ
     pub many : length each ≡ i
     pub total_is : total ≡ sum each
-    pub small : total ≤ i * 1000000
+    pub small : total ≤ i * 9007199254740992
     pub elements : Partly R each olds news
 
   pub sums_none : (R : ℕ → X → X → Type 0) (xs : List X) → SumsSoFar R 0 0 xs xs
   sums_none R xs = record { each = []; many = refl; total_is = refl; small = omega arith; elements = refl }
 
-  pub sums_next : (R : ℕ → X → X → Type 0) (total n i : ℕ) (olds news : List X) (d y : X) → n ≤ 1000000 → i < length news → R n (get_or news i d) y → SumsSoFar R total i olds news
+  pub sums_next : (R : ℕ → X → X → Type 0) (total n i : ℕ) (olds news : List X) (d y : X) → n ≤ 9007199254740992 → i < length news → R n (get_or news i d) y → SumsSoFar R total i olds news
       → SumsSoFar R (total + n) (i + 1) olds (set news i y)
   sums_next R total n i olds news d y few low r s = record {
     each = s.each ++ n ∷ [];

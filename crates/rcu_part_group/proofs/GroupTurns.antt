@@ -18,7 +18,6 @@ use Rattle.rcu_part_lists.proofs.Aims.{up-raised, look-needed}
 use Rattle.rcu_part_lists.specs.declared.member_lists.MemberLists.{MemberLists}
 use Rattle.rcu_jobs.specs.declared.callback.Callback.{Callback}
 use Rattle.rcu_lists.specs.Labels.{Labelled, Done, Bare, marked, callbacks_of, carries}
-use Rattle.rcu_numbers.specs.Words.{number_of}
 use Rattle.rcu_part_group.specs.Each.{Each, Sums}
 use Rattle.rcu_part_group.specs.GroupLaw.{AreMembers, IsLawfulGroup, relay_of}
 use Rattle.rcu_part_group.specs.Groups.{GivesTo, IsEmptyGroupMember, LooksAt, LooksAtAll, PassesOn, SameGroupMember, SameGroup, TakesFrom, held_of, members_of}
@@ -39,7 +38,7 @@ wants_upto t aimed false h e = (let f : true ≡ false = sym e in cc)
 
 -- a look, and an ask
 bare_looked : (r : ℕ) (v w : View) → KeepsLists (looked r v) w → IsBare v → IsBare w
-bare_looked r v w k b = record { own = k.own ∙ ap (map (stamp_own (number_of r))) b.own; claims = k.claims ∙ b.claims; running = k.running ∙ b.running }
+bare_looked r v w k b = record { own = k.own ∙ ap (map (stamp_own r)) b.own; claims = k.claims ∙ b.claims; running = k.running ∙ b.running }
 
 module _ {J : Type 0} where
   -- ---- one member
@@ -85,7 +84,7 @@ module _ {J : Type 0} where
       (h.0, h.1 ∙ ap (λ l. l ++ h.0) k.2, h.2, h.3 ∙ k.1, h.4 ∙ k.0)
 
   -- no more than a processor accepts
-  pub gives_few : (most gave : ℕ) (m n : MemberLists J) → Gives most gave (relay m) (relay n) → gave ≤ 1000000
+  pub gives_few : (most gave : ℕ) (m n : MemberLists J) → Gives most gave (relay m) (relay n) → gave ≤ 9007199254740992
   gives_few most gave m n g = let p = gives_put most gave (relay m) (relay n) g in let r = relay n in
       omega (arith, n.few, ap length n.order, length-append r.put (r.out ++ (callbacks_of r.list ++ r.drawn)), ap length p.1, length-append (relay m).put p.0, p.2)
 

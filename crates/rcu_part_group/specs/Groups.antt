@@ -5,7 +5,7 @@ use Rattle.std.specs.List.{AllZip, Any}
 use Rattle.std.specs.Arc.{arc_value}
 use Rattle.rcu_board.specs.Plays.{looked, touched}
 use Rattle.rcu_board.specs.Seats.{view}
-use Rattle.rcu_board.specs.Words.{bits_of, needed_word}
+use Rattle.rcu_board.specs.Words.{needed_word}
 use Rattle.rcu_board.specs.declared.board.Board.{Board as Table}
 use Rattle.rcu_board.specs.declared.board.Seat.{Seat}
 use Rattle.rcu_board.specs.declared.view.View.{View}
@@ -17,7 +17,6 @@ use Rattle.rcu_jobs.specs.declared.turns.GroupTurn.{GroupTurn}
 use Rattle.rcu_jobs.specs.declared.turns.Lists.{Lists}
 use Rattle.rcu_lanes.specs.Ends.{SameFront, SameRear}
 use Rattle.rcu_lists.specs.Labels.{callbacks_of}
-use Rattle.rcu_numbers.specs.Words.{Board}
 use Rattle.rcu_numbers.specs.declared.shape.Shape.{Shape}
 use Rattle.rcu_part_group.specs.Each.{Each, Sums, IsGreatest}
 use Rattle.rcu_part_group.specs.GroupLaw.{group_members_in, relay_of}
@@ -114,10 +113,10 @@ module _ {J : Type 0} where
 
   -- One look; each member's list was looked at by the number found; then one ask at most.
   pub record LooksOnce (p q : GroupState J) : Type 0 where
-    pub word : Board
+    pub seen : ℕ
     pub most : Option ℕ
-    pub members : LooksAtAll word.seq most (members_of p) (members_of q)
-    pub steps : AsksFor most (looked (bits_of word) (group_view p)) (group_view q)
+    pub members : LooksAtAll seen most (members_of p) (members_of q)
+    pub steps : AsksFor most (looked seen (group_view p)) (group_view q)
 
   -- a batch of each member was put on its done lane, so many callbacks in all
   pub record GivesToAll (gave : ℕ) (p q : GroupState J) : Type 0 where

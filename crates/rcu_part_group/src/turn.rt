@@ -7,8 +7,8 @@ ghost use Rattle.rcu_board.specs.Seats.{view, AtBoard, SameSeat};
 ghost use Rattle.rcu_board.specs.Views.{seen_at, sight, tally};
 ghost use Rattle.rcu_board.specs.Words.{board_word, needed_word};
 ghost use Rattle.rcu_board.specs.Frames.{KeepsLists};
-ghost use Rattle.rcu_numbers.specs.declared.sequence.TheConstants.{GREATEST_NUMBER};
-ghost use Rattle.rcu_numbers.specs.declared.shape.TheConstants.{MOST_CALLBACKS, MOST_PROCESSORS};
+ghost use Rattle.rcu_numbers.specs.declared.sequence.TheConstants.{LAST_NUMBER};
+ghost use Rattle.rcu_numbers.specs.declared.shape.TheConstants.{MOST_CALLS, MOST_PROCESSORS};
 ghost use Rattle.rcu_part_group.specs.Each.{IsGreatest, Sums};
 ghost use Rattle.rcu_part_group.specs.GroupLaw.{AreAdvancedTo, AreLoadedUpTo, AreWaitingTo, group_members_in, relay_of};
 ghost use Rattle.rcu_part_group.specs.Groups.{AsksFor, GivesTo, GivesToAll, LooksAt, LooksAtAll, LooksOnce, PassesOn, SameGroup, ShownFor, TakesFrom, TakesInAll, TurnsGroup, group_view, members_of, waiting_of};
@@ -23,7 +23,7 @@ impl<J: Drop> GroupMember<J> {
     // Draws what came of the member. Answers how many callbacks.
     fn take_in(&mut self) -> u64
         ensures takes { TakesFrom result self.old self.new }
-        ensures few { result ≤ MOST_CALLBACKS }
+        ensures few { result ≤ MOST_CALLS }
     {
         self.member.take_in()
     }
@@ -31,7 +31,7 @@ impl<J: Drop> GroupMember<J> {
     // Looks at the member's list by the number seen. Answers the number that it wants.
     fn look(&mut self, seen: u64) -> Option<u64>
         requires later { (relay_of self.old).advanced ≤ seen }
-        requires small { seen ≤ GREATEST_NUMBER }
+        requires small { seen ≤ LAST_NUMBER }
         ensures { LooksAt seen result self.old self.new }
     {
         self.member.look(seen)
@@ -41,7 +41,7 @@ impl<J: Drop> GroupMember<J> {
     fn give(&mut self, blimit: u64) -> u64
         requires loaded { length (relay_of self.old).out ≤ blimit }
         ensures gives { GivesTo blimit result self.old self.new }
-        ensures few { result ≤ MOST_CALLBACKS }
+        ensures few { result ≤ MOST_CALLS }
     {
         self.member.give(blimit)
     }
@@ -49,7 +49,7 @@ impl<J: Drop> GroupMember<J> {
     // How many callbacks of the member wait in batches.
     fn waiting(&self) -> u64
         ensures waits { result ≡ waiting_of self.now }
-        ensures few { result ≤ MOST_CALLBACKS }
+        ensures few { result ≤ MOST_CALLS }
     {
         self.member.held()
     }
@@ -83,7 +83,7 @@ impl<J: Drop> GroupMembers<J> {
     // Looks at the lists of all members by the number seen. Answers the greatest number that one of them wants.
     fn look(&mut self, seen: u64) -> Option<u64>
         requires later { AreAdvancedTo seen (group_members_in self.old) }
-        requires small { seen ≤ GREATEST_NUMBER }
+        requires small { seen ≤ LAST_NUMBER }
         ensures { LooksAtAll seen result (group_members_in self.old) (group_members_in self.new) }
     {
         let first = self.first.look(seen);
@@ -172,7 +172,7 @@ impl<J: Job> Group<J> {
             ≡ tally (group_view self.old.state) board_word + 1 }
     {
         let state = &mut self.state;
-        let seen = look_at_number(&state.board, &mut state.seat).seq();
+        let seen = look_at_number(&state.board, &mut state.seat);
         let most = state.members.look(seen);
         want(&state.board, &mut state.seat, most);
     }

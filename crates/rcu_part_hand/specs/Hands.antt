@@ -5,11 +5,10 @@ use Rattle.std.specs.Arc.{arc_value}
 use Rattle.rcu_board.specs.Seats.{view}
 use Rattle.rcu_board.specs.Views.{seen_at, sight}
 use Rattle.rcu_board.specs.Plays.{looked}
-use Rattle.rcu_board.specs.Words.{bits_of, turns_word}
+use Rattle.rcu_board.specs.Words.{turns_word}
 use Rattle.rcu_board.specs.declared.board.Board.{Board as Table}
 use Rattle.rcu_board.specs.declared.board.Seat.{Seat}
 use Rattle.rcu_part_lists.specs.declared.hand.Held.{Held}
-use Rattle.rcu_numbers.specs.Words.{Board}
 use Rattle.rcu_numbers.specs.declared.shape.Shape.{Shape}
 use Rattle.rcu_board.specs.declared.view.View.{View}
 use Rattle.rcu_board.specs.Frames.{SamePart}
@@ -97,9 +96,7 @@ module _ {J R : Type 0} where
 
   -- one look, which found the number `seen`
   pub record Looks (seen : ℕ) (p q : HandState J R) : Type 0 where
-    pub word : Board
-    pub number : seen ≡ word.seq
-    pub step : hand_view q ≡ looked (bits_of word) (hand_view p)
+    pub step : hand_view q ≡ looked seen (hand_view p)
     pub sight : sight (hand_view q) ≡ seen
     pub held : hand_held q ≡ hand_held p
     pub drawn : hand_drawn q ≡ hand_drawn p

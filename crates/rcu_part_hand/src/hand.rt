@@ -2,7 +2,7 @@
 
 ghost use Rattle.std.specs.Prelude.{◌≡◌};
 ghost use Rattle.std.specs.Arc.{arc_value};
-ghost use Rattle.rcu_numbers.specs.declared.shape.TheConstants.{MOST_CALLBACKS};
+ghost use Rattle.rcu_numbers.specs.declared.shape.TheConstants.{MOST_CALLS};
 ghost use Rattle.rcu_board.specs.Seats.{view, AtBoard};
 ghost use Rattle.rcu_board.specs.declared.board.Role.{Role};
 ghost use Rattle.rcu_part_lists.specs.Helds.{taken_by};
@@ -104,7 +104,7 @@ impl<J: Job> Hand<J> {
     pub(crate) fn claim(self, claimed: ClaimedCallback) -> Begins<RunningHand<J>, J, Hand<J>>
         requires seen { sight (hand_view self.state) ≡ claimed.ready }
         requires next { IsNext claimed.ready claimed self.state }
-        requires small { claimed.number < MOST_CALLBACKS }
+        requires small { claimed.number < MOST_CALLS }
         requires room { vec_len self.state.ran < vec_capacity self.state.ran }
         ensures same { IfRuns result (λ running _. SameBegun self.state running.state) }
         ensures stays { IfStops result (λ hand _. SameHand self.state hand.state) }

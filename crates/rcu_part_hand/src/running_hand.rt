@@ -3,7 +3,7 @@
 ghost use Rattle.std.specs.Prelude.{◌≡◌, ◌<◌};
 ghost use Rattle.std.specs.Arc.{arc_value};
 ghost use Rattle.std.specs.Vec.{vec_len, vec_capacity};
-ghost use Rattle.rcu_numbers.specs.declared.shape.TheConstants.{MOST_CALLBACKS};
+ghost use Rattle.rcu_numbers.specs.declared.shape.TheConstants.{MOST_CALLS};
 ghost use Rattle.rcu_board.specs.Seats.{view, AtBoard};
 ghost use Rattle.rcu_board.specs.declared.board.Role.{Role};
 ghost use Rattle.rcu_part_lists.specs.Helds.{taken_by};
@@ -30,7 +30,7 @@ pub struct RunningHandState<J, R> {
     pub held: Held<J>,
     ghost here: { AtBoard (arc_value board) seat },
     ghost role: { seat.role ≡ Role.Hand cpu },
-    ghost small: { claimed.number < MOST_CALLBACKS },
+    ghost small: { claimed.number < MOST_CALLS },
     ghost room: { vec_len ran < vec_capacity ran },
     ghost lawful: { IsRunningHand cpu claimed (view seat) ran.items (taken_by held) },
 }

@@ -4,7 +4,7 @@ ghost use Rattle.std.specs.Prelude.{◌≡◌, ◌≢◌, ◌+◌, ◌≤◌, �
 ghost use Rattle.rcu_board.specs.Views.{sight, tally};
 ghost use Rattle.rcu_board.specs.Words.{board_word};
 ghost use Rattle.rcu_jobs.specs.declared.Stop.TheVariants.{Limit, Again};
-ghost use Rattle.rcu_numbers.specs.declared.sequence.TheConstants.{GREATEST_NUMBER};
+ghost use Rattle.rcu_numbers.specs.declared.sequence.TheConstants.{LAST_NUMBER};
 ghost use Rattle.rcu_part_hand.specs.Hands.{SameHand, KeepsSoundHand, Looks, Loads, Ran, StopsAt, TurnsBy, hand_held, hand_view};
 ghost use Rattle.rcu_part_steps.specs.Stops.{StopsInTime};
 
@@ -17,7 +17,7 @@ impl<J: Job> Hand<J> {
     // Runs the first of what it holds, or says why not. The number `seen` is that of the turn's look.
     fn run_one(&mut self, seen: u64) -> Option<Stop>
         requires seen { sight (hand_view self.old.state) ≡ seen }
-        requires small { seen ≤ GREATEST_NUMBER }
+        requires small { seen ≤ LAST_NUMBER }
         ensures same { SameHand self.old.state self.new.state }
         ensures ran { IfNone result (Ran 1 1 seen self.old.state self.new.state) }
         ensures counts { IfSome result (λ stop. (stop ≢ Limit) × (stop ≢ Again)) }
@@ -51,7 +51,7 @@ impl<J: Job> Hand<J> {
     // Runs the first ones of what it holds, at most `blimit`.
     fn run_held(&mut self, seen: u64) -> HandTurn
         requires seen { sight (hand_view self.old.state) ≡ seen }
-        requires small { seen ≤ GREATEST_NUMBER }
+        requires small { seen ≤ LAST_NUMBER }
         ensures same { SameHand self.old.state self.new.state }
         ensures ran { (tried : ℕ) × Ran result.ran tried seen self.old.state self.new.state
             × StopsAt result.stop result.ran tried seen self.new.state }
@@ -76,11 +76,11 @@ impl<J: Job> Hand<J> {
     pub(crate) fn look(&mut self) -> u64
         ensures same { SameHand self.old.state self.new.state }
         ensures looks { Looks result self.old.state self.new.state }
-        ensures small { result ≤ GREATEST_NUMBER }
+        ensures small { result ≤ LAST_NUMBER }
         ensures sound { KeepsSoundHand J.key_of J.gives self.old.state self.new.state }
     {
         let state = &mut self.state;
-        look_at_number(&state.board, &mut state.seat).seq()
+        look_at_number(&state.board, &mut state.seat)
     }
 
     // Draws a batch where none is held. Answers why nothing can run, if so.

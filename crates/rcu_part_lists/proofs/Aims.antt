@@ -7,7 +7,7 @@ use Rattle.std.proofs.lemmas.List.Elements.{All-head, All-tail, All-nil, All-con
 use Rattle.std.proofs.lemmas.List.Sums.{sum_by-cons}
 use Rattle.rcu_jobs.specs.declared.callback.Callback.{Callback}
 use Rattle.rcu_numbers.specs.Numbers.{snap_of}
-use Rattle.rcu_numbers.specs.declared.sequence.TheConstants.{GREATEST_NUMBER}
+use Rattle.rcu_numbers.specs.declared.sequence.TheConstants.{LAST_NUMBER}
 use Rattle.rcu_lists.specs.Labels.{Label, Done, Numbered, Bare, Labelled, marked, relabel, advanced, given, is_numbered, count, carries, callbacks_of, IsUpTo, MayAccelerate, has_two_below, after_advance, after_accelerate}
 use Rattle.rcu_lists.specs.Stamps.{greater, newest_of}
 use Rattle.rcu_part_lists.specs.Aims.{is_up_to, AreUpTo, aim, AreAimed, looked, wanted}
@@ -116,8 +116,8 @@ module _ {J : Type 0} where
   newest-within k (c ∷ cs) h = greater-within c.stamp k (newest_of cs) (All-head (λ (c : Callback J). c.stamp ≤ k) c cs h) (newest-within k cs (All-tail (λ (c : Callback J). c.stamp ≤ k) c cs h))
 
   -- what is seen and all stamps are grace-period numbers, so is the greatest of them
-  pub greatest-safe : (seen : ℕ) (cs : List (Callback J)) → seen ≤ GREATEST_NUMBER → AreSafe cs → greater seen (newest_of cs) ≤ GREATEST_NUMBER
-  greatest-safe seen cs le h = greater-within seen GREATEST_NUMBER (newest_of cs) le (newest-within GREATEST_NUMBER cs (All-weaker IsSafe (λ (c : Callback J). c.stamp ≤ GREATEST_NUMBER) (λ c k. k.0) cs h))
+  pub greatest-safe : (seen : ℕ) (cs : List (Callback J)) → seen ≤ LAST_NUMBER → AreSafe cs → greater seen (newest_of cs) ≤ LAST_NUMBER
+  greatest-safe seen cs le h = greater-within seen LAST_NUMBER (newest_of cs) le (newest-within LAST_NUMBER cs (All-weaker IsSafe (λ (c : Callback J). c.stamp ≤ LAST_NUMBER) (λ c k. k.0) cs h))
 
   pub aim-raised : (a b : ℕ) (xs : List (Labelled J)) → a ≤ b → aim a xs ≤ aim b xs
   aim-raised a b xs le = snap-raised _ _ (greater-raised a b (newest_of (callbacks_of xs)) le)

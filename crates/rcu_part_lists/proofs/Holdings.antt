@@ -8,7 +8,7 @@ use Rattle.rcu_jobs.specs.declared.callback.Callback.{Callback}
 use Rattle.rcu_jobs.specs.declared.modes.Mode.{Mode}
 use Rattle.rcu_jobs.specs.declared.modes.Mode.TheVariants.{Deoffloading}
 use Rattle.rcu_numbers.specs.Numbers.{snap_of}
-use Rattle.rcu_numbers.specs.declared.shape.TheConstants.{MOST_CALLBACKS}
+use Rattle.rcu_numbers.specs.declared.shape.TheConstants.{MOST_CALLS}
 use Rattle.rcu_lists.specs.Labels.{Done, Bare, Labelled, marked, count, is_done, callbacks_of}
 use Rattle.rcu_lists.specs.Release.{beginning, is_any}
 use Rattle.rcu_lists.specs.declared.pace.Kind.{Kind}
@@ -134,13 +134,13 @@ module _ {J : Type 0} where
   same-held o n xs ys e f = ap (λ (x : Outgoing J). x.put ++ (x.bypass ++ callbacks_of ys)) f ∙ ap (λ (ws : List (Labelled J)). o.put ++ (o.bypass ++ callbacks_of ws)) e
 
   -- no more than a processor accepts
-  pub one-more : (xs : List (Callback J)) (c : Callback J) → length xs < MOST_CALLBACKS → AreFew (xs ++ c ∷ [])
+  pub one-more : (xs : List (Callback J)) (c : Callback J) → length xs < MOST_CALLS → AreFew (xs ++ c ∷ [])
   one-more xs c h = let n = length-append xs (c ∷ []) in omega arith
 
   pub few-less : (xs ys zs : List (Callback J)) → AreFew (xs ++ (ys ++ zs)) → AreFew (xs ++ ys)
   few-less xs ys zs h = let a = length-append xs (ys ++ zs) in let b = length-append ys zs in let d = length-append xs ys in omega (arith, h)
 
-  pub hold-few : (put bypass cs : List (Callback J)) (c : Callback J) → length (put ++ (bypass ++ cs)) < MOST_CALLBACKS → AreFew (put ++ (bypass ++ c ∷ []))
+  pub hold-few : (put bypass cs : List (Callback J)) (c : Callback J) → length (put ++ (bypass ++ cs)) < MOST_CALLS → AreFew (put ++ (bypass ++ c ∷ []))
   hold-few put bypass cs c h = let n1 = length-append put (bypass ++ cs) in let n2 = length-append bypass cs in let n3 = length-append put (bypass ++ c ∷ []) in let n4 = length-append bypass (c ∷ []) in omega arith
 
   pub none-few : (put bypass cs : List (Callback J)) → put ≡ [] → bypass ≡ [] → cs ≡ [] → AreFew (put ++ (bypass ++ cs))

@@ -134,7 +134,7 @@ module _ {J : Type 0} where
     others = d.others ∙ (ap (λ (x : Relay J). record x { received = k.received; draws = k.draws; drawn = k.drawn }) h.others ∙ ap (λ ws. record o { received = k.received; draws = k.draws; drawn = k.drawn; list = ws }) (sym (ap (λ (x : Relay J). x.list) d.others)));
   }
 
-  pub taken-within : (m t : ℕ) (o n : Relay J) → TakesIn m t o n → AreFew n.received → t ≤ 1000000
+  pub taken-within : (m t : ℕ) (o n : Relay J) → TakesIn m t o n → AreFew n.received → t ≤ 9007199254740992
   taken-within m t o n h few = let a = ap length h.received ∙ length-append o.received h.got in let b = h.number in omega (arith, few)
 
   -- what was loaded is given, while the lane has room

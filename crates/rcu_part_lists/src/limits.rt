@@ -6,7 +6,7 @@ use rcu_lanes::Rule;
 use rcu_lists::Parcel;
 
 /// The rule on the batches of a lane: each callback's stamp is a grace-period number, at most
-/// [`rcu_numbers::GREATEST_NUMBER`], its number is below [`rcu_numbers::MOST_CALLBACKS`],
+/// [`rcu_numbers::LAST_NUMBER`], its number is below [`rcu_numbers::MOST_CALLS`],
 /// and with all that went before they are no more than that (docs/specification/rules.md, "Limits").
 #[derive(Drop)]
 pub struct LaneLimits;

@@ -11,14 +11,14 @@ ghost use Rattle.rcu_part_lists.specs.Limits.{IsSafe};
 use crate::processor_lists::ProcessorLists;
 use crate::views::look_at;
 use rcu_jobs::Callback;
-use rcu_numbers::GREATEST_NUMBER;
+use rcu_numbers::LAST_NUMBER;
 
 impl<J: Drop> ProcessorLists<J> {
     /// Advances the own list by the number seen, and accelerates it by `snap` of the greater of that number and the
     /// newest stamp. Answers that where some callback waits for it, and it is to be asked for.
     pub fn look(&mut self, seen: u64) -> Option<u64>
         requires later { (holding self.old).advanced ≤ seen }
-        requires small { seen ≤ GREATEST_NUMBER }
+        requires small { seen ≤ LAST_NUMBER }
         ensures rear { rear_of self.new ≡ rear_of self.old }
         ensures list { holding self.new ≡ after_look seen (holding self.old) }
         ensures wanted { result ≡ wanted seen (holding self.old).own }

@@ -15,7 +15,7 @@ use crate::views::look_at;
 use rcu_jobs::{Callback, Lists};
 use rcu_lanes::{Front, Rear};
 use rcu_lists::{Batch, Parcel, Segments};
-use rcu_numbers::GREATEST_NUMBER;
+use rcu_numbers::LAST_NUMBER;
 use std::alloc::{AllocError, Global};
 use std::collections::VecDeque;
 
@@ -74,7 +74,7 @@ impl<J: Drop> MemberLists<J> {
     /// stamp. Answers that where some callback waits for it, and it is to be asked for.
     pub fn look(&mut self, seen: u64) -> Option<u64>
         requires later { (relay self.old).advanced ≤ seen }
-        requires small { seen ≤ GREATEST_NUMBER }
+        requires small { seen ≤ LAST_NUMBER }
         ensures ends { (front_of self.new ≡ front_of self.old)
             × (rear_of self.new ≡ rear_of self.old) }
         ensures list { relay self.new ≡ after_look seen (relay self.old) }

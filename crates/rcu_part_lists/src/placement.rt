@@ -10,7 +10,7 @@ use crate::processor_lists::ProcessorLists;
 use crate::sends::hold_or_send;
 use rcu_jobs::Callback;
 use rcu_lists::Kind;
-use rcu_numbers::MOST_CALLBACKS;
+use rcu_numbers::MOST_CALLS;
 use std::alloc::AllocError;
 
 impl<J: Drop> ProcessorLists<J> {
@@ -41,7 +41,7 @@ impl<J: Drop> ProcessorLists<J> {
     pub fn place(&mut self, moment: u64, kind: Kind, callback: Callback<J>)
         requires ready { IsReady self.old }
         requires safe { IsSafe callback }
-        requires few { length (passed_on (holding self.old)) < MOST_CALLBACKS }
+        requires few { length (passed_on (holding self.old)) < MOST_CALLS }
         ensures lane { SameRear (rear_of self.old) (rear_of self.new) }
         ensures advanced { (holding self.new).advanced ≡ (holding self.old).advanced }
         ensures takes { Takes moment kind callback (holding self.old) (holding self.new) }

@@ -8,12 +8,12 @@ ghost use Rattle.rcu_part_lists.specs.Aims.{AreUpTo, AreAimed, looked, wanted};
 ghost use Rattle.rcu_part_lists.specs.Limits.{AreSafe};
 
 use rcu_lists::Segments;
-use rcu_numbers::{GREATEST_NUMBER, snap};
+use rcu_numbers::{LAST_NUMBER, snap};
 
 /// Advances a list by the number seen and accelerates it. Answers the number that is to be asked for, if any.
 pub(crate) fn look_at<J: Drop>(list: &mut Segments<J>, seen: u64) -> Option<u64>
     requires later { advanced_by list.old ≤ seen }
-    requires small { seen ≤ GREATEST_NUMBER }
+    requires small { seen ≤ LAST_NUMBER }
     requires safe { AreSafe (callbacks_of (labelled list.old)) }
     requires aimed { AreAimed (advanced_by list.old) (labelled list.old) }
     ensures list { labelled list.new ≡ looked seen (labelled list.old) }

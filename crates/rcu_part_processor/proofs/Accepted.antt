@@ -1,9 +1,8 @@
 -- Reports and ticks leave what was accepted as it is.
-use Rattle.std.proofs.Common.{◌≡◌, ℕ, Bool, true, false, Option, Some, None, List, [], ◌∷◌, ap, ◌∙◌, refl}
+use Rattle.std.proofs.Common.{◌≡◌, ℕ, ◌*◌, Bool, true, false, Option, Some, None, List, [], ◌∷◌, ap, ◌∙◌, refl}
 use Rattle.rcu_board.proofs.Facts.{accepted-kept}
 use Rattle.rcu_board.specs.Plays.{looked}
 use Rattle.rcu_board.specs.Seats.{accepted_of, first_accepted}
-use Rattle.rcu_board.specs.Words.{bits_of}
 use Rattle.rcu_board.specs.declared.view.View.{View}
 use Rattle.rcu_board.specs.declared.view.Own.{Own}
 use Rattle.rcu_board.specs.Plays.{report_own}
@@ -25,11 +24,11 @@ asked_keeps None v w a = ap accepted_of (a.none refl)
 
 module _ {J R : Type 0} where
   pub accepted_told : (counted : Option ℕ) (p q : ProcessorState J R) → Reports p.cpu counted (view_of p) (view_of q) → AcceptedStays p q
-  accepted_told (Some s) p q r = ap accepted_of r.step ∙ reported_own r.word (view_of p).own
-  accepted_told None p q r = ap accepted_of r.step ∙ reported_own r.word (view_of p).own
+  accepted_told (Some s) p q r = ap accepted_of r.step ∙ (reported_own (2 * s) (looked s (view_of p)).own ∙ accepted-kept (view_of p) s p.lawful.stamped)
+  accepted_told None p q r = ap accepted_of r.step ∙ accepted-kept (view_of p) r.number p.lawful.stamped
 
   accepted_caught : (seen : ℕ) (p q : ProcessorState J R) → CatchesUp seen p q → AcceptedStays p q
-  accepted_caught seen p q h = asked_keeps _ (looked (bits_of h.word) (view_of p)) (view_of q) h.asks ∙ accepted-kept (view_of p) (bits_of h.word) p.lawful.stamped
+  accepted_caught seen p q h = asked_keeps _ (looked seen (view_of p)) (view_of q) h.asks ∙ accepted-kept (view_of p) seen p.lawful.stamped
 
   accepted_settled : (leaving : Bool) (p q : ProcessorState J R) → is_deoffloading (lists_of p).mode ≡ leaving → Settles p q → AcceptedStays p q
   accepted_settled true p q is h = ap accepted_of (h.leaving is).0

@@ -1,9 +1,9 @@
 -- What the opening of a barrier changes of a processor's view.
 use Rattle.std.proofs.Common.{◌≡◌, ◌≢◌, ℕ, ◌<◌, List, [], append-nil, ap, sym, ◌∙◌, refl, subst, arith}
 use Rattle.std.specs.Prelude.{bit_or}
-use Rattle.rcu_numbers.specs.Words.{all_of, number_of}
+use Rattle.rcu_numbers.specs.Words.{all_of}
 use Rattle.rcu_board.specs.Plays.{urged}
-use Rattle.rcu_board.specs.Seats.{view, accepted_of, first_accepted, first_fresh, fresh_of}
+use Rattle.rcu_board.specs.Seats.{view, accepted_of, first_accepted, first_fresh, first_word, fresh_of, own_word}
 use Rattle.rcu_board.specs.Views.{seen_at, sight, fresh_count}
 use Rattle.rcu_board.specs.Words.{accepts_word, board_word, needed_word, urge_word}
 use Rattle.rcu_board.specs.declared.board.Role.TheVariants.{Processor}
@@ -37,11 +37,15 @@ opens_tells n b v w o = let k = o.reads.steps.lists in record {
   running = ap (λ (u : View). u.running) o.urges ∙ k.running;
 }
 
+-- the processor's own report word stays too
+pub opens_word : (n : ℕ) (b : Barrier) (v w : View) → Opens n b v w → own_word w ≡ own_word v
+opens_word n b v w o = ap own_word o.urges ∙ ap first_word o.reads.steps.lists.own
+
 pub opens_law : {J R : Type 0} → (cpu count n : ℕ) (b : Barrier) (v w : View) (ran : List (Record R)) (h : Holding J) → Opens n b v w → IsLawful cpu count v ran h → IsLawful cpu count w ran h
 opens_law cpu count n b v w ran h o l =
     let board = opens_leaves n b v w o board_word (λ e. absurd (omega (arith, e))) (λ p low e. absurd (omega (arith, e))) in
     let needed = opens_leaves n b v w o needed_word (λ e. absurd (omega (arith, e))) (λ p low e. absurd (omega (arith, e))) in
-    let same : sight w ≡ sight v = ap number_of board.seen in
+    let same : sight w ≡ sight v = board.seen in
     kept_by_moves cpu count v w ran h h [] (opens_tells n b v w o) (sym (append-nil (put_by h))) refl (let z = l.looked in omega (arith, same)) (subst (λ (s : ℕ). AreUpTo s h.own) (sym needed.seen) l.needed) l
 
 -- the count of the processor that reads is its own

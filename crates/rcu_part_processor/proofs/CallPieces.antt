@@ -15,7 +15,7 @@ module _ {J R S : Type 0} where
 
   pub accepts_with : (records : List (Record R)) (moment : ℕ) (kind : Kind) (key : ℕ) (job : J) (p q : Accepting J S) (r : Result Ticket (Refused J))
       → IfOk r (λ t. Accepts moment kind key job t p q) → IfOk r (λ t. Accepts moment kind key job t (with_records records p) (with_records records q))
-  accepts_with records moment kind key job p q (Ok t) a = record { word = a.word; cpu = a.cpu; number = a.number; count = a.count; steps = a.steps; takes = a.takes; records = refl }
+  accepts_with records moment kind key job p q (Ok t) a = record { stamp = a.stamp; cpu = a.cpu; number = a.number; count = a.count; steps = a.steps; takes = a.takes; records = refl }
   accepts_with records moment kind key job p q (Err e) a = tt
 
   pub accepts_none_with : (records : List (Record R)) (p q : Accepting J S) (r : Result Ticket (Refused J)) → IfErr r (λ _. AcceptsNone p q) → IfErr r (λ _. AcceptsNone (with_records records p) (with_records records q))

@@ -14,3 +14,7 @@ pub mod Claiming
 pub mod BeginTicks
 pub mod InOneTick
 pub mod Accepted
+pub mod Passing
+pub mod Leaving
+pub mod LeavingAfter
+pub mod Polling

@@ -8,7 +8,7 @@ use Rattle.std.proofs.lemmas.List.Elements.{All-weaker}
 use Rattle.rcu_numbers.specs.Words.{all_but_of}
 use Rattle.rcu_board.specs.Plays.{looked, touched, urged}
 use Rattle.rcu_board.specs.Views.{seen_at, tally}
-use Rattle.rcu_board.specs.Words.{asks_word, bits_of, board_word, needed_word, turns_word, urge_word, words_of}
+use Rattle.rcu_board.specs.Words.{asks_word, board_word, needed_word, turns_word, urge_word, words_of}
 use Rattle.rcu_board.specs.declared.view.View.{View}
 use Rattle.rcu_board.specs.Frames.{Untouched}
 use Rattle.rcu_board.proofs.Stepping.{HasWords, has_words, untouched, untouched_again}
@@ -70,11 +70,11 @@ module _ {J R : Type 0} where
 
   -- the look, and the ask
   pub caught_up : (seen : ℕ) (p q : ProcessorState J R) → CatchesUp seen p q → (j : ℕ) → j ≢ board_word → j ≢ needed_word → Untouched j (view_of p) (view_of q)
-  caught_up seen p q c j nb nn = untouched_again j (view_of p) (looked (bits_of c.word) (view_of p)) (view_of q) (looks_leave (bits_of c.word) j (view_of p) nb) (asks_leave (wanted seen (lists_of p).own) j (looked (bits_of c.word) (view_of p)) (view_of q) nn c.asks)
+  caught_up seen p q c j nb nn = untouched_again j (view_of p) (looked seen (view_of p)) (view_of q) (looks_leave seen j (view_of p) nb) (asks_leave (wanted seen (lists_of p).own) j (looked seen (view_of p)) (view_of q) nn c.asks)
 
   pub caught_once : (seen : ℕ) (p q : ProcessorState J R) → CatchesUp seen p q → tally (view_of q) board_word ≡ tally (view_of p) board_word + 1
-  caught_once seen p q c = (asks_leave (wanted seen (lists_of p).own) board_word (looked (bits_of c.word) (view_of p)) (view_of q) (λ e. absurd (omega (arith, e))) c.asks).steps
-      ∙ looks_once (words_of (board_of p).processors) (bits_of c.word) (view_of p) (has_words (board_of p) p.seat p.here) (omega arith)
+  caught_once seen p q c = (asks_leave (wanted seen (lists_of p).own) board_word (looked seen (view_of p)) (view_of q) (λ e. absurd (omega (arith, e))) c.asks).steps
+      ∙ looks_once (words_of (board_of p).processors) seen (view_of p) (has_words (board_of p) p.seat p.here) (omega arith)
 
   caught_empty : (seen : ℕ) (p q : ProcessorState J R) → CatchesUp seen p q → (lists_of p).own ≡ [] → (lists_of q).own ≡ []
   caught_empty seen p q c none = ap (λ (h : Holding J). h.own) c.lists ∙ no-callbacks (after_looked seen (lists_of p).own) (callbacks-looked seen (lists_of p).own ∙ ap (λ (xs : List (Labelled J)). map (λ (x : Labelled J). x.callback) xs) none)

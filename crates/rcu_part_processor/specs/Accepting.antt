@@ -1,9 +1,8 @@
 -- How a job is accepted, whether a claim of the processor runs or not: docs/specification/rules.md, "The calls, step by step".
 use Rattle.std.specs.Prelude.{◌≡◌, ◌≢◌, ℕ, ◌+◌, ◌*◌, true, List, [], Result, IfErr, IsErr}
-use Rattle.rcu_numbers.specs.Words.{Board}
 use Rattle.rcu_board.specs.Plays.{touched, looked, accepted}
 use Rattle.rcu_board.specs.Seats.{view}
-use Rattle.rcu_board.specs.Words.{accepts_word, bits_of}
+use Rattle.rcu_board.specs.Words.{accepts_word}
 use Rattle.rcu_board.specs.declared.board.Seat.{Seat}
 use Rattle.rcu_board.specs.declared.view.View.{View}
 use Rattle.rcu_part_lists.specs.ProcessorLists.{IsReady, Takes, holding}
@@ -41,12 +40,12 @@ pub record WantsMemory {J : Type 0} (lists : ProcessorLists J) : Type 0 where
 module _ {J R : Type 0} where
   -- The job was accepted under the old count: the accepting exchange was won, then a look gave the stamp, and the callback was placed.
   pub record Accepts (moment : ℕ) (kind : Kind) (key : ℕ) (job : J) (t : Ticket) (p q : Accepting J R) : Type 0 where
-    pub word : Board
+    pub stamp : ℕ
     pub cpu : t.cpu ≡ p.cpu
     pub number : t.number ≡ p.accepted
     pub count : q.accepted ≡ p.accepted + 1
-    pub steps : q.view ≡ looked (bits_of word) (accepted (accepts_word p.cpu) (2 * p.accepted + 2) key p.view)
-    pub takes : Takes moment kind (callback p.cpu p.accepted key word.seq job) (holding p.lists) (holding q.lists)
+    pub steps : q.view ≡ looked stamp (accepted (accepts_word p.cpu) (2 * p.accepted + 2) key p.view)
+    pub takes : Takes moment kind (callback p.cpu p.accepted key stamp job) (holding p.lists) (holding q.lists)
     pub records : q.records ≡ p.records
 
   -- nothing was accepted, and lists and counts are as before

@@ -1,6 +1,6 @@
 -- What a processor's part keeps between its calls: docs/specification/definitions.md, "Places", over whole histories.
-use Rattle.std.specs.Prelude.{◌≡◌, ℕ, ◌≤◌, Bool, false, None, List, [], ◌∷◌, ◌++◌, map, length}
-use Rattle.rcu_board.specs.Seats.{accepted_of, fresh_of}
+use Rattle.std.specs.Prelude.{◌≡◌, ℕ, ◌+◌, ◌*◌, ◌≤◌, Bool, false, None, List, [], ◌∷◌, ◌++◌, map, length}
+use Rattle.rcu_board.specs.Seats.{accepted_of, fresh_of, own_word}
 use Rattle.rcu_board.specs.Views.{seen_at, sight}
 use Rattle.rcu_board.specs.Words.{needed_word}
 use Rattle.rcu_board.specs.declared.view.View.{View}
@@ -9,11 +9,23 @@ use Rattle.rcu_part_lists.specs.ProcessorLists.{Holding, held_in, put_by}
 use Rattle.rcu_jobs.specs.declared.callback.Record.{Record}
 use Rattle.rcu_jobs.specs.declared.modes.Mode.TheVariants.{Local}
 use Rattle.rcu_numbers.specs.Numbers.{snap_of}
+use Rattle.rcu_numbers.specs.declared.sequence.TheConstants.{LAST_NUMBER}
 use Rattle.rcu_part_order.specs.Places.{Numbered, Placed}
 use Rattle.rcu_part_order.specs.Records.{numbered_records, AreRipe}
 use Rattle.rcu_part_steps.specs.Begins.{claim_that_runs, number_that_runs}
 use Rattle.rcu_part_steps.specs.Places.{numbered_callbacks, accepted_list, claim_of}
 use Rattle.rcu_part_steps.specs.declared.begins.ClaimedCallback.{ClaimedCallback}
+
+-- The processor is here, and the last grace period that it passed is this one, or none where that is 0: docs/specification/tables.md, "Words of the board".
+pub record IsHereSince (passed : ℕ) (v : View) : Type 0 where
+  -- so its report word says
+  pub word : own_word v ≡ 2 * passed
+  pub small : passed ≤ LAST_NUMBER
+
+-- The processor is away, and passed this one last before it left, or none where that is 0.
+pub record IsAwaySince (passed : ℕ) (v : View) : Type 0 where
+  pub word : own_word v ≡ 2 * passed + 1
+  pub small : passed ≤ LAST_NUMBER
 
 -- Between calls of processor `cpu`, which accepted so many: its view, its records and its lists.
 pub record IsLawful {J R : Type 0} (cpu accepted : ℕ) (v : View) (ran : List (Record R)) (h : Holding J) : Type 0 where

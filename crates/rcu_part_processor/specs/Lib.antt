@@ -8,3 +8,5 @@ pub mod Looking
 pub mod Running
 pub mod Begins
 pub mod TwoSteps
+pub mod Away
+pub mod Polls

@@ -18,7 +18,7 @@ pub record IsEmpty {J : Type 0} (offloadable : Bool) (lists : ProcessorLists J) 
   pub own : (holding lists).own ≡ []
   pub looked : (holding lists).advanced ≡ 0
 
--- processor cpu of a board, with its seat and its lists: it accepted nothing
+-- processor cpu of a board, with its seat and its lists: it accepted nothing, and passed no grace period
 pub record IsNew {J R : Type 0} (shape : Shape) (b : Board) (cpu : ℕ) (s : Seat) (lists : ProcessorLists J) (p : ProcessorState J R) : Type 0 where
   pub board : board_of p ≡ b
   pub seat : seat_of p ≡ s
@@ -28,4 +28,5 @@ pub record IsNew {J R : Type 0} (shape : Shape) (b : Board) (cpu : ℕ) (s : Sea
   pub limit : p.limit ≡ shape.limit
   pub blimit : p.blimit ≡ shape.blimit
   pub accepted : p.accepted ≡ 0
+  pub passed : p.passed ≡ 0
   pub ran : records_of p ≡ []

@@ -1,10 +1,10 @@
 -- What a tick does: docs/specification/rules.md, "The calls, step by step", `tick`.
 use Rattle.std.specs.Prelude.{◌≡◌, ◌≢◌, ℕ, ◌+◌, ◌*◌, ◌/◌, ◌≤◌, Bool, true, false, not, IsTrue, ◌↔◌, if◌then◌else◌, List, [], ◌∷◌, ◌++◌, length, All, Option, Some, None, bit_and, max}
 use Rattle.std.specs.Int.{from_bool}
-use Rattle.rcu_numbers.specs.Words.{Board, owes_of, all_but_of}
+use Rattle.rcu_numbers.specs.Words.{owes_of, all_but_of}
 use Rattle.rcu_board.specs.Plays.{looked, touched, urged}
 use Rattle.rcu_board.specs.Views.{seen_at, tally}
-use Rattle.rcu_board.specs.Words.{asks_word, bits_of, board_word, needed_word, turns_word, urge_word}
+use Rattle.rcu_board.specs.Words.{asks_word, board_word, needed_word, turns_word, urge_word}
 use Rattle.rcu_board.specs.declared.view.View.{View}
 use Rattle.rcu_part_lists.specs.Aims.{wanted}
 use Rattle.rcu_part_lists.specs.ProcessorLists.{Holding, Releases, AskedOn, after_look, asked_off, put_by}
@@ -33,9 +33,7 @@ module _ {J R : Type 0} where
   -- One look, which found the number `seen`; the own list was advanced by it and accelerated, and the number that some
   -- callback waits for then was asked for.
   pub record CatchesUp (seen : ℕ) (p q : ProcessorState J R) : Type 0 where
-    pub word : Board
-    pub number : seen ≡ word.seq
-    pub asks : Asks (wanted seen (lists_of p).own) (looked (bits_of word) (view_of p)) (view_of q)
+    pub asks : Asks (wanted seen (lists_of p).own) (looked seen (view_of p)) (view_of q)
     pub lists : lists_of q ≡ after_look seen (lists_of p)
     pub records : records_of q ≡ records_of p
 

@@ -1,8 +1,8 @@
 //! How a job is accepted, by a processor that rests and by one of which a claim runs.
 
 ghost use Rattle.std.specs.Prelude.{◌≡◌, ◌<◌, ◌≤◌, Bool, IfOk, IfErr, IsErr, List, None, length};
-ghost use Rattle.rcu_numbers.specs.declared.shape.TheConstants.{MOST_CALLBACKS};
-ghost use Rattle.rcu_board.specs.Seats.{view, AtBoard, SameSeat, SawShut, accepted_of, fresh_of};
+ghost use Rattle.rcu_numbers.specs.declared.shape.TheConstants.{MOST_CALLS};
+ghost use Rattle.rcu_board.specs.Seats.{view, AtBoard, SameSeat, SawShut, accepted_of, fresh_of, own_word};
 ghost use Rattle.rcu_board.specs.declared.board.Role.{Role};
 ghost use Rattle.rcu_part_lists.specs.ProcessorLists.{holding, passed_on, rear_of};
 ghost use Rattle.rcu_lanes.specs.Ends.{SameRear};
@@ -37,7 +37,7 @@ pub(crate) fn accept_job<J: Job>(
 ) -> Result<Ticket, Refused<J>>
     requires board { AtBoard board.now seat.old }
     requires role { seat.old.role ≡ Role.Processor request.cpu }
-    requires small { (accepted.old ≤ request.limit) × (request.limit ≤ MOST_CALLBACKS) }
+    requires small { (accepted.old ≤ request.limit) × (request.limit ≤ MOST_CALLS) }
     requires counted { length (accepted_of (view seat.old)) ≡ accepted.old }
     requires stamped { fresh_of (view seat.old) ≡ None }
     requires few { length (passed_on (holding lists.old)) ≤ accepted.old }
@@ -56,6 +56,7 @@ pub(crate) fn accept_job<J: Job>(
     ensures closed { SawShut request.cpu (view seat.old) → IsErr result }
     ensures full { accepted.old ≡ request.limit → IsRefusedByLimit result }
     ensures small { accepted.new ≤ request.limit }
+    ensures word { own_word (view seat.new) ≡ own_word (view seat.old) }
     ensures claims { ((view seat.new).claims ≡ (view seat.old).claims)
         × ((view seat.new).running ≡ (view seat.old).running) }
     ensures places { (claimed : List Numbered)
@@ -81,7 +82,7 @@ pub(crate) fn accept_job<J: Job>(
         return Err(Refused::Memory(job));
     };
     let key = job.key();
-    let Some(word) = accept_and_stamp(board, seat, cpu, number, key) else {
+    let Some(stamp) = accept_and_stamp(board, seat, cpu, number, key) else {
         return Err(Refused::Closed(job));
     };
     *accepted = number + 1;
@@ -89,7 +90,7 @@ pub(crate) fn accept_job<J: Job>(
         cpu,
         number,
         key,
-        stamp: word.seq(),
+        stamp,
         job,
     };
     lists.place(moment, kind, callback);

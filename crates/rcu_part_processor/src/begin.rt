@@ -2,7 +2,7 @@
 
 ghost use Rattle.std.specs.Prelude.{◌≡◌, ◌≢◌, ◌<◌, IfErr, IfOk};
 ghost use Rattle.std.specs.Vec.{vec_len, vec_capacity};
-ghost use Rattle.rcu_numbers.specs.declared.shape.TheConstants.{MOST_CALLBACKS};
+ghost use Rattle.rcu_numbers.specs.declared.shape.TheConstants.{MOST_CALLS};
 ghost use Rattle.rcu_board.specs.Views.{sight};
 ghost use Rattle.rcu_jobs.specs.declared.Stop.TheVariants.{Limit};
 ghost use Rattle.rcu_part_processor.specs.Begins.{IsNext, KeepsProcessor, ClaimsFirst, ClaimsNone, BeginsTick, StopsBegin, FinishesProcessor};
@@ -24,7 +24,7 @@ impl<J: Job> Processor<J> {
         ensures same { SameProcessor self.old.state self.new.state }
         ensures keeps { KeepsProcessor self.old.state self.new.state }
         ensures next { IfOk result (λ c. IsNext seen c self.new.state) }
-        ensures small { IfOk result (λ c. c.number < MOST_CALLBACKS) }
+        ensures small { IfOk result (λ c. c.number < MOST_CALLS) }
         ensures room { IfOk result (λ _.
             vec_len self.new.state.ran < vec_capacity self.new.state.ran) }
         ensures stops { IfErr result (λ stop. StopsTick stop 0 0 self.new.state) }
@@ -121,6 +121,7 @@ impl<J: Job> RunningProcessor<J> {
             limit,
             blimit,
             accepted,
+            passed,
             mut ran,
             claimed,
             lists,
@@ -141,6 +142,7 @@ impl<J: Job> RunningProcessor<J> {
             limit,
             blimit,
             accepted,
+            passed,
             ran,
             lists,
         };

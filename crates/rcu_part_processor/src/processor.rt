@@ -2,15 +2,16 @@
 
 ghost use Rattle.std.specs.Prelude.{◌≡◌, ◌<◌, ◌≤◌, true};
 ghost use Rattle.std.specs.Arc.{arc_value};
-ghost use Rattle.rcu_numbers.specs.declared.shape.TheConstants.{MOST_CALLBACKS};
+ghost use Rattle.rcu_numbers.specs.declared.shape.TheConstants.{MOST_CALLS};
 ghost use Rattle.rcu_board.specs.Seats.{view, AtBoard};
 ghost use Rattle.rcu_board.specs.declared.board.Role.{Role};
 ghost use Rattle.rcu_part_lists.specs.ProcessorLists.{holding};
 ghost use Rattle.rcu_numbers.specs.Words.{owes_of};
-ghost use Rattle.rcu_part_processor.specs.Lawful.{IsLawful, StaysLocal};
+ghost use Rattle.rcu_part_processor.specs.Lawful.{IsHereSince, IsLawful, StaysLocal};
 
+use crate::away::{Away, AwayState};
 use crate::running_processor::{RunningProcessor, RunningProcessorState};
-use rcu_board::{Board, Role, Seat};
+use rcu_board::{Board, Role, Seat, leave};
 use rcu_jobs::{Callback, Job, Record, Stop};
 use rcu_numbers::Shape;
 use rcu_part_lists::ProcessorLists;
@@ -33,6 +34,8 @@ pub struct ProcessorState<J, R> {
     pub blimit: u64,
     /// How many callbacks it accepted.
     pub accepted: u64,
+    /// The last grace period that it passed, or 0.
+    pub passed: u64,
     /// What it ran itself.
     pub ran: Vec<Record<R>>,
     pub lists: ProcessorLists<J>,
@@ -41,7 +44,8 @@ pub struct ProcessorState<J, R> {
     ghost there: { cpu < (arc_value board).processors },
     ghost bit: { offloadable ≡ true → owes_of (arc_value board).offloadable cpu ≡ 1 },
     ghost local: { StaysLocal offloadable (holding lists) },
-    ghost small: { (accepted ≤ limit) × (limit ≤ MOST_CALLBACKS) },
+    ghost small: { (accepted ≤ limit) × (limit ≤ MOST_CALLS) },
+    ghost since: { IsHereSince passed (view seat) },
     ghost lawful: { IsLawful cpu accepted (view seat) ran.items (holding lists) },
 }
 
@@ -53,8 +57,9 @@ pub struct Processor<J: Job> {
 impl<J: Job> Processor<J> {
     ghost use Rattle.std.specs.Prelude.{[], None, length};
     ghost use Rattle.rcu_board.specs.Opened.{IsNewProcessor, is_offloadable};
+    ghost use Rattle.rcu_board.specs.Seats.{reports_of};
     ghost use Rattle.rcu_part_processor.specs.Opened.{IsNew, IsEmpty};
-    ghost use Rattle.rcu_part_processor.specs.Processors.{records_of};
+    ghost use Rattle.rcu_part_processor.specs.Processors.{records_of, view_of};
 
     /// The part of processor `cpu` of a shape, from its seat and its empty lists. It has accepted nothing.
     pub fn new(
@@ -80,6 +85,7 @@ impl<J: Job> Processor<J> {
                 limit: shape.limit,
                 blimit: shape.blimit,
                 accepted: 0,
+                passed: 0,
                 ran: Vec::new(alloc),
                 lists,
             },
@@ -105,6 +111,13 @@ impl<J: Job> Processor<J> {
         ensures { result ≡ length (records_of self.now.state) }
     {
         self.state.ran.len()
+    }
+
+    /// How many grace periods it passed: the numbers 1, 5, .. up to the last one.
+    pub fn reports(&self) -> u64
+        ensures { result ≡ reports_of (view_of self.now.state) }
+    {
+        (self.state.passed + 3) / 4
     }
 
     // What it has, which ends with it.
@@ -135,7 +148,7 @@ impl<J: Job> Processor<J> {
         requires seen { (sight (view_of self.state) ≡ claimed.ready)
             × ((lists_of self.state).advanced ≡ claimed.ready) }
         requires next { IsNext claimed.ready claimed self.state }
-        requires small { claimed.number < MOST_CALLBACKS }
+        requires small { claimed.number < MOST_CALLS }
         requires room { vec_len self.state.ran < vec_capacity self.state.ran }
         ensures same { IfRuns result (λ running _. SameBegun self.state running.state) }
         ensures stays { IfStops result (λ processor _. SameProcessor self.state processor.state) }
@@ -163,6 +176,7 @@ impl<J: Job> Processor<J> {
                 limit,
                 blimit,
                 accepted,
+                passed,
                 ran,
                 mut lists,
             },
@@ -176,6 +190,7 @@ impl<J: Job> Processor<J> {
                 limit,
                 blimit,
                 accepted,
+                passed,
                 ran,
                 lists,
             };
@@ -193,11 +208,58 @@ impl<J: Job> Processor<J> {
             limit,
             blimit,
             accepted,
+            passed,
             ran,
             claimed,
             lists,
         };
         Begins::Runs(RunningProcessor { state }, job)
+    }
+}
+
+impl<J: Job> Processor<J> {
+    ghost use Rattle.std.specs.Prelude.{[]};
+    ghost use Rattle.rcu_part_processor.specs.Away.{Leaves, SameLeft, away_records};
+    ghost use Rattle.rcu_part_processor.specs.Processors.{lists_of, records_of};
+
+    /// Leaves, with an empty bypass list.
+    pub(crate) fn go_away(self) -> Away<J>
+        requires empty { (lists_of self.state).outgoing.bypass ≡ [] }
+        ensures same { SameLeft self.state result.state }
+        ensures away { Leaves self.state result.state }
+        ensures lists { result.state.lists ≡ self.state.lists }
+        ensures count { (result.state.accepted ≡ self.state.accepted)
+            × (result.state.passed ≡ self.state.passed) }
+        ensures records { away_records result.state ≡ records_of self.state }
+    {
+        let Processor {
+            state: ProcessorState {
+                board,
+                mut seat,
+                cpu,
+                offloadable,
+                limit,
+                blimit,
+                accepted,
+                passed,
+                ran,
+                lists,
+            },
+        } = self;
+        leave(&board, &mut seat, passed);
+        let state = AwayState {
+            board,
+            seat,
+            cpu,
+            offloadable,
+            limit,
+            blimit,
+            accepted,
+            passed,
+            ran,
+            lists,
+        };
+        Away { state }
     }
 }
 

@@ -32,7 +32,16 @@ impl<J: Job> Processor<J> {
         ensures sound { KeepsSound J.key_of J.gives self.old.state self.new.state }
     {
         let state = &mut self.state;
-        report_quiescent_state(&state.board, &mut state.seat, state.cpu)
+        let counted = report_quiescent_state(
+            &state.board,
+            &mut state.seat,
+            state.cpu,
+            state.passed,
+        );
+        if let Some(seq) = counted {
+            state.passed = seq;
+        }
+        counted
     }
 
     /// What is shown of the processor's lists.

@@ -3,12 +3,12 @@
 ghost use Rattle.std.specs.Prelude.{◌≡◌, ◌<◌, ◌≤◌, true};
 ghost use Rattle.std.specs.Arc.{arc_value};
 ghost use Rattle.std.specs.Vec.{vec_len, vec_capacity};
-ghost use Rattle.rcu_numbers.specs.declared.shape.TheConstants.{MOST_CALLBACKS};
+ghost use Rattle.rcu_numbers.specs.declared.shape.TheConstants.{MOST_CALLS};
 ghost use Rattle.rcu_board.specs.Seats.{view, AtBoard};
 ghost use Rattle.rcu_board.specs.declared.board.Role.{Role};
 ghost use Rattle.rcu_part_lists.specs.ProcessorLists.{holding};
 ghost use Rattle.rcu_numbers.specs.Words.{owes_of};
-ghost use Rattle.rcu_part_processor.specs.Lawful.{IsRunningProcessor, StaysLocal};
+ghost use Rattle.rcu_part_processor.specs.Lawful.{IsHereSince, IsRunningProcessor, StaysLocal};
 
 use crate::acceptance::{Request, accept_job};
 use rcu_board::{Board, Role, Seat};
@@ -34,6 +34,8 @@ pub struct RunningProcessorState<J, R> {
     pub blimit: u64,
     /// How many callbacks it accepted.
     pub accepted: u64,
+    /// The last grace period that it passed, or 0.
+    pub passed: u64,
     /// What it ran itself.
     pub ran: Vec<Record<R>>,
     /// The callback whose claim runs.
@@ -44,9 +46,10 @@ pub struct RunningProcessorState<J, R> {
     ghost there: { cpu < (arc_value board).processors },
     ghost bit: { offloadable ≡ true → owes_of (arc_value board).offloadable cpu ≡ 1 },
     ghost local: { StaysLocal offloadable (holding lists) },
-    ghost small: { (accepted ≤ limit) × (limit ≤ MOST_CALLBACKS) },
-    ghost below: { claimed.number < MOST_CALLBACKS },
+    ghost small: { (accepted ≤ limit) × (limit ≤ MOST_CALLS) },
+    ghost below: { claimed.number < MOST_CALLS },
     ghost room: { vec_len ran < vec_capacity ran },
+    ghost since: { IsHereSince passed (view seat) },
     ghost lawful: { IsRunningProcessor cpu accepted claimed (view seat) ran.items (holding lists) },
 }
 
@@ -109,7 +112,16 @@ impl<J: Job> RunningProcessor<J> {
         ensures sound { KeepsSoundRunning J.key_of J.gives self.old.state self.new.state }
     {
         let state = &mut self.state;
-        report_quiescent_state(&state.board, &mut state.seat, state.cpu)
+        let counted = report_quiescent_state(
+            &state.board,
+            &mut state.seat,
+            state.cpu,
+            state.passed,
+        );
+        if let Some(seq) = counted {
+            state.passed = seq;
+        }
+        counted
     }
 
     /// Accepts a job, as [`call_rcu`](crate::Processor::call_rcu) does.

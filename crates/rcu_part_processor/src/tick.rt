@@ -24,7 +24,7 @@ impl<J: Job> Processor<J> {
         ensures sound { KeepsSound J.key_of J.gives self.old.state self.new.state }
     {
         let state = &mut self.state;
-        let seen = look_at_number(&state.board, &mut state.seat).seq();
+        let seen = look_at_number(&state.board, &mut state.seat);
         if let Some(number) = state.lists.look(seen) {
             need(&state.board, &mut state.seat, number);
         }

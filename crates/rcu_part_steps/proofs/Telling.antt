@@ -9,7 +9,7 @@ use Rattle.rcu_board.specs.declared.board.Board.{Board}
 use Rattle.rcu_board.specs.declared.view.View.{View}
 use Rattle.rcu_board.proofs.Facts.{accepted-kept, fresh-looked}
 use Rattle.rcu_board.proofs.Stepping.{untouched}
-use Rattle.rcu_numbers.specs.Words.{all_but_of, number_of}
+use Rattle.rcu_numbers.specs.Words.{all_but_of}
 use Rattle.rcu_part_steps.specs.Changes.{Tells}
 
 pub tells_none : (v w : View) → w ≡ v → Tells v w
@@ -34,10 +34,10 @@ tells_urged i x y v w e = record { accepted = ap accepted_of e; fresh = ap fresh
 
 -- a step on another word leaves the board sight
 pub sight_touched : (i x : ℕ) (v w : View) → 0 ≢ i → w ≡ touched i x v → sight w ≡ sight v
-sight_touched i x v w ne e = ap sight e ∙ ap number_of (untouched i 0 x v ne).seen
+sight_touched i x v w ne e = ap sight e ∙ (untouched i 0 x v ne).seen
 
 pub sight_urged : (i x y : ℕ) (v w : View) → 0 ≢ i → w ≡ urged i x y v → sight w ≡ sight v
-sight_urged i x y v w ne e = ap sight e ∙ ap number_of (untouched i 0 x v ne).seen
+sight_urged i x y v w ne e = ap sight e ∙ (untouched i 0 x v ne).seen
 
 -- the step on the urge word of a board, however the board is written
 pub urges : (b t : Board) → t ≡ b → (cpu : ℕ) (u w : View) → w ≡ urged (urge_word t.processors) (seen_at w (urge_word t.processors)) (bit_and (seen_at w (urge_word t.processors)) (all_but_of cpu)) u

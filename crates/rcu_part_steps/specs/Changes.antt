@@ -2,7 +2,7 @@
 -- docs/specification/definitions.md, "The running parts: views".
 use Rattle.std.specs.Prelude.{◌≡◌, ◌≢◌, ℕ, ◌+◌, [], ◌∷◌, ◌++◌, None}
 use Rattle.rcu_board.specs.Views.{sight, tally}
-use Rattle.rcu_board.specs.Seats.{accepted_of, fresh_of, reports_of}
+use Rattle.rcu_board.specs.Seats.{accepted_of, fresh_of, own_word}
 use Rattle.rcu_board.specs.declared.view.Accepted.{Accepted}
 use Rattle.rcu_board.specs.declared.view.Claim.{Claim}
 use Rattle.rcu_board.specs.declared.view.View.{View}
@@ -15,7 +15,7 @@ entry key stamp = record { key = key; stamp = stamp }
 pub record Keeps (v w : View) : Type 0 where
   pub accepted : accepted_of w ≡ accepted_of v
   pub fresh : fresh_of w ≡ fresh_of v
-  pub reports : reports_of w ≡ reports_of v
+  pub word : own_word w ≡ own_word v
   pub claims : w.claims ≡ v.claims
   pub running : w.running ≡ v.running
 
@@ -23,7 +23,7 @@ pub record Keeps (v w : View) : Type 0 where
 pub record Enters (key stamp : ℕ) (v w : View) : Type 0 where
   pub accepted : accepted_of w ≡ accepted_of v ++ entry key stamp ∷ []
   pub fresh : fresh_of w ≡ None
-  pub reports : reports_of w ≡ reports_of v
+  pub word : own_word w ≡ own_word v
   pub claims : w.claims ≡ v.claims
   pub running : w.running ≡ v.running
 
@@ -34,7 +34,7 @@ claim_at cpu number v = record { cpu = cpu; number = number; sight = sight v }
 pub record Claims (cpu number : ℕ) (v w : View) : Type 0 where
   pub accepted : accepted_of w ≡ accepted_of v
   pub fresh : fresh_of w ≡ fresh_of v
-  pub reports : reports_of w ≡ reports_of v
+  pub word : own_word w ≡ own_word v
   pub claims : w.claims ≡ v.claims ++ claim_at cpu number v ∷ []
   pub running : w.running ≡ claim_at cpu number v ∷ []
   pub sights : sight w ≡ sight v
@@ -43,7 +43,7 @@ pub record Claims (cpu number : ℕ) (v w : View) : Type 0 where
 pub record Finishes (v w : View) : Type 0 where
   pub accepted : accepted_of w ≡ accepted_of v
   pub fresh : fresh_of w ≡ fresh_of v
-  pub reports : reports_of w ≡ reports_of v
+  pub word : own_word w ≡ own_word v
   pub claims : w.claims ≡ v.claims
   pub running : w.running ≡ []
   pub sights : sight w ≡ sight v

@@ -1,7 +1,7 @@
 //! How a claimed callback is run.
 
 ghost use Rattle.std.specs.Prelude.{◌≡◌, ◌<◌, [], ◌∷◌};
-ghost use Rattle.rcu_numbers.specs.declared.shape.TheConstants.{MOST_CALLBACKS};
+ghost use Rattle.rcu_numbers.specs.declared.shape.TheConstants.{MOST_CALLS};
 ghost use Rattle.rcu_board.specs.Roles.{MayClaim, cpu_of_role};
 ghost use Rattle.rcu_board.specs.Seats.{view, AtBoard, SameSeat};
 ghost use Rattle.rcu_board.specs.Words.{turns_word};
@@ -25,7 +25,7 @@ pub fn run_claimed<J: Job>(
     requires who { MayClaim seat.old.role }
     requires runs { (view seat.old).running
         ≡ claim_at (cpu_of_role seat.old.role) callback.number (view seat.old) ∷ [] }
-    requires small { callback.number < MOST_CALLBACKS }
+    requires small { callback.number < MOST_CALLS }
     ensures same { SameSeat seat.old seat.new }
     ensures ends { Finishes (view seat.old) (view seat.new) }
     ensures only { StepsOnly (turns_word (cpu_of_role seat.old.role)) 1 (view seat.old)

@@ -1,19 +1,18 @@
 //! Steps of a processor's or a hand's seat that belong together.
 
 ghost use Rattle.std.specs.Prelude.{◌≡◌, ◌≢◌, ℕ, ◌+◌, ◌*◌, ◌<◌, ◌≤◌, [], None, IfSome, IfNone, IsNone, length, true, false};
-ghost use Rattle.rcu_numbers.specs.declared.shape.TheConstants.{MOST_CALLBACKS, MOST_PROCESSORS};
+ghost use Rattle.rcu_numbers.specs.declared.sequence.TheConstants.{LAST_NUMBER};
+ghost use Rattle.rcu_numbers.specs.declared.shape.TheConstants.{MOST_CALLS};
 ghost use Rattle.rcu_board.specs.Plays.{looked, touched, accepted};
 ghost use Rattle.rcu_board.specs.Roles.{MayClaim, cpu_of_role};
-ghost use Rattle.rcu_board.specs.Seats.{view, AtBoard, SameSeat, SawShut, IsRunning, accepted_of, fresh_of};
+ghost use Rattle.rcu_board.specs.Seats.{view, AtBoard, SameSeat, SawShut, IsRunning, own_word, accepted_of, fresh_of};
 ghost use Rattle.rcu_board.specs.Views.{seen_at, sight};
-ghost use Rattle.rcu_board.specs.Words.{accepts_word, bits_of, turns_word};
+ghost use Rattle.rcu_board.specs.Words.{accepts_word, turns_word};
 ghost use Rattle.rcu_board.specs.declared.board.Role.{Role};
-ghost use Rattle.rcu_numbers.specs.declared.sequence.TheConstants.{GREATEST_NUMBER};
 ghost use Rattle.rcu_part_steps.specs.Changes.{Keeps, Enters, Claims, Finishes, Tells, StepsOnly};
 ghost use Rattle.rcu_part_steps.specs.Reports.{Reports};
 
 use rcu_board::{Board, Claimed, Seat, accept, claim, finish, look, report};
-use rcu_numbers::BoardWord;
 
 /// Accepts one callback more, and then looks, which gives its stamp. None where the processor was shut.
 pub fn accept_and_stamp(
@@ -22,19 +21,19 @@ pub fn accept_and_stamp(
     cpu: u64,
     count: u64,
     key: u64,
-) -> Option<BoardWord>
+) -> Option<u64>
     requires board { AtBoard board.now seat.old }
     requires role { seat.old.role ≡ Role.Processor cpu }
     requires count { length (accepted_of (view seat.old)) ≡ count }
     requires stamped { fresh_of (view seat.old) ≡ None }
-    requires small { count < MOST_CALLBACKS }
+    requires small { count < MOST_CALLS }
     ensures same { SameSeat seat.old seat.new }
-    ensures enters { IfSome result (λ word. Enters key word.seq (view seat.old) (view seat.new)) }
+    ensures enters { IfSome result (λ word. Enters key word (view seat.old) (view seat.new)) }
     ensures view { IfSome result (λ word.
         view seat.new
-        ≡ looked (bits_of word) (accepted (accepts_word cpu) (2 * count + 2) key (view seat.old))) }
+        ≡ looked word (accepted (accepts_word cpu) (2 * count + 2) key (view seat.old))) }
     ensures stamp { IfSome result (λ word.
-        (word.seq ≡ sight (view seat.new)) × (word.seq ≤ GREATEST_NUMBER)) }
+        (word ≡ sight (view seat.new)) × (word ≤ LAST_NUMBER)) }
     ensures keeps { IfNone result (Keeps (view seat.old) (view seat.new)) }
     ensures shut { IfNone result
         (view seat.new ≡ touched (accepts_word cpu) (2 * count + 1) (view seat.old)) }
@@ -44,31 +43,33 @@ pub fn accept_and_stamp(
     Some(look(board, seat))
 }
 
-/// Reports a quiescent state. Answers the number of the grace period that counted it.
-pub fn report_quiescent_state(board: &Board, seat: &mut Seat, cpu: u64) -> Option<u64>
+/// Reports a quiescent state, where the processor, which is here, owes one: `passed` is the last grace period that it
+/// passed. Answers the number of the grace period that counted it.
+pub fn report_quiescent_state(board: &Board, seat: &mut Seat, cpu: u64, passed: u64) -> Option<u64>
     requires board { AtBoard board.now seat.old }
     requires role { seat.old.role ≡ Role.Processor cpu }
-    requires there { cpu < MOST_PROCESSORS }
+    requires stamped { fresh_of (view seat.old) ≡ None }
+    requires here { own_word (view seat.old) ≡ 2 * passed }
     ensures same { SameSeat seat.old seat.new }
     ensures tells { Tells (view seat.old) (view seat.new) }
     ensures reports { Reports cpu result (view seat.old) (view seat.new) }
 {
-    let word = report(board, seat);
-    if word.owes(cpu) {
-        Some(word.seq())
-    } else {
-        None
+    let seq = look(board, seat);
+    if seq % 4 == 0 || seq <= passed {
+        return None;
     }
+    report(board, seat, seq);
+    Some(seq)
 }
 
 /// Looks at the number, by the seat of any part.
-pub fn look_at_number(board: &Board, seat: &mut Seat) -> BoardWord
+pub fn look_at_number(board: &Board, seat: &mut Seat) -> u64
     requires board { AtBoard board.now seat.old }
     ensures same { SameSeat seat.old seat.new }
-    ensures view { view seat.new ≡ looked (bits_of result) (view seat.old) }
+    ensures view { view seat.new ≡ looked result (view seat.old) }
     ensures claims { ((view seat.new).claims ≡ (view seat.old).claims)
         × ((view seat.new).running ≡ (view seat.old).running) }
-    ensures sight { (result.seq ≡ sight (view seat.new)) × (result.seq ≤ GREATEST_NUMBER) }
+    ensures sight { (result ≡ sight (view seat.new)) × (result ≤ LAST_NUMBER) }
 {
     look(board, seat)
 }
@@ -79,7 +80,7 @@ pub fn try_claim(board: &Board, seat: &mut Seat, cpu: u64, number: u64) -> bool
     requires who { MayClaim seat.old.role }
     requires cpu { cpu_of_role seat.old.role ≡ cpu }
     requires rests { (view seat.old).running ≡ [] }
-    requires small { number < MOST_CALLBACKS }
+    requires small { number < MOST_CALLS }
     ensures same { SameSeat seat.old seat.new }
     ensures won { result ≡ true → Claims cpu number (view seat.old) (view seat.new) }
     ensures lost { result ≡ false

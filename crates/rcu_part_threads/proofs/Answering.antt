@@ -9,7 +9,7 @@ use Rattle.std.proofs.lemmas.List.Elements.{All-append, All-cons, All-head, All-
 use Rattle.rcu_board.proofs.Facts.{accepted-looked}
 use Rattle.rcu_board.specs.Seats.{SawShut, accepted_of}
 use Rattle.rcu_board.specs.Views.{seen_at}
-use Rattle.rcu_board.specs.Words.{accepts_word, bits_of, words_of}
+use Rattle.rcu_board.specs.Words.{accepts_word, words_of}
 use Rattle.rcu_board.specs.declared.view.Accepted.{Accepted as Entry}
 use Rattle.rcu_board.proofs.Stepping.{has_words, seen_here}
 use Rattle.rcu_part_order.specs.Places.{keys_of}
@@ -173,7 +173,7 @@ module _ {J R : Type 0} (key_of : J → ℕ) (gives : ℕ → R → Type 0) wher
         numbers = ap (λ u. u ∷ []) (ap (λ c. ticket c t.number) ok.cpu ∙ ap (λ n. ticket s.cpu n) ok.number);
         why = All-cons (λ a. IfErr a (IsRefusalBy q.state)) (Ok t) [] tt (All-nil (λ a. IfErr a (IsRefusalBy q.state)));
         keys =
-            let list = ap accepted_of ok.steps ∙ accepted-looked s.seat s.cpu (accepts_word s.cpu) (2 * s.accepted + 2) (key_of job) (bits_of ok.word) s.role in
+            let list = ap accepted_of ok.steps ∙ accepted-looked s.seat s.cpu (accepts_word s.cpu) (2 * s.accepted + 2) (key_of job) ok.stamp s.role in
             ap (λ (l : List Entry). keys_of (map accepted_entry l)) list ∙ (ap keys_of (map-append accepted_entry (accepted_of (view_of s)) _) ∙ map-append _ _ _);
       }
   answered_by moment kind job (Err r) p q same ok keeps refused sound =

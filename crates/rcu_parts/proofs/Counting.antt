@@ -1,14 +1,23 @@
--- Counted reports, one processor after another.
-use Rattle.std.proofs.Common.{◌≡◌, ℕ, suc, ◌+◌, ◌≤◌, ◌∙◌, List, [], ◌∷◌, ◌++◌, length, sym, ap, subst, arith}
-use Rattle.std.proofs.lemmas.List.{length-append, append_assoc as list-append-assoc}
-use Rattle.rcu_board.specs.Laws.{Reported}
-use Rattle.rcu_parts.specs.Ending.{AreReportedFrom}
+-- How many grace periods each processor passed, one processor after another.
+use Rattle.std.proofs.Common.{◌≡◌, ℕ, ◌+◌, ◌∙◌, List, [], ◌∷◌, ◌++◌, map, drop, sym, ap}
+use Rattle.std.proofs.lemmas.List.{append_assoc, append-nil}
+use Rattle.rcu_board.specs.Seats.{reports_of}
+use Rattle.rcu_part_processor.specs.Processors.{view_of}
+use Rattle.rcu_part_processor.specs.declared.processor.Processor.{Processor}
 
--- one more
-pub next_report : (x k n r : ℕ) (counts done rest : List ℕ) → length counts ≡ n → length done ≡ k → k + 1 ≤ n → counts ≡ done ++ rest → AreReportedFrom x k rest → ((reports : ℕ) → Reported x k reports → r ≡ reports)
-    → (left : List ℕ) × (counts ≡ (done ++ r ∷ []) ++ left) × AreReportedFrom x (k + 1) left
-unfolding AreReportedFrom
-next_report x k n r counts done [] many long low split h same = absurd (let a = ap length split ∙ length-append done [] in omega (arith, a, many, long, low))
-next_report x k n r counts done (c ∷ rest) many long low split h same =
-    let e : r ≡ c = same c h.0 in
-    (rest, split ∙ (ap (λ z. done ++ z ∷ rest) (sym e) ∙ sym (list-append-assoc done (r ∷ []) rest)), subst (λ (m : ℕ). AreReportedFrom x m rest) (let z : suc k ≡ k + 1 = omega arith in z) h.1)
+module _ {J R : Type 0} where
+  abbrev pub passed_by : Processor J R → ℕ
+  passed_by p = reports_of (view_of p.state)
+
+  -- the first i are counted, and the others are left
+  abbrev pub CountedTo : ℕ → List (Processor J R) → List ℕ → Type 0
+  CountedTo i ps counts = counts ++ map passed_by (drop i ps) ≡ map passed_by ps
+
+  -- one more
+  pub one_counted : (i : ℕ) (p : Processor J R) (ps : List (Processor J R)) (counts more : List ℕ) → drop i ps ≡ p ∷ drop (i + 1) ps → more ≡ counts ++ passed_by p ∷ [] → CountedTo i ps counts → CountedTo (i + 1) ps more
+  one_counted i p ps counts more at longer h =
+      ap (λ l. l ++ map passed_by (drop (i + 1) ps)) longer ∙ (append_assoc counts (passed_by p ∷ []) (map passed_by (drop (i + 1) ps)) ∙ (ap (λ l. counts ++ map passed_by l) (sym at) ∙ h))
+
+  -- all of them
+  pub all_counted : (i : ℕ) (ps : List (Processor J R)) (counts : List ℕ) → drop i ps ≡ [] → CountedTo i ps counts → counts ≡ map passed_by ps
+  all_counted i ps counts none h = sym (append-nil counts) ∙ (ap (λ l. counts ++ map passed_by l) (sym none) ∙ h)

@@ -85,6 +85,7 @@ module _ {J R : Type 0} where
       limit = new.limit;
       blimit = new.blimit;
       accepted = new.accepted;
+      passed = new.passed;
       ran = new.ran;
     };
   }

@@ -5,7 +5,7 @@ use Rattle.std.proofs.Props.{props}
 use Rattle.std.specs.List.{All}
 use Rattle.std.proofs.lemmas.Bool.{cond_both}
 use Rattle.std.proofs.lemmas.List.{length-map}
-use Rattle.rcu_board.specs.Seats.{AtBoard, accepted_of, view}
+use Rattle.rcu_board.specs.Seats.{AtBoard, IsHere, accepted_of, view}
 use Rattle.rcu_board.specs.Views.{cpus, joined}
 use Rattle.rcu_board.specs.Words.{words_of}
 use Rattle.rcu_board.specs.declared.board.Board.{Board}
@@ -51,11 +51,16 @@ module _ {J R : Type 0} where
   own_cpu : (p : Processor J R) → cpus (view_of p.state).own ≡ p.state.cpu ∷ []
   own_cpu p = p.state.seat.of_role.own p.state.cpu p.state.role
 
+  -- it isn't away
+  is_here : (p : Processor J R) → IsHere (view_of p.state)
+  is_here p = omega (arith, p.state.since.word)
+
   -- a processor that has no hand
   pub rests_alone : (p : Processor J R) → IsAtRest (cpu_part p None)
   rests_alone p = record {
     own_cpu = own_cpu p;
     stamped = p.state.lawful.stamped;
+    here = is_here p;
     places = record { processor = p.state.lawful.places; hand = refl };
     claims = p.state.lawful.claims;
     hand_claims = tt;
@@ -68,6 +73,7 @@ module _ {J R : Type 0} where
   rests_with p h same = record {
     own_cpu = own_cpu p;
     stamped = p.state.lawful.stamped;
+    here = is_here p;
     places = record { processor = p.state.lawful.places; hand = h.state.lawful.places };
     claims = p.state.lawful.claims;
     hand_claims = subst (λ (k : ℕ). (view h.state.seat).claims ≡ map (claim_of k) h.state.ran.items) same h.state.lawful.claims;

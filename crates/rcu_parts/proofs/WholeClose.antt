@@ -2,10 +2,10 @@
 use Rattle.std.proofs.Common.{◌≡◌, ℕ, suc, ◌+◌, ◌≤◌, ◌∙◌, Bool, true, false, cond, Some, None, List, [], ◌∷◌, ◌++◌, map, length, sum_by, sym, ap, subst, refl, arith, vec_len, vec_capacity}
 use Rattle.std.specs.List.{All, AllZip, flat_map}
 use Rattle.std.proofs.lemmas.List.{length-map}
+use Rattle.std.proofs.lemmas.Simd.{map-map}
 use Rattle.std.proofs.lemmas.List.Elements.{All-append, All-cons, All-head, All-nil, All-tail}
 use Rattle.std.proofs.lemmas.List.Sums.{sum_by-cons}
 use Rattle.std.proofs.lemmas.Slice.Zip.{AllZip-long}
-use Rattle.rcu_board.specs.Laws.{Reported}
 use Rattle.rcu_board.specs.Plays.{all_seats}
 use Rattle.rcu_board.specs.Seats.{GatheredAt, gathered_view, reports_of, view}
 use Rattle.rcu_board.specs.Views.{joined, total}
@@ -21,11 +21,11 @@ use Rattle.rcu_part_control.specs.declared.driver.Driver.{Driver}
 use Rattle.rcu_part_close.specs.declared.ended.ProcessorEnd.{ProcessorEnd}
 use Rattle.rcu_part_close.specs.Closing.{CpuEnd, HaveEnded, InRow, WasEnded, seats_of}
 use Rattle.rcu_part_close.specs.Gathered.{IsSettled, gather}
-use Rattle.rcu_part_close.specs.Parts.{IsAtRest, IsSoundPart, views_of}
+use Rattle.rcu_part_close.specs.Parts.{CpuPart, IsAtRest, IsSoundPart, views_of}
 use Rattle.rcu_part_close.proofs.Gathers.{gather_append, gather_weight}
 use Rattle.rcu_jobs.specs.declared.answers.Closed.{Closed}
 use Rattle.rcu_parts.specs.AtClose.{Answers, cpu_part, cpu_parts, first_hand, hand_part, hands_after, other_hands, other_views}
-use Rattle.rcu_parts.specs.Ending.{AreLong, AreReportedFrom, EndsEach, IsReady, Settles, all_view, board_at}
+use Rattle.rcu_parts.specs.Ending.{AreLong, EndsEach, IsReady, all_view, board_at}
 use Rattle.rcu_part_group.specs.Groups.{group_board, group_view}
 use Rattle.rcu_part_hand.specs.Hands.{hand_board, hand_view}
 use Rattle.rcu_parts.specs.OneOpen.{AreOfOneOpen, AreProcessorsFrom, AreSoundParts, Parts, HasHand, HasMember, groups_in, hands_in, members_in, offloadable_in, parts_board, processors_in}
@@ -103,12 +103,13 @@ module _ {J R : Type 0} where
 
   -- ---- reports
 
-  pub reported_from : (x k : ℕ) (es : List (CpuEnd J R)) → InRow k es → All (λ e. Reported x e.part.cpu (reports_of e.part.view)) es → AreReportedFrom x k (map (λ e. reports_of e.part.view) es)
-  unfolding InRow AreReportedFrom
-  reported_from x k [] row h = tt
-  reported_from x k (e ∷ es) row h =
-      let P : CpuEnd J R → Type 0 = λ d. Reported x d.part.cpu (reports_of d.part.view) in
-      (subst (λ (c : ℕ). Reported x c (reports_of e.part.view)) row.0 (All-head P e es h), reported_from x (suc k) es row.1 (All-tail P e es h))
+  reports_parts : (ps : List (Processor J R)) (hs : List (Hand J R)) → map (λ c. reports_of c.view) (cpu_parts ps hs) ≡ map (λ p. reports_of (view_of p.state)) ps
+  reports_parts [] hs = refl
+  reports_parts (p ∷ ps) hs = ap (λ l. reports_of (view_of p.state) ∷ l) (reports_parts ps (hands_after p hs))
+
+  -- how many grace periods each passed, as its part knew before it ended
+  reports_kept : (ps : List (Processor J R)) (hs : List (Hand J R)) (es : List (CpuEnd J R)) → map (λ e. e.part) es ≡ cpu_parts ps hs → map (λ p. reports_of (view_of p.state)) ps ≡ map (λ e. reports_of e.part.view) es
+  reports_kept ps hs es same = sym (reports_parts ps hs) ∙ (ap (map (λ (c : CpuPart J R). reports_of c.view)) (sym same) ∙ map-map (λ (c : CpuPart J R). reports_of c.view) (λ (e : CpuEnd J R). e.part) es)
 
   length_parts : (ps : List (Processor J R)) (hs : List (Hand J R)) → length (cpu_parts ps hs) ≡ length ps
   length_parts [] hs = refl
@@ -186,24 +187,19 @@ module _ {J R : Type 0} where
     -- what the last loads tell, once all have ended: what is answered, and what is so of the ends
     pub answers_with : (parts : Parts J R) (closed : Closed J R) (room : Reserved J R) (hs : List (Hand J R)) (x y : Ending J R) (b : Board) → AreOfOneOpen parts → FitsAll (processors_in parts) (hands_in parts) room
         → x.ran ≡ room.ran → x.back ≡ room.back → hs ≡ hands_in parts → board_at x ≡ parts_board parts → b ≡ parts_board parts → (e : EndsEach key_of gives (processors_in parts) hs x y)
-        → all_view y ≡ gather (control_view parts.control) (other_views parts ++ seats_of e.ends) → (s : Settles b.processors (all_view y) closed.reports.items) → closed.ran ≡ y.ran → closed.back ≡ y.back
-        → ((n w : ℕ) (v : View) (others : List View) (es : List (CpuEnd J R)) → HaveEnded key_of gives n w v others es → All (λ d. Reported w d.part.cpu (reports_of d.part.view)) es)
-        → (promised : List (CpuEnd J R) → Type 0) → (HaveEnded key_of gives (parts_board parts).processors s.word (control_view parts.control) (other_views parts) e.ends → promised e.ends)
+        → all_view y ≡ gather (control_view parts.control) (other_views parts ++ seats_of e.ends) → (number : ℕ) → IsSettled b.processors number (all_view y) → closed.ran ≡ y.ran → closed.back ≡ y.back → closed.reports ≡ room.reports
+        → (promised : List (CpuEnd J R) → Type 0) → (HaveEnded key_of gives (parts_board parts).processors number (control_view parts.control) (other_views parts) e.ends → promised e.ends)
         → Answers promised parts closed
-    answers_with parts closed room hs x y b one fits ran back hands board same e view s ran_is back_is reports promised closes =
+    answers_with parts closed room hs x y b one fits ran back hands board same e view number s ran_is back_is reports_is promised closes =
         let parts_are = e.parts ∙ ap (cpu_parts (processors_in parts)) hands in
         let long = subst (λ c. AreLong c.processors (seats_of e.ends)) board e.long in
-        let settled = subst (λ v. IsSettled (parts_board parts).processors s.word v) view (subst (λ c. IsSettled c.processors s.word (all_view y)) same s.settled) in
-        let h = have_ended key_of gives parts s.word e.ends one parts_are e.row e.at_rest e.ended long settled in
-        let v = control_view parts.control in
-        let n = (parts_board parts).processors in
-        let counts = map (λ (d : CpuEnd J R). reports_of d.part.view) e.ends in
+        let settled = subst (λ v. IsSettled (parts_board parts).processors number v) view (subst (λ c. IsSettled c.processors number (all_view y)) same s) in
+        let h = have_ended key_of gives parts number e.ends one parts_are e.row e.at_rest e.ended long settled in
         record {
           ends = e.ends;
           parts_are = parts_are;
           ran = ap (λ r. map (λ c. c.items) r.items) ran_is ∙ (e.ran ∙ ap (λ l. map (λ c. c.items) l ++ map (λ (d : CpuEnd J R). d.ran) e.ends) (ap (λ r. r.items) ran ∙ fits.no_ran));
           back = ap (λ r. map (λ c. c.items) r.items) back_is ∙ (e.back ∙ ap (λ l. map (λ c. c.items) l ++ map (λ (d : CpuEnd J R). d.back) e.ends) (ap (λ r. r.items) back ∙ fits.no_back));
-          reports = s.counts counts (length-map e.ends (λ (d : CpuEnd J R). reports_of d.part.view) ∙ (as_many_ends (processors_in parts) hs e.ends e.parts ∙ (one.as_many ∙ ap (λ c. c.processors) (sym same))))
-              (reported_from s.word 0 e.ends e.row (reports n s.word v (other_views parts) e.ends h));
+          reports = ap (λ r. r.items) reports_is ∙ (fits.reports ∙ reports_kept (processors_in parts) hs e.ends e.parts);
           closes = closes h;
         }

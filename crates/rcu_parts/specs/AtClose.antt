@@ -46,7 +46,7 @@ module _ {J R : Type 0} where
   abbrev pub other_views : Parts J R → List View
   other_views parts = driver_view parts.driver ∷ map (λ g. group_view g.state) (groups_in parts)
 
-  -- What is answered is what is left of each processor, with how many counted reports it made; and this is so of those ends.
+  -- What is answered is what is left of each processor, with how many grace periods it passed; and this is so of those ends.
   pub record Answers (promised : List (CpuEnd J R) → Type 0) (parts : Parts J R) (closed : Closed J R) : Type 0 where
     pub ends : List (CpuEnd J R)
     pub parts_are : map (λ e. e.part) ends ≡ cpu_parts (processors_in parts) (hands_in parts)

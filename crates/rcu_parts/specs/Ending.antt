@@ -1,15 +1,14 @@
 -- How the parts of one open end one after another: docs/specification/promises.md, "Headline on the running parts", close.
-use Rattle.std.specs.Prelude.{◌≡◌, ℕ, suc, ◌+◌, ◌<◌, ◌≤◌, List, [], ◌∷◌, ◌++◌, map, length, vec_len, vec_capacity, All}
+use Rattle.std.specs.Prelude.{◌≡◌, ℕ, ◌+◌, ◌<◌, ◌≤◌, List, [], ◌∷◌, ◌++◌, map, length, vec_len, vec_capacity, All}
 use Rattle.std.specs.List.{AllZip}
 use Rattle.std.specs.Arc.{arc_value}
-use Rattle.rcu_board.specs.Laws.{Reported}
 use Rattle.rcu_board.specs.Seats.{GatheredAt, SameGathered, gathered_view}
 use Rattle.rcu_board.specs.Words.{words_of}
 use Rattle.rcu_board.specs.declared.board.Board.{Board}
 use Rattle.rcu_board.specs.declared.view.View.{View}
 use Rattle.rcu_part_close.specs.declared.ended.ProcessorEnd.{ProcessorEnd}
 use Rattle.rcu_part_close.specs.Closing.{CpuEnd, InRow, WasEnded, seats_of}
-use Rattle.rcu_part_close.specs.Gathered.{IsSettled, gather}
+use Rattle.rcu_part_close.specs.Gathered.{gather}
 use Rattle.rcu_part_close.specs.Parts.{CpuPart, IsAtRest, views_of}
 use Rattle.rcu_jobs.specs.declared.callback.Record.{Record}
 use Rattle.rcu_parts.specs.AtClose.{cpu_parts}
@@ -24,18 +23,6 @@ use Rattle.rcu_part_processor.specs.declared.processor.Processor.{Processor}
 -- the views are of seats of a board for n processors
 abbrev pub AreLong : ℕ → List View → Type 0
 AreLong n views = All (λ w. length w.seen ≡ words_of n) views
-
--- These are the counted reports of the processors k, k + 1, .., where the board word is x.
-unfoldable pub AreReportedFrom : ℕ → ℕ → List ℕ → Type 0
-AreReportedFrom x k [] = Unit {0}
-AreReportedFrom x k (r ∷ rs) = Reported x k r × AreReportedFrom x (suc k) rs
-
--- The last loads were made of what all seats know, on a board for n processors; by the board word that was read these are the
--- counted reports of its processors.
-pub record Settles (n : ℕ) (v : View) (reports : List ℕ) : Type 0 where
-  pub word : ℕ
-  pub settled : IsSettled n word v
-  pub counts : (counts : List ℕ) → length counts ≡ n → AreReportedFrom word 0 counts → reports ≡ counts
 
 module _ {J R : Type 0} where
   abbrev pub board_at : Ending J R → Board

@@ -1,12 +1,14 @@
 -- Room that `close` finds before anything moves: docs/specification/surface.md, "After want of memory".
-use Rattle.std.specs.Prelude.{◌≡◌, ℕ, ◌+◌, ◌≤◌, List, [], length, vec_capacity}
+use Rattle.std.specs.Prelude.{◌≡◌, ℕ, ◌+◌, ◌≤◌, List, [], length, map, vec_capacity}
 use Rattle.std.specs.List.{AllZip}
+use Rattle.rcu_board.specs.Seats.{reports_of}
 use Rattle.rcu_part_close.specs.Ends.{HasRoom}
 use Rattle.rcu_part_close.specs.declared.ended.ProcessorEnd.{ProcessorEnd}
 use Rattle.rcu_part_close.specs.Parts.{CpuPart, hand_ran, hand_taken}
 use Rattle.rcu_part_lists.specs.ProcessorLists.{held_in, put_by}
 use Rattle.rcu_parts.specs.AtClose.{cpu_parts}
 use Rattle.rcu_part_hand.specs.declared.hand.Hand.{Hand}
+use Rattle.rcu_part_processor.specs.Processors.{view_of}
 use Rattle.rcu_part_processor.specs.declared.processor.Processor.{Processor}
 use Rattle.rcu_parts.specs.declared.room.Reserved.{Reserved}
 
@@ -26,5 +28,5 @@ module _ {J R : Type 0} where
     pub ran : length ps ≤ vec_capacity room.ran
     pub no_back : room.back.items ≡ []
     pub back : length ps ≤ vec_capacity room.back
-    pub no_reports : room.reports.items ≡ []
-    pub reports : length ps ≤ vec_capacity room.reports
+    -- how many grace periods each passed
+    pub reports : room.reports.items ≡ map (λ p. reports_of (view_of p.state)) ps

@@ -23,8 +23,8 @@ pub struct AllClosing<P, G, H> {
     pub(crate) parts: AllParts<P, G, H>,
 }
 
-/// Closes a runtime: gives the records of all callbacks that ran, the jobs of those that didn't, and how many reports were
-/// counted. Nothing is accepted afterwards, whether or not it was shut, since the processors are used up.
+/// Closes a runtime: gives the records of all callbacks that ran, the jobs of those that didn't, and how many grace periods
+/// each processor passed. Nothing is accepted afterwards, whether or not it was shut, since the processors are used up.
 ///
 /// # Errors
 ///

@@ -8,10 +8,10 @@ ghost use Rattle.rcu_parts.specs.Rooms.{FitsAll};
 
 use crate::parts::{AllParts, Parts};
 use crate::room::Reserved;
-use crate::seats::{gather_groups, load_last};
+use crate::seats::gather_groups;
 use rcu_board::{Board, Gathered, Seat, merge};
 use rcu_jobs::{Closed, Job, Record};
-use rcu_part_close::{ProcessorEnd, closing, end_local, end_offloadable};
+use rcu_part_close::{ProcessorEnd, closing, end_local, end_offloadable, settle};
 use rcu_part_group::GroupMember;
 use rcu_part_hand::{Hand, HandState};
 use rcu_part_processor::{Processor, ProcessorState};
@@ -225,11 +225,11 @@ pub(crate) fn close_in<J: Job>(parts: Parts<J>, room: Reserved<J>) -> Closed<J>
     );
     let Ending {
         board,
-        all,
+        mut all,
         ran,
         back,
     } = ending;
-    let reports = load_last(&board, all, reports);
+    settle(&board, &mut all);
     closing::<J>();
     Closed { ran, back, reports }
 }

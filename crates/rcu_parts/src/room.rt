@@ -1,8 +1,10 @@
 //! The room that `close` finds before anything moves.
 
-ghost use Rattle.std.specs.Prelude.{◌≡◌, IfOk, Option, drop, length};
+ghost use Rattle.std.specs.Prelude.{◌≡◌, IfOk, Option, drop, length, map};
 ghost use Rattle.std.specs.List.{AllZip};
+ghost use Rattle.rcu_board.specs.Seats.{reports_of};
 ghost use Rattle.rcu_part_close.specs.Parts.{HandPart, hand_ran, hand_taken};
+ghost use Rattle.rcu_part_processor.specs.Processors.{view_of};
 ghost use Rattle.rcu_parts.specs.AtClose.{cpu_part, cpu_parts, hand_for, hands_after};
 ghost use Rattle.rcu_parts.specs.Rooms.{FitsAll, FitsCpu};
 
@@ -13,12 +15,13 @@ use rcu_part_hand::Hand;
 use rcu_part_processor::Processor;
 use std::alloc::{AllocError, Global};
 
-/// Room for what is left of all processors.
+/// Room for what is left of all processors, and how many grace periods each passed.
 pub(crate) struct Reserved<J: Job> {
     /// Of each processor.
     pub(crate) ends: Vec<ProcessorEnd<J, J::Receipt>>,
     pub(crate) ran: Vec<Vec<Record<J::Receipt>>>,
     pub(crate) back: Vec<Vec<J>>,
+    /// How many grace periods each passed.
     pub(crate) reports: Vec<u64>,
     /// For the members of all groups.
     pub(crate) members: Vec<GroupMember<J>>,
@@ -38,10 +41,25 @@ impl<J: Job> Reserved<J> {
             ends: find_ends(alloc, processors, hands)?,
             ran: Vec::with_capacity(alloc, n)?,
             back: Vec::with_capacity(alloc, n)?,
-            reports: Vec::with_capacity(alloc, n)?,
+            reports: count_reports(alloc, processors)?,
             members: Vec::with_capacity(alloc, hands.len())?,
         })
     }
+}
+
+/// How many grace periods each processor passed.
+fn count_reports<J: Job>(
+    alloc: Global,
+    processors: &Vec<Processor<J>>,
+) -> Result<Vec<u64>, AllocError>
+    ensures { IfOk result (λ reports.
+        reports.items ≡ map (λ p. reports_of (view_of p.state)) processors.now.items) }
+{
+    let mut reports = Vec::new(alloc);
+    for processor in processors.iter() {
+        reports.push(processor.reports())?;
+    }
+    Ok(reports)
 }
 
 /// Room for what is left of each processor. The offloadable ones have these hands, in order.

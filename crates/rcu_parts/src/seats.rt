@@ -1,20 +1,13 @@
-//! Seats that become one, and what is loaded last.
+//! Seats that become one.
 
-ghost use Rattle.std.specs.Prelude.{◌≡◌, ℕ, ◌+◌, ◌≤◌, List, [], ◌∷◌, ◌++◌, map, length, vec_len, vec_capacity, All};
-ghost use Rattle.rcu_numbers.specs.declared.shape.TheConstants.{MOST_PROCESSORS};
-ghost use Rattle.rcu_board.specs.Laws.{IsBoard};
-ghost use Rattle.rcu_board.specs.Plays.{all_seats};
+ghost use Rattle.std.specs.Prelude.{◌≡◌, ◌+◌, ◌≤◌, [], ◌∷◌, ◌++◌, map, length, vec_len, vec_capacity, All};
 ghost use Rattle.rcu_board.specs.Seats.{GatheredAt, SameGathered, gathered_view};
-ghost use Rattle.rcu_board.specs.Words.{bits_of};
 ghost use Rattle.rcu_part_close.specs.Gathered.{gather};
-ghost use Rattle.rcu_parts.specs.Ending.{AreReportedFrom, Settles};
 ghost use Rattle.rcu_part_group.specs.Groups.{group_board, group_view, members_of};
 ghost use Rattle.rcu_parts.specs.OneOpen.{members_in};
 
 use rcu_board::{Board, Gathered, merge};
 use rcu_jobs::Job;
-use rcu_numbers::BoardWord;
-use rcu_part_close::{reports_by, settle};
 use rcu_part_group::{Group, GroupMember, into_parts};
 
 /// Takes in the seat of a group, whose members join the others. There is room.
@@ -68,31 +61,4 @@ pub(crate) fn gather_groups<J: Job>(
         gather_group(board, all, group, &mut members);
     }
     members
-}
-
-/// How many counted reports each of `n` processors made, where this is the board word, in the room that was found.
-fn count_reports(word: BoardWord, n: u64, mut reports: Vec<u64>) -> Vec<u64>
-    requires word { IsBoard (bits_of word) }
-    requires few { n ≤ MOST_PROCESSORS }
-    requires none { reports.items ≡ [] }
-    requires room { n ≤ vec_capacity reports }
-    ensures { (counts : List ℕ) → length counts ≡ n → AreReportedFrom (bits_of word) 0 counts
-        → result.items ≡ counts }
-{
-    for p in 0..n {
-        reports.push_reserved(reports_by(word, p));
-    }
-    reports
-}
-
-/// The last loads, once all seats are one, and the counted reports that they tell of, in the room that was found.
-pub(crate) fn load_last(board: &Board, mut all: Gathered, reports: Vec<u64>) -> Vec<u64>
-    requires at { GatheredAt board.now all }
-    requires whole { (gathered_view all).weight ≡ all_seats }
-    requires none { reports.items ≡ [] }
-    requires room { board.now.processors ≤ vec_capacity reports }
-    ensures { Settles board.now.processors (gathered_view all) result.items }
-{
-    let word = settle(board, &mut all);
-    count_reports(word, board.processors(), reports)
 }

@@ -1,20 +1,22 @@
 //! The steps on a board, by the seats that may make them, in one thread and in several.
 
-ghost use Rattle.std.specs.Prelude.{◌≡◌, ◌+◌, ◌<◌, ◌≤◌, None, [], ◌∷◌, length, IfSome, IsTrue, true, false};
+ghost use Rattle.std.specs.Prelude.{◌≡◌, ◌+◌, ◌*◌, ◌<◌, ◌≤◌, None, [], ◌∷◌, length, IfSome, IsTrue, true, false};
 ghost use Rattle.std.specs.Thread.{IsSync};
 ghost use Rattle.rcu_numbers.specs.Words.{owes_of};
 ghost use Rattle.rcu_board.specs.Plays.{all_seats};
 ghost use Rattle.rcu_board.specs.Roles.{IsDriver, IsControl, MayClaim};
 ghost use Rattle.rcu_board.specs.Opened.{AreNew, IsNew, IsNewProcessor};
 ghost use Rattle.test_board.specs.Stays.{StaysSeat};
-ghost use Rattle.rcu_board.specs.Seats.{view, AtBoard, accepted_of, fresh_of};
+ghost use Rattle.rcu_board.specs.Views.{sight};
+ghost use Rattle.rcu_board.specs.Seats.{view, AtBoard, AllAccounted, accepted_of, fresh_of, own_word};
 
 use rcu_board::{
     Board, Claimed, Gathered, Role, Seat, Seats, accept, ask, asked, claim, end, finish, halt,
-    halted, heard, last_count_of, last_look, last_turn_of, look, merge, need, needed, open_board,
-    report, shut_one, start, turn_of, urge,
+    halted, heard, last_count_of, last_look, last_report_of, last_turn_of, look, merge, need,
+    needed, open_board, shut_one, sighted, start, turn_of, urge,
 };
-use rcu_numbers::{BoardWord, GREATEST_NUMBER, Shape};
+use rcu_numbers::{LAST_NUMBER, Shape};
+use rcu_part_steps::report_quiescent_state;
 use std::test::Fail;
 use std::thread;
 use std::thread::Threads;
@@ -52,6 +54,7 @@ pub(crate) fn run_one(board: &Board, seat: &mut Seat, number: u64) -> u64
     ensures rests { (view seat.new).running ≡ [] }
     ensures accepted { (accepted_of (view seat.new) ≡ accepted_of (view seat.old))
         × (fresh_of (view seat.new) ≡ fresh_of (view seat.old)) }
+    ensures here { own_word (view seat.new) ≡ own_word (view seat.old) }
     ensures few { result ≤ 1 }
 {
     let Claimed::Won = claim(board, seat, number) else {
@@ -73,6 +76,7 @@ pub(crate) fn accept_one(board: &Board, seat: &mut Seat, p: u64, count: u64) -> 
     ensures rests { (view seat.new).running ≡ [] }
     ensures stamped { fresh_of (view seat.new) ≡ None }
     ensures more { IsTrue result → length (accepted_of (view seat.new)) ≡ count + 1 }
+    ensures here { own_word (view seat.new) ≡ own_word (view seat.old) }
 {
     let Some(number) = accept(board, seat, count, count) else {
         return false;
@@ -81,17 +85,23 @@ pub(crate) fn accept_one(board: &Board, seat: &mut Seat, p: u64, count: u64) -> 
     number == count
 }
 
-/// Reports, and answers how many reports that counted.
-fn report_one(board: &Board, seat: &mut Seat) -> u64
+/// Reports, where processor `p` owes a report: `passed` is the last grace period that it passed. Answers the last one that it
+/// has passed then.
+pub(crate) fn report_one(board: &Board, seat: &mut Seat, p: u64, passed: u64) -> u64
     requires board { AtBoard board.now seat.old }
-    requires who { seat.old.role ≡ Role.Processor 0 }
+    requires who { seat.old.role ≡ Role.Processor p }
+    requires stamped { fresh_of (view seat.old) ≡ None }
+    requires here { own_word (view seat.old) ≡ 2 * passed }
     ensures same { StaysSeat seat.old seat.new }
     ensures rests { (view seat.new).running ≡ (view seat.old).running }
-    ensures accepted { (length (accepted_of (view seat.new)) ≡ length (accepted_of (view seat.old)))
+    ensures accepted { (accepted_of (view seat.new) ≡ accepted_of (view seat.old))
         × (fresh_of (view seat.new) ≡ fresh_of (view seat.old)) }
-    ensures few { result ≤ 1 }
+    ensures here { own_word (view seat.new) ≡ 2 * result }
 {
-    u64::from(report(board, seat).owes(0))
+    match report_quiescent_state(board, seat, p, passed) {
+        Some(seq) => seq,
+        None => passed,
+    }
 }
 
 /// What the processor's thread did.
@@ -100,6 +110,7 @@ struct Done {
     seat: Seat,
     accepted: u64,
     reports: u64,
+    passed: u64,
     won: u64,
 }
 
@@ -107,12 +118,13 @@ fn be_processor(board: &Board, mut seat: Seat) -> Done
     requires board { AtBoard board.now seat }
     requires who { seat.role ≡ Role.Processor 0 }
     requires new { (accepted_of (view seat) ≡ []) × (fresh_of (view seat) ≡ None)
-        × ((view seat).running ≡ []) }
+        × ((view seat).running ≡ []) × (own_word (view seat) ≡ 0) }
     ensures same { StaysSeat seat result.seat }
     ensures rests { (view result.seat).running ≡ [] }
     ensures few { (result.reports ≤ CALLS) × (result.won ≤ CALLS) }
 {
     let mut reports = 0;
+    let mut passed = 0;
     let mut won = 0;
     for count in 0..CALLS {
         if !accept_one(board, &mut seat, 0, count) {
@@ -120,16 +132,20 @@ fn be_processor(board: &Board, mut seat: Seat) -> Done
                 seat,
                 accepted: count,
                 reports,
+                passed,
                 won,
             };
         }
-        reports += report_one(board, &mut seat);
+        let before = passed;
+        passed = report_one(board, &mut seat, 0, before);
+        reports += u64::from(passed != before);
         won += run_one(board, &mut seat, count);
     }
     Done {
         seat,
         accepted: CALLS,
         reports,
+        passed,
         won,
     }
 }
@@ -151,6 +167,24 @@ pub(crate) fn run_all(board: &Board, mut seat: Seat, count: u64) -> (Seat, u64)
     (seat, won)
 }
 
+/// Whether the driver sees of every processor that it passed the grace period `seq`.
+fn all_passed(board: &Board, seat: &mut Seat, seq: u64) -> bool
+    requires board { AtBoard board.now seat.old }
+    requires who { seat.old.role ≡ Role.Driver }
+    requires seen { sight (view seat.old) ≡ seq }
+    ensures same { StaysSeat seat.old seat.new }
+    ensures rests { (view seat.new).running ≡ (view seat.old).running }
+    ensures seen { sight (view seat.new) ≡ seq }
+    ensures all { IsTrue result → AllAccounted board.now.processors seq (view seat.new) }
+{
+    for p in 0..board.processors() {
+        if sighted(board, seat, p) / 2 != seq {
+            return false;
+        }
+    }
+    true
+}
+
 /// Starts or ends a grace period, where one can be. Answers whether it did.
 pub(crate) fn drive(board: &Board, seat: &mut Seat) -> bool
     requires board { AtBoard board.now seat.old }
@@ -158,11 +192,15 @@ pub(crate) fn drive(board: &Board, seat: &mut Seat) -> bool
     ensures same { StaysSeat seat.old seat.new }
     ensures rests { (view seat.new).running ≡ (view seat.old).running }
 {
-    let seq = look(board, seat).seq();
+    let seq = look(board, seat);
     if seq % 4 == 1 {
-        return end(board, seat, seq).is_ok();
+        if !all_passed(board, seat, seq) {
+            return false;
+        }
+        end(board, seat, seq);
+        return true;
     }
-    if seq == GREATEST_NUMBER {
+    if seq == LAST_NUMBER {
         return false;
     }
     start(board, seat, seq);
@@ -207,16 +245,24 @@ fn only(mut seats: Vec<Seat>) -> Option<Seat>
     seats.pop()
 }
 
-/// What the threads did, and what the last look at each word said.
+/// What the threads did, and what the last loads said.
 #[derive(Drop)]
 struct Outcome {
     accepted: u64,
     shut: u64,
     reports: u64,
+    passed: u64,
     won: u64,
-    accepts_word: u64,
-    turns_word: u64,
-    board_word: BoardWord,
+    last: LastLoads,
+}
+
+/// What the last look at each word said.
+#[derive(Clone, Copy)]
+struct LastLoads {
+    number: u64,
+    accepts: u64,
+    turns: u64,
+    reports: u64,
 }
 
 /// Runs a processor and its hand, each in a thread of its own.
@@ -228,7 +274,8 @@ fn run_both<R: Threads + Sync>(
 ) -> (Done, (Seat, u64))
     requires board { AtBoard board.now processor × AtBoard board.now hand }
     requires who { (processor.role ≡ Role.Processor 0) × MayClaim hand.role }
-    requires new { (accepted_of (view processor) ≡ []) × (fresh_of (view processor) ≡ None) }
+    requires new { (accepted_of (view processor) ≡ []) × (fresh_of (view processor) ≡ None)
+        × (own_word (view processor) ≡ 0) }
     requires rests { ((view processor).running ≡ []) × ((view hand).running ≡ []) }
     ensures same { StaysSeat processor result.0.seat × StaysSeat hand result.1.0 }
     ensures rests { ((view result.0.seat).running ≡ []) × ((view result.1.0).running ≡ []) }
@@ -239,7 +286,7 @@ fn run_both<R: Threads + Sync>(
         move || -> Done
             requires { AtBoard board.now processor × (processor.role ≡ Role.Processor 0)
                 × (accepted_of (view processor) ≡ []) × (fresh_of (view processor) ≡ None)
-                × ((view processor).running ≡ []) }
+                × ((view processor).running ≡ []) × (own_word (view processor) ≡ 0) }
             ensures { StaysSeat processor result.seat × ((view result.seat).running ≡ [])
                 × (result.reports ≤ CALLS) × (result.won ≤ CALLS) }
         { be_processor(board, processor) },
@@ -288,7 +335,7 @@ fn settle(
     group: Seat,
     hand: Seat,
     processor: Seat,
-) -> (u64, u64, BoardWord)
+) -> LastLoads
     requires board { AtBoard board.now control × AtBoard board.now driver × AtBoard board.now group
         × AtBoard board.now hand × AtBoard board.now processor }
     requires rests { ((view control).running ≡ []) × ((view driver).running ≡ [])
@@ -303,9 +350,12 @@ fn settle(
     merge(board, &mut all, group);
     merge(board, &mut all, hand);
     merge(board, &mut all, processor);
-    let accepts = last_count_of(board, &mut all, 0);
-    let turns = last_turn_of(board, &mut all, 0);
-    (accepts, turns, last_look(board, &mut all))
+    LastLoads {
+        number: last_look(board, &mut all),
+        accepts: last_count_of(board, &mut all, 0),
+        turns: last_turn_of(board, &mut all, 0),
+        reports: last_report_of(board, &mut all, 0),
+    }
 }
 
 /// The seats of a board for one processor, which is offloadable.
@@ -429,7 +479,8 @@ fn run_parts<R: Threads + Sync>(rt: &R, board: &Board, parts: OneOfEach) -> Outc
             requires { IsSync R.row × AtBoard board.now processor × AtBoard board.now hand
                 × (processor.role ≡ Role.Processor 0) × MayClaim hand.role
                 × (accepted_of (view processor) ≡ []) × (fresh_of (view processor) ≡ None)
-                × ((view processor).running ≡ []) × ((view hand).running ≡ []) }
+                × ((view processor).running ≡ []) × ((view hand).running ≡ [])
+                × (own_word (view processor) ≡ 0) }
             ensures { StaysSeat processor result.0.seat × StaysSeat hand result.1.0
                 × ((view result.0.seat).running ≡ []) × ((view result.1.0).running ≡ [])
                 × (result.0.reports ≤ CALLS) × (result.0.won ≤ CALLS) × (result.1.1 ≤ CALLS) }
@@ -449,19 +500,16 @@ fn run_parts<R: Threads + Sync>(rt: &R, board: &Board, parts: OneOfEach) -> Outc
         seat: processor,
         accepted,
         reports,
+        passed,
         won,
     } = done;
-    let (accepts_word, turns_word, board_word) = settle(
-        board, control, driver, group, hand, processor,
-    );
     Outcome {
         accepted,
         shut,
         reports,
+        passed,
         won: won + hand_won,
-        accepts_word,
-        turns_word,
-        board_word,
+        last: settle(board, control, driver, group, hand, processor),
     }
 }
 
@@ -473,16 +521,20 @@ fn four_threads_on_one_board(rt: HostRuntime) -> Result<(), Fail> {
     let outcome = run_parts(&rt, &board, parts);
     assert_eq!(rt; outcome.shut, outcome.accepted);
     assert_eq!(rt;
-        (outcome.accepts_word / 2, outcome.accepts_word % 2),
+        (outcome.last.accepts / 2, outcome.last.accepts % 2),
         (outcome.accepted, 1)
     );
     assert_eq!(rt;
-        (outcome.turns_word / 2, outcome.turns_word % 2),
+        (outcome.last.turns / 2, outcome.last.turns % 2),
         (outcome.won, 0)
     );
-    let seq = outcome.board_word.seq();
-    let counted = seq % 4 == 1 && !outcome.board_word.owes(0);
-    assert_eq!(rt; outcome.reports, seq / 4 + u64::from(counted));
+    // it is here, passed the last grace period that has ended, and reported in each that it passed
+    assert_eq!(rt;
+        (outcome.last.reports / 2, outcome.last.reports % 2),
+        (outcome.passed, 0)
+    );
+    assert!(rt; outcome.last.number / 4 <= outcome.reports);
+    assert_eq!(rt; outcome.reports, outcome.passed / 4 + outcome.passed % 4);
     Ok(())
 }
 

@@ -6,28 +6,31 @@ ghost use Rattle.rcu_board.specs.Roles.{MayClaim};
 ghost use Rattle.rcu_board.specs.Seats.{view, AtBoard};
 ghost use Rattle.rcu_board.specs.declared.board.Role.{Role};
 
-use crate::tests::{OneOfEach, TwoOfEach, accept_one, drive, run_all, take_apart, take_two_apart};
-use rcu_board::{
-    Board, Claimed, Seat, accept, claim, finish, look, open_board, report, shut_one, turn_of,
+use crate::tests::{
+    OneOfEach, TwoOfEach, accept_one, drive, report_one, run_all, take_apart, take_two_apart,
 };
-use rcu_numbers::{BoardWord, Shape};
+use rcu_board::{
+    Board, Claimed, Seat, accept, claim, come_back, finish, leave, look, meet, open_board,
+    shut_one, sighted, turn_of,
+};
+use rcu_numbers::Shape;
 use std::test::Fail;
 
 /// What the steps of two processors and the driver answered, in order.
 #[derive(Clone, Copy)]
 struct GracePeriod {
     started: bool,
-    first: BoardWord,
+    first: u64,
     ended_early: bool,
-    again: BoardWord,
-    second: BoardWord,
+    again: u64,
+    second: u64,
     ended: bool,
-    last: BoardWord,
+    last: u64,
 }
 
 fn one_grace_period(board: &Board, two: TwoOfEach) -> GracePeriod
-    requires first { AtBoard board.now two.first × (two.first.role ≡ Role.Processor 0) }
-    requires second { AtBoard board.now two.second × (two.second.role ≡ Role.Processor 1) }
+    requires first { IsNewProcessor board.now 0 two.first }
+    requires second { IsNewProcessor board.now 1 two.second }
     requires driver { AtBoard board.now two.driver × (two.driver.role ≡ Role.Driver) }
 {
     let TwoOfEach {
@@ -38,12 +41,14 @@ fn one_grace_period(board: &Board, two: TwoOfEach) -> GracePeriod
         mut driver,
         control: _,
     } = two;
+    let started = drive(board, &mut driver);
+    let passed = report_one(board, &mut first, 0, 0);
     GracePeriod {
-        started: drive(board, &mut driver),
-        first: report(board, &mut first),
+        started,
+        first: passed,
         ended_early: drive(board, &mut driver),
-        again: report(board, &mut first),
-        second: report(board, &mut second),
+        again: report_one(board, &mut first, 0, passed),
+        second: report_one(board, &mut second, 1, 0),
         ended: drive(board, &mut driver),
         last: look(board, &mut first),
     }
@@ -56,13 +61,62 @@ fn three_seats(rt: HostRuntime) -> Result<(), Fail> {
     let two = take_two_apart(shape, &board, seats).expect(&rt, "two seats of each kind");
     let seen = one_grace_period(&board, two);
     assert!(rt; seen.started);
-    assert_eq!(rt; seen.first.seq(), 1);
-    assert!(rt; seen.first.owes(0) && seen.first.owes(1));
     assert!(rt; !seen.ended_early);
-    assert!(rt; !seen.again.owes(0) && seen.again.owes(1));
-    assert!(rt; !seen.second.owes(0) && seen.second.owes(1));
+    assert_eq!(rt; (seen.first, seen.again, seen.second), (1, 1, 1));
     assert!(rt; seen.ended);
-    assert_eq!(rt; seen.last.seq(), 4);
+    assert_eq!(rt; seen.last, 4);
+    Ok(())
+}
+
+/// What the driver met of a processor that is away, and that came back; and which grace period it then says it passed.
+#[derive(Clone, Copy)]
+struct Meeting {
+    seen: u64,
+    met: bool,
+    met_again: bool,
+    passed: u64,
+    here: Result<(), u64>,
+}
+
+/// A processor leaves, is met in grace period 1, is back, and isn't met in the next one.
+fn meet_one(board: &Board, mut processor: Seat, mut driver: Seat) -> Option<Meeting>
+    requires processor { IsNewProcessor board.now 0 processor }
+    requires driver { AtBoard board.now driver × (driver.role ≡ Role.Driver) }
+    requires some { 0 < board.now.processors }
+{
+    leave(board, &mut processor, 0);
+    if !drive(board, &mut driver) || look(board, &mut driver) != 1 {
+        return None;
+    }
+    let seen = sighted(board, &mut driver, 0);
+    let met = meet(board, &mut driver, 0, 0, 1).is_ok();
+    let met_again = meet(board, &mut driver, 0, 0, 1).is_ok();
+    let passed = come_back(board, &mut processor);
+    if !drive(board, &mut driver) || !drive(board, &mut driver) || look(board, &mut driver) != 5 {
+        return None;
+    }
+    Some(Meeting {
+        seen,
+        met,
+        met_again,
+        passed,
+        here: meet(board, &mut driver, 0, 1, 5),
+    })
+}
+
+#[test]
+fn away_is_met(rt: HostRuntime) -> Result<(), Fail> {
+    let shape = Shape::new(1, 1, 1, 10, 16, 1000).expect(&rt, "within the limits");
+    let (board, seats) = open_board(rt.alloc(), shape)?;
+    let OneOfEach {
+        processor,
+        driver,
+        ..
+    } = take_apart(shape, &board, seats).expect(&rt, "one seat of each kind");
+    let meeting = meet_one(&board, processor, driver).expect(&rt, "three grace periods begin");
+    assert_eq!(rt; meeting.seen, 1);
+    assert_eq!(rt; (meeting.met, meeting.met_again), (true, false));
+    assert_eq!(rt; (meeting.passed, meeting.here), (1, Err(2)));
     Ok(())
 }
 

@@ -4,7 +4,7 @@ ghost use Rattle.std.specs.Prelude.{◌≡◌, ◌+◌, ◌<◌, false, length, 
 ghost use Rattle.rcu_part_lists.specs.ProcessorLists.{holding, passed_on, put_by, rear_of};
 ghost use Rattle.rcu_jobs.specs.Modes.{is_offloaded};
 ghost use Rattle.rcu_lanes.specs.Ends.{SameRear};
-ghost use Rattle.rcu_numbers.specs.declared.shape.TheConstants.{MOST_CALLBACKS};
+ghost use Rattle.rcu_numbers.specs.declared.shape.TheConstants.{MOST_CALLS};
 
 use rcu_jobs::{BoxedJob, Callback, Record};
 use rcu_lanes::ruled_lane;
@@ -37,8 +37,8 @@ fn call(
     number: u64,
     job: Work,
 ) -> Result<(), AllocError>
-    requires small { number < MOST_CALLBACKS }
-    requires few { length (passed_on (holding processor_lists.old)) < MOST_CALLBACKS }
+    requires small { number < MOST_CALLS }
+    requires few { length (passed_on (holding processor_lists.old)) < MOST_CALLS }
     ensures lane { SameRear (rear_of processor_lists.old) (rear_of processor_lists.new) }
     ensures passed { OnOk result
         (length (passed_on (holding processor_lists.new))

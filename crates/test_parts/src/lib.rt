@@ -9,6 +9,8 @@ mod opening;
 #[cfg(test)]
 mod tests;
 #[cfg(test)]
+mod tests_away;
+#[cfg(test)]
 mod tests_close;
 #[cfg(test)]
 mod tests_group;

@@ -1,8 +1,8 @@
 use Rattle.std.proofs.Common.{◌≡◌, ◌+◌, ◌*◌}
 use Rattle.rcu_numbers.specs.Numbers.{IsIdle}
 use Rattle.rcu_board.specs.Views.{sight}
-use Rattle.rcu_board.specs.Words.{board_word}
-use Rattle.bench_board.specs.Stays.{HasStepped, StaysSeat}
+use Rattle.rcu_board.specs.Words.{reports_word}
+use Rattle.bench_board.specs.Stays.{HasStepped, Reports, StaysSeat}
 use Rattle.rcu_board.specs.Seats.{view, AtBoard}
 use Rattle.bench_board.proofs.measure.repeat_grace_periods.Given as goal
 
@@ -15,5 +15,6 @@ invariant-loop-round l = record {
   seen : sight (view l.driver) ≡ l.seq;
   idle : IsIdle l.seq;
   ended : l.seq ≡ sight (view l.fn.driver) + 4 * l._round;
-  reported : HasStepped board_word l._round l.fn.processor l.processor;
+  reports : Reports l.processor l.passed;
+  reported : HasStepped (reports_word 0) l._round l.fn.processor l.processor;
 }

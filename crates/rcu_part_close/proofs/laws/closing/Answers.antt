@@ -1,4 +1,4 @@
-use Rattle.rcu_part_close.proofs.Closings.{closes, ends, reported}
+use Rattle.rcu_part_close.proofs.Closings.{closes, ends}
 use Rattle.rcu_part_close.proofs.laws.closing.Goals as goal
 
 pub returns-clause-closes : goal.returns-clause-closes
@@ -6,6 +6,3 @@ returns-clause-closes g c n x v others es h sound = closes g.J.Job.key_of g.J.Jo
 
 pub returns-clause-ends : goal.returns-clause-ends
 returns-clause-ends g c n x v others es h = ends g.J.Job.key_of g.J.Job.gives n x v others es h
-
-pub returns-clause-reports : goal.returns-clause-reports
-returns-clause-reports g c n x v others es h = reported g.J.Job.key_of g.J.Job.gives n x v others es h

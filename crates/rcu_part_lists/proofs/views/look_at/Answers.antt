@@ -1,5 +1,5 @@
 use Rattle.std.proofs.Common.{◌≡◌, ◌≤◌, ◌∙◌, false, cond, Some, None, refl, ap, sym, subst}
-use Rattle.rcu_numbers.specs.declared.sequence.TheConstants.{GREATEST_NUMBER}
+use Rattle.rcu_numbers.specs.declared.sequence.TheConstants.{LAST_NUMBER}
 use Rattle.rcu_lists.specs.Labels.{MayAccelerate, callbacks_of, carries, after_advance, advanced}
 use Rattle.rcu_lists.specs.Segments.{labelled, advanced_by}
 use Rattle.rcu_lists.specs.Stamps.{greater, newest_of}
@@ -12,7 +12,7 @@ pub snap-aim-requires : goal.snap-aim-requires
 snap-aim-requires g c =
     let xs = labelled c.args.list.now in
     let e = ap callbacks_of c.advance.ensures.list ∙ callbacks-relabel (advanced c.args.seen) xs in
-    subst (λ n. n ≤ GREATEST_NUMBER) (sym (c.newest_in.ensures ∙ ap (λ cs. greater c.args.seen (newest_of cs)) e)) (greatest-safe c.args.seen (callbacks_of xs) c.requires.small c.requires.safe)
+    subst (λ n. n ≤ LAST_NUMBER) (sym (c.newest_in.ensures ∙ ap (λ cs. greater c.args.seen (newest_of cs)) e)) (greatest-safe c.args.seen (callbacks_of xs) c.requires.small c.requires.safe)
 
 pub accelerate-requires : goal.accelerate-requires
 accelerate-requires g c =

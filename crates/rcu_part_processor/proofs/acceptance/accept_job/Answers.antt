@@ -1,7 +1,7 @@
 use Rattle.std.proofs.Common.{◌≡◌, true, false, ℕ, ◌+◌, ◌*◌, ◌≤◌, [], ◌∷◌, ◌++◌, length, ◌∙◌, ap, sym, subst, refl, arith}
 use Rattle.rcu_board.specs.Plays.{looked, accepted}
 use Rattle.rcu_board.specs.Seats.{view}
-use Rattle.rcu_board.specs.Words.{accepts_word, bits_of}
+use Rattle.rcu_board.specs.Words.{accepts_word}
 use Rattle.rcu_part_lists.specs.ProcessorLists.{Holding, holding, Takes, passed_on}
 use Rattle.rcu_jobs.specs.declared.callback.Callback.{Callback}
 use Rattle.rcu_part_steps.specs.Changes.{Enters}
@@ -18,7 +18,7 @@ place-requires g c = (
   assumption,
   (
     c.in-Ok.ensures.found,
-    is_safe_call c.seq.result c.in-Some.word.seq c.args.accepted.now c.args.request.limit (length (passed_on (holding c.reserve.new.self))) c.seq.ensures.same c.in-Some.ensures.stamp.1 c.if-number-limit.false c.requires.small.1
+    is_safe_call c.in-Some.stamp c.args.accepted.now c.args.request.limit (length (passed_on (holding c.reserve.new.self))) c.in-Some.ensures.stamp.1 c.if-number-limit.false c.requires.small.1
         (subst (λ (h : Holding g.row.J.Denot). length (passed_on h) ≤ c.args.accepted.now) (sym c.in-Ok.ensures.same) c.requires.few),
   ),
 )
@@ -26,24 +26,24 @@ place-requires g c = (
 pub returns-clause-places : goal.returns-clause-places
 returns-clause-places g c claimed has =
     let r = c.args.request in let n = c.args.accepted.now in let e = c.in-Some.ensures in let v = view c.args.seat.now in let w = view c.accept_and_stamp.new.seat in
-    let x : Callback g.row.J.Denot = record { cpu = r.cpu; number = n; key = c.key-key.result; stamp = c.seq.result; job = r.job } in
+    let x : Callback g.row.J.Denot = record { cpu = r.cpu; number = n; key = c.key-key.result; stamp = c.in-Some.stamp; job = r.job } in
     let h = holding c.args.lists.now in let h' = holding c.place.new.self in
     let takes : Takes r.moment r.kind x h h' = subst (λ (o : Holding g.row.J.Denot). Takes r.moment r.kind x o h') c.in-Ok.ensures.same c.place.ensures.takes in
     let all : passed_on h' ≡ passed_on h ++ x ∷ [] = c.place.ensures.places ∙ ap (λ (o : Holding g.row.J.Denot). passed_on o ++ x ∷ []) c.in-Ok.ensures.same in
     let more = takes_more r.moment r.kind x h h' takes in
-    let enters : Enters x.key x.stamp v w = subst (λ (t : ℕ). Enters x.key t v w) (sym c.seq.ensures.same) e.enters in
+    let enters : Enters x.key x.stamp v w = e.enters in
     places_by_enters n _ v w claimed h h' more.0 x refl enters (e.same.later c.args.board.now c.requires.board) more.1 all more.2 (λ k. takes_up r.moment r.kind x h h' k takes) has
 
 pub returns-clause-local : goal.returns-clause-local
 returns-clause-local g c offloadable =
     let r = c.args.request in let h = holding c.args.lists.now in let h' = holding c.place.new.self in
-    let x : Callback g.row.J.Denot = record { cpu = r.cpu; number = c.args.accepted.now; key = c.key-key.result; stamp = c.seq.result; job = r.job } in
+    let x : Callback g.row.J.Denot = record { cpu = r.cpu; number = c.args.accepted.now; key = c.key-key.result; stamp = c.in-Some.stamp; job = r.job } in
     takes_local r.moment r.kind x h h' offloadable (subst (λ (o : Holding g.row.J.Denot). Takes r.moment r.kind x o h') c.in-Ok.ensures.same c.place.ensures.takes)
 
 pub returns-clause-keyed : goal.returns-clause-keyed
 returns-clause-keyed g c =
     let r = c.args.request in
-    let x : Callback g.row.J.Denot = record { cpu = r.cpu; number = c.args.accepted.now; key = c.key-key.result; stamp = c.seq.result; job = r.job } in
+    let x : Callback g.row.J.Denot = record { cpu = r.cpu; number = c.args.accepted.now; key = c.key-key.result; stamp = c.in-Some.stamp; job = r.job } in
     keyed_taken g.J.Job.key_of (passed_on (holding c.args.lists.now)) (passed_on (holding c.place.new.self)) x (sym c.key-key.ensures)
     (c.place.ensures.places ∙ ap (λ (o : Holding g.row.J.Denot). passed_on o ++ x ∷ []) c.in-Ok.ensures.same)
 
@@ -52,13 +52,13 @@ returns-clause-ok g c =
     let r = c.args.request in let n = c.args.accepted.now in let e = c.in-Some.ensures in
     let at : ℕ → ℕ → Callback g.row.J.Denot = λ key stamp. record { cpu = r.cpu; number = n; key = key; stamp = stamp; job = r.job } in
     let h = holding c.args.lists.now in let h' = holding c.place.new.self in
-    let takes : Takes r.moment r.kind (at c.key-key.result c.seq.result) h h' = subst (λ (o : Holding g.row.J.Denot). Takes r.moment r.kind (at c.key-key.result c.seq.result) o h') c.in-Ok.ensures.same c.place.ensures.takes in record {
-      word = c.in-Some.word;
+    let takes : Takes r.moment r.kind (at c.key-key.result c.in-Some.stamp) h h' = subst (λ (o : Holding g.row.J.Denot). Takes r.moment r.kind (at c.key-key.result c.in-Some.stamp) o h') c.in-Ok.ensures.same c.place.ensures.takes in record {
+      stamp = c.in-Some.stamp;
       cpu = refl;
       number = refl;
       count = refl;
-      steps = e.view ∙ ap (λ (k : ℕ). looked (bits_of c.in-Some.word) (accepted (accepts_word r.cpu) (2 * n + 2) k (view c.args.seat.now))) c.key-key.ensures;
-      takes = subst (λ (x : Callback g.row.J.Denot). Takes r.moment r.kind x h h') (ap (λ (k : ℕ). at k c.seq.result) c.key-key.ensures ∙ ap (λ (t : ℕ). at (g.J.Job.key_of r.job) t) c.seq.ensures.same) takes;
+      steps = e.view ∙ ap (λ (k : ℕ). looked c.in-Some.stamp (accepted (accepts_word r.cpu) (2 * n + 2) k (view c.args.seat.now))) c.key-key.ensures;
+      takes = subst (λ (x : Callback g.row.J.Denot). Takes r.moment r.kind x h h') (ap (λ (k : ℕ). at k c.in-Some.stamp) c.key-key.ensures) takes;
       records = refl;
     }
 
@@ -67,6 +67,12 @@ returns-clause-lane g c = c.place.ensures.lane ∙ same_lane c.args.lists.now c.
 
 pub returns-clause-claims : goal.returns-clause-claims
 returns-clause-claims g c = let e = c.in-Some.ensures.enters in (e.claims, e.running)
+
+pub returns-clause-word : goal.returns-clause-word
+returns-clause-word g c = c.in-Some.ensures.enters.word
+
+pub returns-in_default-accept_and_stamp-clause-word : goal.returns-in_default-accept_and_stamp-clause-word
+returns-in_default-accept_and_stamp-clause-word g c = c.in_default-accept_and_stamp.ensures.keeps.word
 
 pub returns-clause-full : goal.returns-clause-full
 returns-clause-full g c = λ full. absurd (below_isnt c.args.accepted.now c.args.request.limit c.if-number-limit.false full)

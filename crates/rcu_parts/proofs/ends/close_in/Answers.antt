@@ -62,20 +62,14 @@ end_each-requires-clause-ready g c κs within =
       ),
     )
 
-pub load_last-reports-requires-clause-whole : goal.load_last-reports-requires-clause-whole
-load_last-reports-requires-clause-whole g c =
+pub settle-requires-clause-whole : goal.settle-requires-clause-whole
+settle-requires-clause-whole g c =
     let k = c.args.parts.control in
     let d = c.args.parts.driver in
     let e = c.end_each.ensures.ends in
     let two = two_views k d c.merge.new.all c.new-all.result c.into_parts-board.result.1 c.into_seat.result c.new-all.ensures.view c.into_parts-board.ensures.1 c.into_seat.ensures c.merge.ensures.view in
     weighs_all c.args.parts (gathered_view c.end_each.new.self.all) e.ends c.requires.parts (e.parts ∙ ap (cpu_parts c.args.parts.processors.items) c.from-2.ensures.0)
     (gathered_all c.args.parts (gathered_view c.merge.new.all) (gathered_view c.gather_groups-members.new.all) (gathered_view c.end_each.new.self.all) e.ends two c.gather_groups-members.ensures.view e.view)
-
-pub load_last-reports-requires-clause-room : goal.load_last-reports-requires-clause-room
-load_last-reports-requires-clause-room g c =
-    let b = ap (λ t. t.processors) (c.deref-3.ensures ∙ (c.end_each.ensures.board ∙ c.into_parts-board.ensures.0)) in
-    let m = c.requires.parts.as_many in
-    let r = c.requires.room.reports in omega (arith, b, m, r)
 
 pub returns : goal.returns
 returns g c =
@@ -84,10 +78,10 @@ returns g c =
     let e = c.end_each.ensures.ends in
     let two = two_views k d c.merge.new.all c.new-all.result c.into_parts-board.result.1 c.into_seat.result c.new-all.ensures.view c.into_parts-board.ensures.1 c.into_seat.ensures c.merge.ensures.view in
     let x : Ending g.row.J.Denot g.row.J-Receipt.Denot = record { board = c.into_parts-board.result.0; all = c.gather_groups-members.new.all; ran = c.args.room.ran; back = c.args.room.back } in
-    let answers = answers_with g.J.Job.key_of g.J.Job.gives c.args.parts (record { ran = c.end_each.new.self.ran; back = c.end_each.new.self.back; reports = c.load_last-reports.result }) c.args.room c.from-2.result.items x c.end_each.new.self c.deref-3.result.now
+    let answers = answers_with g.J.Job.key_of g.J.Job.gives c.args.parts (record { ran = c.end_each.new.self.ran; back = c.end_each.new.self.back; reports = c.args.room.reports }) c.args.room c.from-2.result.items x c.end_each.new.self c.deref-3.result.now
     c.requires.parts c.requires.room refl refl c.from-2.ensures.0 c.into_parts-board.ensures.0 (c.deref-3.ensures ∙ (c.end_each.ensures.board ∙ c.into_parts-board.ensures.0)) e
     (gathered_all c.args.parts (gathered_view c.merge.new.all) (gathered_view c.gather_groups-members.new.all) (gathered_view c.end_each.new.self.all) e.ends two c.gather_groups-members.ensures.view e.view)
-    c.load_last-reports.ensures refl refl c.closing.ensures.reports in
+    c.settle.result c.settle.ensures.settled refl refl refl in
     let v = control_view k in
     let others = other_views c.args.parts in record {
       accounts = answers (Ends v others) (λ h. c.closing.ensures.ends _ _ v others e.ends h);
@@ -119,8 +113,5 @@ end_each-requires-send-J g c κs within = c.type_bounds.send-J
 pub end_each-requires-send-J-Receipt : goal.end_each-requires-send-J-Receipt
 end_each-requires-send-J-Receipt g c κs within = c.type_bounds.send-J-Receipt
 
-pub load_last-reports-requires-clause-at : goal.load_last-reports-requires-clause-at
-load_last-reports-requires-clause-at g c = c.end_each.ensures.at ∙ ap (λ t. t.words.table.shared.table_id) (sym c.deref-3.ensures)
-
-pub load_last-reports-requires-clause-none : goal.load_last-reports-requires-clause-none
-load_last-reports-requires-clause-none g c = c.requires.room.no_reports
+pub settle-requires-clause-all : goal.settle-requires-clause-all
+settle-requires-clause-all g c = c.end_each.ensures.at ∙ ap (λ t. t.words.table.shared.table_id) (sym c.deref-3.ensures)

@@ -18,7 +18,7 @@ pub returns-clause-places : goal.returns-clause-places
 returns-clause-places g c = let p = c.args.self.now.state in let q = c.take_in-took.new.self.state in let r = c.look.new.self.state in let s = c.give-gave.new.self.state in
     let a = c.take_in-took.ensures.takes in let b = c.look.ensures.looks in let d = c.give-gave.ensures.gives in
     places_again (members_of p) (members_of r) (members_of s)
-    (places_again (members_of p) (members_of q) (members_of r) (takes_places c.take_in-took.result (members_of p) (members_of q) a.members) (looks_places b.word.seq b.most (members_of q) (members_of r) b.members))
+    (places_again (members_of p) (members_of q) (members_of r) (takes_places c.take_in-took.result (members_of p) (members_of q) a.members) (looks_places b.seen b.most (members_of q) (members_of r) b.members))
     (gives_places r.blimit c.give-gave.result (members_of r) (members_of s) d.members)
 
 pub waiting-held-requires : goal.waiting-held-requires

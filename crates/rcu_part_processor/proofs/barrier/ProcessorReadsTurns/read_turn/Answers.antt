@@ -1,13 +1,14 @@
-use Rattle.std.proofs.Common.{◌<◌, ◌∙◌, sym, refl, subst}
+use Rattle.std.proofs.Common.{◌<◌, ◌∙◌, ap, sym, refl, subst}
 use Rattle.std.specs.Arc.{arc_value}
 use Rattle.rcu_board.specs.Roles.{MayCount}
 use Rattle.rcu_board.specs.declared.board.Board.{Board}
-use Rattle.rcu_board.specs.Seats.{view}
+use Rattle.rcu_board.specs.Seats.{own_word, view}
 use Rattle.rcu_board.specs.Words.{turns_word}
 use Rattle.rcu_part_lists.specs.ProcessorLists.{holding}
 use Rattle.rcu_part_processor.proofs.Keeping.{kept_by_tells}
 use Rattle.rcu_part_processor.proofs.Standing.{stands}
 use Rattle.rcu_part_steps.proofs.Telling.{tells_touched}
+use Rattle.rcu_part_processor.proofs.Passing.{since_kept}
 use Rattle.rcu_part_processor.proofs.barrier.ProcessorReadsTurns.read_turn.Goals as goal
 
 pub invariant_of-state : goal.invariant_of-state
@@ -18,6 +19,7 @@ invariant_of-state g c = let s = c.args.self.now.state in let e = c.turn_of.ensu
   bit = s.bit;
   local = s.local;
   small = s.small;
+  since = since_kept _ _ _ (ap own_word e.view) s.since;
   lawful = kept_by_tells s.cpu s.accepted _ v w s.ran.items (holding s.lists) (tells_touched (turns_word c.args.p) c.turn_of.result v w e.view) (e.same.later (arc_value s.board) s.here) s.lawful;
 }
 

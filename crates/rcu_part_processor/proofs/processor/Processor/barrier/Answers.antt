@@ -2,11 +2,12 @@ use Rattle.std.proofs.Common.{◌∙◌, ap, arith, sym, refl, subst}
 use Rattle.rcu_board.specs.Seats.{view}
 use Rattle.rcu_board.specs.declared.board.Board.{Board}
 use Rattle.rcu_part_lists.specs.ProcessorLists.{holding}
-use Rattle.rcu_part_processor.proofs.Barring.{opens_law, own_is_exact}
+use Rattle.rcu_part_processor.proofs.Barring.{opens_law, opens_word, own_is_exact}
 use Rattle.std.specs.Arc.{arc_value}
 use Rattle.rcu_part_processor.proofs.Standing.{stands}
 use Rattle.rcu_board.specs.Roles.{MayCount}
 use Rattle.rcu_part_control.specs.Barriers.{Opens}
+use Rattle.rcu_part_processor.proofs.Passing.{since_kept}
 use Rattle.rcu_part_processor.proofs.processor.Processor.barrier.Goals as goal
 
 pub invariant_of-state : goal.invariant_of-state
@@ -17,6 +18,7 @@ invariant_of-state g c = let s = c.args.self.now.state in let e = c.open_barrier
   bit = s.bit;
   local = s.local;
   small = s.small;
+  since = since_kept _ _ _ (opens_word _ c.open_barrier.result _ _ e.opens) s.since;
   lawful = opens_law s.cpu s.accepted _ c.open_barrier.result (view s.seat) (view c.open_barrier.new.seat) s.ran.items (holding s.lists) e.opens s.lawful;
 }
 

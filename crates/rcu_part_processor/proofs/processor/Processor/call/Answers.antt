@@ -11,6 +11,7 @@ use Rattle.rcu_part_processor.proofs.CallPieces.{accepts_none_with, accepts_with
 use Rattle.rcu_part_processor.proofs.Keeping.{few_placed, kept_by_places, places_of}
 use Rattle.rcu_part_processor.proofs.Standing.{stands}
 use Rattle.std.specs.Arc.{arc_value}
+use Rattle.rcu_part_processor.proofs.Passing.{since_kept}
 use Rattle.rcu_part_processor.proofs.processor.Processor.call.Goals as goal
 
 pub invariant_of-state : goal.invariant_of-state
@@ -21,6 +22,7 @@ invariant_of-state g c = let s = c.args.self.now.state in let e = c.accept_job.e
   bit = s.bit;
   local = e.local s.offloadable s.local;
   small = (e.small, s.small.1);
+  since = since_kept _ _ _ (e.word) s.since;
   lawful = kept_by_places s.cpu s.accepted _ (view s.seat) (view c.accept_job.new.seat) s.ran.items (holding s.lists) (holding c.accept_job.new.lists) e.claims.0 e.claims.1
       (e.places (numbered_records s.ran.items) (places_of s.cpu s.accepted (view s.seat) s.ran.items (holding s.lists) s.lawful)) s.lawful;
 }

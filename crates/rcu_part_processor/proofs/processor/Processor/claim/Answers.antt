@@ -21,6 +21,7 @@ use Rattle.rcu_part_processor.proofs.Claiming.{begun_law, keyed_in, keyed_withou
 use Rattle.rcu_part_processor.proofs.Keeping.{kept_by_keeps}
 use Rattle.rcu_part_processor.proofs.Standing.{same_lane, stands}
 use Rattle.rcu_part_processor.proofs.TickRuns.{done_none, done_some, same_done}
+use Rattle.rcu_part_processor.proofs.Passing.{since_kept}
 use Rattle.rcu_part_processor.proofs.processor.Processor.claim.Goals as goal
 
 pub try_claim-requires-clause-board : goal.try_claim-requires-clause-board
@@ -46,6 +47,7 @@ invariant_of-state g c = let s = c.args.self.state in let e = c.if-not-try_claim
   bit = s.bit;
   local = s.local;
   small = s.small;
+  since = since_kept _ _ _ (e.lost refl).0.word s.since;
   lawful = kept_by_keeps s.cpu s.accepted _ (view s.seat) (view c.try_claim.new.seat) s.ran.items (holding s.lists) (e.lost refl).0 (e.same.later (arc_value s.board) s.here) s.lawful;
 }
 
@@ -92,6 +94,7 @@ invariant_of-state-2 g c =
       bit = s.bit;
       local = λ off. let l = s.local off in (ap (λ (o : Holding g.row.J.Denot). o.mode) t.taken.1 ∙ l.0, ap put_by t.taken.1 ∙ l.1);
       small = s.small;
+      since = since_kept _ _ _ (e.won refl).word s.since;
       below = c.requires.small;
       room = c.requires.room;
       lawful = begun_law s.cpu s.accepted m seen (view s.seat) (view c.try_claim.new.seat) s.ran.items h h' x c.args.claimed is won later c.requires.seen.0 (ap put_by t.taken.1) t.places (ap (λ (o : Holding g.row.J.Denot). o.advanced) t.taken.1) less over s.lawful;

@@ -7,7 +7,7 @@ use denote.Param.{param}
 use Rattle.rcu_numbers.specs.Words.{all_but_of, owes_of}
 use Rattle.rcu_board.specs.Plays.{touched, urged}
 use Rattle.rcu_board.specs.Roles.{IsProcessor, cpu_of_role}
-use Rattle.rcu_board.specs.Seats.{NeverFalls, view}
+use Rattle.rcu_board.specs.Seats.{NeverFalls, own_word, view}
 use Rattle.rcu_board.specs.declared.board.Board.{Board}
 use Rattle.rcu_board.specs.Views.{seen_at}
 use Rattle.rcu_board.specs.Words.{asks_word, urge_word}
@@ -21,6 +21,7 @@ use Rattle.rcu_part_processor.proofs.Heeding.{heeding, shifts_below, shifts_law,
 use Rattle.rcu_part_processor.proofs.Taking.{sound_moved}
 use Rattle.rcu_part_steps.proofs.Telling.{sight_touched, sight_urged, tells_again, tells_touched, tells_urged, urges}
 use Rattle.rcu_part_processor.proofs.Standing.{stands}
+use Rattle.rcu_part_processor.proofs.Passing.{since_kept}
 use Rattle.rcu_part_processor.proofs.processor.Processor.heed.Goals as goal
 
 pub heard-urged-requires-clause-who : goal.heard-urged-requires-clause-who
@@ -52,6 +53,7 @@ invariant_of-state g c = let s = c.args.self.now.state in let a = c.asked-on.ens
       bit = s.bit;
       local = λ is. (let f : true ≡ false = sym c.requires.offloadable ∙ is in cc);
       small = s.small;
+      since = since_kept _ _ _ (ap own_word b.view ∙ ap own_word a.view) s.since;
       lawful = shifts_law s.cpu s.accepted n v w s.ran.items h j
           (tells_again v u w (tells_touched (asks_word (cpu_of_role s.seat.role)) (from_bool c.asked-on.result) v u a.view) (tells_urged (urge_word n) found (bit_and found (all_but_of (cpu_of_role c.asked-on.new.seat.role))) u w step))
           (never_falls_again n v u w first second)

@@ -1,6 +1,6 @@
 use Rattle.std.proofs.Common.{◌≡◌, ap, sym, ◌∙◌, refl, subst, arith}
 use Rattle.std.specs.Arc.{arc_value}
-use Rattle.rcu_board.specs.Seats.{view}
+use Rattle.rcu_board.specs.Seats.{own_word, view}
 use Rattle.rcu_board.specs.declared.board.Board.{Board}
 use Rattle.rcu_numbers.specs.Words.{owes_of}
 use Rattle.rcu_part_lists.specs.ProcessorLists.{holding}
@@ -16,7 +16,8 @@ invariant_of-result g c = let q = c.requires.seat in let e = c.requires.lists in
       there = c.requires.there;
       bit = λ on. subst (λ (b : Board). owes_of b.offloadable c.args.cpu ≡ 1) c.deref.ensures (o.ensures.0 on);
       local = λ off. (e.mode ∙ ap first_mode (sym kind ∙ off), e.put);
-      small = (omega arith, within.accepted.1);
+      small = (omega arith, let few = within.accepted.1 in omega arith);
+      since = record { word = ap own_word q.first_view; small = omega arith };
       lawful = first_law (arc_value c.args.board) c.args.cpu (view c.args.seat) c.new.result.items (holding c.args.lists) q.first_view c.new.ensures.items e.put e.bypass e.own e.looked;
     }
 
@@ -31,6 +32,7 @@ returns g c = let o = c.is_offloadable-offloadable in record {
     limit = refl;
     blimit = refl;
     accepted = refl;
+    passed = refl;
     ran = c.new.ensures.items;
   };
 }

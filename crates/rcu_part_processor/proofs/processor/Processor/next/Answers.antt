@@ -41,6 +41,7 @@ invariant_of-state g c = let s = c.args.self.now.state in record {
   bit = s.bit;
   local = s.local;
   small = s.small;
+  since = s.since;
   lawful = subst (λ (rs : List (Record g.row.J-Receipt.Denot)). IsLawful s.cpu s.accepted (view s.seat) rs (holding s.lists)) (sym c.reserve.ensures.items) s.lawful;
 }
 

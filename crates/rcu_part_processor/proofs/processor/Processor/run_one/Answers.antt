@@ -27,13 +27,14 @@ use Rattle.rcu_part_processor.proofs.Taking.{sound_same}
 use Rattle.rcu_part_processor.proofs.TickRuns.{done_none, done_one, done_some, same_done, sound_ran}
 use Rattle.rcu_part_steps.proofs.Turning.{steps_more, steps_none}
 use Rattle.rcu_part_processor.proofs.Standing.{same_lane, stands}
+use Rattle.rcu_part_processor.proofs.Passing.{since_kept}
 use Rattle.rcu_part_processor.proofs.processor.Processor.run_one.Goals as goal
 
 pub first-requires : goal.first-requires
 first-requires g c = let h : FitsInMemory (row.the_row (param 0 g.row.J) (param 1 g.row.J-Receipt)) = assumption in in_struct _ _ _ (in_struct _ _ _ h)
 
 pub invariant_of-state : goal.invariant_of-state
-invariant_of-state g c = let s = c.args.self.now.state in record { here = s.here; role = s.role; there = s.there; bit = s.bit; local = s.local; small = s.small; lawful = s.lawful }
+invariant_of-state g c = let s = c.args.self.now.state in record { here = s.here; role = s.role; there = s.there; bit = s.bit; local = s.local; small = s.small; since = s.since; lawful = s.lawful }
 
 pub returns-in_default-clause-not : goal.returns-in_default-clause-not
 returns-in_default-clause-not g c = (0, done_none 0 c.args.seen c.args.self.now.state _ refl refl (steps_none _ _ _ refl) (omega arith), λ n. (c.in_default.ensures.first, omega arith))
@@ -46,6 +47,7 @@ invariant_of-state-in_default-reserve g c = let s = c.args.self.now.state in rec
   bit = s.bit;
   local = s.local;
   small = s.small;
+  since = s.since;
   lawful = subst (λ (rs : List (Record g.row.J-Receipt.Denot)). IsLawful s.cpu s.accepted (view s.seat) rs (holding s.lists)) (sym c.reserve.ensures.items) s.lawful;
 }
 
@@ -64,6 +66,7 @@ invariant_of-state-then-not-try_claim g c = let s = c.args.self.now.state in let
   bit = s.bit;
   local = s.local;
   small = s.small;
+  since = since_kept _ _ _ (e.lost refl).0.word s.since;
   lawful = subst (λ (rs : List (Record g.row.J-Receipt.Denot)). IsLawful s.cpu s.accepted (view c.try_claim.new.seat) rs (holding s.lists)) (sym c.reserve.ensures.items)
       (kept_by_keeps s.cpu s.accepted _ (view s.seat) (view c.try_claim.new.seat) s.ran.items (holding s.lists) (e.lost refl).0 (e.same.later (arc_value s.board) s.here) s.lawful);
 }
@@ -112,6 +115,7 @@ invariant_of-state-2 g c =
       bit = s.bit;
       local = λ is. let l = s.local is in (ap (λ (o : Holding g.row.J.Denot). o.mode) t.taken.1 ∙ l.0, ap put_by t.taken.1 ∙ l.1);
       small = s.small;
+      since = since_kept _ _ _ (r.ends.word ∙ w.word) s.since;
       lawful = kept_by_runs s.cpu s.accepted n c.args.seen (view s.seat) (view c.try_claim.new.seat) (view c.run_claimed-record.new.seat) s.ran.items c.push_reserved.new.self.items h h' x c.run_claimed-record.result
           won r.ends (never_falls_again n (view s.seat) (view c.try_claim.new.seat) (view c.run_claimed-record.new.seat) later later2) c.requires.seen.0
           (c.push_reserved.ensures.items ∙ ap (λ rs. rs ++ c.run_claimed-record.result ∷ []) c.reserve.ensures.items) (ap put_by t.taken.1) t.places (ap (λ (o : Holding g.row.J.Denot). o.advanced) t.taken.1) less r.record r.ready over s.lawful;

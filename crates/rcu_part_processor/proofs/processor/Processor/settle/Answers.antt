@@ -2,7 +2,7 @@ use Rattle.std.proofs.Common.{◌≡◌, ℕ, true, false, ap, sym, ◌∙◌, r
 use Rattle.std.specs.Mem.{FitsInMemory}
 use denote.Param.{param}
 use Rattle.rcu_board.specs.Plays.{touched}
-use Rattle.rcu_board.specs.Seats.{view}
+use Rattle.rcu_board.specs.Seats.{own_word, view}
 use Rattle.rcu_board.specs.Views.{seen_at}
 use Rattle.rcu_board.specs.Words.{turns_word}
 use Rattle.rcu_board.specs.declared.view.View.{View}
@@ -20,6 +20,7 @@ use Rattle.std.specs.Arc.{arc_value}
 use Rattle.rcu_part_processor.proofs.Standing.{same_lane, stands}
 use Rattle.rcu_board.specs.Roles.{MayCount}
 use Rattle.rcu_board.specs.declared.board.Board.{Board}
+use Rattle.rcu_part_processor.proofs.Passing.{since_kept}
 use Rattle.rcu_part_processor.proofs.processor.Processor.settle.Goals as goal
 
 pub mode-requires : goal.mode-requires
@@ -36,12 +37,13 @@ invariant_of-state g c = let s = c.args.self.now.state in let e = c.turn_of-turn
   bit = s.bit;
   local = λ is. (let f : true ≡ false = sym c.requires.offloadable ∙ is in cc);
   small = s.small;
+  since = since_kept _ _ _ (ap own_word e.view) s.since;
   lawful = settled_law s.cpu s.accepted _ (view s.seat) (view c.turn_of-turn.new.seat) s.ran.items h (holding c.settle.new.self) (settled h.left c.turn_of-turn.result h.mode)
       (tells_touched (turns_word s.cpu) c.turn_of-turn.result (view s.seat) (view c.turn_of-turn.new.seat) e.view) (e.same.later (arc_value s.board) s.here) c.settle.ensures.settled s.lawful;
 }
 
 pub invariant_of-state-else-is_deoffloading : goal.invariant_of-state-else-is_deoffloading
-invariant_of-state-else-is_deoffloading g c = let s = c.args.self.now.state in record { here = s.here; role = s.role; there = s.there; bit = s.bit; local = s.local; small = s.small; lawful = s.lawful }
+invariant_of-state-else-is_deoffloading g c = let s = c.args.self.now.state in record { here = s.here; role = s.role; there = s.there; bit = s.bit; local = s.local; small = s.small; since = s.since; lawful = s.lawful }
 
 pub returns-then-is_deoffloading-clause-settles : goal.returns-then-is_deoffloading-clause-settles
 returns-then-is_deoffloading-clause-settles g c = let s = c.args.self.now.state in let e = c.turn_of-turn.ensures in let h = holding s.lists in let turn = c.turn_of-turn.result in let w = view c.turn_of-turn.new.seat in

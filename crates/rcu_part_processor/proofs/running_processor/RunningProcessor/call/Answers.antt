@@ -12,6 +12,7 @@ use Rattle.rcu_part_processor.proofs.CallPieces.{accepts_none_with, accepts_with
 use Rattle.rcu_part_processor.proofs.Keeping.{few_placed, runs_by_places}
 use Rattle.rcu_part_processor.proofs.Standing.{stands}
 use Rattle.std.specs.Arc.{arc_value}
+use Rattle.rcu_part_processor.proofs.Passing.{since_kept}
 use Rattle.rcu_part_processor.proofs.running_processor.RunningProcessor.call.Goals as goal
 
 pub invariant_of-state : goal.invariant_of-state
@@ -22,6 +23,7 @@ invariant_of-state g c = let s = c.args.self.now.state in let e = c.accept_job.e
   bit = s.bit;
   local = e.local s.offloadable s.local;
   small = (e.small, s.small.1);
+  since = since_kept _ _ _ (e.word) s.since;
   below = s.below;
   room = s.room;
   lawful = runs_by_places s.cpu s.accepted _ s.claimed (view s.seat) (view c.accept_job.new.seat) s.ran.items (holding s.lists) (holding c.accept_job.new.lists) e.claims.0 e.claims.1

@@ -8,6 +8,7 @@ use Rattle.rcu_part_lists.specs.ProcessorLists.{holding}
 use Rattle.rcu_part_steps.specs.Begins.{claim_that_runs}
 use Rattle.rcu_part_steps.specs.Changes.{StepsOnly}
 use Rattle.rcu_part_processor.proofs.Claiming.{finished_law, given_finished}
+use Rattle.rcu_part_processor.proofs.Passing.{since_kept}
 use Rattle.rcu_part_processor.proofs.running_processor.RunningProcessor.finish.Goals as goal
 
 pub invariant_of-state : goal.invariant_of-state
@@ -18,6 +19,7 @@ invariant_of-state g c = let s = c.args.self.state in let e = c.end_claim.ensure
   bit = s.bit;
   local = s.local;
   small = s.small;
+  since = since_kept _ _ _ (e.ends.word) s.since;
   lawful = finished_law s.cpu s.accepted _ s.claimed c.args.receipt (view s.seat) (view c.end_claim.new.seat) s.ran.items c.push_reserved.new.self.items (holding s.lists) e.ends (e.same.later (arc_value s.board) s.here) c.push_reserved.ensures.items s.lawful;
 }
 
