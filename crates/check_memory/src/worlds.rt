@@ -65,6 +65,9 @@ fn make_at(world: &mut World<Work>, cpu: Cpu, action: Action, moment: u64, key: 
     if number >= world.processors() {
         return Answer::Other;
     }
+    if world.is_away(number) {
+        return Answer::Other;
+    }
     match action {
         Action::Call(_) => called(world.call_rcu(number, moment, Work { key })),
         Action::Lazy(_) => called(world.call_rcu_lazy(number, moment, Work { key })),

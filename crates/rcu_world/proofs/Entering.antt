@@ -27,7 +27,8 @@ small h = omega arith
 pub accepted_fits : {J R : Type 0} (key_of : J → ℕ) (w : Core J R) (i : ℕ) (p q : WorldProcessor J R) → IsFit (state key_of w) → i < length w.processors.items → p ≡ get_or w.processors.items i p
     → can_accept w.limit (seen key_of p) ≡ true → seen key_of q ≡ seen key_of p → ((seen key_of q).fresh ≡ None) × ((seen key_of q).count < 9223372036854775808)
 accepted_fits key_of w i p q k l e t s =
-    let n = second_holds (nat_lt p.count w.limit) (is_none (seen key_of p).fresh) (second_holds (not p.shut) (nat_lt p.count w.limit && is_none (seen key_of p).fresh) t) in
+    let unshut = second_holds (not p.away) (not p.shut && (nat_lt p.count w.limit && is_none (seen key_of p).fresh)) t in
+    let n = second_holds (nat_lt p.count w.limit) (is_none (seen key_of p).fresh) (second_holds (not p.shut) (nat_lt p.count w.limit && is_none (seen key_of p).fresh) unshut) in
     let f = fits_at key_of w i p k l e in
     (ap (λ x. x.fresh) s ∙ no_fresh (seen key_of p).fresh n, subst (λ x. x.count < 9223372036854775808) (sym s) (small f.1))
 

@@ -7,7 +7,7 @@ use Rattle.rcu_world.specs.Events.{Answers, Becomes, core_event, Runs}
 use Rattle.rcu_world.specs.declared.events.Event.TheVariants as events
 use Rattle.rcu_world_law.specs.declared.who.Who.TheVariants as who
 use Rattle.rcu_world_law.specs.Events.{CoreEvent, is_enabled, after}
-use Rattle.rcu_world_law.specs.Events.CoreEvent.{Accept, Stamp, Put, Report, Start, End, Look, LookGroup, LookHand, Need, Draw, Join, Give, Fetch, Claim, Finish, Ask, Heed, Settle, Open, Count, Turn, Pass, Shut, Urge, Hear}
+use Rattle.rcu_world_law.specs.Events.CoreEvent.{Accept, Stamp, Put, Report, Start, End, Look, LookGroup, LookHand, Need, Draw, Join, Give, Fetch, Claim, Finish, Ask, Heed, Settle, Open, Count, Turn, Pass, Shut, Urge, Hear, Leave, Return, Meet}
 use Rattle.rcu_jobs.specs.Modes.{is_offloaded}
 use Rattle.rcu_world_law.specs.States.{State, cpu_at}
 use Rattle.rcu_world_law.specs.declared.who.Side.TheVariants.{Local}
@@ -46,6 +46,9 @@ becomes_with key_of old (events.Pass b) new s = (true, s)
 becomes_with key_of old (events.Shut p) new s = (true, s)
 becomes_with key_of old events.Urge new s = (true, s)
 becomes_with key_of old (events.Hear p) new s = (true, s)
+becomes_with key_of old (events.Leave p) new s = (true, s)
+becomes_with key_of old (events.Return p) new s = (true, s)
+becomes_with key_of old (events.Meet p) new s = (true, s)
 
 -- whether there is room to pour doesn't matter to whether an event is enabled
 pub enabled_with : {J : Type 0} (key_of : J → ℕ) (old : State) (poured : Bool) (e : Event J) → {b : Bool} → is_enabled old (core_event key_of true e) ≡ b → is_enabled old (core_event key_of poured e) ≡ b
@@ -75,6 +78,9 @@ enabled_with key_of old poured (events.Pass b) h = h
 enabled_with key_of old poured (events.Shut p) h = h
 enabled_with key_of old poured events.Urge h = h
 enabled_with key_of old poured (events.Hear p) h = h
+enabled_with key_of old poured (events.Leave p) h = h
+enabled_with key_of old poured (events.Return p) h = h
+enabled_with key_of old poured (events.Meet p) h = h
 
 -- no event changes the shape
 pub shape_after : (w : State) (e : CoreEvent) → (after w e).shape ≡ w.shape
@@ -105,6 +111,9 @@ shape_after w (Pass b) = refl
 shape_after w (Shut p) = refl
 shape_after w Urge = refl
 shape_after w (Hear p) = refl
+shape_after w (Leave p) = refl
+shape_after w (Return p) = refl
+shape_after w (Meet p) = refl
 
 pub fit_after : (w : State) (e : CoreEvent) → IsFit w → is_enabled w e ≡ true → IsFit (after w e)
 fit_after w e k h = record {

@@ -87,6 +87,9 @@ keeps_with key_of poured (events.Pass b) k = k
 keeps_with key_of poured (events.Shut p) k = k
 keeps_with key_of poured events.Urge k = k
 keeps_with key_of poured (events.Hear p) k = k
+keeps_with key_of poured (events.Leave p) k = k
+keeps_with key_of poured (events.Return p) k = k
+keeps_with key_of poured (events.Meet p) k = k
 
 pub rest_took : {J : Type 0} (key_of : J → ℕ) (old : State) (e : Event J) (new : State) → Becomes key_of old e new → keeps_rest (core_event key_of true e) ≡ true → IsAtRest old → IsAtRest new
 rest_took key_of old e new s k i = let b = becomes_with key_of old e new s in subst IsAtRest (sym b.1) (rest_after old (core_event key_of b.0 e) (keeps_with key_of b.0 e k) i)

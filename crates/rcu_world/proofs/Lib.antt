@@ -29,3 +29,6 @@ pub mod Refusing
 pub mod Faults
 pub mod Places
 pub mod Staying
+pub mod FirstOf
+pub mod Meeting
+pub mod Absences

@@ -9,7 +9,12 @@ use Rattle.std.proofs.lemmas.Nat.Bits.{bit_at-lt, bit_at-suc, bit_at-zero, bit_a
 use Rattle.rcu_world_law.specs.Invariant.{owed}
 use Rattle.rcu_world_law.specs.Lists.{none_owes}
 use Rattle.rcu_numbers.specs.Words.{Board, Owes, all_of, owes_of}
-use Rattle.rcu_world.specs.Boards.{IsBoardOf, bits, mask_of}
+use Rattle.rcu_world.specs.Boards.{IsBoardOf, bits}
+
+-- the mask of the processors that owe a report
+abbrev pub mask_of : List Bool → ℕ
+mask_of [] = 0
+mask_of (b ∷ bs) = owed b + 2 * mask_of bs
 
 pub length_bits : (n mask : ℕ) → length (bits n mask) ≡ n
 length_bits zero mask = refl

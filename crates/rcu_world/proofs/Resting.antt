@@ -11,7 +11,7 @@ use Rattle.rcu_world_law.specs.States.{State, Cpu, empty_cpu, cpu_at, has, with_
 use Rattle.rcu_world_law.specs.Releases.{Pace, pace_after_stamp, pace_after_put}
 use Rattle.rcu_world_law.specs.Steps.{accepts, stamps, stamps_into, with_pace, puts, looks, group_looks, hand_looks, draws, joins, gives, fetches, finishes, leaves, heeds, heeds_mode, settles}
 use Rattle.rcu_world_law.specs.Events.{CoreEvent, is_enabled, after, each_cpu, most_wanted}
-use Rattle.rcu_world_law.specs.Events.CoreEvent.{Accept, Stamp, Put, Report, Start, End, Look, LookGroup, LookHand, Need, Draw, Join, Give, Fetch, Claim, Finish, Ask, Heed, Settle, Open, Count, Turn, Pass, Shut, Urge, Hear}
+use Rattle.rcu_world_law.specs.Events.CoreEvent.{Accept, Stamp, Put, Report, Start, End, Look, LookGroup, LookHand, Need, Draw, Join, Give, Fetch, Claim, Finish, Ask, Heed, Settle, Open, Count, Turn, Pass, Shut, Urge, Hear, Leave, Return, Meet}
 use Rattle.rcu_world.specs.Turns.{IsIdle, IsAtRest, IsAtRestBut, keeps_rest}
 
 at_set : (P : Cpu → Type 0) (cs : List Cpu) (p q : ℕ) (c : Cpu) → P c → P (get_or cs q empty_cpu) → P (get_or (set cs p c) q empty_cpu)
@@ -87,6 +87,9 @@ rest_after w (Pass b) k i = record { each = i.each }
 rest_after w (Shut p) k i = let r = rest_cpu w p (record (cpu_at w p) { shut = true }) (record { fresh = (i.each p).fresh; running = (i.each p).running }) i in record { each = r.each }
 rest_after w Urge k i = rest_each w (λ p c. record c { urged = true }) (λ p c k. record { fresh = k.fresh; running = k.running }) i
 rest_after w (Hear p) k i = rest_cpu w p (record (cpu_at w p) { urged = false }) (record { fresh = (i.each p).fresh; running = (i.each p).running }) i
+rest_after w (Leave p) k i = rest_cpu w p (record (cpu_at w p) { away = true }) (record { fresh = (i.each p).fresh; running = (i.each p).running }) i
+rest_after w (Return p) k i = rest_cpu w p (record (cpu_at w p) { away = false }) (record { fresh = (i.each p).fresh; running = (i.each p).running }) i
+rest_after w (Meet p) k i = record { each = i.each }
 
 -- between Accept and Stamp
 pub rest_accepted : (w : State) (p key : ℕ) → IsAtRest w → IsAtRestBut p (after w (Accept p key))

@@ -108,13 +108,6 @@ module _ {J R : Type 0} (key_of : J → ℕ) where
   held_fits_at w i p k l e = subst (λ x. (front x.held).stamp ≤ GREATEST_NUMBER) (sym (seen_at w.processors.items i p l e))
       (held_fits (state key_of w) i k (omega (arith, length-map w.processors.items (seen key_of))))
 
-  -- an event of any processor that is there
-  pub happened : (w : Core J R) (i : ℕ) (p q : WorldProcessor J R) (f : Cpu → Cpu) → i < length w.processors.items → p ≡ get_or w.processors.items i p → seen key_of q ≡ f (seen key_of p)
-      → (has (state key_of w) i ≡ true) × (record (state key_of w) { cpus = all_seen key_of (set w.processors.items i q) } ≡ with_cpu (state key_of w) i (f (cpu_at (state key_of w) i))) × (false ≡ false)
-  happened w i p q f l e d =
-      let r = stepped w i p q (λ x. true) f (λ x. None) w.history.items l e refl d refl in
-      (lt-ltb i (length (all_seen key_of w.processors.items)) (omega (arith, length-map w.processors.items (seen key_of))), r.1, refl)
-
   -- what a processor wants is asked for
   pub needed_at : (w : Core J R) (i : ℕ) (p q : WorldProcessor J R) (s n : ℕ) → i < length w.processors.items → p ≡ get_or w.processors.items i p → p.wanted ≡ Some s
       → seen key_of q ≡ record (seen key_of p) { wanted = None } → n ≡ max w.needed s

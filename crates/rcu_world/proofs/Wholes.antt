@@ -1,6 +1,6 @@
 -- loops that have come to their end
 use Rattle.std.proofs.Common.{◌≡◌, ℕ, List, Result, Ok, Err, IsErr, IfOk, subst}
-use Rattle.std.specs.Result.{OnErr}
+use Rattle.std.specs.Result.{OnErr, OnOk}
 use Rattle.rcu_world_law.specs.States.{State}
 use Rattle.rcu_world_law.specs.Events.{CoreEvent}
 use Rattle.rcu_world.specs.GroupTurns.{Made, Upto}
@@ -21,3 +21,8 @@ on_err P (Err e) p = p
 pub if_ok_never : {T E Q : Type 0} (r : Result T E) (P : T → Type 0) → IsErr r × Q → IfOk r P
 if_ok_never (Ok x) P h = absurd (let e = h.0 in cc)
 if_ok_never (Err x) P h = tt
+
+-- what is there on a success, by what was
+pub on_ok_by : {A E : Type 0} (P Q : Type 0) (r : Result A E) → (P → Q) → OnOk r P → OnOk r Q
+on_ok_by P Q (Ok x) f p = f p
+on_ok_by P Q (Err e) f p = tt

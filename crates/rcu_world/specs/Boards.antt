@@ -1,8 +1,7 @@
 -- The board of the core, as contracts see it. docs/specification/rules.md, "Quiescent reports"
-use Rattle.std.specs.Prelude.{ℕ, zero, suc, ◌+◌, ◌*◌, ◌%◌, ◌/◌, ◌==◌, ◌<◌, ◌≤◌, ◌&&◌, nat_lt, Bool, List, [], ◌∷◌}
+use Rattle.std.specs.Prelude.{ℕ, zero, suc, ◌%◌, ◌/◌, ◌==◌, ◌<◌, ◌≤◌, ◌&&◌, nat_lt, if◌then◌else◌, Bool, List, [], ◌∷◌}
 use Rattle.rcu_numbers.specs.declared.shape.TheConstants.{MOST_PROCESSORS}
 use Rattle.rcu_numbers.specs.declared.sequence.TheConstants.{GREATEST_NUMBER}
-use Rattle.rcu_world_law.specs.Invariant.{owed}
 use Rattle.rcu_numbers.specs.Words.{Board, Owes}
 
 -- the grace-period number, and of each processor whether it owes a report
@@ -24,7 +23,7 @@ bits (suc n) mask = (mask % 2 == 1) ∷ bits n (mask / 2)
 abbrev pub may_start : (number needed : ℕ) → Bool
 may_start number needed = (number % 4 == 0) && (nat_lt number needed && nat_lt number GREATEST_NUMBER)
 
--- the mask of the processors that owe a report
-abbrev pub mask_of : List Bool → ℕ
-mask_of [] = 0
-mask_of (b ∷ bs) = owed b + 2 * mask_of bs
+-- the first of n processors that meets the test, n where none does
+abbrev pub first_of : (ℕ → Bool) → ℕ → ℕ
+first_of test zero = 0
+first_of test (suc n) = if test 0 then 0 else suc (first_of (λ p. test (suc p)) n)

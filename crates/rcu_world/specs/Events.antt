@@ -8,7 +8,7 @@ use Rattle.rcu_jobs.specs.Modes.{is_offloaded}
 use Rattle.rcu_world_law.specs.States.{State, cpu_at, owes}
 use Rattle.rcu_world_law.specs.Events.{CoreEvent, is_enabled, after}
 use Rattle.rcu_world_law.specs.Releases.{releases}
-use Rattle.rcu_world_law.specs.Events.CoreEvent.{Accept, Stamp, Put, Report, Start, End, Look, LookGroup, LookHand, Need, Draw, Join, Give, Fetch, Claim, Finish, Ask, Heed, Settle, Open, Count, Turn, Pass, Shut, Urge, Hear}
+use Rattle.rcu_world_law.specs.Events.CoreEvent.{Accept, Stamp, Put, Report, Start, End, Look, LookGroup, LookHand, Need, Draw, Join, Give, Fetch, Claim, Finish, Ask, Heed, Settle, Open, Count, Turn, Pass, Shut, Urge, Hear, Leave, Return, Meet}
 
 -- The event of the machine, with the key of its job in place of the job. `poured` says whether Heed had room to pour, which is the machine's to choose.
 abbrev pub core_event : {J : Type 0} → (J → ℕ) → Bool → Event J → CoreEvent
@@ -38,6 +38,9 @@ core_event key_of poured (events.Pass b) = Pass b
 core_event key_of poured (events.Shut p) = Shut p
 core_event key_of poured events.Urge = Urge
 core_event key_of poured (events.Hear p) = Hear p
+core_event key_of poured (events.Leave p) = Leave p
+core_event key_of poured (events.Return p) = Return p
+core_event key_of poured (events.Meet p) = Meet p
 
 -- the job that an event has
 abbrev pub job_of : {J : Type 0} → Event J → Option J
@@ -61,6 +64,7 @@ needs_room w (events.Claim p by) = true
 needs_room w (events.Open b) = true
 needs_room w (events.Pass b) = true
 needs_room w (events.Shut p) = true
+needs_room w (events.Meet p) = true
 needs_room w e = false
 
 -- the state becomes what the event makes of it

@@ -14,17 +14,16 @@ use Rattle.rcu_jobs.specs.declared.Ticket.{Ticket}
 use Rattle.rcu_jobs.specs.declared.BarrierFault.{BarrierFault}
 use Rattle.rcu_jobs.specs.declared.BarrierFault.TheVariants as barriers
 use Rattle.rcu_numbers.specs.declared.sequence.TheConstants.{GREATEST_NUMBER}
-use Rattle.rcu_world_law.specs.Lists.{none_owes}
 use Rattle.rcu_jobs.specs.Modes.{is_offloaded}
-use Rattle.rcu_world_law.specs.States.{State, Cpu, cpu_at, has, is_offloadable}
+use Rattle.rcu_world_law.specs.States.{State, Cpu, cpu_at, has, is_offloadable, owes}
 use Rattle.rcu_world_law.specs.Steps.{can_claim}
 use Rattle.rcu_world_processor.specs.Turns.{has_none, is_switching}
 use Rattle.rcu_world_law.specs.Releases.{releases, releases_in_tick, moment_of_tick}
 use Rattle.rcu_world_law.specs.Events.{CoreEvent, is_enabled, happens, run}
-use Rattle.rcu_world.specs.Boards.{mask_of}
+use Rattle.rcu_world.specs.Boards.{first_of}
 use Rattle.rcu_world.specs.Views.{state}
 use Rattle.rcu_world.specs.declared.cores.Core.{Core}
-use Rattle.rcu_world_law.specs.Events.CoreEvent.{Accept, Stamp, Put, Start, End, Look, Need, Claim, Finish, Heed, Settle, Hear, LookHand, Fetch, Shut, Open, Count, Urge}
+use Rattle.rcu_world_law.specs.Events.CoreEvent.{Accept, Stamp, Put, Start, End, Look, Need, Claim, Finish, Heed, Settle, Hear, LookHand, Fetch, Shut, Open, Count, Urge, Leave, Meet}
 
 -- every event of the list is enabled, one after another
 abbrev pub AreEnabled : List CoreEvent → State → Type 0
@@ -127,19 +126,36 @@ hand_events p ran = and_then (where_enabled (LookHand p)) (and_then (where_enabl
 abbrev pub switch_answer : State → ℕ → Result (Unit {0}) SwitchFault
 switch_answer w p = if not (has w p) then Err (faults.NoProcessor p) else if not (is_offloadable w p) then Err (faults.NotOffloadable p) else Ok tt
 
--- `driver_turn`: Start or End
-abbrev pub driver_events : State → List CoreEvent
-driver_events w = if w.number % 4 == 0 then where_enabled Start w else where_enabled End w
-
-abbrev pub driver_answer : State → DriverTurn
-driver_answer w =
-    if w.number % 4 == 0 then (if not (nat_lt w.number w.needed) then drivers.Idle else if nat_lt w.number GREATEST_NUMBER then drivers.Started (w.number + 1) else drivers.Spent)
-    else (if none_owes w.owing then drivers.Ended (w.number + 3) else drivers.Waits (mask_of w.owing))
-
 -- the events of f for the first n processors, in rising order
 abbrev pub upto : (ℕ → State → List CoreEvent) → ℕ → State → List CoreEvent
 upto f zero w = []
 upto f (suc n) w = and_then (upto f n) (f n) w
+
+-- a grace period waits for a processor that owes its report and is here, the first of these before others
+abbrev pub waits_for : State → ℕ → Bool
+waits_for w p = owes w p && not (cpu_at w p).away
+
+abbrev pub first_waited : State → ℕ
+first_waited w = first_of (waits_for w) (length w.cpus)
+
+-- `driver_turn`: Start; or Meet for each processor before the first that is waited for, and End where none is
+abbrev pub meets : ℕ → State → List CoreEvent
+meets p = where_enabled (Meet p)
+
+abbrev pub end_events : State → List CoreEvent
+end_events w = and_then (upto meets (first_waited w)) (where_enabled End) w
+
+abbrev pub driver_events : State → List CoreEvent
+driver_events w = if w.number % 4 == 0 then where_enabled Start w else end_events w
+
+abbrev pub driver_answer : State → DriverTurn
+driver_answer w =
+    if w.number % 4 == 0 then (if not (nat_lt w.number w.needed) then drivers.Idle else if nat_lt w.number GREATEST_NUMBER then drivers.Started (w.number + 1) else drivers.Spent)
+    else (if first_waited w == length w.cpus then drivers.Ended (w.number + 3) else drivers.Waits (first_waited w))
+
+-- `leave`: Put with no moment for a bypass list that isn't empty; Leave
+abbrev pub leave_events : ℕ → State → List CoreEvent
+leave_events p = and_then (where_enabled (Put p None)) (λ w. Leave p ∷ [])
 
 -- `shut`: each Shut
 abbrev pub shuts : ℕ → State → List CoreEvent

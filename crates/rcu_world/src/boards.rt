@@ -4,7 +4,6 @@ ghost use Rattle.std.specs.Prelude.{◌≡◌, ◌+◌, ◌<◌, ◌≤◌, ◌%
 ghost use Rattle.rcu_numbers.specs.declared.shape.TheConstants.{MOST_PROCESSORS};
 ghost use Rattle.rcu_world_law.specs.Lists.{none_owes};
 ghost use Rattle.rcu_numbers.specs.declared.sequence.TheConstants.{GREATEST_NUMBER};
-ghost use Rattle.rcu_world.specs.Boards.{mask_of};
 
 use rcu_numbers::{BoardWord, all_processors, ended};
 use std::marker::Model;
@@ -44,13 +43,6 @@ impl Board {
         ensures { result ≡ self.now.number }
     {
         self.word.seq()
-    }
-
-    /// The mask of the processors that owe a report.
-    pub(crate) fn mask(&self) -> u32
-        ensures { result ≡ mask_of self.now.owing }
-    {
-        self.word.mask()
     }
 
     /// Whether the core has this processor and it owes a report.

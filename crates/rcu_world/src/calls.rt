@@ -2,6 +2,7 @@
 
 ghost use Rattle.std.specs.Prelude.{◌≡◌, ◌∷◌, [], ◌<◌, Bool, true, false, length, IfErr, OnOk, OnErr};
 ghost use Rattle.rcu_world_law.specs.Events.{is_enabled};
+ghost use Rattle.rcu_world_law.specs.States.{cpu_at};
 ghost use Rattle.rcu_world_law.specs.Events.CoreEvent.{Accept, Stamp};
 ghost use Rattle.rcu_world.specs.Ready.{IsReadyAt, IsRefusal};
 ghost use Rattle.rcu_world.specs.Turns.{IsAtRest, IsAtRestBut, Leads, stamp_events};
@@ -19,6 +20,7 @@ impl<J: Job> World<J> {
     fn accept_call(&mut self, cpu: u64, job: J) -> Result<(), Refused<J>>
         requires world { IsWorld J.key_of J.gives self.old.core }
         requires there { cpu < length (state J.key_of self.old.core).cpus }
+        requires here { (cpu_at (state J.key_of self.old.core) cpu).away ≡ false }
         requires rest { IsAtRest (state J.key_of self.old.core) }
         ensures events { OnOk result
             (Leads (state J.key_of self.old.core) (Accept cpu (J.key_of job) ∷ [])
@@ -68,6 +70,7 @@ impl<J: Job> World<J> {
     fn call(&mut self, cpu: u64, moment: u64, lazy: bool, job: J) -> Result<Ticket, Refused<J>>
         requires world { IsWorld J.key_of J.gives self.old.core }
         requires there { cpu < length (state J.key_of self.old.core).cpus }
+        requires here { (cpu_at (state J.key_of self.old.core) cpu).away ≡ false }
         requires rest { IsAtRest (state J.key_of self.old.core) }
         ensures called { CallsAs J.key_of J.gives cpu moment lazy job result
             self.old.core self.new.core }
@@ -78,11 +81,12 @@ impl<J: Job> World<J> {
         Ok(Ticket { cpu, number })
     }
 
-    /// Takes a job on, to be run once every processor has reported a quiescent state. The refusals are tested in the order
+    /// Takes a job on for a processor that is here, to be run once every processor has reported a quiescent state. The refusals are tested in the order
     /// `Limit`, `Closed`, `Memory`.
     pub fn call_rcu(&mut self, cpu: u64, moment: u64, job: J) -> Result<Ticket, Refused<J>>
         requires world { IsWorld J.key_of J.gives self.old.core }
         requires there { cpu < length (state J.key_of self.old.core).cpus }
+        requires here { (cpu_at (state J.key_of self.old.core) cpu).away ≡ false }
         requires rest { IsAtRest (state J.key_of self.old.core) }
         ensures called { CallsAs J.key_of J.gives cpu moment false job result
             self.old.core self.new.core }
@@ -94,6 +98,7 @@ impl<J: Job> World<J> {
     pub fn call_rcu_lazy(&mut self, cpu: u64, moment: u64, job: J) -> Result<Ticket, Refused<J>>
         requires world { IsWorld J.key_of J.gives self.old.core }
         requires there { cpu < length (state J.key_of self.old.core).cpus }
+        requires here { (cpu_at (state J.key_of self.old.core) cpu).away ≡ false }
         requires rest { IsAtRest (state J.key_of self.old.core) }
         ensures called { CallsAs J.key_of J.gives cpu moment true job result
             self.old.core self.new.core }

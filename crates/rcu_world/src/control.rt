@@ -2,7 +2,8 @@
 
 ghost use Rattle.rcu_world_law.specs.Events.{is_enabled};
 ghost use Rattle.rcu_world_law.specs.Events.CoreEvent.{Shut};
-ghost use Rattle.std.specs.Prelude.{◌≡◌, ◌<◌, ◌≤◌, ℕ, true, length, IfOk, OnOk, OnErr, Option, None, Some};
+ghost use Rattle.rcu_world_law.specs.States.{cpu_at};
+ghost use Rattle.std.specs.Prelude.{◌≡◌, ◌<◌, ◌≤◌, ℕ, true, length, false, IfOk, OnOk, OnErr, Option, None, Some};
 ghost use Rattle.rcu_numbers.specs.declared.shape.TheConstants.{MOST_PROCESSORS};
 ghost use Rattle.rcu_world.specs.Turns.{AreCounts, IsAtRest, IsBarrierAnswer, Leads, barrier_events, barrier_fault, counts_for, shuts, ticket_fault, upto};
 ghost use Rattle.rcu_world.specs.Views.{state, SameState};
@@ -100,10 +101,12 @@ impl<J: Job> World<J> {
         }
     }
 
-    /// Opens a barrier, which waits for all that was accepted so far: its name. `by` is the processor that calls, or none for
-    /// control. A refused barrier opens nothing.
+    /// Opens a barrier, which waits for all that was accepted so far: its name. `by` is the processor that calls, which is here,
+    /// or none for control. A refused barrier opens nothing.
     pub fn barrier(&mut self, by: Option<u64>, tickets: &[Ticket]) -> Result<u64, BarrierFault>
         requires world { IsWorld J.key_of J.gives self.old.core }
+        requires here { (cpu : ℕ) → by ≡ Some cpu
+            → (cpu_at (state J.key_of self.old.core) cpu).away ≡ false }
         requires rest { IsAtRest (state J.key_of self.old.core) }
         ensures answer { IsBarrierAnswer (state J.key_of self.old.core) by tickets.now result }
         ensures events { IfOk result (λ name.

@@ -72,6 +72,9 @@ impl<J: Job> Core<J, J::Receipt> {
             Event::Shut { cpu } => self.shut(cpu),
             Event::Urge => self.urge(),
             Event::Hear { cpu } => self.hear(cpu),
+            Event::Leave { cpu } => self.leave(cpu),
+            Event::Return { cpu } => self.come_back(cpu),
+            Event::Meet { cpu } => self.meet(cpu),
             Event::Need { who } => match who {
                 Who::Cpu(cpu) => self.need_own(cpu),
                 Who::Group(group) => self.need_group(group),

@@ -31,6 +31,9 @@ pub enum Event<J> {
     Shut { cpu: u64 },
     Urge,
     Hear { cpu: u64 },
+    Leave { cpu: u64 },
+    Return { cpu: u64 },
+    Meet { cpu: u64 },
 }
 
 /// What came of an event.

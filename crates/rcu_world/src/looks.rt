@@ -23,6 +23,9 @@ impl<J: Job> Core<J, J::Receipt> {
             return Answer::Skipped(None);
         }
         let p = &mut self.processors[i];
+        if p.is_away() {
+            return Answer::Skipped(None);
+        }
         p.look(number);
         Answer::Done
     }

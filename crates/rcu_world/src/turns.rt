@@ -1,12 +1,12 @@
 //! The turn calls of a world: each is a list of events (docs/specification/rules.md, "On the core").
 
-ghost use Rattle.std.specs.Prelude.{◌≡◌, ◌∷◌, [], ◌<◌, ◌≤◌, Bool, true, false, length, Some, None, IfOk, IsOk, OnOk, OnErr, if◌then◌else◌, ◌%◌};
+ghost use Rattle.std.specs.Prelude.{◌≡◌, ◌∷◌, [], ◌<◌, ◌≤◌, Bool, true, false, length, Some, None, IfOk, IsOk, OnOk, OnErr, if◌then◌else◌};
 ghost use Rattle.rcu_world_law.specs.Events.{is_enabled};
 ghost use Rattle.rcu_world_law.specs.Events.CoreEvent.{Ask, Put, Report};
 ghost use Rattle.rcu_world_law.specs.States.{cpu_at, is_offloadable, owes};
 ghost use Rattle.rcu_world_law.specs.declared.who.Side.TheVariants.{Local, Hand};
 ghost use Rattle.rcu_world.specs.Events.{core_event, needs_room};
-ghost use Rattle.rcu_world.specs.Turns.{IsAtRest, Leads, Rooms, driver_answer, driver_events, hand_events, keeps_rest, look_events, offloadable_events, release_events, run_events, stop_of, switch_answer, switch_events, tick_events, where_enabled, KeepsRest};
+ghost use Rattle.rcu_world.specs.Turns.{IsAtRest, Leads, Rooms, hand_events, keeps_rest, look_events, offloadable_events, release_events, run_events, stop_of, switch_answer, switch_events, tick_events, where_enabled, KeepsRest};
 ghost use Rattle.rcu_world.specs.Views.{state, SameState};
 ghost use Rattle.rcu_world.specs.Worlds.{IsWorld};
 ghost use Rattle.rcu_world.specs.Stays.{KeepsWorld, StaysWorld, LeadsWorld};
@@ -14,7 +14,7 @@ ghost use Rattle.rcu_world.specs.Stays.{KeepsWorld, StaysWorld, LeadsWorld};
 use crate::events::{Answer, Event};
 use crate::modes::is_set;
 use crate::worlds::World;
-use rcu_jobs::{DriverTurn, HandTurn, Job, Stop, SwitchFault, Ticked};
+use rcu_jobs::{HandTurn, Job, Stop, SwitchFault, Ticked};
 use rcu_world_law::who::{Side, Who};
 use std::alloc::AllocError;
 
@@ -66,7 +66,7 @@ impl<J: Job> World<J> {
         }
     }
 
-    /// A processor reports a quiescent state: the number of the grace period that counts it, or None.
+    /// A processor that is here reports a quiescent state: the number of the grace period that counts it, or None.
     ///
     /// # Errors
     ///
@@ -74,6 +74,7 @@ impl<J: Job> World<J> {
     pub fn quiescent(&mut self, cpu: u64) -> Result<Option<u64>, AllocError>
         requires world { IsWorld J.key_of J.gives self.old.core }
         requires there { cpu < length (state J.key_of self.old.core).cpus }
+        requires here { (cpu_at (state J.key_of self.old.core) cpu).away ≡ false }
         requires rest { IsAtRest (state J.key_of self.old.core) }
         ensures events { OnOk result
             (Leads (state J.key_of self.old.core) (Report cpu ∷ [])
@@ -93,30 +94,6 @@ impl<J: Job> World<J> {
         };
         self.attempt(Event::Report { cpu })?;
         Ok(counted)
-    }
-
-    /// The driver starts or ends a grace period, where it can.
-    pub fn driver_turn(&mut self) -> Result<DriverTurn, AllocError>
-        requires world { IsWorld J.key_of J.gives self.old.core }
-        requires rest { IsAtRest (state J.key_of self.old.core) }
-        ensures events { LeadsWorld J.key_of J.gives self.old.core driver_events self.new.core }
-        ensures answer { IfOk result (λ turn. turn ≡ driver_answer (state J.key_of self.old.core)) }
-        ensures ok { IsOk result }
-    {
-        let number = self.core.board.number();
-        if number % 4 != 0 {
-            if self.perform(Event::End) {
-                return Ok(DriverTurn::Ended(number + 3));
-            }
-            return Ok(DriverTurn::Waits(self.core.board.mask()));
-        }
-        if self.perform(Event::Start) {
-            return Ok(DriverTurn::Started(number + 1));
-        }
-        if number < self.core.needed {
-            return Ok(DriverTurn::Spent);
-        }
-        Ok(DriverTurn::Idle)
     }
 }
 
@@ -238,10 +215,11 @@ impl<J: Job> World<J> {
         }
     }
 
-    /// A processor's tick (docs/specification/rules.md, "The calls, step by step").
+    /// The tick of a processor that is here (docs/specification/rules.md, "The calls, step by step").
     pub fn tick(&mut self, cpu: u64, moment: u64) -> Result<Ticked, AllocError>
         requires world { IsWorld J.key_of J.gives self.old.core }
         requires there { cpu < length (state J.key_of self.old.core).cpus }
+        requires here { (cpu_at (state J.key_of self.old.core) cpu).away ≡ false }
         requires rest { IsAtRest (state J.key_of self.old.core) }
         ensures events { IfOk result (λ ticked.
             (rooms : Rooms)

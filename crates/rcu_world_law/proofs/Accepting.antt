@@ -87,8 +87,9 @@ accepts_timely n h p key s c r e i =
 pub accept_kept : (w : State) (p key : ℕ) → IsCore w → is_enabled w (Accept p key) ≡ true → IsCore (after w (Accept p key))
 accept_kept w p key k e =
     let c : Cpu = cpu_at w p in
-    let e1 = and_parts (has w p) (can_accept w.shape.limit (cpu_at w p)) e in
-    let l : p < length w.cpus = ltb-true p (length w.cpus) e1.0 in
+    let e0 = and_parts (has w p) (can_accept w.shape.limit (cpu_at w p)) e in
+    let l : p < length w.cpus = ltb-true p (length w.cpus) e0.0 in
+    let e1 = and_parts (not (cpu_at w p).away) (not (cpu_at w p).shut && (nat_lt (cpu_at w p).count w.shape.limit && is_none (cpu_at w p).fresh)) e0.1 in
     let e2 = and_parts (not (cpu_at w p).shut) (nat_lt (cpu_at w p).count w.shape.limit && is_none (cpu_at w p).fresh) e1.1 in
     let shut : (cpu_at w p).shut ≡ false = not-true (cpu_at w p).shut e2.0 in
     let e3 = and_parts (nat_lt (cpu_at w p).count w.shape.limit) (is_none (cpu_at w p).fresh) e2.1 in

@@ -11,7 +11,7 @@ use Rattle.rcu_world_law.specs.Lists.{none_owes}
 use Rattle.rcu_numbers.specs.declared.sequence.TheConstants.{GREATEST_NUMBER}
 use Rattle.rcu_world_law.specs.Numbers.{begun}
 use Rattle.rcu_world_law.specs.Events.{is_enabled, after}
-use Rattle.rcu_world_law.specs.Events.CoreEvent.{Report, Start, End, Finish, Shut as Shutting}
+use Rattle.rcu_world_law.specs.Events.CoreEvent.{Report, Meet, Start, End, Finish, Shut as Shutting}
 use Rattle.rcu_world_law.specs.Invariant.{reports, report_of, owed, IsBoard, running_part, IsCore}
 use Rattle.rcu_world_law.proofs.Ends.{get_last}
 use Rattle.rcu_world_law.proofs.Law.{lawful_next}
@@ -76,7 +76,13 @@ report_step w p k l true o = record {
 }
 
 pub report_kept : (w : State) (p : ℕ) → IsCore w → is_enabled w (Report p) ≡ true → IsCore (after w (Report p))
-report_kept w p k e = report_step w p k (ltb-true p (length w.cpus) e) (owes w p) refl
+report_kept w p k e = report_step w p k (ltb-true p (length w.cpus) (and_parts (has w p) _ e).0) (owes w p) refl
+
+-- The driver reports for a processor that is away: the board takes a report of who owes one.
+pub meet_kept : (w : State) (p : ℕ) → IsCore w → is_enabled w (Meet p) ≡ true → IsCore (after w (Meet p))
+meet_kept w p k e =
+    let e1 = and_parts (has w p) ((cpu_at w p).away && owes w p) e in
+    report_step w p k (ltb-true p (length w.cpus) e1.0) true (and_parts (cpu_at w p).away (owes w p) e1.1).1
 
 board_start : (n s : ℕ) (owing : List Bool) (h : List Mark) → s % 4 ≡ 0 → s < GREATEST_NUMBER → IsBoard n s owing h → IsBoard n (s + 1) (replicate (length owing) true) h
 board_start n s owing h z l b = record {

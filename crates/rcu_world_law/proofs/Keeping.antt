@@ -3,12 +3,12 @@ use Rattle.std.proofs.Common.{◌≡◌, List, [], ◌∷◌, length, refl, ◌�
 use Rattle.std.proofs.lemmas.List.{length-set}
 use Rattle.rcu_world_law.specs.States.{State}
 use Rattle.rcu_world_law.specs.Events.{CoreEvent, is_enabled, after, happens, run}
-use Rattle.rcu_world_law.specs.Events.CoreEvent.{Accept, Stamp, Put, Report, Start, End, Look, LookGroup, LookHand, Need, Draw, Join, Give, Fetch, Claim, Finish, Ask, Heed, Settle, Open, Count, Turn, Pass, Shut as Shutting, Urge, Hear}
+use Rattle.rcu_world_law.specs.Events.CoreEvent.{Accept, Stamp, Put, Report, Start, End, Look, LookGroup, LookHand, Need, Draw, Join, Give, Fetch, Claim, Finish, Ask, Heed, Settle, Open, Count, Turn, Pass, Shut as Shutting, Urge, Hear, Leave, Return, Meet}
 use Rattle.rcu_world_law.specs.Invariant.{IsCore}
 use Rattle.rcu_world_law.proofs.Frames.{length_each}
 use Rattle.rcu_world_law.proofs.Accepting.{accept_kept, stamp_kept}
-use Rattle.rcu_world_law.proofs.Boarding.{report_kept, start_kept, end_kept, finish_kept, shut_kept}
-use Rattle.rcu_world_law.proofs.Moving.{put_kept, draw_kept, join_kept, give_kept, fetch_kept, look_hand_kept, ask_kept, hear_kept, need_own_kept, heed_kept, settle_kept}
+use Rattle.rcu_world_law.proofs.Boarding.{report_kept, meet_kept, start_kept, end_kept, finish_kept, shut_kept}
+use Rattle.rcu_world_law.proofs.Moving.{put_kept, draw_kept, join_kept, give_kept, fetch_kept, look_hand_kept, ask_kept, hear_kept, leave_kept, return_kept, need_own_kept, heed_kept, settle_kept}
 use Rattle.rcu_world_law.proofs.Looking.{look_kept, look_group_kept, need_group_kept, urge_kept}
 use Rattle.rcu_world_law.proofs.Claiming.{claim_kept}
 use Rattle.rcu_world_law.proofs.Barring.{open_kept, count_kept, turn_kept, pass_kept}
@@ -42,6 +42,9 @@ after_kept w (Pass b) k e = pass_kept w b k e
 after_kept w (Shutting p) k e = shut_kept w p k e
 after_kept w Urge k e = urge_kept w k e
 after_kept w (Hear p) k e = hear_kept w p k e
+after_kept w (Leave p) k e = leave_kept w p k e
+after_kept w (Return p) k e = return_kept w p k e
+after_kept w (Meet p) k e = meet_kept w p k e
 
 happens_cases : (w : State) (m : CoreEvent) (b : Bool) → is_enabled w m ≡ b → IsCore w → IsCore (cond b (after w m) w)
 happens_cases w m true e k = after_kept w m k e
@@ -83,6 +86,9 @@ length_after w (Pass b) = refl
 length_after w (Shutting p) = length-set w.cpus p _
 length_after w Urge = length_each _ 0 w.cpus
 length_after w (Hear p) = length-set w.cpus p _
+length_after w (Leave p) = length-set w.cpus p _
+length_after w (Return p) = length-set w.cpus p _
+length_after w (Meet p) = refl
 
 length_cases : (w : State) (m : CoreEvent) (b : Bool) → length (cond b (after w m) w).cpus ≡ length w.cpus
 length_cases w m true = length_after w m

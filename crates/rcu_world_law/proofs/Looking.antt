@@ -1,9 +1,9 @@
 -- Look, LookGroup, Need of a group and Urge keep the invariant: a look leaves the callbacks where they are, and no label is earlier than the stamp allows.
 use Rattle.std.proofs.Common.{◌≡◌, ℕ, ◌<◌, List, [], ◌++◌, length, map, refl, ap, arith, Bool, None, true, false, cond}
-use Rattle.std.proofs.lemmas.Bool.{ltb-true}
+use Rattle.std.proofs.lemmas.Bool.{and_parts, ltb-true}
 use Rattle.rcu_world_law.specs.declared.marks.Mark.{Mark}
 use Rattle.rcu_world_law.specs.LabelledLists.{Labelled, call_of, looked}
-use Rattle.rcu_world_law.specs.States.{State, Cpu, cpu_at, is_member}
+use Rattle.rcu_world_law.specs.States.{State, Cpu, cpu_at, has, is_member}
 use Rattle.rcu_world_law.specs.Steps.{looks, group_looks}
 use Rattle.rcu_world_law.specs.declared.who.Who.TheVariants as who
 use Rattle.rcu_world_law.proofs.Offloaded.{still_offloaded}
@@ -25,7 +25,7 @@ look_cpu n h s limit p c i = cpu_moved n h s limit p c (looks s c)
 
 pub look_kept : (w : State) (p : ℕ) → IsCore w → is_enabled w (Look p) ≡ true → IsCore (after w (Look p))
 look_kept w p k e =
-    let l : p < length w.cpus = ltb-true p (length w.cpus) e in
+    let l : p < length w.cpus = ltb-true p (length w.cpus) (and_parts (has w p) _ e).0 in
     core_with_cpu w p (looks w.number (cpu_at w p)) k l (look_cpu (length w.cpus) w.history w.number w.shape.limit p (cpu_at w p) (k.cpu p l))
 
 -- the group

@@ -6,7 +6,7 @@ use Rattle.rcu_world_law.specs.declared.marks.Mark.{Mark}
 use Rattle.rcu_world_law.specs.Calls.{Call}
 use Rattle.rcu_world_law.specs.LabelledLists.{Labelled, bare, call_of}
 use Rattle.rcu_jobs.specs.Modes.{is_offloaded, is_deoffloading}
-use Rattle.rcu_world_law.specs.States.{State, Cpu, cpu_at, has, is_offloadable}
+use Rattle.rcu_world_law.specs.States.{State, Cpu, cpu_at, has, is_offloadable, with_cpu, with_mark}
 use Rattle.rcu_world_law.specs.Releases.{Pace, pace_after_put}
 use Rattle.rcu_world_law.specs.Steps.{with_pace, hand_looks, given_count, puts, draws, joins, gives, fetches, pours, leaves, heeds_mode, heeds, settles}
 use Rattle.rcu_world_law.specs.Lists.{is_none, is_nil, first_batch, tail, needed_with}
@@ -15,7 +15,7 @@ use Rattle.rcu_jobs.specs.declared.modes.Mode.TheVariants.{Local, Offloading, Of
 use Rattle.rcu_world_law.specs.declared.who.Who.TheVariants as who
 use Rattle.rcu_world_law.proofs.LabelledLists.{labelled_nothing, labelled_added, labelled_dropped}
 use Rattle.rcu_world_law.specs.Events.{is_enabled, after}
-use Rattle.rcu_world_law.specs.Events.CoreEvent.{Put, LookHand, Need, Draw, Join, Give, Fetch, Ask, Heed, Settle, Hear}
+use Rattle.rcu_world_law.specs.Events.CoreEvent.{Put, LookHand, Need, Draw, Join, Give, Fetch, Ask, Heed, Settle, Hear, Leave, Return}
 use Rattle.rcu_world_law.specs.Invariant.{IsCpu, IsCore, MayHaveOffloaded}
 use Rattle.rcu_world_law.specs.Places.{flattened, stamped_callbacks, offloaded_callbacks}
 use Rattle.rcu_world_law.proofs.Offloaded.{still_offloaded, leaving, settling}
@@ -145,6 +145,19 @@ hear_kept w p k e =
     core_with_cpu w p (record (cpu_at w p) { urged = false }) k l
     (cpu_moved (length w.cpus) w.history w.number w.shape.limit p (cpu_at w p) (record (cpu_at w p) { urged = false }) refl
     refl refl refl refl refl refl i.lists (record { own = i.one_list.own; bypass = i.one_list.bypass }) i.kinds i.offloaded i.timely.sight i.timely.hand_sight i)
+
+away_kept : (w : State) (p : ℕ) (away : Bool) → IsCore w → p < length w.cpus → IsCore (with_mark (with_cpu w p (record (cpu_at w p) { away = away })) None)
+away_kept w p away k l =
+    let i = k.cpu p l in
+    core_with_cpu w p (record (cpu_at w p) { away = away }) k l
+    (cpu_moved (length w.cpus) w.history w.number w.shape.limit p (cpu_at w p) (record (cpu_at w p) { away = away }) refl
+    refl refl refl refl refl refl i.lists (record { own = i.one_list.own; bypass = i.one_list.bypass }) i.kinds i.offloaded i.timely.sight i.timely.hand_sight i)
+
+pub leave_kept : (w : State) (p : ℕ) → IsCore w → is_enabled w (Leave p) ≡ true → IsCore (after w (Leave p))
+leave_kept w p k e = away_kept w p true k (ltb-true p (length w.cpus) (and_parts (has w p) _ e).0)
+
+pub return_kept : (w : State) (p : ℕ) → IsCore w → is_enabled w (Return p) ≡ true → IsCore (after w (Return p))
+return_kept w p k e = away_kept w p false k (ltb-true p (length w.cpus) (and_parts (has w p) _ e).0)
 
 pub need_own_kept : (w : State) (p : ℕ) → IsCore w → is_enabled w (Need (who.Cpu p)) ≡ true → IsCore (after w (Need (who.Cpu p)))
 need_own_kept w p k e =

@@ -4,7 +4,7 @@ use Rattle.rcu_world_law.specs.declared.marks.Mark.{Mark}
 use Rattle.rcu_world_law.specs.declared.marks.Mark.TheVariants.{Reported, Back}
 use Rattle.rcu_world_law.specs.States.{State, added, owes}
 use Rattle.rcu_world_law.specs.Events.{CoreEvent, is_enabled, does, mark_of, after, happens, run}
-use Rattle.rcu_world_law.specs.Events.CoreEvent.{Accept, Stamp, Put, Report, Start, End, Look, LookGroup, LookHand, Need, Draw, Join, Give, Fetch, Claim, Finish, Ask, Heed, Settle, Open, Count, Turn, Pass, Shut as Shutting, Urge, Hear}
+use Rattle.rcu_world_law.specs.Events.CoreEvent.{Accept, Stamp, Put, Report, Start, End, Look, LookGroup, LookHand, Need, Draw, Join, Give, Fetch, Claim, Finish, Ask, Heed, Settle, Open, Count, Turn, Pass, Shut as Shutting, Urge, Hear, Leave, Return, Meet}
 use Rattle.rcu_world_law.proofs.Ends.{get_cases}
 use Rattle.rcu_world_law.specs.Law.{HasNoBack}
 use Rattle.rcu_world_law.specs.declared.who.Who.TheVariants as who
@@ -45,6 +45,9 @@ event_mark w (Pass b) = λ q x e. cc
 event_mark w (Shutting p) = λ q x e. cc
 event_mark w Urge = tt
 event_mark w (Hear p) = tt
+event_mark w (Leave p) = tt
+event_mark w (Return p) = tt
+event_mark w (Meet p) = λ q x e. cc
 
 no_back_added : (h : List Mark) (m : Option Mark) → IsEventMark m → HasNoBack h → HasNoBack (added h m)
 no_back_added h None e u = u
@@ -78,6 +81,9 @@ does_history w (Pass b) = refl
 does_history w (Shutting p) = refl
 does_history w Urge = refl
 does_history w (Hear p) = refl
+does_history w (Leave p) = refl
+does_history w (Return p) = refl
+does_history w (Meet p) = refl
 
 pub no_back_after : (w : State) (m : CoreEvent) → HasNoBack w.history → HasNoBack (after w m).history
 no_back_after w m u = subst (λ h. HasNoBack (added h (mark_of w m))) (sym (does_history w m)) (no_back_added w.history (mark_of w m) (event_mark w m) u)

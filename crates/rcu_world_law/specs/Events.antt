@@ -50,6 +50,10 @@ pub data CoreEvent : Type 0 where
   Shut : (cpu : ℕ) → CoreEvent
   Urge : CoreEvent
   Hear : (cpu : ℕ) → CoreEvent
+  -- a processor goes away, and comes back; the driver reports for one that is away
+  Leave : (cpu : ℕ) → CoreEvent
+  Return : (cpu : ℕ) → CoreEvent
+  Meet : (cpu : ℕ) → CoreEvent
 
 -- some member of group g, of the processors from p on, meets the test
 abbrev pub any_member : State → ℕ → (Cpu → Bool) → ℕ → List Cpu → Bool
@@ -69,14 +73,16 @@ each_cpu f p (c ∷ cs) = f p c ∷ each_cpu f (p + 1) cs
 -- "Enabled where". An event on a processor, group, hand or barrier that doesn't exist isn't enabled.
 -- (What is given isn't empty exactly where out or the group's done isn't (`something_given` in proofs/Releases.antt);
 -- only a processor that was counted is seen (`IsBarrier`).)
+-- Of a processor that is away Accept, Report and Look aren't enabled: with these each of its own calls begins.
+-- (Who owes a report does so in a grace period that is in progress: `idle` of `IsBoard`.)
 abbrev pub is_enabled : State → CoreEvent → Bool
 is_enabled w (Accept p key) = has w p && can_accept w.shape.limit (cpu_at w p)
 is_enabled w (Stamp p m lazy) = has w p && not (is_none (cpu_at w p).fresh)
 is_enabled w (Put p m) = has w p && not (is_nil (cpu_at w p).bypass)
-is_enabled w (Report p) = has w p
+is_enabled w (Report p) = has w p && not (cpu_at w p).away
 is_enabled w Start = (w.number % 4 == 0) && (nat_lt w.number w.needed && nat_lt w.number GREATEST_NUMBER)
 is_enabled w End = (w.number % 4 == 1) && none_owes w.owing
-is_enabled w (Look p) = has w p
+is_enabled w (Look p) = has w p && not (cpu_at w p).away
 is_enabled w (LookGroup g) = any_member w g (λ c. true) 0 w.cpus
 is_enabled w (LookHand p) = is_offloadable w p
 is_enabled w (Need (who.Cpu p)) = has w p && not (is_none (cpu_at w p).wanted)
@@ -97,6 +103,9 @@ is_enabled w (Pass b) = is_open w b && all_of (barrier_at w b).seen
 is_enabled w (Shut p) = has w p && not (cpu_at w p).shut
 is_enabled w Urge = true
 is_enabled w (Hear p) = is_offloadable w p
+is_enabled w (Leave p) = has w p && (not (cpu_at w p).away && is_nil (cpu_at w p).bypass)
+is_enabled w (Return p) = has w p && (cpu_at w p).away
+is_enabled w (Meet p) = has w p && ((cpu_at w p).away && owes w p)
 
 -- "What it does", where it is enabled, but for its mark
 abbrev pub does : State → CoreEvent → State
@@ -127,6 +136,9 @@ does w (Pass b) = with_barrier w b (record (barrier_at w b) { passed = true })
 does w (Shut p) = with_cpu w p (record (cpu_at w p) { shut = true })
 does w Urge = record w { cpus = each_cpu (λ p c. record c { urged = true }) 0 w.cpus }
 does w (Hear p) = with_cpu w p (record (cpu_at w p) { urged = false })
+does w (Leave p) = with_cpu w p (record (cpu_at w p) { away = true })
+does w (Return p) = with_cpu w p (record (cpu_at w p) { away = false })
+does w (Meet p) = with_board w w.number (slice_set w.owing p false)
 
 -- "Mark", where it is enabled: at most one
 abbrev pub mark_of : State → CoreEvent → Option Mark
@@ -156,6 +168,9 @@ mark_of w (Pass b) = Some (marks.Passed b)
 mark_of w (Shut p) = Some (marks.Shut p)
 mark_of w Urge = None
 mark_of w (Hear p) = None
+mark_of w (Leave p) = None
+mark_of w (Return p) = None
+mark_of w (Meet p) = Some (marks.Reported p)
 
 -- The answer is `Due` in place of `Done` where a stamped callback releases its bypass list
 abbrev pub answers_due : State → CoreEvent → Bool

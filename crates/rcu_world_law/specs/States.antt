@@ -62,6 +62,8 @@ pub record Cpu : Type 0 where
   pub plain : Bool
   -- the bit of the urge word
   pub urged : Bool
+  -- it has left, and not come back (`docs/specification/rules.md`, "Processors away")
+  pub away : Bool
 
 -- A barrier: the count kept of each processor, and which processors were seen to have reached theirs
 pub record Barrier : Type 0 where
@@ -115,6 +117,7 @@ empty_cpu = record {
   kept_moment = None;
   plain = false;
   urged = false;
+  away = false;
 }
 
 abbrev pub no_barrier : Barrier

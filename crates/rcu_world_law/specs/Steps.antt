@@ -13,11 +13,11 @@ use Rattle.rcu_jobs.specs.declared.modes.Mode.TheVariants.{Local, Offloading, Of
 use Rattle.rcu_world_law.specs.declared.who.Side.{Side}
 use Rattle.rcu_world_law.specs.declared.who.Side.TheVariants as sides
 
--- Accept: where it isn't shut, the count is below the limit and fresh is empty, the job gets the number count, the count
--- rises, the job is fresh
+-- Accept: where it isn't away nor shut, the count is below the limit and fresh is empty, the job gets the number count, the
+-- count rises, the job is fresh
 
 abbrev pub can_accept : ℕ → Cpu → Bool
-can_accept limit c = not c.shut && (nat_lt c.count limit && is_none c.fresh)
+can_accept limit c = not c.away && (not c.shut && (nat_lt c.count limit && is_none c.fresh))
 
 abbrev pub accepts : ℕ → Cpu → Cpu
 accepts key c = record c { count = c.count + 1; fresh = Some (record { number = c.count; key = key; stamp = 0 }) }

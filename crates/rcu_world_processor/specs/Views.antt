@@ -48,6 +48,7 @@ module _ {J : Type 0} (key_of : J → ℕ) where
     kept_moment = (pace c.bypass).kept_moment;
     plain = (pace c.bypass).plain;
     urged = c.urged;
+    away = c.away;
   }
 
 -- the records of what ran

@@ -28,11 +28,11 @@ fn is_vacant<J: Job>(fresh: &Option<Callback<J>>) -> bool
     }
 }
 
-/// Whether a callback may be accepted: not shut, below the limit, none fresh.
-fn may_accept(shut: bool, count: u64, limit: u64, vacant: bool) -> bool
-    ensures { result ≡ (not shut && (nat_lt count limit && vacant)) }
+/// Whether a callback may be accepted: not away nor shut, below the limit, none fresh.
+fn may_accept(away: bool, shut: bool, count: u64, limit: u64, vacant: bool) -> bool
+    ensures { result ≡ (not away && (not shut && (nat_lt count limit && vacant))) }
 {
-    !shut && count < limit && vacant
+    !away && !shut && count < limit && vacant
 }
 
 impl<J: Job> WorldProcessor<J, J::Receipt> {
@@ -43,11 +43,17 @@ impl<J: Job> WorldProcessor<J, J::Receipt> {
         self.count
     }
 
-    /// Whether it takes a callback on: it isn't shut, below the limit, and none is fresh.
+    /// Whether it takes a callback on: it isn't away nor shut, is below the limit, and none is fresh.
     pub fn can_accept(&self, limit: u64) -> bool
         ensures { result ≡ can_accept limit (seen J.key_of self.now) }
     {
-        may_accept(self.shut, self.count, limit, is_vacant(&self.fresh))
+        may_accept(
+            self.away,
+            self.shut,
+            self.count,
+            limit,
+            is_vacant(&self.fresh),
+        )
     }
 
     /// Finds room for one more in the list that it goes to.

@@ -14,6 +14,7 @@ mod end;
 mod looks;
 mod modes;
 mod moves;
+mod presence;
 mod processor;
 mod shown;
 mod tick;

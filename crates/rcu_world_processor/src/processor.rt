@@ -28,6 +28,7 @@ pub struct WorldProcessor<J, R> {
     /// The count accepted at the entry to Deoffloading.
     pub(crate) left: u64,
     pub(crate) urged: bool,
+    pub(crate) away: bool,
     /// What ran.
     pub(crate) records: Vec<Record<R>>,
     pub(crate) own: Segments<J>,
@@ -76,6 +77,7 @@ impl<J: Job> WorldProcessor<J, J::Receipt> {
             mode: Mode::first(offloadable),
             left: 0,
             urged: false,
+            away: false,
         }
     }
 
@@ -96,6 +98,7 @@ impl<J: Job> WorldProcessor<J, J::Receipt> {
             mode: _,
             left: _,
             urged: _,
+            away: _,
             records,
             own: _own,
             lane: _lane,
@@ -126,6 +129,7 @@ impl<J: Drop, R: Drop> Drop for WorldProcessor<J, R> {
             mode: _,
             left: _,
             urged: _,
+            away: _,
             records: _,
             own: _,
             lane: _,

@@ -45,21 +45,22 @@ first_holds true b h = refl
 first_holds false b h = h
 
 -- the number of a refused call's line
-pub refused_call : {J : Type 0} (w : State) (p : ℕ) (job : J) (r : Refused J) → p < length w.cpus → IsRefusal w p job r → number_of r ≡ call_refusal w p
-refused_call w p job (Limit back) there (same, at) =
+pub refused_call : {J : Type 0} (w : State) (p : ℕ) (job : J) (r : Refused J) → p < length w.cpus → (cpu_at w p).away ≡ false → IsRefusal w p job r → number_of r ≡ call_refusal w p
+refused_call w p job (Limit back) there here (same, at) =
     let t : nat_lt p (length w.cpus) ≡ true = grind (arith, nat_tests) in
     let l : nat_le w.shape.limit (cpu_at w p).count ≡ true = grind (arith, nat_tests) in
-    rw (t, l) refl
-refused_call w p job (Closed back) there (same, below, shut) =
+    rw (t, here, l) refl
+refused_call w p job (Closed back) there here (same, below, shut) =
     let t : nat_lt p (length w.cpus) ≡ true = grind (arith, nat_tests) in
     let l : nat_le w.shape.limit (cpu_at w p).count ≡ false = grind (arith, nat_tests) in
-    rw (t, l, shut) refl
-refused_call w p job (Memory back) there (same, may) =
+    rw (t, here, l, shut) refl
+refused_call w p job (Memory back) there here (same, may) =
     let t : nat_lt p (length w.cpus) ≡ true = grind (arith, nat_tests) in
-    let unshut : (cpu_at w p).shut ≡ false = not_shut _ _ may in
-    let below : nat_lt (cpu_at w p).count w.shape.limit ≡ true = first_holds _ _ (others_hold (cpu_at w p).shut _ may) in
+    let rest = others_hold (cpu_at w p).away _ may in
+    let unshut : (cpu_at w p).shut ≡ false = not_shut _ _ rest in
+    let below : nat_lt (cpu_at w p).count w.shape.limit ≡ true = first_holds _ _ (others_hold (cpu_at w p).shut _ rest) in
     let l : nat_le w.shape.limit (cpu_at w p).count ≡ false = grind (arith, nat_tests) in
-    rw (t, l, unshut) refl
+    rw (t, here, l, unshut) refl
 
 -- a poll that gave nothing, and one that gave counts
 module _ (old new : State) (b : ℕ) where

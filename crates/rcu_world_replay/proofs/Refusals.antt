@@ -3,7 +3,7 @@ use Rattle.std.proofs.Common.{◌≡◌, ℕ, ◌<◌, ◌≤◌, length, true, 
 use Rattle.std.proofs.lemmas.Bool.Decides.{nat_tests}
 use Rattle.rcu_jobs.specs.declared.SwitchFault.{SwitchFault}
 use Rattle.rcu_jobs.specs.declared.SwitchFault.TheVariants.{NoProcessor, NotOffloadable}
-use Rattle.rcu_world_law.specs.States.{State, has, is_offloadable}
+use Rattle.rcu_world_law.specs.States.{State, cpu_at, has, is_offloadable}
 use Rattle.rcu_world.specs.Turns.{switch_answer}
 use Rattle.rcuo_script.specs.declared.lines.Line.{Line}
 use Rattle.rcuo_script.specs.declared.lines.Line.TheVariants.{Refused}
@@ -14,6 +14,9 @@ use Rattle.rcu_world_replay.specs.Outcomes.{IsCall, IsHand, call_refusal}
 module _ (w : State) (p : ℕ) where
   pub no_call : length w.cpus ≤ p → call_refusal w p ≡ 6
   no_call h = let t : nat_lt p (length w.cpus) ≡ false = grind (arith, nat_tests) in rw t
+
+  pub away_call : p < length w.cpus → (cpu_at w p).away ≡ true → call_refusal w p ≡ 21
+  away_call h a = let t : nat_lt p (length w.cpus) ≡ true = grind (arith, nat_tests) in rw (t, a) refl
 
   pub no_hand : length w.cpus ≤ p → (l : Line) → l ≡ Refused Hand p 6 → IsHand w p l w
   no_hand h l is =
@@ -36,3 +39,6 @@ module _ (w : State) (p : ℕ) where
 
   pub no_call_line : length w.cpus ≤ p → (l : Line) → (v : Verb) → (moment key : ℕ) → l ≡ Refused v p 6 → IsCall w v p moment key l w
   no_call_line h l v moment key is = subst (λ x. IsCall w v p moment key x w) (sym is) (refl, refl, sym (no_call h), refl)
+
+  pub away_call_line : p < length w.cpus → (cpu_at w p).away ≡ true → (l : Line) → (v : Verb) → (moment key : ℕ) → l ≡ Refused v p 21 → IsCall w v p moment key l w
+  away_call_line h a l v moment key is = subst (λ x. IsCall w v p moment key x w) (sym is) (refl, refl, sym (away_call h a), refl)

@@ -1,5 +1,5 @@
 -- What each command does, and the line of its answer: docs/specification/tables.md, "Script commands and what they print". The events of a call are those of docs/specification/rules.md, "On the core".
-use Rattle.std.specs.Prelude.{ℕ, zero, suc, ◌≡◌, ◌≤◌, ◌<◌, Bool, true, false, not, if◌then◌else◌, nat_le, List, [], ◌∷◌, ◌++◌, length, take, Option, None, Some, Ok, Err, string_bytes}
+use Rattle.std.specs.Prelude.{ℕ, zero, suc, ◌≡◌, ◌≤◌, ◌<◌, Bool, true, false, not, if◌then◌else◌, nat_le, List, [], ◌∷◌, ◌++◌, length, take, Option, None, Some, Ok, Err, ◌⊎◌, string_bytes}
 use Rattle.rcu_world_law.specs.declared.marks.Mark.TheVariants as marks
 use Rattle.rcu_world_law.specs.Events.{is_enabled}
 use Rattle.rcu_world_law.specs.Events.CoreEvent.{Ask, LookGroup, Report}
@@ -22,9 +22,16 @@ use Rattle.rcuo_script.specs.declared.lines.Line.TheVariants as line
 abbrev pub IsNoSuch : State → Verb → ℕ → Line → State → Type 0
 IsNoSuch old v p l new = (length old.cpus ≤ p) × (l ≡ line.Refused v p 6) × (new ≡ old)
 
--- why a call isn't accepted: no such processor; else at the limit; else shut; else no room
+-- the command names a processor that is away: it is refused by number 21, and nothing happens
+abbrev pub IsAway : State → Verb → ℕ → Line → State → Type 0
+IsAway old v p l new = ((cpu_at old p).away ≡ true) × (l ≡ line.Refused v p 21) × (new ≡ old)
+
+abbrev pub IsNotHere : State → Verb → ℕ → Line → State → Type 0
+IsNotHere old v p l new = IsNoSuch old v p l new ⊎ IsAway old v p l new
+
+-- why a call isn't accepted: no such processor; else away; else at the limit; else shut; else no room
 abbrev pub call_refusal : State → ℕ → ℕ
-call_refusal w p = if not (has w p) then 6 else if nat_le w.shape.limit (cpu_at w p).count then 4 else if (cpu_at w p).shut then 3 else 2
+call_refusal w p = if not (has w p) then 6 else if (cpu_at w p).away then 21 else if nat_le w.shape.limit (cpu_at w p).count then 4 else if (cpu_at w p).shut then 3 else 2
 
 abbrev pub is_lazy : Verb → Bool
 is_lazy verb.Lazy = true
@@ -45,13 +52,13 @@ counted_by w p = if owes w p then Some w.number else None
 abbrev pub IsQuiet : State → ℕ → Line → State → Type 0
 IsQuiet old p (line.Counted cpu seq) new = (cpu ≡ p) × (counted_by old p ≡ Some seq) × Leads old (Report p ∷ []) new
 IsQuiet old p (line.Nothing cpu) new = (cpu ≡ p) × (counted_by old p ≡ None) × Leads old (Report p ∷ []) new
-IsQuiet old p l new = IsNoSuch old verb.Quiet p l new
+IsQuiet old p l new = IsNotHere old verb.Quiet p l new
 
 -- `tick`
 abbrev pub IsTick : State → ℕ → ℕ → Line → State → Type 0
 IsTick old p moment (line.Ran v cpu ran) new =
-    (p < length old.cpus) × (v ≡ verb.Tick) × (cpu ≡ p) × ((rooms : Rooms) × Leads old (tick_events p moment rooms ran old) new)
-IsTick old p moment l new = IsNoSuch old verb.Tick p l new
+    (p < length old.cpus) × ((cpu_at old p).away ≡ false) × (v ≡ verb.Tick) × (cpu ≡ p) × ((rooms : Rooms) × Leads old (tick_events p moment rooms ran old) new)
+IsTick old p moment l new = IsNotHere old verb.Tick p l new
 
 -- `driver`
 abbrev pub IsDriver : State → Line → State → Type 0

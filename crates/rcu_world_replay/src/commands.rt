@@ -29,6 +29,9 @@ pub fn call<J: Job>(world: &mut World<J>, verb: Verb, cpu: u64, moment: u64, job
     if cpu >= world.processors() {
         return Line::no_such(verb, cpu);
     }
+    if world.is_away(cpu) {
+        return Line::away(verb, cpu);
+    }
     let answer = if verb == Verb::Lazy {
         world.call_rcu_lazy(cpu, moment, job)
     } else {
@@ -58,6 +61,9 @@ pub fn quiet<J: Job>(world: &mut World<J>, cpu: u64) -> Result<Line, AllocError>
     if cpu >= world.processors() {
         return Ok(Line::no_such(Verb::Quiet, cpu));
     }
+    if world.is_away(cpu) {
+        return Ok(Line::away(Verb::Quiet, cpu));
+    }
     match world.quiescent(cpu)? {
         Some(seq) => Ok(Line::Counted { cpu, seq }),
         None => Ok(Line::Nothing { cpu }),
@@ -73,6 +79,9 @@ pub fn tick<J: Job>(world: &mut World<J>, cpu: u64, moment: u64) -> Result<Line,
 {
     if cpu >= world.processors() {
         return Ok(Line::no_such(Verb::Tick, cpu));
+    }
+    if world.is_away(cpu) {
+        return Ok(Line::away(Verb::Tick, cpu));
     }
     let ticked = world.tick(cpu, moment)?;
     Ok(Line::Ran {

@@ -26,7 +26,7 @@ abbrev pub driver_text : DriverTurn → List ℕ
 driver_text turn.Idle = codes "idle"
 driver_text (turn.Started s) = codes "started " ++ decimal s
 driver_text (turn.Ended s) = codes "ended " ++ decimal s
-driver_text (turn.Waits mask) = codes "waits"
+driver_text (turn.Waits processor) = codes "waits"
 driver_text turn.Spent = codes "spent"
 
 -- a line without its line feed

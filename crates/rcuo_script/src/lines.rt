@@ -105,6 +105,9 @@ const NO_PROCESSOR: u64 = 6;
 /// The number of the refusal "the processor isn't offloadable".
 const NOT_OFFLOADABLE: u64 = 5;
 
+/// The number of the refusal "the processor is away".
+const AWAY: u64 = 21;
+
 impl Line {
     /// The refusal of a command that names a processor or a group that isn't there.
     pub fn no_such(verb: Verb, place: u64) -> Line
@@ -125,6 +128,17 @@ impl Line {
             verb,
             place,
             refusal: NOT_OFFLOADABLE,
+        }
+    }
+
+    /// The refusal of a command of a processor that is away.
+    pub fn away(verb: Verb, place: u64) -> Line
+        ensures { result ≡ Refused verb place 21 }
+    {
+        Line::Refused {
+            verb,
+            place,
+            refusal: AWAY,
         }
     }
 }

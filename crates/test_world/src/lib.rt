@@ -10,4 +10,6 @@ mod tests_checker;
 #[cfg(test)]
 mod tests_checker_core;
 #[cfg(test)]
+mod tests_presence;
+#[cfg(test)]
 mod tests_world;

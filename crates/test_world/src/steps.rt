@@ -1,5 +1,8 @@
 //! Turn calls of a core at rest, of its processor 0, each with the answer that a test wants of it.
 
+ghost use Rattle.std.specs.Prelude.{◌≡◌, false, OnOk};
+ghost use Rattle.rcu_world_law.specs.States.{cpu_at};
+ghost use Rattle.rcu_world.specs.Views.{state};
 ghost use Rattle.test_world.specs.Resting.{IsResting};
 
 use rcu_jobs::{DriverTurn, Job, Ticket};
@@ -7,11 +10,48 @@ use rcu_world::World;
 use std::process::Abort;
 use std::test::Fail;
 
+// A processor that is here.
+pub(crate) fn expect_here<J: Job>(world: &World<J>, cpu: u64) -> Result<(), Fail>
+    ensures { OnOk result ((cpu_at (state J.key_of world.now.core) cpu).away ≡ false) }
+{
+    if world.is_away(cpu) {
+        return Err(Fail::from("away"));
+    }
+    Ok(())
+}
+
+// Processor 0 leaves.
+pub(crate) fn leave<J: Job>(world: &mut World<J>) -> Result<(), Fail>
+    requires { IsResting J.key_of J.gives world.old.core }
+    ensures { IsResting J.key_of J.gives world.new.core }
+{
+    if world.is_away(0) {
+        return Err(Fail::from("away"));
+    }
+    world.leave(0)?;
+    Ok(())
+}
+
+// Processor 0 comes back.
+pub(crate) fn come_back<J: Job>(world: &mut World<J>) -> Result<(), Fail>
+    requires { IsResting J.key_of J.gives world.old.core }
+    ensures { IsResting J.key_of J.gives world.new.core }
+{
+    if !world.is_away(0) {
+        return Err(Fail::from("here"));
+    }
+    world.come_back(0);
+    Ok(())
+}
+
 // A call that is accepted.
 pub(crate) fn call<J: Job>(world: &mut World<J>, moment: u64, job: J) -> Result<Ticket, Fail>
     requires { IsResting J.key_of J.gives world.old.core }
     ensures { IsResting J.key_of J.gives world.new.core }
 {
+    if world.is_away(0) {
+        return Err(Fail::from("away"));
+    }
     match world.call_rcu(0, moment, job) {
         Ok(ticket) => Ok(ticket),
         Err(_) => Err(Fail::from("refused")),
@@ -28,6 +68,9 @@ pub(crate) fn tick<J: Job>(
     requires { IsResting J.key_of J.gives world.old.core }
     ensures { IsResting J.key_of J.gives world.new.core }
 {
+    if world.is_away(0) {
+        return Err(Fail::from("away"));
+    }
     let ticked = world.tick(0, moment)?;
     assert_eq!(rt; ticked.ran, ran);
     Ok(())
@@ -56,6 +99,9 @@ pub(crate) fn report<J: Job>(
     requires { IsResting J.key_of J.gives world.old.core }
     ensures { IsResting J.key_of J.gives world.new.core }
 {
+    if world.is_away(0) {
+        return Err(Fail::from("away"));
+    }
     let reported = world.quiescent(0)?;
     assert_eq!(rt; reported, counted);
     Ok(())

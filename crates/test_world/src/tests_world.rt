@@ -3,7 +3,7 @@
 ghost use Rattle.std.specs.Prelude.{◌≡◌, ◌%◌};
 ghost use Rattle.test_world.specs.Resting.{IsResting};
 
-use crate::steps::{call, drive, report, tick};
+use crate::steps::{call, drive, expect_here, report, tick};
 use rcu_jobs::{
     BarrierFault, BoxedJob, DriverTurn, Job, Lists, Mode, Stop, SwitchFault, Ticked, Ticket,
 };
@@ -14,10 +14,10 @@ use rcu_world_law::who::{Side, Who};
 use std::process::Abort;
 use std::test::Fail;
 
-const KEY: u64 = 65536;
+pub(crate) const KEY: u64 = 65536;
 
 // A job in a box, which hands out its key's rest.
-fn boxed(rt: &HostRuntime, key: u64) -> Result<BoxedJob<KEY>, Fail> {
+pub(crate) fn boxed(rt: &HostRuntime, key: u64) -> Result<BoxedJob<KEY>, Fail> {
     let call: Box<dyn FnOnce() -> u64 + Send> = Box::new(
         rt.alloc(),
         move || -> u64
@@ -88,6 +88,7 @@ fn first_run(rt: HostRuntime) -> Result<(), Fail> {
     report(&rt, &mut world, Some(1))?;
     report(&rt, &mut world, None)?;
     drive(&rt, &mut world, DriverTurn::Ended(4))?;
+    expect_here(&world, 0)?;
     assert_eq!(rt;
         world.tick(0, 0)?,
         Ticked {
@@ -109,6 +110,7 @@ fn two_generations(rt: HostRuntime) -> Result<(), Fail> {
     tick(&rt, &mut world, 0, 0)?;
     drive(&rt, &mut world, DriverTurn::Started(1))?;
     let second = boxed(&rt, 65539)?;
+    expect_here(&world, 0)?;
     assert!(rt; world.call_rcu_lazy(0, 0, second).is_ok());
     tick(&rt, &mut world, 0, 0)?;
     assert_eq!(rt;
@@ -142,6 +144,7 @@ fn barrier_tickets(rt: HostRuntime) -> Result<(), Fail> {
         Err(BarrierFault::Ahead { cpu: 0, count: 3 })
     );
     let elsewhere = [Ticket { cpu: 1, number: 0 }];
+    expect_here(&world, 0)?;
     assert_eq!(rt;
         world.barrier(Some(0), &elsewhere),
         Err(BarrierFault::NoProcessor(1))

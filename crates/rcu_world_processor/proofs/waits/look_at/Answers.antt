@@ -1,4 +1,4 @@
-use Rattle.std.proofs.Common.{◌≡◌, ◌≤◌, ◌∙◌, ap, sym, subst, cond, Some, None}
+use Rattle.std.proofs.Common.{◌≡◌, ◌≤◌, ◌∙◌, ap, sym, subst, cond, Some, None, arith}
 use Rattle.rcu_world_law.specs.LabelledLists.{MayAccelerate, advance, newest, wanted_by_look}
 use Rattle.rcu_numbers.specs.Numbers.{snap_of}
 use Rattle.rcu_lists.specs.Segments.{labelled}
@@ -10,7 +10,8 @@ use Rattle.rcu_world_processor.proofs.waits.look_at.Goals as goal
 pub snap-aim-requires : goal.snap-aim-requires
 snap-aim-requires g c =
     let e = ap (waits g.J.Job.key_of) c.advance.ensures.list ∙ advance_as g.J.Job.key_of c.args.number (labelled c.args.list.now) in
-    subst (λ n. n ≤ 2147483644) (sym (c.newest_in.ensures ∙ ap (newest c.args.number) e)) c.requires.small
+    let small : c.newest_in.result ≤ 2147483644 = subst (λ n. n ≤ 2147483644) (sym (c.newest_in.ensures ∙ ap (newest c.args.number) e)) c.requires.small in
+    omega (arith, small)
 
 pub accelerate-requires : goal.accelerate-requires
 accelerate-requires g c =

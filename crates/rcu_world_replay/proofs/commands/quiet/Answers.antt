@@ -1,4 +1,4 @@
-use Rattle.std.proofs.Common.{rules, ◌<◌, ◌≤◌, refl, subst, sym}
+use Rattle.std.proofs.Common.{rules, ◌<◌, ◌≤◌, ◌∙◌, inl, inr, refl, subst, sym}
 use Rattle.rcu_world.specs.Views.{state}
 use Rattle.rcu_world.proofs.Wholes.{if_ok_never}
 use Rattle.rcu_world_replay.specs.Outcomes.{IsQuiet}
@@ -21,12 +21,20 @@ pub processors-requires-after_bounds : goal.processors-requires-after_bounds
 processors-requires-after_bounds g c κs within = assumption
 
 pub quiescent-requires-after_bounds : goal.quiescent-requires-after_bounds
-quiescent-requires-after_bounds g c κs within = (assumption, (c.requires.world, (subst (λ n. c.args.cpu < n) c.processors.ensures c.if-cpu-processors.false, c.requires.rest)))
+quiescent-requires-after_bounds g c κs within = (assumption, (c.requires.world, (subst (λ n. c.args.cpu < n) c.processors.ensures c.if-cpu-processors.false, (sym c.is_away.ensures ∙ c.if-is_away.false, c.requires.rest))))
 
 pub returns-then-cpu-processors : goal.returns-then-cpu-processors
 returns-then-cpu-processors g c = record {
   answers = record {
-    line = subst (λ l. IsQuiet (state g.J.Job.key_of c.args.world.now.core) c.args.cpu l (state g.J.Job.key_of c.args.world.now.core)) (sym c.no_such.ensures) (subst (λ n. n ≤ c.args.cpu) c.processors.ensures c.if-cpu-processors.true, refl, refl);
+    line = subst (λ l. IsQuiet (state g.J.Job.key_of c.args.world.now.core) c.args.cpu l (state g.J.Job.key_of c.args.world.now.core)) (sym c.no_such.ensures) (inl (subst (λ n. n ≤ c.args.cpu) c.processors.ensures c.if-cpu-processors.true, refl, refl));
+    stays = stays_same c.requires.world;
+  };
+}
+
+pub returns-then-is_away : goal.returns-then-is_away
+returns-then-is_away g c = record {
+  answers = record {
+    line = subst (λ l. IsQuiet (state g.J.Job.key_of c.args.world.now.core) c.args.cpu l (state g.J.Job.key_of c.args.world.now.core)) (sym c.away.ensures) (inr (sym c.is_away.ensures ∙ c.if-is_away.true, refl, refl));
     stays = stays_same c.requires.world;
   };
 }
@@ -54,3 +62,12 @@ returns-in-None g c = record {
     stays = c.quiescent.ensures.stays;
   };
 }
+
+pub is_away-requires-send-J : goal.is_away-requires-send-J
+is_away-requires-send-J g c κs within = c.type_bounds.send-J
+
+pub is_away-requires-send-J-Receipt : goal.is_away-requires-send-J-Receipt
+is_away-requires-send-J-Receipt g c κs within = c.type_bounds.send-J-Receipt
+
+pub is_away-requires-after_bounds : goal.is_away-requires-after_bounds
+is_away-requires-after_bounds g c κs within = assumption

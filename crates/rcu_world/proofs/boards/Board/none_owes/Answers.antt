@@ -1,6 +1,5 @@
 use Rattle.std.proofs.Common.{◌<◌, ◌^◌, ◌==◌, rules, ap, sym, ◌∙◌}
-use Rattle.rcu_world.specs.Boards.{mask_of}
-use Rattle.rcu_world.proofs.Masks.{mask_of_board, none_owed}
+use Rattle.rcu_world.proofs.Masks.{mask_of, mask_of_board, none_owed}
 use Rattle.rcu_world.proofs.boards.Board.none_owes.Goals as goal
 
 pub returns : goal.returns

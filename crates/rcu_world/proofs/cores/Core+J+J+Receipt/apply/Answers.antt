@@ -228,6 +228,33 @@ hear-requires-send-J-Receipt g c κs within = c.type_bounds.send-J-Receipt
 pub hear-requires-after_bounds : goal.hear-requires-after_bounds
 hear-requires-after_bounds g c κs within = (assumption, c.requires.fit)
 
+pub leave-requires-send-J : goal.leave-requires-send-J
+leave-requires-send-J g c κs within = c.type_bounds.send-J
+
+pub leave-requires-send-J-Receipt : goal.leave-requires-send-J-Receipt
+leave-requires-send-J-Receipt g c κs within = c.type_bounds.send-J-Receipt
+
+pub leave-requires-after_bounds : goal.leave-requires-after_bounds
+leave-requires-after_bounds g c κs within = (assumption, c.requires.fit)
+
+pub come_back-requires-send-J : goal.come_back-requires-send-J
+come_back-requires-send-J g c κs within = c.type_bounds.send-J
+
+pub come_back-requires-send-J-Receipt : goal.come_back-requires-send-J-Receipt
+come_back-requires-send-J-Receipt g c κs within = c.type_bounds.send-J-Receipt
+
+pub come_back-requires-after_bounds : goal.come_back-requires-after_bounds
+come_back-requires-after_bounds g c κs within = (assumption, c.requires.fit)
+
+pub meet-requires-send-J : goal.meet-requires-send-J
+meet-requires-send-J g c κs within = c.type_bounds.send-J
+
+pub meet-requires-send-J-Receipt : goal.meet-requires-send-J-Receipt
+meet-requires-send-J-Receipt g c κs within = c.type_bounds.send-J-Receipt
+
+pub meet-requires-after_bounds : goal.meet-requires-after_bounds
+meet-requires-after_bounds g c κs within = (assumption, c.requires.fit)
+
 pub need_own-requires-send-J : goal.need_own-requires-send-J
 need_own-requires-send-J g c κs within = c.type_bounds.send-J
 

@@ -38,7 +38,7 @@ returns-in-Skipped-Some-2-clause-refused g c =
     let l : c.args.cpu < length c.args.self.now.core.processors.items = subst (λ n. c.args.cpu < n) (length-map c.args.self.now.core.processors.items (seen g.J.Job.key_of)) c.requires.there in
     let e : c.count-count.result ≡ (cpu_at w c.args.cpu).count = c.count-count.ensures ∙ ap (λ x. x.count) (seen_there g.J.Job.key_of c.args.self.now.core c.args.cpu c.index.result.now l c.index.ensures) in
     let b : (cpu_at w c.args.cpu).count < c.args.self.now.core.limit = omega (arith, e) in
-    (let j = c.in-Skipped-Some-2.ensures-1.answers.step.2 in cc, omega (arith, b), refused_shut w c.args.cpu (g.J.Job.key_of c.args.job) c.requires.there b (c.requires.rest.each c.args.cpu).fresh c.in-Skipped-Some-2.ensures-1.answers.step.0)
+    (let j = c.in-Skipped-Some-2.ensures-1.answers.step.2 in cc, omega (arith, b), refused_shut w c.args.cpu (g.J.Job.key_of c.args.job) c.requires.there c.requires.here b (c.requires.rest.each c.args.cpu).fresh c.in-Skipped-Some-2.ensures-1.answers.step.0)
 
 pub index-requires : goal.index-requires
 index-requires g c = omega (arith, subst (λ n. c.args.cpu < n) (length-map c.args.self.now.core.processors.items (seen g.J.Job.key_of)) c.requires.there, c.args.self.now.core.processors.ok.0)

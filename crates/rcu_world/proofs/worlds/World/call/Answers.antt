@@ -30,7 +30,7 @@ stamp_call-requires-after_bounds g c κs within = (
 )
 
 pub accept_call-requires-after_bounds : goal.accept_call-requires-after_bounds
-accept_call-requires-after_bounds g c κs within = (assumption, (c.requires.world, (c.requires.there, c.requires.rest)))
+accept_call-requires-after_bounds g c κs within = (assumption, (c.requires.world, (c.requires.there, (c.requires.here, c.requires.rest))))
 
 pub returns : goal.returns
 returns g c = record {

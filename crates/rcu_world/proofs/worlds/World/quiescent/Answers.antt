@@ -1,8 +1,8 @@
-use Rattle.std.proofs.Common.{length, refl, true, ◌≡◌, ◌∙◌, ℕ, Bool, Option, Some, None, cond, ap, sym}
-use Rattle.std.proofs.lemmas.Bool.{lt-ltb}
+use Rattle.std.proofs.Common.{refl, true, ◌≡◌, ◌∙◌, ℕ, Bool, Option, Some, None, cond, ap, sym}
 use Rattle.rcu_world_law.specs.Events.CoreEvent.{Report}
 use Rattle.rcu_world_law.specs.States.{owes}
 use Rattle.rcu_world.specs.Views.{state}
+use Rattle.rcu_world.proofs.Absences.{may_report}
 use Rattle.rcu_world.proofs.Wholes.{on_err}
 use Rattle.rcu_world.proofs.Leading.{leads_one}
 use Rattle.rcu_world.proofs.worlds.World.quiescent.Goals.{then-owes, else-owes}
@@ -12,7 +12,7 @@ use Rattle.rcu_world.proofs.worlds.World.quiescent.Goals as goal
 pub returns-clause-events : goal.returns-clause-events
 returns-clause-events g c =
     let w = state g.J.Job.key_of c.args.self.now.core in
-    leads_one w _ (Report c.args.cpu) (lt-ltb c.args.cpu (length w.cpus) c.requires.there) c.in_ok-attempt.ensures.leads.1
+    leads_one w _ (Report c.args.cpu) (may_report w c.args.cpu c.requires.there c.requires.here) c.in_ok-attempt.ensures.leads.1
 
 pub returns-clause-number : goal.returns-clause-number
 returns-clause-number g c = elim c.if-owes.branch [

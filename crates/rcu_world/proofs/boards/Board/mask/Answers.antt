@@ -1,9 +1,0 @@
-use Rattle.std.proofs.Common.{◌<◌, ◌^◌, rules, ap, sym, ◌∙◌}
-use Rattle.rcu_world.specs.Boards.{mask_of}
-use Rattle.rcu_world.proofs.Masks.{mask_of_board}
-use Rattle.rcu_world.proofs.boards.Board.mask.Goals as goal
-
-pub returns : goal.returns
-returns c =
-    let fits : c.self.inside.word.mask < 2 ^ 32 = search rules in
-    c.mask.ensures ∙ sym (mask_of_board c.self.inside.processors c.self.inside.word c.self.invariant fits) ∙ ap (λ b. mask_of b.owing) c.self.view_is
