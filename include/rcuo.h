@@ -6,6 +6,7 @@
  *     thread, or by a sequentially consistent atomic.
  *   - A slot isn't copied, moved or written to while it is full. It is zero before `rcuo_open`.
  *   - `rcuo_close` gets the slots that one `rcuo_open` filled, each in its place.
+ *   - Nothing is read as a processor that is away (`rcuo_leave`), until it is back.
  *   - A function that was given to `rcuo_call` may be called, with its argument, by the thread that begins it.
  *   - malloc, realloc and free come from one allocator, and the library isn't called from a signal handler, nor in the
  *     child of a fork of a program with threads.
@@ -14,9 +15,9 @@
  *
  * WHAT IT IS. A program opens a runtime for up to 32 processors, here objects that it owns: a thread reads shared data and
  * calls `rcuo_call` by its processor's slot, and reports quiescent states between its read sections. A callback runs once a
- * grace period that began after the call has ended, that is, once each processor has reported. A local processor's callbacks
- * run in its own thread; those of an offloaded one in the thread of its hand. Callbacks of one processor run one at a time,
- * in the order of their calls.
+ * grace period that began after the call has ended, that is, once each processor has reported or was away. A thread that may
+ * block leaves before (`rcuo_leave`). A local processor's callbacks run in its own thread; those of an offloaded one in the
+ * thread of its hand. Callbacks of one processor run one at a time, in the order of their calls.
  *
  * No call blocks, takes a lock or starts a thread. Parts with nothing to do say so, and the program decides how to wait.
  * Calls that may take memory are marked; RCUO_MEMORY says that it was refused, and that nothing was lost.
@@ -83,7 +84,9 @@ enum rcuo_answer {
     RCUO_NONE_LEFT = 17,      /* no callback is ready here; after a close, no further record or job is left */
     RCUO_TURN = 18,           /* it isn't the turn of the first callback here, or, of a hand, its wait isn't over */
     RCUO_AGAIN = 19,          /* another thread's step was in the way: begin again */
-    RCUO_NULL = 20            /* a pointer is null */
+    RCUO_NULL = 20,           /* a pointer is null */
+    RCUO_AWAY = 21,           /* the processor is away */
+    RCUO_NOT_AWAY = 22        /* the processor isn't away */
 };
 
 /* What an answer means, in words. */
@@ -110,6 +113,8 @@ static inline const char *rcuo_strerror(enum rcuo_answer answer) {
     case RCUO_TURN: return "it isn't the turn of the first callback here, or its wait isn't over";
     case RCUO_AGAIN: return "another thread's step was in the way";
     case RCUO_NULL: return "a pointer is null";
+    case RCUO_AWAY: return "the processor is away";
+    case RCUO_NOT_AWAY: return "the processor isn't away";
     }
     return "no answer of this library";
 }
@@ -174,7 +179,7 @@ enum rcuo_step {
     RCUO_IDLE = 0,    /* no grace period is in progress, and none is needed */
     RCUO_STARTED = 1, /* it started the grace period of this number */
     RCUO_ENDED = 2,   /* it ended one; the number is this one now */
-    RCUO_WAITS = 3    /* the processors of this mask still owe a report */
+    RCUO_WAITS = 3    /* it waits for this processor, the first that still owes a report */
 };
 
 struct rcuo_driver_turn {
@@ -222,6 +227,10 @@ uint32_t rcuo_slot_open(const struct rcuo_settings *settings, uint64_t number, s
 uint32_t rcuo_slot_close(struct rcuo_parts *parts);
 uint32_t rcuo_slot_call(struct rcuo_slot *slot, bool lazy, uint64_t moment, const struct rcuo_job *job, struct rcuo_ticket *ticket);
 uint32_t rcuo_slot_quiescent(struct rcuo_slot *slot, uint64_t *counted);
+uint32_t rcuo_slot_start_poll(struct rcuo_slot *slot, uint64_t *cookie);
+uint32_t rcuo_slot_poll_state(struct rcuo_slot *slot, uint64_t cookie, bool *elapsed);
+uint32_t rcuo_slot_leave(struct rcuo_slot *slot);
+uint32_t rcuo_slot_return(struct rcuo_slot *slot);
 uint32_t rcuo_slot_begin(struct rcuo_slot *slot, uint64_t moment, struct rcuo_job *job);
 uint32_t rcuo_slot_finish(struct rcuo_slot *slot);
 uint32_t rcuo_slot_driver_turn(struct rcuo_slot *slot, struct rcuo_driver_turn *turn);
@@ -280,8 +289,9 @@ static inline enum rcuo_answer rcuo_open(const struct rcuo_settings *settings, s
  * that didn't, is then read by `rcuo_next_ran` and `rcuo_next_back`. Shut first to know that nothing more is accepted. Takes
  * memory.
  * Answers RCUO_EMPTY where a slot is missing, RCUO_FOREIGN where one has a part of another open or of another place,
- * RCUO_OTHER where one has a part of another kind, RCUO_RUNNING where a callback was begun and isn't finished,
- * RCUO_READING where a read section is counted (RCUO_DEBUG), RCUO_MEMORY; then nothing was lost, and the call may be made again. */
+ * RCUO_OTHER where one has a part of another kind, RCUO_RUNNING where a callback was begun and isn't finished, RCUO_AWAY where
+ * a processor is away (`rcuo_return` first), RCUO_READING where a read section is counted (RCUO_DEBUG), RCUO_MEMORY; then
+ * nothing was lost, and the call may be made again. */
 static inline enum rcuo_answer rcuo_close(struct rcuo_parts *parts) {
     if (!parts) return RCUO_NULL;
     return RCUO_CALL(rcuo_slot_close(parts));
@@ -379,6 +389,23 @@ static inline enum rcuo_answer rcuo_quiescent(struct rcuo_slot *processor, uint6
     return RCUO_CALL(rcuo_slot_quiescent(processor, counted ? counted : &unused));
 }
 
+/* The processor is away from now on, as before its thread blocks: no grace period waits for it. Until `rcuo_return` nothing is
+ * read as it, and a call, a report, a begin or a barrier by it answers RCUO_AWAY. What its bypass list holds is released first;
+ * callbacks in its own list wait until it is back, so a barrier waits for those of a local processor that is away, and not for
+ * those of an offloaded one.
+ * Answers RCUO_MEMORY where its lane has no room for what its bypass list holds: it is still here. RCUO_RUNNING where a callback
+ * was begun and isn't finished. RCUO_READING within a read section that is counted (RCUO_DEBUG). RCUO_AWAY where it is away. */
+static inline enum rcuo_answer rcuo_leave(struct rcuo_slot *processor) {
+    if (!processor) return RCUO_NULL;
+    return RCUO_CALL(rcuo_slot_leave(processor));
+}
+
+/* The processor is back: from now on grace periods wait for its reports again. Answers RCUO_NOT_AWAY where it wasn't away. */
+static inline enum rcuo_answer rcuo_return(struct rcuo_slot *processor) {
+    if (!processor) return RCUO_NULL;
+    return RCUO_CALL(rcuo_slot_return(processor));
+}
+
 /* How many callbacks it accepted. */
 static inline enum rcuo_answer rcuo_accepted(struct rcuo_slot *processor, uint64_t *accepted) {
     if (!processor || !accepted) return RCUO_NULL;
@@ -396,6 +423,22 @@ static inline enum rcuo_answer rcuo_left(struct rcuo_slot *processor, uint64_t *
 static inline enum rcuo_answer rcuo_lists(struct rcuo_slot *processor, struct rcuo_lists *lists) {
     if (!processor || !lists) return RCUO_NULL;
     return RCUO_CALL(rcuo_slot_lists(processor, lists));
+}
+
+/* ---- grace periods without a callback: by a processor or by control ---- */
+
+/* Asks for a grace period that begins after this call. `cookie` gets what `rcuo_poll_state` takes, by any slot of the same open:
+ * the grace-period number at which it will have ended. Takes no memory. */
+static inline enum rcuo_answer rcuo_start_poll(struct rcuo_slot *slot, uint64_t *cookie) {
+    if (!slot || !cookie) return RCUO_NULL;
+    return RCUO_CALL(rcuo_slot_start_poll(slot, cookie));
+}
+
+/* Whether the grace period of a cookie has ended. Where it has, each processor passed a grace period that began after the
+ * `rcuo_start_poll`: what was removed before that is read by no one. A cookie is a number, and of another open it says nothing. */
+static inline enum rcuo_answer rcuo_poll_state(struct rcuo_slot *slot, uint64_t cookie, bool *elapsed) {
+    if (!slot || !elapsed) return RCUO_NULL;
+    return RCUO_CALL(rcuo_slot_poll_state(slot, cookie, elapsed));
 }
 
 /* ---- running callbacks: a processor runs its own, by the thread that owns it; a hand those of an offloaded one ---- */

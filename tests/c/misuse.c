@@ -24,6 +24,12 @@ static void null_pointers(void) {
     is("call of no function", rcuo_call(&empty, 0, NULL, NULL, NULL), RCUO_NULL);
     is("call of no job", rcuo_call_job(&empty, 0, NULL, false, NULL), RCUO_NULL);
     is("quiescent of nothing", rcuo_quiescent(NULL, NULL), RCUO_NULL);
+    is("start of a poll by nothing", rcuo_start_poll(NULL, &number), RCUO_NULL);
+    is("start of a poll into nothing", rcuo_start_poll(&empty, NULL), RCUO_NULL);
+    is("poll of a cookie by nothing", rcuo_poll_state(NULL, 0, &(bool){false}), RCUO_NULL);
+    is("poll of a cookie into nothing", rcuo_poll_state(&empty, 0, NULL), RCUO_NULL);
+    is("leave of nothing", rcuo_leave(NULL), RCUO_NULL);
+    is("return of nothing", rcuo_return(NULL), RCUO_NULL);
     is("accepted of nothing", rcuo_accepted(NULL, &number), RCUO_NULL);
     is("accepted into nothing", rcuo_accepted(&empty, NULL), RCUO_NULL);
     is("left of nothing", rcuo_left(NULL, &number), RCUO_NULL);
@@ -78,6 +84,10 @@ static void empty_slots(void) {
     struct rcuo_slot empty = {0};
     is("call by an empty slot", rcuo_call(&empty, 0, count, NULL, NULL), RCUO_EMPTY);
     all_calls("an empty slot", &empty, RCUO_EMPTY, RCUO_EMPTY, RCUO_EMPTY, RCUO_EMPTY, RCUO_EMPTY, RCUO_EMPTY, RCUO_EMPTY, RCUO_EMPTY);
+    is("start of a poll by an empty slot", rcuo_start_poll(&empty, &(uint64_t){0}), RCUO_EMPTY);
+    is("poll of a cookie by an empty slot", rcuo_poll_state(&empty, 0, &(bool){false}), RCUO_EMPTY);
+    is("leave of an empty slot", rcuo_leave(&empty), RCUO_EMPTY);
+    is("return of an empty slot", rcuo_return(&empty), RCUO_EMPTY);
     is("shut by an empty slot", rcuo_shut(&empty, NULL), RCUO_EMPTY);
     is("halt by an empty slot", rcuo_halt(&empty), RCUO_EMPTY);
     is("close of empty slots", rcuo_close(&parts), RCUO_EMPTY);
@@ -113,7 +123,25 @@ static void settings_outside(void) {
     holds("no slot is full after them", !parts.control.full && !parts.processors[0].full);
 }
 
+/* A processor that leaves, twice, and comes back, twice; and what it answers while it is away. */
+static void away(void) {
+    struct rcuo_slot *slot = &parts.processors[0];
+    is("leave", rcuo_leave(slot), RCUO_OK);
+    is("leave again", rcuo_leave(slot), RCUO_AWAY);
+    is("call while away", rcuo_call(slot, 0, count, NULL, NULL), RCUO_AWAY);
+    is("start of a poll while away", rcuo_start_poll(slot, &(uint64_t){0}), RCUO_AWAY);
+    is("poll of a cookie while away", rcuo_poll_state(slot, 0, &(bool){false}), RCUO_AWAY);
+    all_calls("one that is away", slot, RCUO_AWAY, RCUO_AWAY, RCUO_NOT_RUNNING, RCUO_AWAY, RCUO_AWAY, RCUO_AWAY, RCUO_AWAY, RCUO_AWAY);
+    is("close while one is away", rcuo_close(&parts), RCUO_AWAY);
+    is("return", rcuo_return(slot), RCUO_OK);
+    is("return again", rcuo_return(slot), RCUO_NOT_AWAY);
+    is("leave by a hand", rcuo_leave(&parts.hands[1]), RCUO_OTHER);
+    is("start of a poll by a hand", rcuo_start_poll(&parts.hands[1], &(uint64_t){0}), RCUO_OTHER);
+    is("return by control", rcuo_return(&parts.control), RCUO_OTHER);
+}
+
 static void wrong_kinds(void) {
+    away();
     all_calls("a processor", &parts.processors[0], RCUO_OK, RCUO_NONE_LEFT, RCUO_NOT_RUNNING, RCUO_OTHER, RCUO_OTHER, RCUO_OTHER, RCUO_OK, RCUO_OK);
     all_calls("a group", &parts.groups[1], RCUO_OTHER, RCUO_OTHER, RCUO_OTHER, RCUO_OK, RCUO_OTHER, RCUO_OTHER, RCUO_OTHER, RCUO_OK);
     all_calls("a hand", &parts.hands[1], RCUO_OTHER, RCUO_NONE_LEFT, RCUO_NOT_RUNNING, RCUO_OTHER, RCUO_OTHER, RCUO_OTHER, RCUO_OTHER, RCUO_OK);

@@ -20,19 +20,19 @@
 
 enum { MOST = 5, MOST_CALLS = 64 };
 
-/* A callback as the model knows it: how many reports each processor had made when it was accepted. */
+/* A callback as the model knows it: how often each processor had been quiescent when it was accepted. */
 struct callback {
     uint64_t key;
-    uint64_t reports[MOST];
+    uint64_t quiets[MOST];
 };
 
 /* A processor as the model knows it. */
 struct cpu {
     struct callback callbacks[MOST_CALLS];
     uint64_t accepted, begun, finished;
-    uint64_t reports;
+    uint64_t quiets; /* its reports, and the times that it was away and is back */
     unsigned reading;
-    bool offloadable;
+    bool offloadable, away;
     struct rcuo_slot *runs; /* whose claim runs, if one does */
 };
 
@@ -42,6 +42,8 @@ static struct cpu cpus[MOST];
 static bool is_shut, halted;
 static struct rcuo_counts barrier;
 static bool is_barrier_open;
+static struct callback cookie; /* as a callback that was accepted when the poll was started; its key is the cookie */
+static bool is_polling;
 static uint64_t moment, next_key, seed, state, steps, ran_in_all, came_back_in_all;
 static unsigned long differences;
 
@@ -83,6 +85,10 @@ static void call(uint64_t p) {
     struct rcuo_job job = {next_key, never_called, cpu};
     struct rcuo_ticket ticket = {99, 99};
     enum rcuo_answer answer = rcuo_call_job(&parts.processors[p], moment, &job, any(2), &ticket);
+    if (cpu->away) {
+        same("a call while away", answer, RCUO_AWAY);
+        return;
+    }
     if (cpu->accepted == settings.limit) {
         same("a call at the limit", answer, RCUO_LIMIT);
         return;
@@ -97,16 +103,32 @@ static void call(uint64_t p) {
     same("the ticket's number", ticket.number, cpu->accepted);
     struct callback *made = &cpu->callbacks[cpu->accepted++];
     made->key = next_key++;
-    for (uint64_t q = 0; q < settings.processors; q++) made->reports[q] = cpus[q].reports;
+    for (uint64_t q = 0; q < settings.processors; q++) made->quiets[q] = cpus[q].quiets;
 }
 
 static void report(uint64_t p) {
     enum rcuo_answer answer = rcuo_quiescent(&parts.processors[p], NULL);
-    same("a report", answer, cpus[p].reading ? RCUO_READING : RCUO_OK);
-    if (answer == RCUO_OK) cpus[p].reports++;
+    same("a report", answer, cpus[p].reading ? RCUO_READING : cpus[p].away ? RCUO_AWAY : RCUO_OK);
+    if (answer == RCUO_OK) cpus[p].quiets++;
 }
 
-static void read_or_leave(uint64_t p) {
+static void leave(uint64_t p) {
+    struct cpu *cpu = &cpus[p];
+    struct rcuo_slot *slot = &parts.processors[p];
+    enum rcuo_answer wanted = cpu->reading ? RCUO_READING : cpu->away ? RCUO_AWAY : cpu->runs == slot ? RCUO_RUNNING : RCUO_OK;
+    same("a leave", rcuo_leave(slot), wanted);
+    cpu->away = cpu->away || wanted == RCUO_OK;
+}
+
+static void come_back(uint64_t p) {
+    struct cpu *cpu = &cpus[p];
+    same("a return", rcuo_return(&parts.processors[p]), cpu->away ? RCUO_OK : RCUO_NOT_AWAY);
+    cpu->quiets += cpu->away;
+    cpu->away = false;
+}
+
+static void read_or_end(uint64_t p) {
+    if (cpus[p].away) return;
     if (any(2)) {
         rcuo_read_lock(&parts.processors[p]);
         cpus[p].reading++;
@@ -116,14 +138,18 @@ static void read_or_leave(uint64_t p) {
     }
 }
 
-/* A begin, by the processor or its hand: what it hands out is the next callback, and each processor has reported since it was
- * accepted. */
+/* A begin, by the processor or its hand: what it hands out is the next callback, and each processor has reported or was away
+ * since it was accepted. */
 static void begin(uint64_t p, struct rcuo_slot *slot) {
     struct cpu *cpu = &cpus[p];
     struct rcuo_job job;
     enum rcuo_answer answer = rcuo_begin(slot, moment, &job);
     if (cpu->runs == slot) {
         same("a begin while one runs", answer, RCUO_RUNNING);
+        return;
+    }
+    if (cpu->away && slot == &parts.processors[p]) {
+        same("a begin while away", answer, RCUO_AWAY);
         return;
     }
     if (answer == RCUO_TURN || answer == RCUO_NONE_LEFT || answer == RCUO_AGAIN) return;
@@ -139,7 +165,7 @@ static void begin(uint64_t p, struct rcuo_slot *slot) {
     same("the job's function", job.function == never_called, true);
     same("the job's argument", job.argument == cpu, true);
     for (uint64_t q = 0; q < settings.processors; q++) {
-        if (cpus[q].reports <= begun->reports[q]) differs("a callback before its grace period", q, 0);
+        if (cpus[q].quiets <= begun->quiets[q] && !cpus[q].away) differs("a callback before its grace period", q, 0);
     }
     cpu->runs = slot;
 }
@@ -175,6 +201,10 @@ static void ask_halted(void) {
         same("halted while a callback runs", rcuo_halted(slot, &is_so), RCUO_RUNNING);
         return;
     }
+    if (cpus[p].away && slot == &parts.processors[p]) {
+        same("halted while away", rcuo_halted(slot, &is_so), RCUO_AWAY);
+        return;
+    }
     same("halted", rcuo_halted(slot, &is_so), RCUO_OK);
     same("whether it is halted", is_so, halted);
 }
@@ -193,7 +223,8 @@ static void control(uint64_t p) {
             same("a barrier by a processor whose callback runs", rcuo_barrier(&parts.processors[0], &counts), RCUO_RUNNING);
             break;
         }
-        same("a barrier", rcuo_barrier(any(2) ? &parts.control : &parts.processors[0], &barrier), RCUO_OK);
+        if (cpus[0].away) same("a barrier by a processor that is away", rcuo_barrier(&parts.processors[0], &counts), RCUO_AWAY);
+        same("a barrier", rcuo_barrier(cpus[0].away || any(2) ? &parts.control : &parts.processors[0], &barrier), RCUO_OK);
         is_barrier_open = true;
         same("the barrier's processors", barrier.processors, settings.processors);
         for (uint64_t q = 0; q < settings.processors; q++) same("what a barrier counts", barrier.counts[q], cpus[q].accepted);
@@ -205,6 +236,10 @@ static void control(uint64_t p) {
             struct rcuo_slot *by = any(2) ? &parts.control : &parts.processors[0];
             if (cpus[0].runs == by) {
                 same("a poll by a processor whose callback runs", rcuo_poll(by, &barrier, &is_so), RCUO_RUNNING);
+                break;
+            }
+            if (cpus[0].away && by == &parts.processors[0]) {
+                same("a poll by a processor that is away", rcuo_poll(by, &barrier, &is_so), RCUO_AWAY);
                 break;
             }
             same("a poll", rcuo_poll(by, &barrier, &is_so), RCUO_OK);
@@ -236,6 +271,10 @@ static void control(uint64_t p) {
 static void look(uint64_t p) {
     uint64_t accepted = 0;
     struct rcuo_lists lists;
+    if (cpus[p].away) {
+        same("what is shown of one that is away", rcuo_lists(&parts.processors[p], &lists), RCUO_AWAY);
+        return;
+    }
     same("accepted", rcuo_accepted(&parts.processors[p], &accepted), RCUO_OK);
     same("how many were accepted", accepted, cpus[p].accepted);
     same("left", rcuo_left(&parts.processors[p], &accepted), RCUO_OK);
@@ -255,6 +294,23 @@ static void misuse(void) {
     }
 }
 
+/* A grace period without a callback: it isn't over before each processor reported or was away since. */
+static void poll_grace_period(uint64_t p) {
+    struct rcuo_slot *slot = cpus[p].away || cpus[p].runs == &parts.processors[p] || any(2) ? &parts.control : &parts.processors[p];
+    bool over = false;
+    if (!is_polling) {
+        same("the start of a poll", rcuo_start_poll(slot, &cookie.key), RCUO_OK);
+        for (uint64_t q = 0; q < settings.processors; q++) cookie.quiets[q] = cpus[q].quiets;
+        is_polling = true;
+        return;
+    }
+    same("a poll of a cookie", rcuo_poll_state(slot, cookie.key, &over), RCUO_OK);
+    for (uint64_t q = 0; over && q < settings.processors; q++) {
+        if (cpus[q].quiets <= cookie.quiets[q] && !cpus[q].away) differs("a cookie before its grace period", q, 0);
+    }
+    is_polling = !over;
+}
+
 /* ---- a run ---- */
 
 static void step(void) {
@@ -262,12 +318,12 @@ static void step(void) {
     struct rcuo_slot *slot = cpus[p].offloadable && any(2) ? &parts.hands[p] : &parts.processors[p];
     steps++;
     moment += any(3);
-    switch (any(12)) {
+    switch (any(15)) {
     case 0:
     case 1: call(p); break;
     case 2:
     case 3: report(p); break;
-    case 4: read_or_leave(p); break;
+    case 4: read_or_end(p); break;
     case 5:
     case 6: begin(p, slot); break;
     case 7:
@@ -275,23 +331,30 @@ static void step(void) {
     case 9: turn_others(); break;
     case 10: control(any(settings.processors + 2)); break;
     case 11: any(2) ? look(p) : misuse(); break;
+    case 12: leave(p); break;
+    case 13: come_back(p); break;
+    case 14: poll_grace_period(p); break;
     }
 }
 
 /* What close answers: a section, or a callback that runs, is in the way; then those that ran, and those that didn't. */
 static void end(void) {
-    bool reads = false, runs = false;
+    bool reads = false, runs = false, away = false;
     for (uint64_t p = 0; p < settings.processors; p++) {
         reads = reads || cpus[p].reading;
         runs = runs || cpus[p].runs;
+        away = away || cpus[p].away;
     }
-    if (reads || runs) {
+    if (reads || runs || away) {
         enum rcuo_answer answer = rcuo_close(&parts);
-        if (!((reads && answer == RCUO_READING) || (runs && answer == RCUO_RUNNING))) differs("close in the midst", answer, RCUO_RUNNING);
+        if (!((reads && answer == RCUO_READING) || (runs && answer == RCUO_RUNNING) || (away && answer == RCUO_AWAY))) {
+            differs("close in the midst", answer, RCUO_RUNNING);
+        }
     }
     for (uint64_t p = 0; p < settings.processors; p++) {
         for (; cpus[p].reading; cpus[p].reading--) rcuo_read_unlock(&parts.processors[p]);
         if (cpus[p].runs) finish(p, cpus[p].runs);
+        if (cpus[p].away) come_back(p);
     }
     same("close", rcuo_close(&parts), RCUO_OK);
     for (uint64_t p = 0; p < settings.processors; p++) {
@@ -317,7 +380,7 @@ static void run(uint64_t number) {
     state = number * 0x9e3779b97f4a7c15u + 1;
     for (int i = 0; i < 8; i++) any(2);
     memset(cpus, 0, sizeof cpus);
-    is_shut = halted = is_barrier_open = false;
+    is_shut = halted = is_barrier_open = is_polling = false;
     moment = 0;
     settings.processors = 1 + any(MOST);
     settings.stride = 1 + any(3);

@@ -16,7 +16,7 @@ SECONDS = 600
 CALLBACKS, RUNS = 250000, 4
 WORDS = ["--callbacks", str(CALLBACKS), "--runs", str(RUNS)]
 # What has to be done in those runs, of all that the line counts.
-DONE = ("lazy", "ran", "back", "sections", "current", "removed", "barriers", "tickets", "passed", "drained", "switches", "reports")
+DONE = ("lazy", "ran", "back", "sections", "current", "removed", "barriers", "tickets", "passed", "drained", "switches", "reports", "leaves")
 FLAWS = (
     "a callback began while another of its processor ran",
     "a callback ran out of its order",

@@ -106,6 +106,10 @@ extern "C" {
     pub fn rcuo_slot_close(parts: *mut Parts) -> u32;
     pub fn rcuo_slot_call(slot: *mut Slot, lazy: bool, moment: u64, job: *const Job, ticket: *mut Ticket) -> u32;
     pub fn rcuo_slot_quiescent(slot: *mut Slot, counted: *mut u64) -> u32;
+    pub fn rcuo_slot_start_poll(slot: *mut Slot, cookie: *mut u64) -> u32;
+    pub fn rcuo_slot_poll_state(slot: *mut Slot, cookie: u64, elapsed: *mut bool) -> u32;
+    pub fn rcuo_slot_leave(slot: *mut Slot) -> u32;
+    pub fn rcuo_slot_return(slot: *mut Slot) -> u32;
     pub fn rcuo_slot_begin(slot: *mut Slot, moment: u64, job: *mut Job) -> u32;
     pub fn rcuo_slot_finish(slot: *mut Slot) -> u32;
     pub fn rcuo_slot_driver_turn(slot: *mut Slot, turn: *mut DriverTurn) -> u32;

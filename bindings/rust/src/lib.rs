@@ -182,6 +182,10 @@ impl<T> From<Refused<T>> for Error {
     }
 }
 
+/// A grace period that was asked for by `start_poll` of a processor or of control, whose `poll_state` says whether it has ended.
+#[derive(Clone, Copy, Debug, PartialEq, Eq)]
+pub struct Cookie(u64);
+
 /// An accepted callback: its processor, and its number there.
 #[derive(Clone, Copy, Debug, PartialEq, Eq)]
 pub struct Ticket {
@@ -236,7 +240,7 @@ impl Slots {
         let mut held = self.held();
         let without = |opened: u32, held: u32| (0..ffi::PROCESSORS).filter(move |at| (opened & !held) >> at & 1 == 1);
         let recovered = Recovered {
-            processors: without(self.opened.processors, held.processors).map(|at| Processor::of(self, at)).collect(),
+            processors: without(self.opened.processors, held.processors).map(|at| Processor::back(self, at)).collect(),
             groups: without(self.opened.groups, held.groups).map(|at| Group::of(self, at)).collect(),
             hands: without(self.opened.hands, held.hands).map(|at| Hand::of(self, at)).collect(),
             driver: without(self.opened.driver, held.driver).map(|at| Driver::of(self, at)).next(),
@@ -594,6 +598,28 @@ unsafe fn barrier(slot: *mut ffi::Slot) -> Result<Barrier, Error> {
     Ok(Barrier(counts))
 }
 
+/// Asks for a grace period.
+///
+/// # Safety
+///
+/// As of [`poll`].
+unsafe fn start_poll(slot: *mut ffi::Slot) -> Result<Cookie, Error> {
+    let mut cookie = 0;
+    answer(ffi::rcuo_slot_start_poll(slot, &mut cookie))?;
+    Ok(Cookie(cookie))
+}
+
+/// Whether a grace period has ended.
+///
+/// # Safety
+///
+/// As of [`poll`].
+unsafe fn poll_state(slot: *mut ffi::Slot, cookie: Cookie) -> Result<bool, Error> {
+    let mut elapsed = false;
+    answer(ffi::rcuo_slot_poll_state(slot, cookie.0, &mut elapsed))?;
+    Ok(elapsed)
+}
+
 /// Whether a barrier has passed, as the part of a slot sees it.
 ///
 /// # Safety
@@ -626,7 +652,35 @@ unsafe fn run(slot: *mut ffi::Slot, moment: u64, most: u64) -> Result<u64, Error
     Ok(most)
 }
 
+/// A processor that is away: no grace period waits for it, and nobody reads as it. One that is dropped is away still, and back
+/// once it is taken up again ([`Parts::recover`]).
+#[derive(Debug)]
+pub struct Away {
+    processor: Processor,
+}
+
+impl Away {
+    /// Its number.
+    pub fn number(&self) -> u64 {
+        self.processor.number()
+    }
+
+    /// The processor, which is back: from now on grace periods wait for its reports again.
+    pub fn come_back(self) -> Processor {
+        let Away { processor } = self;
+        unsafe { ffi::rcuo_slot_return(processor.slot()) };
+        processor
+    }
+}
+
 impl Processor {
+    /// Takes up the processor in this place, which is back if it was away.
+    fn back(slots: &Arc<Slots>, at: usize) -> Processor {
+        let processor = Processor::of(slots, at);
+        unsafe { ffi::rcuo_slot_return(processor.slot()) };
+        processor
+    }
+
     /// Its number.
     pub fn number(&self) -> u64 {
         self.at as u64
@@ -670,6 +724,43 @@ impl Processor {
         let mut counted = 0;
         answer(unsafe { ffi::rcuo_slot_quiescent(self.slot(), &mut counted) })?;
         Ok((counted != 0).then_some(counted))
+    }
+
+    /// Asks for a grace period that begins after this call.
+    pub fn start_poll(&mut self) -> Result<Cookie, Error> {
+        unsafe { start_poll(self.slot()) }
+    }
+
+    /// Whether the grace period of a cookie of this runtime has ended: then each processor reported since, or was away.
+    pub fn poll_state(&mut self, cookie: Cookie) -> Result<bool, Error> {
+        unsafe { poll_state(self.slot(), cookie) }
+    }
+
+    /// The processor is away, as before its thread blocks: no grace period waits for it until it comes back. What its bypass list
+    /// holds is released first; its own list waits.
+    ///
+    /// # Errors
+    ///
+    /// [`Error::Memory`], where there is no room to release what its bypass list holds: the processor comes back, and is not away.
+    ///
+    /// ```
+    /// # use rcuo::{Error, Settings};
+    /// let mut parts = rcuo::open(&Settings { processors: 2, ..Default::default() })?;
+    /// let away = parts.processors.pop().unwrap().leave()?;
+    /// parts.processors[0].call(0, || ())?;
+    /// while parts.processors[0].run(0, 10)? == 0 {
+    ///     parts.processors[0].quiescent()?;
+    ///     parts.driver.turn()?;
+    /// }
+    /// parts.processors.push(away.come_back());
+    /// assert_eq!(parts.close()?.ran[0].len(), 1);
+    /// # Ok::<(), Error>(())
+    /// ```
+    pub fn leave(self) -> Result<Away, Refused<Processor>> {
+        match answer(unsafe { ffi::rcuo_slot_leave(self.slot()) }) {
+            Ok(()) => Ok(Away { processor: self }),
+            Err(error) => Err(Refused { error, back: self }),
+        }
     }
 
     /// Its tick, in which it runs its own callbacks that may run now, at most so many. Answers how many ran.
@@ -763,7 +854,7 @@ pub enum DriverTurn {
     Started(u64),
     /// It ended one; the number is this one now.
     Ended(u64),
-    /// The processors of this mask still owe a report.
+    /// The processor of this number is the first that still owes a report.
     Waits(u64),
 }
 
@@ -804,6 +895,16 @@ impl fmt::Debug for Barrier {
 }
 
 impl Control {
+    /// Asks for a grace period that begins after this call.
+    pub fn start_poll(&mut self) -> Result<Cookie, Error> {
+        unsafe { start_poll(self.slot()) }
+    }
+
+    /// Whether the grace period of a cookie of this runtime has ended: then each processor reported since, or was away.
+    pub fn poll_state(&mut self, cookie: Cookie) -> Result<bool, Error> {
+        unsafe { poll_state(self.slot(), cookie) }
+    }
+
     /// Asks that a processor be offloaded, which its next tick heeds.
     pub fn offload(&mut self, processor: u64) -> Result<(), Error> {
         answer(unsafe { ffi::rcuo_slot_switch(self.slot(), processor, true) })

@@ -108,6 +108,16 @@ fn a_dropped_processor() {
 }
 
 #[test]
+fn a_dropped_processor_that_is_away() {
+    for at in 0..3 {
+        let jobs = Jobs::default();
+        let mut parts = jobs.open();
+        lose(parts.processors.remove(at).leave().unwrap());
+        closes_once_recovered(&jobs, parts);
+    }
+}
+
+#[test]
 fn a_dropped_group() {
     for at in 0..2 {
         let jobs = Jobs::default();

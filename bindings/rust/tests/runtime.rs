@@ -214,3 +214,24 @@ fn the_header_and_the_library_are_this_versions() {
     let defaults = format!("{{{processors}, {stride}, {blimit}, {qhimark}, {limit}, {offloadable}}}");
     assert_eq!(defined("RCUO_SETTINGS_DEFAULT"), defaults);
 }
+
+#[test]
+fn a_grace_period_without_a_callback() {
+    let mut parts = open(&Settings { processors: 2, ..Default::default() }).unwrap();
+    let cookie = parts.control.start_poll().unwrap();
+    let mut turns = 0;
+    while !parts.processors[0].poll_state(cookie).unwrap() {
+        assert!(turns < 2 || parts.processors.len() == 1);
+        parts.driver.turn().unwrap();
+        parts.processors[0].quiescent().unwrap();
+        turns += 1;
+        if turns == 2 {
+            // (the other one hasn't reported, so that it isn't over)
+            let away = parts.processors.pop().unwrap().leave().unwrap();
+            assert_eq!(away.number(), 1);
+            drop(away);
+        }
+    }
+    assert_eq!(parts.recover(), 1);
+    parts.close().unwrap();
+}

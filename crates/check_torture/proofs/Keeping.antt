@@ -1,6 +1,10 @@
 -- A processor is driven: one act, and one act more.
-use Rattle.std.proofs.Common.{◌≡◌, ℕ, ◌+◌, Result, Ok, Err, IfOk, IfErr, arith, refl, ap}
+use Rattle.std.proofs.Common.{◌≡◌, ◌∙◌, ℕ, ◌+◌, Result, Ok, Err, IfOk, IfErr, arith, refl, ap}
+use Rattle.rcu_board.proofs.Stepping.{same_again}
+use Rattle.rcu_part_processor.specs.Away.{SameLeft, SameReturned}
 use Rattle.rcu_part_processor.specs.Processors.{IsSound, SameProcessor}
+use Rattle.rcu_part_processor.specs.declared.away.AwayState.{AwayState}
+use Rattle.check_torture.specs.declared.retire.Retire.{Retire}
 use Rattle.rcu_part_processor.proofs.TickRuns.{same_processor, same_processor_again}
 use Rattle.check_torture.specs.Ends.{CpuKeeps}
 use Rattle.check_torture.specs.Kept.{Cpu, Keeps}
@@ -17,6 +21,17 @@ keeps_count n p q same sound count = record { same = same; sound = sound; pace =
 -- a call that was accepted, whose key was counted
 pub keeps_one : (n m : ℕ) (p q : Cpu) → SameProcessor p.state q.state → (IsSound version_of IsVersion p.state → IsSound version_of IsVersion q.state) → q.state.accepted ≡ p.state.accepted + 1 → m ≡ n + 1 → Keeps n m p q
 keeps_one n m p q same sound count more = record { same = same; sound = sound; pace = omega (arith, count, more) }
+
+-- it was away, and is back
+pub keeps_away : (p : Cpu) (a : AwayState Retire ℕ) (q : Cpu) → SameLeft p.state a → SameReturned a q.state → (IsSound version_of IsVersion p.state → IsSound version_of IsVersion q.state) → q.state.accepted ≡ p.state.accepted → Keeps 0 0 p q
+keeps_away p a q left back sound count = keeps_count 0 p q (record {
+  part = same_again _ _ _ _ _ _ left.part back.part;
+  lane = back.lane ∙ left.lane;
+  cpu = back.cpu ∙ left.cpu;
+  offloadable = back.offloadable ∙ left.offloadable;
+  limit = back.limit ∙ left.limit;
+  blimit = back.blimit ∙ left.blimit;
+}) sound count
 
 -- and then more was done
 pub keeps_again : (a b c : ℕ) (p q r : Cpu) → Keeps a b p q → Keeps b c q r → Keeps a c p r

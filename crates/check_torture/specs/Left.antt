@@ -1,7 +1,7 @@
 -- What the checks at the end ask of the records of one processor.
 use Rattle.std.specs.Prelude.{◌≡◌, ℕ, ◌≤◌, ◌++◌, List, Some, All, map, take}
 use Rattle.std.specs.List.{slice_get}
-use Rattle.rcu_numbers.specs.declared.sequence.TheConstants.{GREATEST_NUMBER}
+use Rattle.rcu_numbers.specs.declared.sequence.TheConstants.{LAST_NUMBER}
 use Rattle.rcu_jobs.specs.declared.callback.Record.{Record}
 use Rattle.rcu_jobs.specs.declared.counts.Counts.{Counts}
 use Rattle.rcu_numbers.specs.Numbers.{snap_of}
@@ -14,7 +14,7 @@ AreNumbered records = (i : ℕ) (r : Record ℕ) → slice_get records i ≡ Som
 
 -- Each callback ran at a number for which it waited.
 abbrev pub AreReady : List (Record ℕ) → Type 0
-AreReady records = All (λ r. (r.stamp ≤ GREATEST_NUMBER) × (snap_of r.stamp ≤ r.ready)) records
+AreReady records = All (λ r. (r.stamp ≤ LAST_NUMBER) × (snap_of r.stamp ≤ r.ready)) records
 
 -- at the place of each item stands its key
 abbrev pub AreAt : {X : Type 0} → (X → ℕ) → List ℕ → List X → Type 0

@@ -26,6 +26,9 @@ pub(crate) const MOST_REFUSED: u64 = 1_000;
 /// How many calls a processor's thread makes beyond its share, where the run ends by a shut in the midst of calls.
 pub(crate) const MORE: u64 = 2_000;
 
+/// In how many parts a processor's thread accepts its share; after each it is away for a while.
+const PARTS: u64 = 8;
+
 /// How often a processor's thread does something else at most, while it awaits that all have accepted their shares.
 const MOST_ACTS: u64 = 1_000_000;
 
@@ -165,13 +168,25 @@ impl Actor {
     }
 }
 
+/// Accepts a share of callbacks in parts, and is away for a while after each.
+fn take_in_parts(actor: Actor, share: u64) -> Actor
+    ensures { GoesOn actor result }
+{
+    let mut actor = actor;
+    for part in 1..=PARTS {
+        actor.take_share((share / PARTS).saturating_mul(part));
+        actor = actor.away_for_a_while();
+    }
+    actor.take_share(share);
+    actor
+}
+
 /// Goes on as it is ordered, and then has the processor report and tick until the runtime is halted.
 fn go_on<R: Wait + Clock>(actor: Actor, orders: Orders, rt: &R) -> Driven
     ensures { Keeps (length actor.keys.items) (length result.log.keys.items) actor.processor
         result.processor }
 {
-    let mut actor = actor;
-    actor.take_share(orders.share);
+    let mut actor = take_in_parts(actor, orders.share);
     actor.shared.arrive();
     actor.take_more(orders.more);
     let Actor {

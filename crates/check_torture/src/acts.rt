@@ -2,7 +2,7 @@
 
 ghost use Rattle.std.specs.Prelude.{IfErr, IfOk, IfSome, IsTrue, None, Some, ◌≡◌, ◌+◌, ◌<◌, ◌↔◌, [], length};
 ghost use Rattle.check_torture.specs.Acts.{CallsAs, CallsOnce, ReportsOnce, StaysInPlace, one_barrier, one_call};
-ghost use Rattle.check_torture.specs.Kept.{Accepts, GoesOn};
+ghost use Rattle.check_torture.specs.Kept.{Accepts, GoesOn, Keeps};
 ghost use Rattle.check_torture.specs.Left.{IsCount};
 ghost use Rattle.check_torture.specs.Sums.{one_current, one_freed, one_removed};
 ghost use Rattle.check_torture.specs.declared.versions.Age.TheVariants.{Current, Freed, Removed};
@@ -129,6 +129,19 @@ pub(crate) fn saw(counters: &mut Counters, flaws: &Flaws, seen: Option<Age>)
             counters.freed = counters.freed.saturating_add(1);
             flaws.note(Flaw::FreedWhileRead);
         }
+    }
+}
+
+/// The processor leaves, while its thread rests, and is back. Answers whether there was room to leave.
+fn leave_and_return(processor: Processor<Retire>, yields: u64) -> (Processor<Retire>, bool)
+    ensures { Keeps 0 0 processor result.0 }
+{
+    match processor.leave() {
+        Ok(away) => {
+            rest(yields);
+            (away.come_back(), true)
+        }
+        Err(processor) => (processor, false),
     }
 }
 
@@ -278,6 +291,35 @@ impl Actor {
         self.shared.flaws.check(counted, Flaw::Uncounted);
         self.shared.hand(barrier);
         self.counters.barriers = self.counters.barriers.saturating_add(1);
+    }
+
+    /// The processor is away for a while, and back.
+    pub(crate) fn away_for_a_while(self) -> Actor
+        ensures goes_on { GoesOn self result }
+        ensures keys { result.keys ≡ self.keys }
+    {
+        let Actor {
+            processor,
+            cpu,
+            shared,
+            mut chance,
+            moment,
+            burst,
+            keys,
+            mut counters,
+        } = self;
+        let (processor, left) = leave_and_return(processor, chance.below(LONGEST));
+        counters.leaves = counters.leaves.saturating_add(u64::from(left));
+        Actor {
+            processor,
+            cpu,
+            shared,
+            chance,
+            moment,
+            burst,
+            keys,
+            counters,
+        }
     }
 
     /// Something other than a call.

@@ -12,7 +12,7 @@ use crate::shared::Shared;
 use crate::steerer::Farewell;
 use crate::versions::Age;
 use rcu_jobs::{Closed, Record};
-use rcu_numbers::{GREATEST_NUMBER, snap};
+use rcu_numbers::{LAST_NUMBER, snap};
 
 /// Whether the records are numbered 0, 1, 2, ..
 fn are_numbered(records: &[Record<u64>]) -> bool
@@ -28,8 +28,7 @@ fn are_numbered(records: &[Record<u64>]) -> bool
 fn are_ready(records: &[Record<u64>]) -> bool
     ensures { IsTrue result ↔ AreReady records.now }
 {
-    records.iter().all(|record| record.stamp <= GREATEST_NUMBER
-        && snap(record.stamp) <= record.ready)
+    records.iter().all(|record| record.stamp <= LAST_NUMBER && snap(record.stamp) <= record.ready)
 }
 
 /// Whether each receipt is that of its key.

@@ -33,6 +33,8 @@ pub struct Counters {
     pub switches: u64,
     /// Reports that were counted, as their processors were told.
     pub reports: u64,
+    /// How often a processor was away.
+    pub leaves: u64,
 }
 
 impl Counters {
@@ -52,6 +54,7 @@ impl Counters {
         drained: 0,
         switches: 0,
         reports: 0,
+        leaves: 0,
     };
 
     /// Adds what others were. A sum stays at the greatest `u64`.
@@ -74,5 +77,6 @@ impl Counters {
         self.drained = self.drained.saturating_add(more.drained);
         self.switches = self.switches.saturating_add(more.switches);
         self.reports = self.reports.saturating_add(more.reports);
+        self.leaves = self.leaves.saturating_add(more.leaves);
     }
 }

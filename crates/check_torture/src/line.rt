@@ -49,17 +49,18 @@ fn barriers(alloc: Global, counters: &Counters) -> Result<String, AllocError>
     format!(in alloc; "barriers {barriers} tickets {tickets} passed {passed} drained {drained}")
 }
 
-/// Barriers, switches and reports.
+/// Barriers, switches, reports and leaves.
 fn others(alloc: Global, counters: &Counters) -> Result<String, AllocError>
     ensures { IfOk result (λ s. string_bytes s ≡ others_text counters.now) }
 {
     let Counters {
         switches,
         reports,
+        leaves,
         ..
     } = *counters;
     let barriers = barriers(alloc, counters)?;
-    format!(in alloc; "{barriers} switches {switches} reports {reports}")
+    format!(in alloc; "{barriers} switches {switches} reports {reports} leaves {leaves}")
 }
 
 /// The line of so many runs, with how many errors they met.

@@ -21,7 +21,7 @@ abbrev pub AreTurnWords : DriverTurn → DriverWords → Type 0
 AreTurnWords Idle w = (w.step ≡ 0) × (w.number ≡ 0)
 AreTurnWords (Started n) w = (w.step ≡ 1) × (w.number ≡ n)
 AreTurnWords (Ended n) w = (w.step ≡ 2) × (w.number ≡ n)
-AreTurnWords (Waits mask) w = (w.step ≡ 3) × (w.number ≡ mask)
+AreTurnWords (Waits processor) w = (w.step ≡ 3) × (w.number ≡ processor)
 AreTurnWords Spent w = ⊤
 
 -- the shape of `struct rcuo_settings`

@@ -1,9 +1,11 @@
 //! Calls of a processor or a hand.
 
-ghost use Rattle.std.specs.Prelude.{◌≡◌, ◌≢◌};
+ghost use Rattle.std.specs.Prelude.{◌≡◌, ◌≢◌, ◌↔◌, IsTrue};
 ghost use Rattle.std.specs.Option.{unwrap_or};
 ghost use Rattle.rcu_c.specs.Exports.{Refuses, Tells, TellsShown, kind_of_call};
 ghost use Rattle.rcu_c.specs.Words.{AreListWords};
+ghost use Rattle.rcu_c_slots.specs.Away.{LeavesBy, ReturnsBy};
+ghost use Rattle.rcu_c_slots.specs.Polls.{PollsStateBy, StartsPollBy};
 ghost use Rattle.rcu_c_slots.specs.Processors.{CallsBy, ReportsBy};
 ghost use Rattle.rcu_c_slots.specs.Runs.{BeginsBy, FinishesBy};
 ghost use Rattle.rcu_c_slots.specs.Shows.{ShowsAccepted, ShowsLeft, ShowsLists};
@@ -49,6 +51,13 @@ pub extern "C" fn rcuo_slot_call(
     }
 }
 
+/// Whether a read section of the slot's processor is open.
+fn is_read(slot: &Slot) -> bool
+    ensures { IsTrue result ↔ (slot.now.reading ≢ 0) }
+{
+    slot.reading != 0
+}
+
 /// `rcuo_quiescent`: reports a quiescent state, unless a read section is open.
 #[unsafe(no_mangle)]
 pub extern "C" fn rcuo_slot_quiescent(alloc: Global, slot: &mut Slot, counted: &mut u64) -> u32
@@ -57,12 +66,75 @@ pub extern "C" fn rcuo_slot_quiescent(alloc: Global, slot: &mut Slot, counted: &
     ensures reading { slot.old.reading ≢ 0 → Refuses Reading result slot.old slot.new }
     ensures stays { result ≢ 0 → counted.new ≡ counted.old }
 {
-    if slot.reading != 0 {
+    if is_read(slot) {
         return Fault::Reading.number();
     }
     match slot.quiescent(alloc) {
         Ok(number) => {
             *counted = number.unwrap_or(0);
+            0
+        }
+        Err(fault) => fault.number(),
+    }
+}
+
+/// `rcuo_leave`: the processor is away, unless a read section is open.
+#[unsafe(no_mangle)]
+pub extern "C" fn rcuo_slot_leave(alloc: Global, slot: &mut Slot) -> u32
+    ensures tells { slot.old.reading ≡ 0
+        → Tells LeavesBy (λ _. Unit {0}) result slot.old slot.new }
+    ensures reading { slot.old.reading ≢ 0 → Refuses Reading result slot.old slot.new }
+{
+    if is_read(slot) {
+        return Fault::Reading.number();
+    }
+    match slot.leave(alloc) {
+        Ok(()) => 0,
+        Err(fault) => fault.number(),
+    }
+}
+
+/// `rcuo_return`: the processor is back.
+#[unsafe(no_mangle)]
+pub extern "C" fn rcuo_slot_return(alloc: Global, slot: &mut Slot) -> u32
+    ensures { Tells ReturnsBy (λ _. Unit {0}) result slot.old slot.new }
+{
+    match slot.come_back(alloc) {
+        Ok(()) => 0,
+        Err(fault) => fault.number(),
+    }
+}
+
+/// `rcuo_start_poll`: asks for a grace period, and gives its cookie.
+#[unsafe(no_mangle)]
+pub extern "C" fn rcuo_slot_start_poll(alloc: Global, slot: &mut Slot, cookie: &mut u64) -> u32
+    ensures tells { Tells StartsPollBy (λ n. cookie.new ≡ n) result slot.old slot.new }
+    ensures stays { result ≢ 0 → cookie.new ≡ cookie.old }
+{
+    match slot.start_poll(alloc) {
+        Ok(number) => {
+            *cookie = number;
+            0
+        }
+        Err(fault) => fault.number(),
+    }
+}
+
+/// `rcuo_poll_state`: whether the grace period of a cookie has ended.
+#[unsafe(no_mangle)]
+pub extern "C" fn rcuo_slot_poll_state(
+    alloc: Global,
+    slot: &mut Slot,
+    cookie: u64,
+    elapsed: &mut bool,
+) -> u32
+    ensures tells { Tells (PollsStateBy cookie) (λ over. elapsed.new ≡ over) result slot.old
+        slot.new }
+    ensures stays { result ≢ 0 → elapsed.new ≡ elapsed.old }
+{
+    match slot.poll_state(alloc, cookie) {
+        Ok(over) => {
+            *elapsed = over;
             0
         }
         Err(fault) => fault.number(),

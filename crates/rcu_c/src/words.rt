@@ -98,16 +98,17 @@ pub(crate) fn counts_of_words(words: &CountWords) -> Option<Counts>
     Some(counts)
 }
 
-/// The words of a driver's turn: 0 idle, 1 started, 2 ended, 3 waits, with the number or the mask.
+/// The words of a driver's turn: 0 idle, 1 started, 2 ended, 3 waits, with the number of the grace period or of the
+/// processor that it waits for.
 pub(crate) fn words_of_driver(turn: DriverTurn) -> DriverWords
     ensures { AreTurnWords turn result }
 {
     match turn {
         DriverTurn::Started(number) => DriverWords { step: 1, number },
         DriverTurn::Ended(number) => DriverWords { step: 2, number },
-        DriverTurn::Waits(mask) => DriverWords {
+        DriverTurn::Waits(processor) => DriverWords {
             step: 3,
-            number: u64::from(mask),
+            number: processor,
         },
         DriverTurn::Idle | DriverTurn::Spent => DriverWords { step: 0, number: 0 },
     }

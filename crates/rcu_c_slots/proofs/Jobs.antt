@@ -11,6 +11,7 @@ use Rattle.rcu_c_slots.specs.contracts.job.ForeignJob as job
 use Rattle.rcu_part_group.specs.contracts.group.Group as group
 use Rattle.rcu_part_hand.specs.contracts.hand.Hand as hand
 use Rattle.rcu_part_hand.specs.contracts.running_hand.RunningHand as running_hand
+use Rattle.rcu_part_processor.specs.contracts.away.Away as away
 use Rattle.rcu_part_processor.specs.contracts.processor.Processor as cpu
 use Rattle.rcu_part_processor.specs.contracts.running_processor.RunningProcessor as running_cpu
 
@@ -29,6 +30,9 @@ cpu_fits = search rules
 
 pub running_cpu_fits : FitsInMemory (running_cpu.the_row (param 0 job.the_row) (param 1 job.the_row))
 running_cpu_fits = search rules
+
+pub away_fits : FitsInMemory (away.the_row (param 0 job.the_row) (param 1 job.the_row))
+away_fits = search rules
 
 pub hand_fits : FitsInMemory (hand.the_row (param 0 job.the_row) (param 1 job.the_row))
 hand_fits = search rules

@@ -7,7 +7,7 @@ use Rattle.rcu_jobs.specs.declared.Stop.TheVariants as stop
 use Rattle.rcu_jobs.specs.declared.answers.Refused.{Refused}
 use Rattle.rcu_jobs.specs.declared.answers.Refused.TheVariants as refused
 use Rattle.rcu_c_slots.specs.declared.fault.Fault.{Fault}
-use Rattle.rcu_c_slots.specs.declared.fault.Fault.TheVariants.{Spent, Memory, Closed, Limit, NotOffloadable, NoProcessor, Ahead, Empty, Other, Running, NotRunning, Full, Foreign, Shape, Few, Reading, NoneLeft, Turn, Again}
+use Rattle.rcu_c_slots.specs.declared.fault.Fault.TheVariants.{Spent, Memory, Closed, Limit, NotOffloadable, NoProcessor, Ahead, Empty, Other, Running, NotRunning, Full, Foreign, Shape, Few, Reading, NoneLeft, Turn, Again, Away, NotAway}
 
 abbrev pub fault_number : Fault → ℕ
 fault_number Spent = 1
@@ -29,6 +29,8 @@ fault_number Reading = 16
 fault_number NoneLeft = 17
 fault_number Turn = 18
 fault_number Again = 19
+fault_number Away = 21
+fault_number NotAway = 22
 
 -- what a job's refusal is called
 abbrev pub refusal : {J : Type 0} → Refused J → Fault

@@ -5,8 +5,10 @@ pub mod Holding
 pub mod Opens
 pub mod Others
 pub mod Parts
+pub mod Polls
 pub mod Processors
 pub mod Refusals
+pub mod Away
 pub mod Runs
 pub mod Shows
 pub mod Slots

@@ -2,16 +2,18 @@
 use Rattle.std.specs.Prelude.{◌≡◌, Bool, true, false, Result}
 use Rattle.std.specs.declared.result.Result.TheVariants.{Err, Ok}
 use Rattle.rcu_c_slots.specs.declared.fault.Fault.{Fault}
-use Rattle.rcu_c_slots.specs.declared.fault.Fault.TheVariants.{Empty, NotRunning, Other, Running}
+use Rattle.rcu_c_slots.specs.declared.fault.Fault.TheVariants as fault
+use Rattle.rcu_c_slots.specs.declared.fault.Fault.TheVariants.{Empty, NotAway, NotRunning, Other, Running}
 use Rattle.rcu_c_slots.specs.declared.part.Part.{Part}
 use Rattle.rcu_c_slots.specs.declared.part.PartKind.{PartKind}
 use Rattle.rcu_c_slots.specs.declared.part.PartKind.TheVariants as kind
-use Rattle.rcu_c_slots.specs.declared.part.Part.TheVariants.{Processor, RunningProcessor, Hand, RunningHand, Group, Driver, Control, Closing, Closed, Nothing}
+use Rattle.rcu_c_slots.specs.declared.part.Part.TheVariants.{Processor, RunningProcessor, Away, Hand, RunningHand, Group, Driver, Control, Closing, Closed, Nothing}
 
 -- what a call answers that isn't one of this kind of part
 abbrev pub wrong_kind : Part → Fault
 wrong_kind (Processor p) = Other
 wrong_kind (RunningProcessor b) = Other
+wrong_kind (Away a) = fault.Away
 wrong_kind (Hand h) = Other
 wrong_kind (RunningHand b) = Other
 wrong_kind (Group g) = Other
@@ -21,10 +23,11 @@ wrong_kind (Closing c) = Other
 wrong_kind (Closed c) = Other
 wrong_kind Nothing = Empty
 
--- what a call answers that wants a part of which no callback runs, or one of which one runs
+-- what a call answers that wants a part of which no callback runs and that isn't away, or one of which one runs
 abbrev pub not_resting : Part → Fault
 not_resting (Processor p) = Other
 not_resting (RunningProcessor b) = Running
+not_resting (Away a) = fault.Away
 not_resting (Hand h) = Other
 not_resting (RunningHand b) = Running
 not_resting (Group g) = Other
@@ -37,6 +40,7 @@ not_resting Nothing = Empty
 abbrev pub not_running : Part → Fault
 not_running (Processor p) = NotRunning
 not_running (RunningProcessor b) = Other
+not_running (Away a) = NotRunning
 not_running (Hand h) = NotRunning
 not_running (RunningHand b) = Other
 not_running (Group g) = Other
@@ -46,9 +50,24 @@ not_running (Closing c) = Other
 not_running (Closed c) = Other
 not_running Nothing = Empty
 
+-- what a call answers that wants a processor that is away
+abbrev pub not_away : Part → Fault
+not_away (Processor p) = NotAway
+not_away (RunningProcessor b) = NotAway
+not_away (Away a) = Other
+not_away (Hand h) = Other
+not_away (RunningHand b) = Other
+not_away (Group g) = Other
+not_away (Driver d) = Other
+not_away (Control c) = Other
+not_away (Closing c) = Other
+not_away (Closed c) = Other
+not_away Nothing = Empty
+
 abbrev pub kind_of : Part → PartKind
 kind_of (Processor p) = kind.Processor
 kind_of (RunningProcessor b) = kind.Running
+kind_of (Away a) = kind.Away
 kind_of (Hand h) = kind.Hand
 kind_of (RunningHand b) = kind.Running
 kind_of (Group g) = kind.Group
@@ -62,6 +81,7 @@ kind_of Nothing = kind.Other
 abbrev pub is_closed : Part → Bool
 is_closed (Processor p) = false
 is_closed (RunningProcessor b) = false
+is_closed (Away a) = false
 is_closed (Hand h) = false
 is_closed (RunningHand b) = false
 is_closed (Group g) = false

@@ -2,9 +2,11 @@
 
 ghost use Rattle.std.specs.Int.{from_bool};
 ghost use Rattle.std.specs.Prelude.{◌≡◌, IfErr, IfOk, None};
+ghost use Rattle.rcu_c_slots.specs.Away.{LeavesBy, ReturnsBy};
 ghost use Rattle.rcu_c_slots.specs.Barriers.{OpensPart, PollsPart};
 ghost use Rattle.rcu_c_slots.specs.Gathers.{HasEnds, RefusesEnd};
 ghost use Rattle.rcu_c_slots.specs.Others.{DriverTurnsBy, GroupTurnsBy, HaltsBy, ReadsHaltBy, ShutsBy, SwitchesPart};
+ghost use Rattle.rcu_c_slots.specs.Polls.{PollsStateBy, StartsPollBy};
 ghost use Rattle.rcu_c_slots.specs.Processors.{CallsBy, ReportsBy};
 ghost use Rattle.rcu_c_slots.specs.Runs.{BeginsBy, FinishesBy};
 ghost use Rattle.rcu_c_slots.specs.Shows.{OnlyShows, ShowsAccepted, ShowsBack, ShowsLeft, ShowsLists, ShowsRan, ShowsReports};
@@ -181,6 +183,70 @@ impl Slot {
             return Err(Fault::Empty);
         };
         let answer = boxed.part.poll(counts);
+        self.put(boxed);
+        answer
+    }
+
+    /// `Part::start_poll` of the slot's part.
+    ///
+    /// # Errors
+    ///
+    /// As that, or the slot is empty.
+    pub fn start_poll(&mut self, alloc: Global) -> Result<u64, Fault>
+        ensures { OnSlot StartsPollBy result self.old self.new }
+    {
+        let Some(mut boxed) = self.take(alloc) else {
+            return Err(Fault::Empty);
+        };
+        let answer = boxed.part.start_poll();
+        self.put(boxed);
+        answer
+    }
+
+    /// `Part::poll_state` of the slot's part.
+    ///
+    /// # Errors
+    ///
+    /// As that, or the slot is empty.
+    pub fn poll_state(&mut self, alloc: Global, cookie: u64) -> Result<bool, Fault>
+        ensures { OnSlot (PollsStateBy cookie) result self.old self.new }
+    {
+        let Some(mut boxed) = self.take(alloc) else {
+            return Err(Fault::Empty);
+        };
+        let answer = boxed.part.poll_state(cookie);
+        self.put(boxed);
+        answer
+    }
+
+    /// `Part::leave` of the slot's part.
+    ///
+    /// # Errors
+    ///
+    /// As that, or the slot is empty.
+    pub fn leave(&mut self, alloc: Global) -> Result<(), Fault>
+        ensures { OnSlot LeavesBy result self.old self.new }
+    {
+        let Some(mut boxed) = self.take(alloc) else {
+            return Err(Fault::Empty);
+        };
+        let answer = boxed.part.leave();
+        self.put(boxed);
+        answer
+    }
+
+    /// `Part::come_back` of the slot's part.
+    ///
+    /// # Errors
+    ///
+    /// As that, or the slot is empty.
+    pub fn come_back(&mut self, alloc: Global) -> Result<(), Fault>
+        ensures { OnSlot ReturnsBy result self.old self.new }
+    {
+        let Some(mut boxed) = self.take(alloc) else {
+            return Err(Fault::Empty);
+        };
+        let answer = boxed.part.come_back();
         self.put(boxed);
         answer
     }

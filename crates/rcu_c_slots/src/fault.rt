@@ -50,6 +50,10 @@ pub enum Fault {
     Turn,
     /// A hand holds no callback and drew none, since another step on the lane was in the way.
     Again,
+    /// The processor is away.
+    Away,
+    /// The processor isn't away.
+    NotAway,
 }
 
 impl Fault {
@@ -77,6 +81,8 @@ impl Fault {
             Fault::NoneLeft => 17,
             Fault::Turn => 18,
             Fault::Again => 19,
+            Fault::Away => 21,
+            Fault::NotAway => 22,
         }
     }
 }

@@ -3,6 +3,7 @@
 //! docs/c.md says how it is used. The exports over this crate stand in `rcu_c`.
 #![tactic(auto)]
 
+mod away;
 mod barriers;
 mod calls;
 mod checks;
@@ -13,6 +14,7 @@ mod laws;
 mod opening;
 mod others;
 mod part;
+mod polls;
 mod processors;
 mod runs;
 mod shown;

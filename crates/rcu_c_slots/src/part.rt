@@ -2,12 +2,14 @@
 
 ghost use Rattle.std.specs.Prelude.{◌≡◌};
 ghost use Rattle.rcu_c_slots.specs.declared.part.Part.TheVariants as kind;
-ghost use Rattle.rcu_c_slots.specs.Parts.{kind_of, not_resting, not_running, wrong_kind};
+ghost use Rattle.rcu_c_slots.specs.Parts.{kind_of, not_away, not_resting, not_running, wrong_kind};
 
 use crate::fault::Fault;
 use crate::job::ForeignJob;
 use rcu_jobs::Closed;
-use rcu_parts::{Closing, Control, Driver, Group, Hand, Processor, RunningHand, RunningProcessor};
+use rcu_parts::{
+    Away, Closing, Control, Driver, Group, Hand, Processor, RunningHand, RunningProcessor,
+};
 use std::mem::{forget, replace};
 
 /// An open, by its number, and how many parts of each kind it made.
@@ -39,6 +41,8 @@ pub enum Part {
     Processor(Processor<ForeignJob>),
     /// A processor of which a callback runs.
     RunningProcessor(BegunProcessor),
+    /// A processor that is away.
+    Away(Away<ForeignJob>),
     Hand(Hand<ForeignJob>),
     /// A hand of which a callback runs.
     RunningHand(BegunHand),
@@ -60,6 +64,8 @@ pub enum PartKind {
     Hand,
     /// A processor or a hand of which a callback runs.
     Running,
+    /// A processor that is away.
+    Away,
     Group,
     Driver,
     Control,
@@ -85,6 +91,7 @@ impl Part {
             Part::Processor(_) => PartKind::Processor,
             Part::Hand(_) => PartKind::Hand,
             Part::RunningProcessor(_) | Part::RunningHand(_) => PartKind::Running,
+            Part::Away(_) => PartKind::Away,
             Part::Group(_) => PartKind::Group,
             Part::Driver(_) => PartKind::Driver,
             Part::Control(_) => PartKind::Control,
@@ -99,16 +106,18 @@ impl Part {
     {
         match self {
             Part::Nothing => Fault::Empty,
+            Part::Away(_) => Fault::Away,
             _ => Fault::Other,
         }
     }
 
-    /// What a call answers that wants a part of which no callback runs.
+    /// What a call answers that wants a part of which no callback runs, and that isn't away.
     pub fn not_resting(&self) -> Fault
         ensures { result ≡ not_resting self.now }
     {
         match self {
             Part::Nothing => Fault::Empty,
+            Part::Away(_) => Fault::Away,
             Part::RunningProcessor(_) | Part::RunningHand(_) => Fault::Running,
             _ => Fault::Other,
         }
@@ -120,7 +129,18 @@ impl Part {
     {
         match self {
             Part::Nothing => Fault::Empty,
-            Part::Processor(_) | Part::Hand(_) => Fault::NotRunning,
+            Part::Processor(_) | Part::Away(_) | Part::Hand(_) => Fault::NotRunning,
+            _ => Fault::Other,
+        }
+    }
+
+    /// What a call answers that wants a processor that is away.
+    pub fn not_away(&self) -> Fault
+        ensures { result ≡ not_away self.now }
+    {
+        match self {
+            Part::Nothing => Fault::Empty,
+            Part::Processor(_) | Part::RunningProcessor(_) => Fault::NotAway,
             _ => Fault::Other,
         }
     }

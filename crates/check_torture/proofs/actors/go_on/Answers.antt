@@ -3,5 +3,5 @@ use Rattle.check_torture.proofs.actors.go_on.Goals as goal
 
 pub returns : goal.returns
 returns g c =
-    keeps_again _ _ _ _ _ _ (keeps_again _ _ _ _ _ _ c.take_share.ensures c.take_more.ensures)
+    keeps_again _ _ _ _ _ _ (keeps_again _ _ _ _ _ _ c.take_in_parts-actor.ensures c.take_more.ensures)
     (keeps_count _ _ _ c.run.ensures.same c.run.ensures.sound c.run.ensures.count)
