@@ -1,0 +1,255 @@
+/*
+ * What bench.c calls of a library: of librcuo where RCUO is defined, else of liburcu's QSBR flavour, so that one program measures
+ * both. `tools/bench` builds it twice.
+ *
+ * Threads have numbers, from 0 on. A node begins with a `library_head`, and a callback is written as `LIBRARY_CALLBACK(name)`, whose
+ * argument `head` is that of the node.
+ */
+#ifndef BENCH_LIBRARY_H
+#define BENCH_LIBRARY_H
+
+#include <pthread.h>
+#include <sched.h>
+#include <stdatomic.h>
+#include <stdbool.h>
+#include <stdint.h>
+#include <stdio.h>
+#include <stdlib.h>
+#include <time.h>
+
+/* How many threads there are at most. */
+#define LIBRARY_THREADS 16
+
+#ifdef RCUO
+#include <rcuo.h>
+
+#define LIBRARY_CALLBACK(name) static void name(void *head)
+
+/* librcuo keeps of a callback what it needs by itself. */
+struct library_head {
+    char none;
+};
+
+static struct rcuo_parts library_parts;
+static pthread_t library_helpers[1 + 2 * LIBRARY_THREADS];
+static unsigned library_helping;
+static atomic_bool library_stop;
+
+static void library_check(const char *what, enum rcuo_answer answer) {
+    if (answer == RCUO_OK) return;
+    fprintf(stderr, "%s: %s\n", what, rcuo_strerror(answer));
+    exit(1);
+}
+
+/* A moment is a tick of the coarse clock. */
+static uint64_t library_moment(void) {
+    struct timespec now;
+    clock_gettime(CLOCK_MONOTONIC_COARSE, &now);
+    return (uint64_t)now.tv_sec * 1000 + (uint64_t)now.tv_nsec / 1000000;
+}
+
+static bool library_drive(void) {
+    struct rcuo_driver_turn turn;
+    library_check("a turn of the driver", rcuo_driver_turn(&library_parts.driver, &turn));
+    return turn.step == RCUO_STARTED || turn.step == RCUO_ENDED;
+}
+
+static bool library_group(struct rcuo_slot *group) {
+    struct rcuo_group_turn turn;
+    if (!group->full) return false;
+    library_check("a turn of a group", rcuo_group_turn(group, &turn));
+    return turn.took != 0 || turn.gave != 0;
+}
+
+static bool library_hand(struct rcuo_slot *hand) {
+    uint64_t ran = 0;
+    if (!hand->full) return false;
+    (void)rcuo_run(hand, 0, 256, &ran); /* (it answers why it ran no more) */
+    return ran != 0;
+}
+
+static bool library_stopped(void) {
+    return atomic_load_explicit(&library_stop, memory_order_relaxed);
+}
+
+static void *library_driver_thread(void *none) {
+    (void)none;
+    while (!library_stopped())
+        if (!library_drive()) sched_yield();
+    return NULL;
+}
+
+static void *library_group_thread(void *group) {
+    while (!library_stopped())
+        if (!library_group(group)) sched_yield();
+    return NULL;
+}
+
+static void *library_hand_thread(void *hand) {
+    while (!library_stopped())
+        if (!library_hand(hand)) sched_yield();
+    return NULL;
+}
+
+/* One thread that makes the turns of all helping parts. */
+static void *library_one_thread(void *none) {
+    (void)none;
+    while (!library_stopped()) {
+        bool moved = library_drive();
+        for (unsigned p = 0; p < LIBRARY_THREADS; p++) {
+            moved |= library_group(&library_parts.groups[p]);
+            moved |= library_hand(&library_parts.hands[p]);
+        }
+        if (!moved) sched_yield();
+    }
+    return NULL;
+}
+
+static void library_help(void *(*run)(void *), void *part) {
+    if (pthread_create(&library_helpers[library_helping++], NULL, run, part)) abort();
+}
+
+/* Opens the library for so many threads whose callbacks run in helpers: one helper in all, or `each` some for each thread. */
+static void library_open(unsigned threads, bool each) {
+    struct rcuo_settings settings = RCUO_SETTINGS_DEFAULT;
+    settings.processors = threads;
+    settings.offloadable = (uint32_t)((UINT64_C(1) << threads) - 1);
+    settings.stride = 1;
+    settings.blimit = 1000;
+    library_check("open", rcuo_open(&settings, &library_parts));
+    library_help(each ? library_driver_thread : library_one_thread, NULL);
+    for (unsigned p = 0; each && p < threads; p++) {
+        library_help(library_group_thread, &library_parts.groups[p]);
+        library_help(library_hand_thread, &library_parts.hands[p]);
+    }
+}
+
+static void library_register(unsigned thread, bool each) {
+    (void)thread;
+    (void)each;
+}
+
+static void library_call(unsigned thread, struct library_head *head, void (*run)(void *)) {
+    library_check("call", rcuo_call(&library_parts.processors[thread], library_moment(), run, head, NULL));
+}
+
+static void library_report(unsigned thread) {
+    library_check("report", rcuo_quiescent(&library_parts.processors[thread], NULL));
+}
+
+/* Reports and begins, as a thread does again and again: a begin in a new moment releases what waits. */
+static void library_turn(unsigned thread) {
+    struct rcuo_job job;
+    library_report(thread);
+    (void)rcuo_begin(&library_parts.processors[thread], library_moment(), &job); /* (an offloaded processor's hand runs them) */
+}
+
+/* The thread makes no more calls: it reports on until all is over, since a grace period waits for each processor. */
+static void library_unregister(unsigned thread, atomic_bool *over) {
+    while (!atomic_load(over)) {
+        library_turn(thread);
+        sched_yield();
+    }
+}
+
+/* Waits until all that was called has run. */
+static void library_barrier(void) {
+    struct rcuo_counts barrier;
+    bool passed = false;
+    library_check("barrier", rcuo_barrier(&library_parts.control, &barrier));
+    while (!passed) {
+        library_check("poll", rcuo_poll(&library_parts.control, &barrier, &passed));
+        if (!passed) sched_yield();
+    }
+}
+
+/* Opens the library for so many threads without helpers: the last of them makes grace periods. */
+static void library_open_bare(unsigned threads) {
+    struct rcuo_settings settings = RCUO_SETTINGS_DEFAULT;
+    settings.processors = threads;
+    settings.offloadable = 0;
+    library_check("open", rcuo_open(&settings, &library_parts));
+}
+
+static void library_nothing(void *none) {
+    (void)none;
+}
+
+/* Waits for a grace period, as this thread. */
+static void library_synchronize(unsigned thread) {
+    struct rcuo_slot *self = &library_parts.processors[thread];
+    uint64_t ran = 0;
+    library_check("call", rcuo_call(self, 0, library_nothing, NULL, NULL));
+    while (ran == 0) {
+        library_report(thread);
+        (void)library_drive();
+        (void)rcuo_run(self, 0, 1, &ran); /* (it answers why it ran none) */
+    }
+}
+
+static void library_close(void) {
+    atomic_store(&library_stop, true);
+    for (unsigned t = 0; t < library_helping; t++) pthread_join(library_helpers[t], NULL);
+    library_check("close", rcuo_close(&library_parts));
+    rcuo_end(&library_parts);
+}
+
+#else
+#define _LGPL_SOURCE
+#include <urcu/urcu-qsbr.h>
+
+#define LIBRARY_CALLBACK(name) static void name(struct rcu_head *head)
+
+struct library_head {
+    struct rcu_head head;
+};
+
+static void library_open(unsigned threads, bool each) {
+    (void)threads;
+    (void)each;
+}
+
+static void library_open_bare(unsigned threads) {
+    (void)threads;
+}
+
+/* Where each thread has a helper, that is its own; else all share liburcu's default one. */
+static void library_register(unsigned thread, bool each) {
+    (void)thread;
+    urcu_qsbr_register_thread();
+    if (each) urcu_qsbr_set_thread_call_rcu_data(urcu_qsbr_create_call_rcu_data(0, -1));
+}
+
+static void library_call(unsigned thread, struct library_head *head, void (*run)(struct rcu_head *)) {
+    (void)thread;
+    urcu_qsbr_call_rcu(&head->head, run);
+}
+
+static void library_report(unsigned thread) {
+    (void)thread;
+    urcu_qsbr_quiescent_state();
+}
+
+static void library_turn(unsigned thread) {
+    library_report(thread);
+}
+
+static void library_unregister(unsigned thread, atomic_bool *over) {
+    (void)thread;
+    (void)over;
+    urcu_qsbr_unregister_thread();
+}
+
+static void library_barrier(void) {
+    urcu_qsbr_barrier();
+}
+
+static void library_synchronize(unsigned thread) {
+    (void)thread;
+    urcu_qsbr_synchronize_rcu();
+}
+
+static void library_close(void) {
+}
+#endif
+#endif
