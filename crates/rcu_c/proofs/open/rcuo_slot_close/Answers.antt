@@ -2,7 +2,7 @@ use Rattle.std.proofs.Common.{◌≡◌, refl, sym, ◌∙◌, arith}
 use Rattle.std.specs.declared.result.Result.TheVariants.{Ok, Err}
 use Rattle.rcu_c_slots.specs.Faults.{fault_number}
 use Rattle.rcu_c_slots.specs.declared.fault.Fault.{Fault}
-use Rattle.rcu_c_slots.specs.declared.fault.Fault.TheVariants.{Spent, Memory, Closed, Limit, NotOffloadable, NoProcessor, Ahead, Empty, Other, Running, NotRunning, Full, Foreign, Shape, Few, Reading, NoneLeft, Turn, Again}
+use Rattle.rcu_c_slots.specs.declared.fault.Fault.TheVariants.{Spent, Memory, Closed, Limit, NotOffloadable, NoProcessor, Ahead, Empty, Other, Running, NotRunning, Full, Foreign, Shape, Few, Reading, NoneLeft, Turn, Again, Away, NotAway}
 use Rattle.rcu_c.proofs.open.rcuo_slot_close.Goals as goal
 
 -- no fault has the number of what is done
@@ -26,6 +26,8 @@ no_fault Reading e = omega (arith, e)
 no_fault NoneLeft e = omega (arith, e)
 no_fault Turn e = omega (arith, e)
 no_fault Again e = omega (arith, e)
+no_fault Away e = omega (arith, e)
+no_fault NotAway e = omega (arith, e)
 
 pub returns-in-Ok-clause-tells : goal.returns-in-Ok-clause-tells
 returns-in-Ok-clause-tells c = record { result = Ok tt; does = c.in-Ok.ensures.closes; answer_is = refl }
