@@ -10,10 +10,10 @@ use denote.RattleType.{RattleType}
 use Rattle.rcu_c_slots.specs.contracts.job.ForeignJob as job
 use Rattle.rcu_part_group.specs.contracts.group.Group as group
 use Rattle.rcu_part_hand.specs.contracts.hand.Hand as hand
-use Rattle.rcu_part_hand.specs.contracts.running_hand.RunningHand as running_hand
+use Rattle.rcu_part_hand.specs.contracts.in_place.HandInPlace as hand_in_place
 use Rattle.rcu_part_processor.specs.contracts.away.Away as away
 use Rattle.rcu_part_processor.specs.contracts.processor.Processor as cpu
-use Rattle.rcu_part_processor.specs.contracts.running_processor.RunningProcessor as running_cpu
+use Rattle.rcu_part_processor.specs.contracts.in_place.ProcessorInPlace as cpu_in_place
 
 -- the job as it is given to code for any job
 abbrev pub passed : RattleType
@@ -28,8 +28,8 @@ receipt_sends = search rules
 pub cpu_fits : FitsInMemory (cpu.the_row (param 0 job.the_row) (param 1 job.the_row))
 cpu_fits = search rules
 
-pub running_cpu_fits : FitsInMemory (running_cpu.the_row (param 0 job.the_row) (param 1 job.the_row))
-running_cpu_fits = search rules
+pub placed_cpu_fits : FitsInMemory (cpu_in_place.the_row (param 0 job.the_row) (param 1 job.the_row))
+placed_cpu_fits = search rules
 
 pub away_fits : FitsInMemory (away.the_row (param 0 job.the_row) (param 1 job.the_row))
 away_fits = search rules
@@ -37,8 +37,8 @@ away_fits = search rules
 pub hand_fits : FitsInMemory (hand.the_row (param 0 job.the_row) (param 1 job.the_row))
 hand_fits = search rules
 
-pub running_hand_fits : FitsInMemory (running_hand.the_row (param 0 job.the_row) (param 1 job.the_row))
-running_hand_fits = search rules
+pub placed_hand_fits : FitsInMemory (hand_in_place.the_row (param 0 job.the_row) (param 1 job.the_row))
+placed_hand_fits = search rules
 
 pub group_fits : FitsInMemory (group.the_row (param 0 job.the_row) (param 1 job.the_row))
 group_fits = search rules

@@ -12,3 +12,4 @@ pub mod Ready
 pub mod Sections
 pub mod Lending
 pub mod Jobs
+pub mod LentParts

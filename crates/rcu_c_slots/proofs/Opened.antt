@@ -8,8 +8,8 @@ use Rattle.rcu_part_control.specs.declared.driver.Driver.{Driver as TheDriver}
 use Rattle.rcu_board.specs.declared.board.Board.{Board}
 use Rattle.rcu_c_slots.specs.Gathers.{AreHeld, AreOfTheOpen, CanClose, ForeignParts}
 use Rattle.rcu_c_slots.specs.Opens.{OpensInto}
-use Rattle.rcu_c_slots.specs.Processors.{ForeignCpu, HasKey, foreign_key}
-use Rattle.rcu_c_slots.specs.Runs.{ForeignHand}
+use Rattle.rcu_c_slots.specs.Processors.{ForeignCpu, HasKey, foreign_key, lent_processor}
+use Rattle.rcu_c_slots.specs.Runs.{ForeignHand, lent_hand}
 use Rattle.rcu_c_slots.specs.declared.job.ForeignJob.{ForeignJob}
 use Rattle.rcu_c_slots.specs.declared.part.Lent.{Lent}
 use Rattle.rcu_c_slots.specs.declared.part.Opening.{Opening}
@@ -20,7 +20,12 @@ use Rattle.rcu_numbers.specs.declared.shape.Shape.{Shape}
 use Rattle.rcu_part_group.specs.Groups.{group_board, group_view}
 use Rattle.rcu_part_group.specs.declared.group.Group.{Group as TheGroup}
 use Rattle.rcu_part_hand.specs.Hands.{IsSoundHand, hand_board, hand_view}
+use Rattle.rcu_part_hand.specs.InPlace as hand
+use Rattle.rcu_part_hand.specs.declared.in_place.HandInPlaceState.{HandInPlaceState}
+use Rattle.rcu_part_processor.specs.InPlace.{resting}
 use Rattle.rcu_part_processor.specs.Processors.{IsSound, view_of}
+use Rattle.rcu_part_processor.specs.declared.in_place.ProcessorInPlaceState.{ProcessorInPlaceState}
+use Rattle.rcu_part_steps.specs.declared.begins.ClaimedCallback.{ClaimedCallback}
 use Rattle.rcu_parts.specs.OneOpen.{AreOfOneOpen, AreProcessorsFrom, AreSoundParts, HasHand, HasMember, groups_in, hands_in, members_in, offloadable_in, parts_board, processors_in}
 
 abbrev ForeignGroup : Type 0
@@ -40,8 +45,17 @@ abbrev driver_in : TheDriver → Part → TheDriver
 driver_in d (Driver c) = c
 driver_in d part = d
 
+-- a processor by itself, where no callback of it runs
+abbrev processor_by : (s : ProcessorInPlaceState ForeignJob ForeignJob) (o : Option ClaimedCallback) → s.claimed ≡ o → Option ForeignCpu
+processor_by s None e = Some (record { state = resting s e })
+processor_by s (Some c) e = None
+
+abbrev hand_by : (s : HandInPlaceState ForeignJob ForeignJob) (o : Option ClaimedCallback) → s.claimed ≡ o → Option ForeignHand
+hand_by s None e = Some (record { state = hand.resting s e })
+hand_by s (Some c) e = None
+
 abbrev processor_in : Part → Option ForeignCpu
-processor_in (Processor p) = Some p
+processor_in (Processor l) = processor_by l.processor.state l.processor.state.claimed refl
 processor_in part = None
 
 abbrev group_in : Part → Option ForeignGroup
@@ -49,14 +63,14 @@ group_in (Group g) = Some g
 group_in part = None
 
 abbrev hand_in : Part → Option ForeignHand
-hand_in (Hand h) = Some h
+hand_in (Hand l) = hand_by l.hand.state l.hand.state.claimed refl
 hand_in part = None
 
 abbrev is_control : Part → Bool
 is_control (Control c) = true
 is_control part = false
 
-processors_back : (ps : List ForeignCpu) → filter_map processor_in (map (λ p. Processor p) ps) ≡ ps
+processors_back : (ps : List ForeignCpu) → filter_map processor_in (map (λ p. Processor (lent_processor p)) ps) ≡ ps
 processors_back [] = refl
 processors_back (p ∷ ps) = ap (λ xs. p ∷ xs) (processors_back ps)
 
@@ -64,7 +78,7 @@ groups_back : (gs : List ForeignGroup) → filter_map group_in (map (λ g. Group
 groups_back [] = refl
 groups_back (g ∷ gs) = ap (λ xs. g ∷ xs) (groups_back gs)
 
-hands_back : (hs : List ForeignHand) → filter_map hand_in (map (λ h. Hand h) hs) ≡ hs
+hands_back : (hs : List ForeignHand) → filter_map hand_in (map (λ h. Hand (lent_hand h)) hs) ≡ hs
 hands_back [] = refl
 hands_back (h ∷ hs) = ap (λ xs. h ∷ xs) (hands_back hs)
 

@@ -4,7 +4,8 @@ use Rattle.std.specs.List.{filter_map}
 use Rattle.std.proofs.Common.{◌⊎◌}
 use Rattle.rcu_jobs.specs.declared.answers.Closed.{Closed as Ends}
 use Rattle.rcu_c_slots.specs.Parts.{is_closed, kind_of}
-use Rattle.rcu_c_slots.specs.Processors.{ForeignCpu, HasKey, foreign_key}
+use Rattle.rcu_c_slots.specs.Processors.{ForeignCpu, HasKey, foreign_key, lent_processor}
+use Rattle.rcu_c_slots.specs.Runs.{lent_hand}
 use Rattle.rcu_c_slots.specs.declared.fault.Fault.{Fault}
 use Rattle.rcu_c_slots.specs.declared.fault.Fault.TheVariants.{Empty, Memory, Other}
 use Rattle.rcu_c_slots.specs.declared.job.ForeignJob.{ForeignJob}
@@ -84,9 +85,9 @@ Keeps part old new = (l : Lent) × (old ≡ Some l) × (new ≡ Some (lent_of l.
 pub record AreHeld (o : Opening) (parts : ForeignParts) (slots : PartSlots) : Type 0 where
   pub control_is : slots.control.held.value ≡ Some (lent_of o 0 (Control parts.control))
   pub driver_is : slots.driver.held.value ≡ Some (lent_of o 0 (Driver parts.driver))
-  pub processors_are : parts_in slots.processors ≡ map (λ p. Processor p) (processors_in parts)
+  pub processors_are : parts_in slots.processors ≡ map (λ p. Processor (lent_processor p)) (processors_in parts)
   pub groups_are : parts_in slots.groups ≡ map (λ g. Group g) (groups_in parts)
-  pub hands_are : parts_in slots.hands ≡ map (λ h. Hand h) (hands_in parts)
+  pub hands_are : parts_in slots.hands ≡ map (λ h. Hand (lent_hand h)) (hands_in parts)
   pub processors_at : AreInPlace o 0 (held_in slots.processors)
   pub groups_at : AreInPlace o 0 (held_in slots.groups)
   pub hands_at : AreInPlace o 0 (held_in slots.hands)

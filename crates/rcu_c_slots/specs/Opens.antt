@@ -4,8 +4,8 @@ use Rattle.std.specs.Global.{Box}
 use Rattle.std.proofs.Common.{◌⊎◌}
 use Rattle.rcu_numbers.specs.declared.shape.Shape.{Shape}
 use Rattle.rcu_c_slots.specs.Gathers.{AreHeld, CanClose, ForeignParts, lent_of, lents_in}
-use Rattle.rcu_c_slots.specs.Processors.{ForeignCpu}
-use Rattle.rcu_c_slots.specs.Runs.{ForeignHand}
+use Rattle.rcu_c_slots.specs.Processors.{ForeignCpu, lent_processor}
+use Rattle.rcu_c_slots.specs.Runs.{ForeignHand, lent_hand}
 use Rattle.rcu_c_slots.specs.declared.fault.Fault.{Fault}
 use Rattle.rcu_c_slots.specs.declared.fault.Fault.TheVariants.{Full, Memory}
 use Rattle.rcu_c_slots.specs.declared.job.ForeignJob.{ForeignJob}
@@ -64,13 +64,13 @@ abbrev pub lent_each : {X : Type 0} → Opening → (X → ℕ) → (X → Part)
 lent_each o number wrap xs = map (λ x. lent_of o (number x) (wrap x)) xs
 
 abbrev pub lent_processors : Opening → List ForeignCpu → List Lent
-lent_processors o ps = lent_each o (λ p. p.state.cpu) (λ p. Processor p) ps
+lent_processors o ps = lent_each o (λ p. p.state.cpu) (λ p. Processor (lent_processor p)) ps
 
 abbrev pub lent_groups : Opening → List (TheGroup ForeignJob ForeignJob) → List Lent
 lent_groups o gs = lent_each o (λ g. g.state.group) (λ g. Group g) gs
 
 abbrev pub lent_hands : Opening → List ForeignHand → List Lent
-lent_hands o hs = lent_each o (λ h. h.state.cpu) (λ h. Hand h) hs
+lent_hands o hs = lent_each o (λ h. h.state.cpu) (λ h. Hand (lent_hand h)) hs
 
 -- These are as many of each kind as the open made.
 pub record AreAsMany (o : Opening) (parts : ForeignParts) : Type 0 where

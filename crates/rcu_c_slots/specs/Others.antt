@@ -14,18 +14,19 @@ use Rattle.rcu_jobs.specs.declared.DriverTurn.{DriverTurn}
 use Rattle.rcu_jobs.specs.declared.GroupTurn.{GroupTurn}
 use Rattle.rcu_jobs.specs.declared.SwitchFault.{SwitchFault}
 use Rattle.rcu_c_slots.specs.Faults.{switch_refusal}
-use Rattle.rcu_c_slots.specs.Parts.{Gives, IsRefused, not_resting, wrong_kind}
-use Rattle.rcu_c_slots.specs.Processors.{ForeignCpu, HasKey, KeepsProcessor, foreign_key}
-use Rattle.rcu_c_slots.specs.Runs.{ForeignHand}
+use Rattle.rcu_c_slots.specs.Parts.{Answers, Gives, IsRefused, WhereRests, not_resting, wrong_kind}
+use Rattle.rcu_c_slots.specs.Processors.{HasKey, KeepsProcessor, foreign_key, state_of}
+use Rattle.rcu_c_slots.specs.Runs.{hand_state}
 use Rattle.rcu_c_slots.specs.declared.fault.Fault.{Fault}
 use Rattle.rcu_c_slots.specs.declared.job.ForeignJob.{ForeignJob}
+use Rattle.rcu_c_slots.specs.declared.lent.LentHand.{LentHand}
+use Rattle.rcu_c_slots.specs.declared.lent.LentProcessor.{LentProcessor}
 use Rattle.rcu_c_slots.specs.declared.part.Part.{Part}
 use Rattle.rcu_c_slots.specs.declared.part.Part.TheVariants.{Control, Driver, Group, Hand, Processor}
 use Rattle.rcu_part_group.specs.Groups.{SameGroup, TurnsGroup, group_view, members_of}
 use Rattle.rcu_part_group.specs.declared.group.Group.{Group as TheGroup}
-use Rattle.rcu_part_hand.specs.Hands.{IsSoundHand, SameHand, hand_drawn, hand_held, hand_records, hand_view}
-use Rattle.rcu_part_processor.specs.Calls.{KeepsAll}
-use Rattle.rcu_part_processor.specs.Processors.{view_of}
+use Rattle.rcu_part_hand.specs.InPlace.{KeepsSoundInPlace, ReadsHalt, StaysResting}
+use Rattle.rcu_part_processor.specs.InPlace.{KeepsAll, view_in}
 
 -- a turn of a group
 pub record TurnsOne (turn : GroupTurn) (g h : TheGroup ForeignJob ForeignJob) : Type 0 where
@@ -42,18 +43,15 @@ pub record DriverReadsHalt (halted : Bool) (c d : TheDriver) : Type 0 where
   pub same : SameDriver c d
   pub reads : driver_view d ≡ touched halt_word (from_bool halted) (driver_view c)
 
-pub record CpuReadsHalt (halted : Bool) (p q : ForeignCpu) : Type 0 where
+pub record CpuReadsHalt (halted : Bool) (p q : LentProcessor) : Type 0 where
   pub kept : KeepsProcessor p q
-  pub lists : KeepsAll p.state q.state
-  pub reads : view_of q.state ≡ touched halt_word (from_bool halted) (view_of p.state)
+  pub lists : KeepsAll (state_of p) (state_of q)
+  pub reads : view_in (state_of q) ≡ touched halt_word (from_bool halted) (view_in (state_of p))
 
-pub record HandReadsHalt (halted : Bool) (h i : ForeignHand) : Type 0 where
-  pub same : SameHand h.state i.state
-  pub sound : IsSoundHand foreign_key HasKey h.state → IsSoundHand foreign_key HasKey i.state
-  pub held : hand_held i.state ≡ hand_held h.state
-  pub drawn : hand_drawn i.state ≡ hand_drawn h.state
-  pub records : hand_records i.state ≡ hand_records h.state
-  pub reads : hand_view i.state ≡ touched halt_word (from_bool halted) (hand_view h.state)
+pub record HandReadsHalt (halted : Bool) (h i : LentHand) : Type 0 where
+  pub job : i.job ≡ h.job
+  pub reads : StaysResting (ReadsHalt (from_bool halted)) (hand_state h) (hand_state i)
+  pub sound : KeepsSoundInPlace foreign_key HasKey (hand_state h) (hand_state i)
 
 pub record GroupReadsHalt (halted : Bool) (g h : TheGroup ForeignJob ForeignJob) : Type 0 where
   pub same : SameGroup g.state h.state
@@ -98,8 +96,8 @@ DriverTurnsBy result old new = IsRefused (wrong_kind old) result old new
 
 abbrev pub ReadsHaltBy : Result Bool Fault → Part → Part → Type 0
 ReadsHaltBy result (Driver d) new = Gives Driver DriverReadsHalt result d new
-ReadsHaltBy result (Processor p) new = Gives Processor CpuReadsHalt result p new
-ReadsHaltBy result (Hand h) new = Gives Hand HandReadsHalt result h new
+ReadsHaltBy result (Processor p) new = (q : LentProcessor) × (new ≡ Processor q) × WhereRests p.job (Answers CpuReadsHalt) result p q
+ReadsHaltBy result (Hand h) new = (i : LentHand) × (new ≡ Hand i) × WhereRests h.job (Answers HandReadsHalt) result h i
 ReadsHaltBy result (Group g) new = Gives Group GroupReadsHalt result g new
 ReadsHaltBy result old new = IsRefused (not_resting old) result old new
 

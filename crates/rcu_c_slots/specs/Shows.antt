@@ -7,20 +7,19 @@ use Rattle.rcu_part_lists.specs.ProcessorLists.{cpu_lists}
 use Rattle.rcu_jobs.specs.declared.Lists.{Lists}
 use Rattle.rcu_jobs.specs.declared.callback.Record.{Record}
 use Rattle.rcu_c_slots.specs.Parts.{wrong_kind}
+use Rattle.rcu_c_slots.specs.Processors.{state_of}
 use Rattle.rcu_c_slots.specs.declared.fault.Fault.{Fault}
 use Rattle.rcu_c_slots.specs.declared.fault.Fault.TheVariants.{NoneLeft, NoProcessor}
 use Rattle.rcu_c_slots.specs.declared.job.ForeignJob.{ForeignJob}
 use Rattle.rcu_c_slots.specs.declared.part.Part.{Part}
-use Rattle.rcu_c_slots.specs.declared.part.Part.TheVariants.{Closed, Processor, RunningProcessor}
-use Rattle.rcu_part_processor.specs.Processors.{lists_of}
-use Rattle.rcu_part_processor.specs.Running.{running_lists}
+use Rattle.rcu_c_slots.specs.declared.part.Part.TheVariants.{Closed, Processor}
+use Rattle.rcu_part_processor.specs.InPlace.{lists_in}
 
 -- ---- what a processor shows, whether or not a callback of it runs
 
 -- so many callbacks as it accepted
 abbrev pub accepted_by : Part → Result ℕ Fault
-accepted_by (Processor p) = Ok p.state.accepted
-accepted_by (RunningProcessor b) = Ok b.processor.state.accepted
+accepted_by (Processor p) = Ok (state_of p).accepted
 accepted_by part = Err (wrong_kind part)
 
 -- so many as are left of its limit
@@ -28,16 +27,14 @@ abbrev pub IsLeft : Result ℕ Fault → (limit accepted : ℕ) → Type 0
 IsLeft result limit accepted = (n : ℕ) × (result ≡ Ok n) × (n + accepted ≡ limit)
 
 abbrev pub lists_by : Part → Result Lists Fault
-lists_by (Processor p) = Ok (cpu_lists p.state.accepted (lists_of p.state))
-lists_by (RunningProcessor b) = Ok (cpu_lists b.processor.state.accepted (running_lists b.processor.state))
+lists_by (Processor p) = Ok (cpu_lists (state_of p).accepted (lists_in (state_of p)))
 lists_by part = Err (wrong_kind part)
 
 abbrev pub ShowsAccepted : Result ℕ Fault → Part → Type 0
 ShowsAccepted result part = result ≡ accepted_by part
 
 abbrev pub ShowsLeft : Result ℕ Fault → Part → Type 0
-ShowsLeft result (Processor p) = IsLeft result p.state.limit p.state.accepted
-ShowsLeft result (RunningProcessor b) = IsLeft result b.processor.state.limit b.processor.state.accepted
+ShowsLeft result (Processor p) = IsLeft result (state_of p).limit (state_of p).accepted
 ShowsLeft result part = result ≡ Err (wrong_kind part)
 
 abbrev pub ShowsLists : Result Lists Fault → Part → Type 0

@@ -1,9 +1,10 @@
 //! A processor in a slot leaves, and comes back.
 
-ghost use Rattle.rcu_c_slots.specs.Away.{LeavesBy, LeavesCpu, ReturnsBy, ReturnsOne};
+ghost use Rattle.rcu_c_slots.specs.Away.{LeavesBy, LeavesCpu, LeavesLent, ReturnsBy, ReturnsOne};
 
 use crate::fault::Fault;
 use crate::job::ForeignJob;
+use crate::lent::LentProcessor;
 use crate::part::Part;
 use rcu_parts::{Away, Processor};
 use std::mem::replace;
@@ -14,8 +15,21 @@ fn leave_one(processor: Processor<ForeignJob>) -> (Part, Result<(), Fault>)
 {
     match processor.leave() {
         Ok(away) => (Part::Away(away), Ok(())),
-        Err(processor) => (Part::Processor(processor), Err(Fault::Memory)),
+        Err(processor) => (
+            Part::Processor(LentProcessor::new(processor)),
+            Err(Fault::Memory),
+        ),
     }
+}
+
+/// The same of a processor in a slot, unless a callback runs.
+fn leave_lent(lent: LentProcessor) -> (Part, Result<(), Fault>)
+    ensures { LeavesLent result.1 lent result.0 }
+{
+    if lent.job.is_some() {
+        return (Part::Processor(lent), Err(Fault::Running));
+    }
+    leave_one(lent.into_processor())
 }
 
 /// A processor is back.
@@ -36,8 +50,8 @@ impl Part {
         ensures { LeavesBy result self.old self.new }
     {
         match replace(self, Part::Nothing) {
-            Part::Processor(processor) => {
-                let (part, answer) = leave_one(processor);
+            Part::Processor(lent) => {
+                let (part, answer) = leave_lent(lent);
                 self.fill(part);
                 answer
             }
@@ -59,7 +73,7 @@ impl Part {
     {
         match replace(self, Part::Nothing) {
             Part::Away(away) => {
-                self.fill(Part::Processor(return_one(away)));
+                self.fill(Part::Processor(LentProcessor::new(return_one(away))));
                 Ok(())
             }
             other => {

@@ -1,12 +1,12 @@
 //! Barriers, by control or a processor in a slot.
 
-ghost use Rattle.rcu_c_slots.specs.Barriers.{OpensPart, PollsControl, PollsPart, PollsProcessor};
+ghost use Rattle.rcu_c_slots.specs.Barriers.{PollsControl};
 
 use crate::fault::Fault;
-use crate::job::ForeignJob;
+use crate::lent::LentProcessor;
 use crate::part::Part;
 use rcu_jobs::{Counts, Passed};
-use rcu_parts::{Barrier, Control, Processor};
+use rcu_parts::{Barrier, Control};
 
 /// Polls a barrier of these counts by control, if they are of as many processors as there are.
 fn poll_control(control: &mut Control, counts: Counts) -> Result<Option<Passed>, Fault>
@@ -19,21 +19,39 @@ fn poll_control(control: &mut Control, counts: Counts) -> Result<Option<Passed>,
     Ok(barrier.poll(control))
 }
 
-/// Polls a barrier of these counts by a processor, if they are of as many processors as there are.
-fn poll_processor(
-    processor: &mut Processor<ForeignJob>,
-    counts: Counts,
-) -> Result<Option<Passed>, Fault>
-    ensures { PollsProcessor counts result processor.old processor.new }
-{
-    if counts.n != processor.processors() {
-        return Err(Fault::Foreign);
+impl LentProcessor {
+    ghost use Rattle.rcu_c_slots.specs.Barriers.{PollsProcessor};
+    ghost use Rattle.rcu_c_slots.specs.Parts.{Answers, WhereRests};
+    ghost use Rattle.rcu_c_slots.specs.Processors.{OpensOne};
+
+    /// Opens a barrier, unless a callback runs.
+    fn barrier(&mut self) -> Result<Barrier, Fault>
+        ensures { WhereRests self.old.job (Answers OpensOne) result self.old self.new }
+    {
+        if self.job.is_some() {
+            return Err(Fault::Running);
+        }
+        Ok(self.processor.barrier())
     }
-    let mut barrier = Barrier { counts };
-    Ok(barrier.poll(processor))
+
+    /// Polls a barrier of these counts, if they are of as many processors as there are, and no callback runs.
+    fn poll(&mut self, counts: Counts) -> Result<Option<Passed>, Fault>
+        ensures { WhereRests self.old.job (PollsProcessor counts) result self.old self.new }
+    {
+        if self.job.is_some() {
+            return Err(Fault::Running);
+        }
+        if counts.n != self.processor.processors() {
+            return Err(Fault::Foreign);
+        }
+        let mut barrier = Barrier { counts };
+        Ok(barrier.poll(&mut self.processor))
+    }
 }
 
 impl Part {
+    ghost use Rattle.rcu_c_slots.specs.Barriers.{OpensPart, PollsPart};
+
     /// Opens a barrier for all that was accepted, by control or a processor.
     ///
     /// # Errors
@@ -47,7 +65,7 @@ impl Part {
                 Ok(barrier) => Ok(barrier),
                 Err(_) => unreachable!(),
             },
-            Part::Processor(processor) => Ok(processor.barrier()),
+            Part::Processor(processor) => processor.barrier(),
             other => Err(other.not_resting()),
         }
     }
@@ -63,7 +81,7 @@ impl Part {
     {
         match self {
             Part::Control(control) => poll_control(control, counts),
-            Part::Processor(processor) => poll_processor(processor, counts),
+            Part::Processor(processor) => processor.poll(counts),
             other => Err(other.not_resting()),
         }
     }

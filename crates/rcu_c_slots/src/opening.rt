@@ -6,6 +6,7 @@ ghost use Rattle.rcu_c_slots.specs.Opens.{AreAt, AreEmpty, AreRising, BoxesAll, 
 
 use crate::fault::Fault;
 use crate::job::ForeignJob;
+use crate::lent::{LentHand, LentProcessor};
 use crate::part::{Lent, Opening, Part};
 use crate::slot::{PartSlots, Slot};
 use rcu_numbers::Shape;
@@ -40,7 +41,12 @@ fn box_processors(
     let mut boxes = VecDeque::new(alloc);
     for part in parts {
         let at = part.cpu();
-        boxes.push_back(box_part(alloc, opening, at, Part::Processor(part))?)?;
+        boxes.push_back(box_part(
+            alloc,
+            opening,
+            at,
+            Part::Processor(LentProcessor::new(part)),
+        )?)?;
     }
     Ok(boxes)
 }
@@ -70,7 +76,7 @@ fn box_hands(
     let mut boxes = VecDeque::new(alloc);
     for part in parts {
         let at = part.cpu();
-        boxes.push_back(box_part(alloc, opening, at, Part::Hand(part))?)?;
+        boxes.push_back(box_part(alloc, opening, at, Part::Hand(LentHand::new(part)))?)?;
     }
     Ok(boxes)
 }

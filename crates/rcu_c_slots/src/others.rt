@@ -2,9 +2,10 @@
 
 ghost use Rattle.std.specs.Prelude.{◌≡◌};
 ghost use Rattle.std.specs.Int.{from_bool};
-ghost use Rattle.rcu_c_slots.specs.Others.{DriverTurnsBy, GroupTurnsBy, HaltsBy, ReadsHaltBy, ShutsBy, SwitchesOne, SwitchesPart};
+ghost use Rattle.rcu_c_slots.specs.Others.{SwitchesOne};
 
 use crate::fault::{Fault, fault_of_switch};
+use crate::lent::{LentHand, LentProcessor};
 use crate::part::Part;
 use rcu_jobs::{Counts, DriverTurn, GroupTurn, SwitchFault};
 use rcu_parts::Control;
@@ -20,7 +21,39 @@ fn switch_one(control: &mut Control, processor: u64, on: bool) -> Result<(), Swi
     }
 }
 
+impl LentProcessor {
+    ghost use Rattle.rcu_c_slots.specs.Others.{CpuReadsHalt};
+    ghost use Rattle.rcu_c_slots.specs.Parts.{Answers, WhereRests};
+
+    /// Whether the runtime was halted, unless a callback runs.
+    fn is_halted(&mut self) -> Result<bool, Fault>
+        ensures { WhereRests self.old.job (Answers CpuReadsHalt) result self.old self.new }
+    {
+        if self.job.is_some() {
+            return Err(Fault::Running);
+        }
+        Ok(self.processor.is_halted())
+    }
+}
+
+impl LentHand {
+    ghost use Rattle.rcu_c_slots.specs.Others.{HandReadsHalt};
+    ghost use Rattle.rcu_c_slots.specs.Parts.{Answers, WhereRests};
+
+    /// Whether the runtime was halted, unless a callback runs.
+    fn is_halted(&mut self) -> Result<bool, Fault>
+        ensures { WhereRests self.old.job (Answers HandReadsHalt) result self.old self.new }
+    {
+        if self.job.is_some() {
+            return Err(Fault::Running);
+        }
+        Ok(self.hand.is_halted())
+    }
+}
+
 impl Part {
+    ghost use Rattle.rcu_c_slots.specs.Others.{DriverTurnsBy, GroupTurnsBy, HaltsBy, ReadsHaltBy, ShutsBy, SwitchesPart};
+
     /// A turn of a group.
     ///
     /// # Errors
@@ -59,8 +92,8 @@ impl Part {
     {
         match self {
             Part::Driver(driver) => Ok(driver.is_halted()),
-            Part::Processor(processor) => Ok(processor.is_halted()),
-            Part::Hand(hand) => Ok(hand.is_halted()),
+            Part::Processor(processor) => processor.is_halted(),
+            Part::Hand(hand) => hand.is_halted(),
             Part::Group(group) => Ok(group.is_halted()),
             other => Err(other.not_resting()),
         }

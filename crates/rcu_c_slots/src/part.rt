@@ -2,14 +2,13 @@
 
 ghost use Rattle.std.specs.Prelude.{◌≡◌};
 ghost use Rattle.rcu_c_slots.specs.declared.part.Part.TheVariants as kind;
-ghost use Rattle.rcu_c_slots.specs.Parts.{kind_of, not_away, not_resting, not_running, wrong_kind};
+ghost use Rattle.rcu_c_slots.specs.Parts.{if_resting, kind_of, not_away, not_resting, not_running, wrong_kind};
 
 use crate::fault::Fault;
 use crate::job::ForeignJob;
+use crate::lent::{LentHand, LentProcessor};
 use rcu_jobs::Closed;
-use rcu_parts::{
-    Away, Closing, Control, Driver, Group, Hand, Processor, RunningHand, RunningProcessor,
-};
+use rcu_parts::{Away, Closing, Control, Driver, Group};
 use std::mem::{forget, replace};
 
 /// An open, by its number, and how many parts of each kind it made.
@@ -21,31 +20,15 @@ pub struct Opening {
     pub hands: u64,
 }
 
-/// A processor of which a callback runs, with the job that was handed out.
-#[derive(Drop)]
-pub struct BegunProcessor {
-    pub processor: RunningProcessor<ForeignJob>,
-    pub job: ForeignJob,
-}
-
-/// A hand of which a callback runs, with the job that was handed out.
-#[derive(Drop)]
-pub struct BegunHand {
-    pub hand: RunningHand<ForeignJob>,
-    pub job: ForeignJob,
-}
-
 /// A part of any kind, for jobs of another language; or what is left of all of them.
 #[derive(Drop)]
 pub enum Part {
-    Processor(Processor<ForeignJob>),
-    /// A processor of which a callback runs.
-    RunningProcessor(BegunProcessor),
+    /// A processor, whether or not a callback of it runs.
+    Processor(LentProcessor),
     /// A processor that is away.
     Away(Away<ForeignJob>),
-    Hand(Hand<ForeignJob>),
-    /// A hand of which a callback runs.
-    RunningHand(BegunHand),
+    /// A hand, whether or not a callback of it runs.
+    Hand(LentHand),
     Group(Group<ForeignJob>),
     Driver(Driver),
     Control(Control),
@@ -74,6 +57,16 @@ pub enum PartKind {
     Other,
 }
 
+/// By whether a callback of a part runs, of which this is the job that was handed out.
+fn if_resting<T: Copy>(job: &Option<ForeignJob>, rests: T, runs: T) -> T
+    ensures { result ≡ if_resting job.now rests runs }
+{
+    match job {
+        None => rests,
+        Some(_) => runs,
+    }
+}
+
 impl Part {
     /// Puts a part where none is.
     pub fn fill(&mut self, part: Part)
@@ -88,9 +81,8 @@ impl Part {
         ensures { result ≡ kind_of self.now }
     {
         match self {
-            Part::Processor(_) => PartKind::Processor,
-            Part::Hand(_) => PartKind::Hand,
-            Part::RunningProcessor(_) | Part::RunningHand(_) => PartKind::Running,
+            Part::Processor(lent) => if_resting(&lent.job, PartKind::Processor, PartKind::Running),
+            Part::Hand(lent) => if_resting(&lent.job, PartKind::Hand, PartKind::Running),
             Part::Away(_) => PartKind::Away,
             Part::Group(_) => PartKind::Group,
             Part::Driver(_) => PartKind::Driver,
@@ -118,7 +110,8 @@ impl Part {
         match self {
             Part::Nothing => Fault::Empty,
             Part::Away(_) => Fault::Away,
-            Part::RunningProcessor(_) | Part::RunningHand(_) => Fault::Running,
+            Part::Processor(lent) => if_resting(&lent.job, Fault::Other, Fault::Running),
+            Part::Hand(lent) => if_resting(&lent.job, Fault::Other, Fault::Running),
             _ => Fault::Other,
         }
     }
@@ -129,7 +122,9 @@ impl Part {
     {
         match self {
             Part::Nothing => Fault::Empty,
-            Part::Processor(_) | Part::Away(_) | Part::Hand(_) => Fault::NotRunning,
+            Part::Away(_) => Fault::NotRunning,
+            Part::Processor(lent) => if_resting(&lent.job, Fault::NotRunning, Fault::Other),
+            Part::Hand(lent) => if_resting(&lent.job, Fault::NotRunning, Fault::Other),
             _ => Fault::Other,
         }
     }
@@ -140,7 +135,7 @@ impl Part {
     {
         match self {
             Part::Nothing => Fault::Empty,
-            Part::Processor(_) | Part::RunningProcessor(_) => Fault::NotAway,
+            Part::Processor(_) => Fault::NotAway,
             _ => Fault::Other,
         }
     }

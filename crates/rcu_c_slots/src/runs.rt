@@ -1,56 +1,77 @@
-//! Callbacks in two steps, by a processor or a hand in a slot.
-
-ghost use Rattle.rcu_c_slots.specs.Runs.{BeginsBy, BeginsCpu, BeginsHand, FinishesBy, FinishesHandOne, FinishesOne};
+//! Callbacks in two steps, by a processor or a hand in a slot, where the part stands.
 
 use crate::fault::{Fault, fault_of_stop};
 use crate::job::ForeignJob;
-use crate::part::{BegunHand, BegunProcessor, Part};
-use rcu_parts::{Begins, Hand, Processor};
-use std::mem::replace;
+use crate::lent::{LentHand, LentProcessor};
+use crate::part::Part;
 
-/// Begins a callback of a processor, in a tick at this moment.
-fn begin_processor(
-    processor: Processor<ForeignJob>,
-    moment: u64,
-) -> (Part, Result<ForeignJob, Fault>)
-    ensures { BeginsCpu moment result.1 processor result.0 }
-{
-    match processor.begin(moment) {
-        Begins::Runs(processor, job) => {
-            let begun = BegunProcessor { processor, job };
-            (Part::RunningProcessor(begun), Ok(job))
+impl LentProcessor {
+    ghost use Rattle.rcu_c_slots.specs.Runs.{BeginsCpu, FinishesCpu};
+
+    /// Begins a callback, in a tick at this moment.
+    fn begin(&mut self, moment: u64) -> Result<ForeignJob, Fault>
+        ensures { BeginsCpu moment result self.old self.new }
+    {
+        if self.job.is_some() {
+            return Err(Fault::Running);
         }
-        Begins::Stops(processor, stop) => { (Part::Processor(processor), Err(fault_of_stop(stop))) }
+        match self.processor.begin(moment) {
+            Ok(job) => {
+                self.job = Some(job);
+                Ok(job)
+            }
+            Err(stop) => Err(fault_of_stop(stop)),
+        }
+    }
+
+    /// Ends the callback that runs.
+    fn finish(&mut self) -> Result<(), Fault>
+        ensures { FinishesCpu result self.old self.new }
+    {
+        let Some(job) = self.job else {
+            return Err(Fault::NotRunning);
+        };
+        self.processor.finish(job);
+        self.job = None;
+        Ok(())
     }
 }
 
-/// Begins a callback of a hand.
-fn begin_hand(hand: Hand<ForeignJob>) -> (Part, Result<ForeignJob, Fault>)
-    ensures { BeginsHand result.1 hand result.0 }
-{
-    match hand.begin() {
-        Begins::Runs(hand, job) => (Part::RunningHand(BegunHand { hand, job }), Ok(job)),
-        Begins::Stops(hand, stop) => (Part::Hand(hand), Err(fault_of_stop(stop))),
+impl LentHand {
+    ghost use Rattle.rcu_c_slots.specs.Runs.{BeginsHand, FinishesHand};
+
+    /// Begins a callback.
+    fn begin(&mut self) -> Result<ForeignJob, Fault>
+        ensures { BeginsHand result self.old self.new }
+    {
+        if self.job.is_some() {
+            return Err(Fault::Running);
+        }
+        match self.hand.begin() {
+            Ok(job) => {
+                self.job = Some(job);
+                Ok(job)
+            }
+            Err(stop) => Err(fault_of_stop(stop)),
+        }
     }
-}
 
-/// Ends the callback of a processor.
-fn finish_processor(begun: BegunProcessor) -> Processor<ForeignJob>
-    ensures { FinishesOne begun result }
-{
-    let BegunProcessor { processor, job } = begun;
-    processor.finish(job)
-}
-
-/// Ends the callback of a hand.
-fn finish_hand(begun: BegunHand) -> Hand<ForeignJob>
-    ensures { FinishesHandOne begun result }
-{
-    let BegunHand { hand, job } = begun;
-    hand.finish(job)
+    /// Ends the callback that runs.
+    fn finish(&mut self) -> Result<(), Fault>
+        ensures { FinishesHand result self.old self.new }
+    {
+        let Some(job) = self.job else {
+            return Err(Fault::NotRunning);
+        };
+        self.hand.finish(job);
+        self.job = None;
+        Ok(())
+    }
 }
 
 impl Part {
+    ghost use Rattle.rcu_c_slots.specs.Runs.{BeginsBy, FinishesBy};
+
     /// Begins a callback, by a processor, in a tick at this moment, or by a hand. Its job is to be run until `finish`.
     ///
     /// # Errors
@@ -59,22 +80,10 @@ impl Part {
     pub fn begin(&mut self, moment: u64) -> Result<ForeignJob, Fault>
         ensures { BeginsBy moment result self.old self.new }
     {
-        match replace(self, Part::Nothing) {
-            Part::Processor(processor) => {
-                let (part, answer) = begin_processor(processor, moment);
-                self.fill(part);
-                answer
-            }
-            Part::Hand(hand) => {
-                let (part, answer) = begin_hand(hand);
-                self.fill(part);
-                answer
-            }
-            other => {
-                let fault = other.not_resting();
-                self.fill(other);
-                Err(fault)
-            }
+        match self {
+            Part::Processor(processor) => processor.begin(moment),
+            Part::Hand(hand) => hand.begin(),
+            other => Err(other.not_resting()),
         }
     }
 
@@ -86,20 +95,10 @@ impl Part {
     pub fn finish(&mut self) -> Result<(), Fault>
         ensures { FinishesBy result self.old self.new }
     {
-        match replace(self, Part::Nothing) {
-            Part::RunningProcessor(begun) => {
-                self.fill(Part::Processor(finish_processor(begun)));
-                Ok(())
-            }
-            Part::RunningHand(begun) => {
-                self.fill(Part::Hand(finish_hand(begun)));
-                Ok(())
-            }
-            other => {
-                let fault = other.not_running();
-                self.fill(other);
-                Err(fault)
-            }
+        match self {
+            Part::Processor(processor) => processor.finish(),
+            Part::Hand(hand) => hand.finish(),
+            other => Err(other.not_running()),
         }
     }
 }

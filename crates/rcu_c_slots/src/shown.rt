@@ -47,8 +47,7 @@ impl Part {
         ensures { ShowsAccepted result self.now }
     {
         match self {
-            Part::Processor(processor) => Ok(processor.accepted()),
-            Part::RunningProcessor(begun) => Ok(begun.processor.accepted()),
+            Part::Processor(lent) => Ok(lent.processor.accepted()),
             other => Err(other.wrong_kind()),
         }
     }
@@ -62,8 +61,7 @@ impl Part {
         ensures { ShowsLeft result self.now }
     {
         match self {
-            Part::Processor(processor) => Ok(processor.left()),
-            Part::RunningProcessor(begun) => Ok(begun.processor.left()),
+            Part::Processor(lent) => Ok(lent.processor.left()),
             other => Err(other.wrong_kind()),
         }
     }
@@ -77,8 +75,7 @@ impl Part {
         ensures { ShowsLists result self.now }
     {
         match self {
-            Part::Processor(processor) => Ok(processor.lists()),
-            Part::RunningProcessor(begun) => Ok(begun.processor.lists()),
+            Part::Processor(lent) => Ok(lent.processor.lists()),
             other => Err(other.wrong_kind()),
         }
     }

@@ -4,6 +4,8 @@ ghost use Rattle.std.specs.Prelude.{◌≡◌, ◌≢◌, ◌≤◌, None, IfSom
 ghost use Rattle.std.specs.Vec.{vec_capacity};
 ghost use Rattle.rcu_c_slots.specs.Gathers.{HasKind, HasPart, Keeps, TakesOut, lents_in, parts_in, sections_in};
 ghost use Rattle.rcu_c_slots.specs.Parts.{kind_of};
+ghost use Rattle.rcu_c_slots.specs.Processors.{lent_processor};
+ghost use Rattle.rcu_c_slots.specs.Runs.{lent_hand};
 ghost use Rattle.rcu_c_slots.specs.declared.part.Part.TheVariants as part;
 ghost use Rattle.rcu_c_slots.specs.declared.part.PartKind.TheVariants as kind;
 
@@ -17,7 +19,7 @@ use std::mem::replace;
 /// Takes a processor out of its slot, if there is one.
 fn take_processor(alloc: Global, slot: &mut Slot) -> Option<Processor<ForeignJob>>
     requires kind { IfSome slot.old.held.value (λ l. kind_of l.part ≡ kind.Processor) }
-    ensures takes { TakesOut (λ x. part.Processor x) result slot.old.held.value }
+    ensures takes { TakesOut (λ x. part.Processor (lent_processor x)) result slot.old.held.value }
     ensures empty { slot.new.held.value ≡ None }
     ensures reading { slot.new.reading ≡ slot.old.reading }
 {
@@ -25,7 +27,7 @@ fn take_processor(alloc: Global, slot: &mut Slot) -> Option<Processor<ForeignJob
         return None;
     };
     match Box::into_inner(boxed).part {
-        Part::Processor(processor) => Some(processor),
+        Part::Processor(lent) => Some(lent.into_processor()),
         _ => unreachable!(),
     }
 }
@@ -39,7 +41,7 @@ pub(crate) fn take_processors(
     requires kinds { All (λ l. kind_of l.part ≡ kind.Processor) (lents_in slots.old) }
     requires none { out.old.items ≡ [] }
     requires room { length (lents_in slots.old) ≤ vec_capacity out.old }
-    ensures took { map (λ x. part.Processor x) out.new.items ≡ parts_in slots.old }
+    ensures took { map (λ x. part.Processor (lent_processor x)) out.new.items ≡ parts_in slots.old }
     ensures empty { lents_in slots.new ≡ [] }
     ensures sections { sections_in slots.new ≡ sections_in slots.old }
 {
@@ -85,7 +87,7 @@ pub(crate) fn take_groups(alloc: Global, slots: &mut [Slot], out: &mut Vec<Group
 /// Takes a hand out of its slot, if there is one.
 fn take_hand(alloc: Global, slot: &mut Slot) -> Option<Hand<ForeignJob>>
     requires kind { IfSome slot.old.held.value (λ l. kind_of l.part ≡ kind.Hand) }
-    ensures takes { TakesOut (λ x. part.Hand x) result slot.old.held.value }
+    ensures takes { TakesOut (λ x. part.Hand (lent_hand x)) result slot.old.held.value }
     ensures empty { slot.new.held.value ≡ None }
     ensures reading { slot.new.reading ≡ slot.old.reading }
 {
@@ -93,7 +95,7 @@ fn take_hand(alloc: Global, slot: &mut Slot) -> Option<Hand<ForeignJob>>
         return None;
     };
     match Box::into_inner(boxed).part {
-        Part::Hand(hand) => Some(hand),
+        Part::Hand(lent) => Some(lent.into_hand()),
         _ => unreachable!(),
     }
 }
@@ -103,7 +105,7 @@ pub(crate) fn take_hands(alloc: Global, slots: &mut [Slot], out: &mut Vec<Hand<F
     requires kinds { All (λ l. kind_of l.part ≡ kind.Hand) (lents_in slots.old) }
     requires none { out.old.items ≡ [] }
     requires room { length (lents_in slots.old) ≤ vec_capacity out.old }
-    ensures took { map (λ x. part.Hand x) out.new.items ≡ parts_in slots.old }
+    ensures took { map (λ x. part.Hand (lent_hand x)) out.new.items ≡ parts_in slots.old }
     ensures empty { lents_in slots.new ≡ [] }
     ensures sections { sections_in slots.new ≡ sections_in slots.old }
 {

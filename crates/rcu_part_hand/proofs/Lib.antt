@@ -2,3 +2,4 @@ pub mod HandRuns
 pub mod Standing
 pub mod HandBegins
 pub mod InOneTurn
+pub mod InPlace

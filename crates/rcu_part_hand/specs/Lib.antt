@@ -2,3 +2,5 @@ pub mod HandLaw
 pub mod Hands
 pub mod Begins
 pub mod TwoSteps
+pub mod InPlaceLaw
+pub mod InPlace

@@ -7,11 +7,13 @@
 
 mod begin;
 mod hand;
+mod in_place;
 mod laws;
 mod run;
 mod running_hand;
 mod turn;
 
 pub use hand::{Hand, HandState, into_state};
+pub use in_place::{HandInPlace, HandInPlaceState};
 pub use laws::turns_in_two_steps;
 pub use running_hand::{RunningHand, RunningHandState};

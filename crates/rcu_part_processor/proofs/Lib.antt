@@ -18,3 +18,4 @@ pub mod Passing
 pub mod Leaving
 pub mod LeavingAfter
 pub mod Polling
+pub mod InPlace

@@ -10,3 +10,6 @@ pub mod Begins
 pub mod TwoSteps
 pub mod Away
 pub mod Polls
+pub mod InPlaceLaw
+pub mod InPlace
+pub mod LookingInPlace

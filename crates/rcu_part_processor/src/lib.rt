@@ -10,6 +10,9 @@ mod away;
 mod barrier;
 mod begin;
 mod call;
+mod in_place;
+mod in_place_begin;
+mod in_place_calls;
 mod laws;
 mod limits;
 mod poll;
@@ -20,6 +23,7 @@ mod running_processor;
 mod tick;
 
 pub use away::{Away, AwayState};
+pub use in_place::{ProcessorInPlace, ProcessorInPlaceState};
 pub use laws::ticks_in_two_steps;
 pub use processor::{Processor, ProcessorState, into_state};
 pub use report::Reading;

@@ -18,6 +18,6 @@ pub use opening::open;
 pub use parts::{AllParts, Parts};
 pub use rcu_part_control::{Barrier, Control, Driver, ReadsTurns};
 pub use rcu_part_group::{Group, GroupMember, GroupMembers};
-pub use rcu_part_hand::{Hand, RunningHand};
-pub use rcu_part_processor::{Away, Processor, Reading, RunningProcessor};
+pub use rcu_part_hand::{Hand, HandInPlace, RunningHand};
+pub use rcu_part_processor::{Away, Processor, ProcessorInPlace, Reading, RunningProcessor};
 pub use rcu_part_steps::{Begins, ClaimedCallback};

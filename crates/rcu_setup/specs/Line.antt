@@ -29,6 +29,8 @@ pub data Line : Type 0 where
   hand : ℕ → Line
   offload : ℕ → Line
   deoffload : ℕ → Line
+  leave : ℕ → Line
+  return : ℕ → Line
   barrier : Line
   poll : Line
   shut : Line
@@ -45,6 +47,8 @@ line_of (command.Group g) = group g
 line_of (command.Hand cpu) = hand cpu
 line_of (command.Offload cpu) = offload cpu
 line_of (command.Deoffload cpu) = deoffload cpu
+line_of (command.Leave cpu) = leave cpu
+line_of (command.Return cpu) = return cpu
 line_of command.Barrier = barrier
 line_of command.Poll = poll
 line_of command.Shut = shut
@@ -60,7 +64,7 @@ bare word = is word (codes "driver") driver (is word (codes "barrier") barrier (
 
 -- a word and P or G
 unfoldable pub placed : List ℕ → ℕ → Option Line
-placed word p = is word (codes "quiet") (quiet p) (is word (codes "group") (group p) (is word (codes "hand") (hand p) (is word (codes "offload") (offload p) (is word (codes "deoffload") (deoffload p) None))))
+placed word p = is word (codes "quiet") (quiet p) (is word (codes "group") (group p) (is word (codes "hand") (hand p) (is word (codes "offload") (offload p) (is word (codes "deoffload") (deoffload p) (is word (codes "leave") (leave p) (is word (codes "return") (return p) None))))))
 
 -- P M NAME HOP
 unfoldable pub call_of : List ℕ → List ℕ → List ℕ → List ℕ → Option Call

@@ -53,6 +53,14 @@ pub enum Command {
     Deoffload {
         cpu: u64,
     },
+    /// `leave P`
+    Leave {
+        cpu: u64,
+    },
+    /// `return P`
+    Return {
+        cpu: u64,
+    },
     /// `barrier`
     Barrier,
     /// `poll`
@@ -97,6 +105,8 @@ fn placed(word: &str, place: u64) -> Option<Command>
         "hand" => Some(Command::Hand { cpu: place }),
         "offload" => Some(Command::Offload { cpu: place }),
         "deoffload" => Some(Command::Deoffload { cpu: place }),
+        "leave" => Some(Command::Leave { cpu: place }),
+        "return" => Some(Command::Return { cpu: place }),
         _ => None,
     }
 }

@@ -82,6 +82,8 @@ says_lazy verb.Group = refl
 says_lazy verb.Hand = refl
 says_lazy verb.Offload = refl
 says_lazy verb.Deoffload = refl
+says_lazy verb.Leave = refl
+says_lazy verb.Return = refl
 
 pub says_offload : (v : Verb) → sameb the_type v verb.Offload ≡ is_offload v
 says_offload verb.Call = refl
@@ -92,6 +94,8 @@ says_offload verb.Group = refl
 says_offload verb.Hand = refl
 says_offload verb.Offload = refl
 says_offload verb.Deoffload = refl
+says_offload verb.Leave = refl
+says_offload verb.Return = refl
 
 -- a switch that was asked for as its verb says
 pub asked : (old new : State) (p : ℕ) (v : Verb) (on : Bool) → is_offload v ≡ on → Leads old (where_enabled (Ask p on) old) new → Leads old (where_enabled (Ask p (is_offload v)) old) new

@@ -2,7 +2,7 @@
 use Rattle.std.specs.Prelude.{ℕ, zero, suc, ◌≡◌, ◌≤◌, ◌<◌, Bool, true, false, not, if◌then◌else◌, nat_le, List, [], ◌∷◌, ◌++◌, length, take, Option, None, Some, Ok, Err, ◌⊎◌, string_bytes}
 use Rattle.rcu_world_law.specs.declared.marks.Mark.TheVariants as marks
 use Rattle.rcu_world_law.specs.Events.{is_enabled}
-use Rattle.rcu_world_law.specs.Events.CoreEvent.{Ask, LookGroup, Report}
+use Rattle.rcu_world_law.specs.Events.CoreEvent.{Ask, LookGroup, Put, Report, Return}
 use Rattle.rcu_world_law.specs.States.{State, cpu_at, has, is_offloadable, owes}
 use Rattle.rcu_jobs.specs.declared.SwitchFault.{SwitchFault}
 use Rattle.rcu_jobs.specs.Refusals.{switch_number}
@@ -12,7 +12,7 @@ use Rattle.rcuo_script.specs.Lines.{lists_line}
 use Rattle.rcu_world.specs.GroupTurns.{IsGroupTurn, Made}
 use Rattle.rcu_world.specs.Polls.{poll_events}
 use Rattle.rcu_world_processor.specs.Shown.{cpu_lists, folk_lists}
-use Rattle.rcu_world.specs.Turns.{AreCounts, Leads, Rooms, barrier_events, call_events, driver_answer, driver_events, hand_events, shuts, switch_answer, tick_events, upto, where_enabled}
+use Rattle.rcu_world.specs.Turns.{AreCounts, Leads, Rooms, barrier_events, call_events, driver_answer, driver_events, hand_events, leave_events, shuts, switch_answer, tick_events, upto, where_enabled}
 use Rattle.rcuo_script.specs.declared.lines.Verb.{Verb}
 use Rattle.rcuo_script.specs.declared.lines.Verb.TheVariants as verb
 use Rattle.rcuo_script.specs.declared.lines.Line.{Line}
@@ -59,6 +59,24 @@ abbrev pub IsTick : State → ℕ → ℕ → Line → State → Type 0
 IsTick old p moment (line.Ran v cpu ran) new =
     (p < length old.cpus) × ((cpu_at old p).away ≡ false) × (v ≡ verb.Tick) × (cpu ≡ p) × ((rooms : Rooms) × Leads old (tick_events p moment rooms ran old) new)
 IsTick old p moment l new = IsNotHere old verb.Tick p l new
+
+-- the command names a processor that is here: it is refused by number 22, and nothing happens
+abbrev pub IsHere : State → Verb → ℕ → Line → State → Type 0
+IsHere old v p l new = (p < length old.cpus) × ((cpu_at old p).away ≡ false) × (l ≡ line.Refused v p 22) × (new ≡ old)
+
+-- there is a bypass list to put, and no room for it: the command is refused by number 2, and nothing happens
+abbrev pub HasNoRoom : State → Verb → ℕ → Line → State → Type 0
+HasNoRoom old v p l new = (is_enabled old (Put p None) ≡ true) × ((cpu_at old p).away ≡ false) × (l ≡ line.Refused v p 2) × (new ≡ old)
+
+-- `leave`
+abbrev pub IsLeave : State → ℕ → Line → State → Type 0
+IsLeave old p (line.Left cpu) new = (cpu ≡ p) × Leads old (leave_events p old) new
+IsLeave old p l new = IsNotHere old verb.Leave p l new ⊎ HasNoRoom old verb.Leave p l new
+
+-- `return`
+abbrev pub IsReturn : State → ℕ → Line → State → Type 0
+IsReturn old p (line.Returned cpu) new = (cpu ≡ p) × Leads old (Return p ∷ []) new
+IsReturn old p l new = IsNoSuch old verb.Return p l new ⊎ IsHere old verb.Return p l new
 
 -- `driver`
 abbrev pub IsDriver : State → Line → State → Type 0

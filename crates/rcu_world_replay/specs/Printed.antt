@@ -8,7 +8,7 @@ use Rattle.rcuo_script.specs.declared.lines.Verb.TheVariants as verb
 use Rattle.rcuo_script.specs.declared.lines.Line.{Line}
 use Rattle.rcuo_script.specs.Calls.{is_barrier, is_show}
 use Rattle.rcuo_script.specs.Lines.{line_text}
-use Rattle.rcu_world_replay.specs.Outcomes.{IsBarrier, IsCall, IsDriver, IsGroup, IsHand, IsPoll, IsQuiet, IsShut, IsSwitch, IsTick, shown}
+use Rattle.rcu_world_replay.specs.Outcomes.{IsBarrier, IsCall, IsDriver, IsGroup, IsHand, IsLeave, IsPoll, IsQuiet, IsReturn, IsShut, IsSwitch, IsTick, shown}
 
 module _ {J : Type 0} (key_of : J → ℕ) where
   -- the line that answers a command, which has a job where it is a call; `opened` and `still` are the barrier that is open before and after
@@ -24,6 +24,8 @@ module _ {J : Type 0} (key_of : J → ℕ) where
   IsAnswer old opened (command.Hand cpu) job l new still = IsHand old cpu l new
   IsAnswer old opened (command.Offload cpu) job l new still = IsSwitch old verb.Offload cpu l new
   IsAnswer old opened (command.Deoffload cpu) job l new still = IsSwitch old verb.Deoffload cpu l new
+  IsAnswer old opened (command.Leave cpu) job l new still = IsLeave old cpu l new
+  IsAnswer old opened (command.Return cpu) job l new still = IsReturn old cpu l new
   IsAnswer old opened command.Barrier job l new still = IsBarrier old l new still
   IsAnswer old opened command.Poll job l new still = IsPoll old opened l new still
   IsAnswer old opened command.Shut job l new still = IsShut old l new

@@ -6,7 +6,7 @@ ghost use Rattle.rcuo_script.specs.Faults.{IsFaultOfOutput};
 ghost use Rattle.rcu_world.specs.Turns.{IsAtRest};
 ghost use Rattle.rcu_world.specs.Views.{state};
 ghost use Rattle.rcu_world.specs.Worlds.{IsWorld};
-ghost use Rattle.rcu_world_replay.specs.Outcomes.{IsBarrier, IsCall, IsDriver, IsGroup, IsHand, IsPoll, IsQuiet, IsShut, IsSwitch, IsTick, shown, shown_one};
+ghost use Rattle.rcu_world_replay.specs.Outcomes.{IsBarrier, IsCall, IsDriver, IsGroup, IsHand, IsLeave, IsPoll, IsQuiet, IsReturn, IsShut, IsSwitch, IsTick, shown, shown_one};
 ghost use Rattle.rcu_world.specs.Stays.{StaysWorld};
 ghost use Rattle.rcu_world_replay.specs.Answers.{AnswersAs};
 
@@ -89,6 +89,44 @@ pub fn tick<J: Job>(world: &mut World<J>, cpu: u64, moment: u64) -> Result<Line,
         cpu,
         ran: ticked.ran,
     })
+}
+
+/// `leave`: the processor is away from now on. It is here still where its bypass list finds no room as it is put.
+pub fn leave<J: Job>(world: &mut World<J>, cpu: u64) -> Line
+    requires world { IsWorld J.key_of J.gives world.old.core }
+    requires rest { IsAtRest (state J.key_of world.old.core) }
+    ensures line { IsLeave (state J.key_of world.old.core) cpu result
+        (state J.key_of world.new.core) }
+    ensures stays { StaysWorld J.key_of J.gives world.old.core world.new.core }
+{
+    if cpu >= world.processors() {
+        return Line::no_such(Verb::Leave, cpu);
+    }
+    if world.is_away(cpu) {
+        return Line::away(Verb::Leave, cpu);
+    }
+    match world.leave(cpu) {
+        Ok(()) => Line::Left { cpu },
+        Err(_) => Line::no_room(Verb::Leave, cpu),
+    }
+}
+
+/// `return`: the processor that was away is back.
+pub fn come_back<J: Job>(world: &mut World<J>, cpu: u64) -> Line
+    requires world { IsWorld J.key_of J.gives world.old.core }
+    requires rest { IsAtRest (state J.key_of world.old.core) }
+    ensures line { IsReturn (state J.key_of world.old.core) cpu result
+        (state J.key_of world.new.core) }
+    ensures stays { StaysWorld J.key_of J.gives world.old.core world.new.core }
+{
+    if cpu >= world.processors() {
+        return Line::no_such(Verb::Return, cpu);
+    }
+    if !world.is_away(cpu) {
+        return Line::not_away(Verb::Return, cpu);
+    }
+    world.come_back(cpu);
+    Line::Returned { cpu }
 }
 
 /// `driver`: a turn of the driver.

@@ -14,7 +14,9 @@ ghost use Rattle.rcu_world.specs.Worlds.{IsWorld};
 ghost use Rattle.rcu_world.specs.Stays.{StaysWorld};
 ghost use Rattle.rcu_world_replay.specs.Answers.{AnswersAs};
 
-use crate::commands::{barrier, call, driver, group, hand, poll, quiet, show, shut, switch, tick};
+use crate::commands::{
+    barrier, call, come_back, driver, group, hand, leave, poll, quiet, show, shut, switch, tick,
+};
 use rcu_jobs::{BoxedJob, Job};
 use rcu_setup::{Command, Setup};
 use rcu_world::World;
@@ -111,6 +113,8 @@ pub fn answer<J: Job<Receipt = u64>>(
         (Command::Hand { cpu }, None) => hand(world, *cpu),
         (Command::Offload { cpu }, None) => Ok(switch(world, Verb::Offload, *cpu)),
         (Command::Deoffload { cpu }, None) => Ok(switch(world, Verb::Deoffload, *cpu)),
+        (Command::Leave { cpu }, None) => Ok(leave(world, *cpu)),
+        (Command::Return { cpu }, None) => Ok(come_back(world, *cpu)),
         (Command::Barrier, None) => barrier(world, opened),
         (Command::Poll, None) => poll(world, opened),
         (Command::Shut, None) => shut(alloc, world),

@@ -24,7 +24,7 @@ const STYLE: &str = "<style>
 svg{background:#fff;font:12px sans-serif}
 .title{font-size:16px;font-weight:bold}
 .name{text-anchor:end}.number{text-anchor:end;font-size:9px;fill:#555}.step{font-size:10px}.legend{font-size:12px}
-.line{stroke:#ddd}.period{fill:#d8efd3}.barrier{fill:#8e5ea2}.full{fill:#222;stroke:#222}.bare{fill:#fff;stroke:#222}.report{stroke:#222;stroke-width:2;fill:none}
+.line{stroke:#ddd}.period{fill:#d8efd3}.away{fill:#d9d4e8;stroke:#6b5b95;stroke-dasharray:3 2}.barrier{fill:#8e5ea2}.full{fill:#222;stroke:#222}.bare{fill:#fff;stroke:#222}.report{stroke:#222;stroke-width:2;fill:none}
 .own{fill:#f2a65a}.bypass{fill:#f5d76e}.group{fill:#7fb3e6}.ran{fill:#1f7a3a;stroke:#fff}.back{fill:#fff;stroke:#c0392b;stroke-width:2}
 .Local{fill:#f2a65a}.Offloading{fill:#c5dcf5}.Offloaded{fill:#7fb3e6}.Deoffloading{fill:#fae0c3}
 .shut{stroke:#c0392b;stroke-dasharray:4 3}.at{fill:#000;fill-opacity:0}.at:hover{fill-opacity:.07}
@@ -37,6 +37,8 @@ enum Span {
     GracePeriod,
     /// From the opening of a barrier until it has passed, or another is opened in its place.
     Barrier,
+    /// From the moment at which this processor left until it is back.
+    Away(u64),
 }
 
 /// Where a span begins or ends.
@@ -54,6 +56,12 @@ impl Span {
             (Span::GracePeriod, Some(Line::Driver(DriverTurn::Ended(_)))) => Some(Edge::Ends),
             (Span::Barrier, Some(Line::Opened)) => Some(Edge::Begins),
             (Span::Barrier, Some(Line::Passed)) => Some(Edge::Ends),
+            (Span::Away(cpu), Some(Line::Left { cpu: left })) if cpu == *left => {
+                Some(Edge::Begins)
+            }
+            (Span::Away(cpu), Some(Line::Returned { cpu: back })) if cpu == *back => {
+                Some(Edge::Ends)
+            }
             _ => None,
         }
     }
@@ -63,6 +71,7 @@ impl Span {
         let class = match self {
             Span::GracePeriod => "period",
             Span::Barrier => "barrier",
+            Span::Away(_) => "away",
         };
         let x = middle_of(from);
         let (width, height) = (middle_of(to).saturating_sub(x), bottom.saturating_sub(top));
@@ -110,10 +119,14 @@ fn write_modes<W: Write>(run: &Run, cpu: u64, y: u64, pen: &mut Pen<W>) {
     }
 }
 
-/// Writes what a part's row shows beside its marks: a processor's modes, the barriers of control.
+/// Writes what a part's row shows beside its marks: where a processor is away and its modes, the barriers of control.
 fn write_states<W: Write>(run: &Run, row: Row, y: u64, pen: &mut Pen<W>) {
     match row {
-        Row::Processor(cpu) => write_modes(run, cpu, y, pen),
+        Row::Processor(cpu) => {
+            let heights = (y.saturating_sub(8), y.saturating_add(8));
+            write_spans(run, Span::Away(cpu), heights, pen);
+            write_modes(run, cpu, y, pen);
+        }
         Row::Control => {
             let heights = (y.saturating_sub(2), y.saturating_add(2));
             write_spans(run, Span::Barrier, heights, pen);

@@ -14,7 +14,7 @@ const LINE: u64 = 20;
 const WIDE: u64 = 250;
 
 /// What each mark means.
-const MARKS: [(Mark, &str); 9] = [
+const MARKS: [(Mark, &str); 11] = [
     (Mark::Call, "call_rcu"),
     (Mark::Lazy, "call_rcu_lazy"),
     (Mark::Counted, "a report that counted"),
@@ -23,16 +23,19 @@ const MARKS: [(Mark, &str); 9] = [
     (Mark::Refused, "refused"),
     (Mark::On, "asked to offload"),
     (Mark::Off, "asked not to"),
+    (Mark::Left, "leave"),
+    (Mark::Returned, "return"),
     (Mark::Shut, "shut"),
 ];
 
 /// What each colour means, by its class.
-const COLOURS: [(&str, &str); 6] = [
+const COLOURS: [(&str, &str); 7] = [
     ("own", "waits in the processor's own list"),
     ("bypass", "waits in the bypass list"),
     ("group", "with its group or hand"),
     ("period", "a grace period"),
     ("barrier", "a barrier, until it has passed"),
+    ("away", "a processor that is away"),
     ("back", "handed back at close"),
 ];
 
@@ -90,7 +93,7 @@ fn write_colours<W: Write>(top: u64, pen: &mut Pen<W>) {
 /// Writes what the marks mean.
 fn write_marks<W: Write>(top: u64, pen: &mut Pen<W>) {
     for (at, (mark, text)) in MARKS.iter().enumerate() {
-        let (x, y) = place(at.saturating_add(6), top);
+        let (x, y) = place(at.saturating_add(7), top);
         write_mark(*mark, x, y, pen);
         write_text(text, x, y, pen);
     }
@@ -99,7 +102,7 @@ fn write_marks<W: Write>(top: u64, pen: &mut Pen<W>) {
 /// Writes how a callback's run is shown.
 fn write_runs<W: Write>(top: u64, pen: &mut Pen<W>) {
     for (at, (path, text)) in RUNS.iter().enumerate() {
-        let (x, y) = place(at.saturating_add(15), top);
+        let (x, y) = place(at.saturating_add(18), top);
         pen.ran(x, y, path);
         write_text(text, x, y, pen);
     }
@@ -108,7 +111,7 @@ fn write_runs<W: Write>(top: u64, pen: &mut Pen<W>) {
 /// Writes what the strip below a processor's row means.
 fn write_modes<W: Write>(top: u64, pen: &mut Pen<W>) {
     for (at, (class, text)) in MODES.iter().enumerate() {
-        write_colour(class, text, 3, place(at.saturating_add(18), top), pen);
+        write_colour(class, text, 3, place(at.saturating_add(20), top), pen);
     }
 }
 

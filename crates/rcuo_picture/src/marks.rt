@@ -24,6 +24,10 @@ pub enum Mark {
     /// A switch that is asked for: to offload, or not to.
     On,
     Off,
+    /// A processor left, and is away.
+    Left,
+    /// A processor that was away is back.
+    Returned,
     /// All processors are shut.
     Shut,
 }
@@ -58,6 +62,8 @@ pub fn mark_of(line: &Line) -> (Row, Mark) {
         Line::Number { verb, cpu, .. } | Line::Asked { verb, cpu } => {
             (Row::Processor(*cpu), asked(*verb))
         }
+        Line::Left { cpu } => (Row::Processor(*cpu), Mark::Left),
+        Line::Returned { cpu } => (Row::Processor(*cpu), Mark::Returned),
         Line::Refused { verb, place, .. } => (row_of(*verb, *place), Mark::Refused),
         Line::Counted { cpu, .. } => (Row::Processor(*cpu), Mark::Counted),
         Line::Nothing { cpu } => (Row::Processor(*cpu), Mark::Bare),
@@ -86,6 +92,8 @@ fn shape_of(mark: Mark) -> &'static str {
         Mark::Off => {
             "<path class=\"bare\" d=\"M-6 -6H6L0 4Z\"/><path class=\"report\" d=\"M-6 7H6\"/>"
         }
+        Mark::Left => "<path class=\"report\" d=\"M-5 -6V6M-5 0H6M2 -4L6 0L2 4\"/>",
+        Mark::Returned => "<path class=\"report\" d=\"M5 -6V6M5 0H-6M-2 -4L-6 0L-2 4\"/>",
         Mark::Shut => { "<rect class=\"full\" x=\"-5\" y=\"-5\" width=\"10\" height=\"10\"/>" }
     }
 }

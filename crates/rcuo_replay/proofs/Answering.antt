@@ -11,7 +11,7 @@ use Rattle.rcuo_script.specs.declared.lines.Line.{Line}
 use Rattle.rcuo_script.specs.declared.lines.Line.TheVariants.{Refused as refused_by}
 use Rattle.rcuo_script.specs.declared.lines.Verb.{Verb}
 use Rattle.rcuo_script.specs.declared.lines.Verb.TheVariants as verb
-use Rattle.rcuo_replay.specs.Outcomes.{Calls, IsCall, IsHand, IsQuiet, IsTick, kind_of}
+use Rattle.rcuo_replay.specs.Outcomes.{Calls, IsHand, kind_of}
 
 module _ {J R : Type 0} (key_of : J → ℕ) (v : Verb) (moment : ℕ) (job : J) where
   answered : (r : Result Ticket (Refused J)) (p q : Processor J R) → IfOk r (λ t. IsAccepted moment (kind_of v) (key_of job) job t p.state q.state) → IfErr r (λ _. KeepsAll p.state q.state) → IfErr r (λ e. IsRefusedAs job e p.state q.state)
@@ -45,13 +45,3 @@ module _ {X : Type 0} (xs : List X) (k n all : ℕ) where
 
   pub is_past : n ≡ all → all ≡ length xs → n ≤ k → length xs ≤ k
   is_past e f h = subst (λ m. m ≤ k) (e ∙ f) h
-
-module _ {J R : Type 0} (cpu : ℕ) (ps : List (Processor J R)) (l : Line) (past : length ps ≤ cpu) where
-  pub no_call : (key_of : J → ℕ) (v : Verb) (moment : ℕ) (job : J) → l ≡ refused_by v cpu 6 → IsCall key_of v cpu moment job l ps ps
-  no_call key_of v moment job is = subst (λ x. IsCall key_of v cpu moment job x ps ps) (sym is) (refl, refl, (λ _. (refl, refl)), λ there. absurd (omega (arith, past, there)))
-
-  pub no_quiet : l ≡ refused_by verb.Quiet cpu 6 → IsQuiet cpu l ps ps
-  no_quiet is = subst (λ x. IsQuiet cpu x ps ps) (sym is) (past, refl, refl)
-
-  pub no_tick : (moment : ℕ) → l ≡ refused_by verb.Tick cpu 6 → IsTick cpu moment l ps ps
-  no_tick moment is = subst (λ x. IsTick cpu moment x ps ps) (sym is) (past, refl, refl)

@@ -14,6 +14,8 @@ plain_kind verb.Group n = refl
 plain_kind verb.Hand n = refl
 plain_kind verb.Offload n = refl
 plain_kind verb.Deoffload n = refl
+plain_kind verb.Leave n = refl
+plain_kind verb.Return n = refl
 
 pub asked_off : (v : Verb) → v ≢ verb.Offload → asked_by v ≡ 0
 asked_off verb.Call n = refl
@@ -24,3 +26,5 @@ asked_off verb.Group n = refl
 asked_off verb.Hand n = refl
 asked_off verb.Offload n = absurd (n refl)
 asked_off verb.Deoffload n = refl
+asked_off verb.Leave n = refl
+asked_off verb.Return n = refl

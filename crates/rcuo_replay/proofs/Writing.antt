@@ -3,21 +3,21 @@ use Rattle.std.proofs.Common.{◌≡◌, ℕ, ◌++◌, true, false, codes, List
 use Rattle.std.proofs.lemmas.Result.{on_ok_weaker}
 use Rattle.std.specs.Io.KnownBytes.{Appends}
 use Rattle.rcu_part_control.specs.declared.barrier.Barrier.{Barrier}
-use Rattle.rcu_parts.specs.OneOpen.{Parts, groups_in, processors_in}
 use Rattle.rcuo_script.specs.Calls.{is_barrier, is_show}
 use Rattle.rcuo_script.specs.Lines.{line_text}
 use Rattle.rcuo_script.specs.declared.lines.Line.{Line}
 use Rattle.rcu_setup.specs.declared.line.Command.{Command}
 use Rattle.rcuo_replay.specs.Outcomes.{ShowsFrom}
 use Rattle.rcuo_replay.specs.Printed.{IsAnswer, Prints}
+use Rattle.rcuo_replay.specs.ScriptParts.{ScriptParts}
 
-module _ {J R E : Type 0} (key_of : J → ℕ) (old : Parts J R) (opened : Option Barrier) (c : Command) (job : Option J) (result : Result (Unit {0}) E) (a b : Option (List ℕ)) where
-  pub lists_written : is_show c ≡ true → OnOk result ((text : List ℕ) × ShowsFrom 0 (processors_in old) (groups_in old) text × Appends a b text)
+module _ {J R E : Type 0} (key_of : J → ℕ) (old : ScriptParts J R) (opened : Option Barrier) (c : Command) (job : Option J) (result : Result (Unit {0}) E) (a b : Option (List ℕ)) where
+  pub lists_written : is_show c ≡ true → OnOk result ((text : List ℕ) × ShowsFrom 0 old.processors.items old.groups.items text × Appends a b text)
       → OnOk result ((text : List ℕ) × Prints key_of old opened c job text old opened × Appends a b text)
   lists_written shows h = on_ok_weaker {Q = (text : List ℕ) × Prints key_of old opened c job text old opened × Appends a b text} result
       (λ s. (s.0, record { lists = λ _. (s.1, refl, refl); line = λ other. absurd (true≢false (sym shows ∙ other)) }, s.2)) h
 
-  pub line_written : (new : Parts J R) (still : Option Barrier) (l : Line) → is_show c ≡ false → IsAnswer key_of old opened c job l new still → (is_barrier c ≡ false → still ≡ opened)
+  pub line_written : (new : ScriptParts J R) (still : Option Barrier) (l : Line) → is_show c ≡ false → IsAnswer key_of old opened c job l new still → (is_barrier c ≡ false → still ≡ opened)
       → OnOk result (Appends a b (line_text l ++ codes "\n")) → OnOk result ((text : List ℕ) × Prints key_of old opened c job text new still × Appends a b text)
   line_written new still l other answers keeps h = on_ok_weaker {Q = (text : List ℕ) × Prints key_of old opened c job text new still × Appends a b text} result
       (λ written. (line_text l ++ codes "\n", record { lists = λ shows. absurd (true≢false (sym shows ∙ other)); line = λ _. (l, answers, keeps, refl) }, written)) h

@@ -5,8 +5,7 @@ use Rattle.rcu_part_group.specs.Groups.{SameGroup}
 use Rattle.rcu_part_group.specs.declared.group.Group.{Group}
 use Rattle.rcu_part_hand.specs.Hands.{IsSoundHand, SameHand}
 use Rattle.rcu_part_hand.specs.declared.hand.Hand.{Hand}
-use Rattle.rcu_part_processor.specs.Processors.{IsSound, SameProcessor}
-use Rattle.rcu_part_processor.specs.declared.processor.Processor.{Processor}
+use Rattle.rcuo_replay.specs.Presences.{IsSoundPresence, SamePresence, ScriptProcessor}
 
 -- The item x in place k becomes y, as R says of the two, and no other item changes.
 pub record ChangesAt {X : Type 0} (k : ℕ) (R : X → X → Type 0) (xs ys : List X) : Type 0 where
@@ -23,8 +22,8 @@ HoldsAt {X} k P xs = (k < length xs) × ((x : X) → x ≡ get_or xs k x → P x
 
 module _ {J R : Type 0} where
   -- each is the same part as that in the same place
-  abbrev pub SameProcessors : List (Processor J R) → List (Processor J R) → Type 0
-  SameProcessors olds news = AllZip (λ p q. SameProcessor p.state q.state) olds news
+  abbrev pub SamePresences : List (ScriptProcessor J R) → List (ScriptProcessor J R) → Type 0
+  SamePresences olds news = AllZip SamePresence olds news
 
   abbrev pub SameGroups : List (Group J R) → List (Group J R) → Type 0
   SameGroups olds news = AllZip (λ g h. SameGroup g.state h.state) olds news
@@ -33,9 +32,8 @@ module _ {J R : Type 0} where
   SameHands olds news = AllZip (λ h i. SameHand h.state i.state) olds news
 
   -- where all of them were sound, by what their jobs promise, all still are
-  abbrev pub KeepSound : (J → ℕ) → (ℕ → R → Type 0) → List (Processor J R) → List (Processor J R) → Type 0
-  KeepSound key_of gives olds news =
-      All (λ p. IsSound key_of gives p.state) olds → All (λ p. IsSound key_of gives p.state) news
+  abbrev pub KeepSound : (J → ℕ) → (ℕ → R → Type 0) → List (ScriptProcessor J R) → List (ScriptProcessor J R) → Type 0
+  KeepSound key_of gives olds news = All (IsSoundPresence key_of gives) olds → All (IsSoundPresence key_of gives) news
 
   abbrev pub KeepSoundHands : (J → ℕ) → (ℕ → R → Type 0) → List (Hand J R) → List (Hand J R) → Type 0
   KeepSoundHands key_of gives olds news =

@@ -1,5 +1,5 @@
 -- What each command does to the parts, and the line of its answer: docs/specification/tables.md, "Script commands and what they print". What a call of a part does and answers is its contract in rcu_parts and rcu_part_control.
-use Rattle.std.specs.Prelude.{ℕ, suc, ◌≡◌, ◌≢◌, ◌≤◌, ◌<◌, ◌++◌, List, [], ◌∷◌, Option, None, Some, IfSome, Ok, Err, Result, MatchResult, All, Any, length, take, string_bytes, if◌then◌else◌, nat_lt}
+use Rattle.std.specs.Prelude.{ℕ, suc, ◌≡◌, ◌≢◌, ◌≤◌, ◌++◌, List, [], ◌∷◌, Option, None, Some, IfSome, Ok, Err, Result, MatchResult, ◌⊎◌, All, Any, length, take, string_bytes, if◌then◌else◌, nat_lt}
 use Rattle.rcu_board.specs.declared.board.Board.{Board}
 use Rattle.rcu_board.specs.declared.view.View.{View}
 use Rattle.rcu_part_control.specs.Barriers.{OpensBy, PollsBy}
@@ -9,7 +9,6 @@ use Rattle.rcu_part_control.specs.Parts.{control_board, control_view, driver_boa
 use Rattle.rcu_part_control.specs.declared.barrier.Barrier.{Barrier}
 use Rattle.rcu_part_control.specs.declared.control.Control.{Control}
 use Rattle.rcu_part_control.specs.declared.driver.Driver.{Driver}
-use Rattle.rcu_part_lists.specs.ProcessorLists.{cpu_lists}
 use Rattle.rcu_jobs.specs.Refusals.{number_of, switch_number}
 use Rattle.rcu_jobs.specs.declared.SwitchFault.{SwitchFault}
 use Rattle.rcu_jobs.specs.declared.Passed.{Passed}
@@ -25,7 +24,8 @@ use Rattle.rcu_lists.specs.declared.pace.Kind.TheVariants.{Plain, Lazy}
 use Rattle.rcu_part_processor.specs.Calls.{IsAccepted, IsRefusedAs, KeepsAll}
 use Rattle.rcu_part_group.specs.Groups.{ShownFor, TurnsGroup, members_of}
 use Rattle.rcu_part_hand.specs.Hands.{TurnsBy}
-use Rattle.rcu_part_processor.specs.Processors.{lists_of, view_of}
+use Rattle.rcu_part_processor.specs.Away.{StaysHere}
+use Rattle.rcu_part_processor.specs.Processors.{view_of}
 use Rattle.rcu_part_steps.specs.Reports.{Reports}
 use Rattle.rcu_part_processor.specs.Ticks.{TicksBy}
 use Rattle.rcu_part_group.specs.declared.group.Group.{Group}
@@ -38,16 +38,29 @@ use Rattle.rcuo_script.specs.declared.lines.Line.{Line}
 use Rattle.rcuo_script.specs.declared.lines.Line.TheVariants as line
 use Rattle.rcu_status.specs.Commas.{with_commas}
 use Rattle.rcuo_replay.specs.Changes.{ChangesAt, HoldsAt}
+use Rattle.rcuo_replay.specs.Presences.{ComesBack, GoesAway, ScriptProcessor, lists_shown}
+use Rattle.rcuo_replay.specs.declared.presence.Presence.TheVariants.{Away, Here}
 
 -- There is no place k, so the command is refused by number 6, and nothing changes.
 abbrev pub IsNoSuch : {X : Type 0} → Verb → ℕ → Line → List X → List X → Type 0
 IsNoSuch v k l olds news = (length olds ≤ k) × (l ≡ line.Refused v k 6) × (news ≡ olds)
+
+-- What the command does to the part in place k, as R says; or there is no such place.
+abbrev pub InPlace : {X : Type 0} → Verb → ℕ → Line → (X → X → Type 0) → List X → List X → Type 0
+InPlace v k l R olds news = IsNoSuch v k l olds news ⊎ ChangesAt k R olds news
 
 -- ---- processors
 
 abbrev pub kind_of : Verb → Kind
 kind_of verb.Lazy = Lazy
 kind_of v = Plain
+
+module _ {J R : Type 0} where
+  -- A command of a processor's own: where it is here it does what is said, and is here still. Where it is away the command is
+  -- refused by number 21, and nothing changes.
+  abbrev pub WhileHere : Verb → ℕ → Line → (Processor J R → Processor J R → Type 0) → ScriptProcessor J R → ScriptProcessor J R → Type 0
+  WhileHere v cpu l Does (Here p) now = (q : Processor J R) × (now ≡ Here q) × Does p q
+  WhileHere v cpu l Does (Away a) now = (l ≡ line.Refused v cpu 21) × (now ≡ Away a)
 
 module _ {J R : Type 0} (key_of : J → ℕ) where
   -- what a call answers a job: it is accepted, or refused and nothing is accepted
@@ -56,32 +69,70 @@ module _ {J R : Type 0} (key_of : J → ℕ) where
       (λ t. IsAccepted moment (kind_of v) (key_of job) job t p.state q.state)
       (λ r. KeepsAll p.state q.state × IsRefusedAs job r p.state q.state)
 
+  -- the line that this answer is told by
+  abbrev pub CallsAs : Verb → ℕ → ℕ → J → Line → Processor J R → Processor J R → Type 0
+  CallsAs v cpu moment job (line.Number said place number) p q = (said ≡ v) × (place ≡ cpu) × ((t : Ticket) × (t.number ≡ number) × Calls v moment job (Ok t) p q)
+  CallsAs v cpu moment job (line.Refused said place refusal) p q = (said ≡ v) × (place ≡ cpu) × ((r : Refused J) × (number_of r ≡ refusal) × Calls v moment job (Err r) p q)
+  CallsAs v cpu moment job l p q = ⊥
+
+  abbrev pub CallsOne : Verb → ℕ → ℕ → J → Line → ScriptProcessor J R → ScriptProcessor J R → Type 0
+  CallsOne v cpu moment job l x y = WhileHere v cpu l (CallsAs v cpu moment job l) x y
+
   -- `call` and `lazy`
-  abbrev pub IsCall : Verb → ℕ → ℕ → J → Line → List (Processor J R) → List (Processor J R) → Type 0
-  IsCall v cpu moment job (line.Number said place number) olds news =
-      (said ≡ v) × (place ≡ cpu) × ChangesAt cpu (λ p q. (t : Ticket) × (t.number ≡ number) × Calls v moment job (Ok t) p q) olds news
-  IsCall v cpu moment job (line.Refused said place refusal) olds news =
-      (said ≡ v) × (place ≡ cpu)
-      × (length olds ≤ cpu → (refusal ≡ 6) × (news ≡ olds))
-      × (cpu < length olds → ChangesAt cpu (λ p q. (r : Refused J) × (number_of r ≡ refusal) × Calls v moment job (Err r) p q) olds news)
-  IsCall v cpu moment job l olds news = ⊥
+  abbrev pub IsCall : Verb → ℕ → ℕ → J → Line → List (ScriptProcessor J R) → List (ScriptProcessor J R) → Type 0
+  IsCall v cpu moment job l olds news = InPlace v cpu l (CallsOne v cpu moment job l) olds news
 
 module _ {J R : Type 0} where
   -- a report of a quiescent state, and what it answers
   abbrev pub Tells : Option ℕ → Processor J R → Processor J R → Type 0
   Tells answer p q = KeepsAll p.state q.state × Reports p.state.cpu answer (view_of p.state) (view_of q.state)
 
+  abbrev pub TellsAs : ℕ → Line → Processor J R → Processor J R → Type 0
+  TellsAs cpu (line.Counted place seq) p q = (place ≡ cpu) × Tells (Some seq) p q
+  TellsAs cpu (line.Nothing place) p q = (place ≡ cpu) × Tells None p q
+  TellsAs cpu l p q = ⊥
+
+  abbrev pub TellsOne : ℕ → Line → ScriptProcessor J R → ScriptProcessor J R → Type 0
+  TellsOne cpu l x y = WhileHere verb.Quiet cpu l (TellsAs cpu l) x y
+
   -- `quiet`
-  abbrev pub IsQuiet : ℕ → Line → List (Processor J R) → List (Processor J R) → Type 0
-  IsQuiet cpu (line.Counted place seq) olds news = (place ≡ cpu) × ChangesAt cpu (Tells (Some seq)) olds news
-  IsQuiet cpu (line.Nothing place) olds news = (place ≡ cpu) × ChangesAt cpu (Tells None) olds news
-  IsQuiet cpu l olds news = IsNoSuch verb.Quiet cpu l olds news
+  abbrev pub IsQuiet : ℕ → Line → List (ScriptProcessor J R) → List (ScriptProcessor J R) → Type 0
+  IsQuiet cpu l olds news = InPlace verb.Quiet cpu l (TellsOne cpu l) olds news
+
+  -- a processor's turn, and how many callbacks it ran
+  abbrev pub TicksAs : ℕ → ℕ → Line → Processor J R → Processor J R → Type 0
+  TicksAs cpu moment (line.Ran v place ran) p q = (v ≡ verb.Tick) × (place ≡ cpu) × ((t : Ticked) × (t.ran ≡ ran) × TicksBy moment t p.state q.state)
+  TicksAs cpu moment l p q = ⊥
+
+  abbrev pub TicksOne : ℕ → ℕ → Line → ScriptProcessor J R → ScriptProcessor J R → Type 0
+  TicksOne cpu moment l x y = WhileHere verb.Tick cpu l (TicksAs cpu moment l) x y
 
   -- `tick`
-  abbrev pub IsTick : ℕ → ℕ → Line → List (Processor J R) → List (Processor J R) → Type 0
-  IsTick cpu moment (line.Ran v place ran) olds news =
-      (v ≡ verb.Tick) × (place ≡ cpu) × ChangesAt cpu (λ p q. (t : Ticked) × (t.ran ≡ ran) × TicksBy moment t p.state q.state) olds news
-  IsTick cpu moment l olds news = IsNoSuch verb.Tick cpu l olds news
+  abbrev pub IsTick : ℕ → ℕ → Line → List (ScriptProcessor J R) → List (ScriptProcessor J R) → Type 0
+  IsTick cpu moment l olds news = InPlace verb.Tick cpu l (TicksOne cpu moment l) olds news
+
+  -- it goes away; or it is here still, and refused by number 2, where its lane has no room for what its bypass list holds
+  abbrev pub LeavesAs : ℕ → Line → Processor J R → ScriptProcessor J R → Type 0
+  LeavesAs cpu (line.Left place) p (Away a) = (place ≡ cpu) × GoesAway p a
+  LeavesAs cpu (line.Refused v place refusal) p (Here q) = (v ≡ verb.Leave) × (place ≡ cpu) × (refusal ≡ 2) × StaysHere p.state q.state
+  LeavesAs cpu l p now = ⊥
+
+  abbrev pub LeavesOne : ℕ → Line → ScriptProcessor J R → ScriptProcessor J R → Type 0
+  LeavesOne cpu l (Here p) now = LeavesAs cpu l p now
+  LeavesOne cpu l (Away a) now = (l ≡ line.Refused verb.Leave cpu 21) × (now ≡ Away a)
+
+  -- `leave`
+  abbrev pub IsLeave : ℕ → Line → List (ScriptProcessor J R) → List (ScriptProcessor J R) → Type 0
+  IsLeave cpu l olds news = InPlace verb.Leave cpu l (LeavesOne cpu l) olds news
+
+  -- it is back where it was away; one that is here is refused by number 22, and nothing changes
+  abbrev pub ReturnsOne : ℕ → Line → ScriptProcessor J R → ScriptProcessor J R → Type 0
+  ReturnsOne cpu l (Away a) now = (l ≡ line.Returned cpu) × ((q : Processor J R) × (now ≡ Here q) × ComesBack a.away q)
+  ReturnsOne cpu l (Here p) now = (l ≡ line.Refused verb.Return cpu 22) × (now ≡ Here p)
+
+  -- `return`
+  abbrev pub IsReturn : ℕ → Line → List (ScriptProcessor J R) → List (ScriptProcessor J R) → Type 0
+  IsReturn cpu l olds news = InPlace verb.Return cpu l (ReturnsOne cpu l) olds news
 
   -- ---- groups and hands
 
@@ -172,11 +223,11 @@ module _ {J R : Type 0} where
   ShownIn p None groups = All (λ g. ShownFor p None (members_of g.state)) groups
   ShownIn p (Some lists) groups = Any (λ g. ShownFor p (Some lists) (members_of g.state)) groups
 
-  -- the lines of processor k: of its own lists, and of those in its group if it has one
-  abbrev pub ShowsOne : ℕ → Processor J R → List (Group J R) → List ℕ → Type 0
-  ShowsOne k p groups text = (group_member : Option Lists) × ShownIn k group_member groups × (text ≡ lists_line k (cpu_lists p.state.accepted (lists_of p.state)) ++ group_line k group_member)
+  -- the lines of processor k, here or away: of its own lists, and of those in its group if it has one
+  abbrev pub ShowsOne : ℕ → ScriptProcessor J R → List (Group J R) → List ℕ → Type 0
+  ShowsOne k x groups text = (group_member : Option Lists) × ShownIn k group_member groups × (text ≡ lists_line k (lists_shown x) ++ group_line k group_member)
 
   -- the lines of the processors k, k + 1, ..
-  unfoldable pub ShowsFrom : ℕ → List (Processor J R) → List (Group J R) → List ℕ → Type 0
+  unfoldable pub ShowsFrom : ℕ → List (ScriptProcessor J R) → List (Group J R) → List ℕ → Type 0
   ShowsFrom k [] groups text = text ≡ []
-  ShowsFrom k (p ∷ ps) groups text = (first rest : List ℕ) × ShowsOne k p groups first × ShowsFrom (suc k) ps groups rest × (text ≡ first ++ rest)
+  ShowsFrom k (x ∷ xs) groups text = (first rest : List ℕ) × ShowsOne k x groups first × ShowsFrom (suc k) xs groups rest × (text ≡ first ++ rest)

@@ -1,13 +1,16 @@
 //! The commands of a script: the call of a part that each makes, and the line of its answer.
 
-ghost use Rattle.std.specs.Prelude.{◌≡◌, ◌≢◌, All, IfErr, IfNone, IfOk, IfSome, OnOk};
+ghost use Rattle.std.specs.Prelude.{◌≡◌, ◌≢◌, ◌<◌, ◌≤◌, All, IfErr, IfNone, IfOk, IfSome, OnOk, vec_capacity, vec_len};
+ghost use Rattle.std.specs.List.{insert};
 ghost use Rattle.rcu_part_control.specs.Parts.{control_board, SameControl, SameDriver};
 ghost use Rattle.rcu_part_processor.specs.Processors.{KeepsSound, SameProcessor};
-ghost use Rattle.rcuo_replay.specs.Changes.{KeepSound, KeepSoundHands, SameGroups, SameHands, SameProcessors};
-ghost use Rattle.rcuo_replay.specs.Outcomes.{Calls, IsCall, IsGroup, IsGroupAt, IsHand, IsHandAt, IsOfBoard, IsQuiet, IsTick, OpensBarrier, PollsBarrier, ShownIn, ShowsFrom, ShowsOne, ShutsAll, Switches, TurnsDriver};
+ghost use Rattle.rcuo_replay.specs.Changes.{KeepSound, KeepSoundHands, SameGroups, SameHands, SamePresences};
+ghost use Rattle.rcuo_replay.specs.Outcomes.{Calls, CallsOne, IsCall, IsGroup, IsGroupAt, IsHand, IsHandAt, IsLeave, IsOfBoard, IsQuiet, IsReturn, IsTick, OpensBarrier, PollsBarrier, ShownIn, ShowsFrom, ShowsOne, ShutsAll, Switches, TellsOne, TicksOne, TurnsDriver};
+ghost use Rattle.rcuo_replay.specs.Presences.{KeepsPresence};
 ghost use Rattle.rcuo_script.specs.Faults.{IsFaultOfOutput, IsWantOfMemory};
 ghost use Rattle.rcuo_script.specs.Scripts.{Writes};
 
+use crate::presence::{Presence, ScriptProcessor, leave_one, lists_of, return_one};
 use rcu_jobs::{Job, Lists, Refused, Ticket};
 use rcu_parts::{Barrier, Control, Driver, Group, Hand, Processor};
 use rcu_status::counts;
@@ -32,24 +35,21 @@ fn call_one<J: Job>(
     }
 }
 
-/// `call` and `lazy`: the job goes in, or is dropped where it is refused.
-pub fn call<J: Job>(
-    processors: &mut Vec<Processor<J>>,
+/// A call of this processor, which drops its job where it is refused.
+fn call_here<J: Job>(
+    processor: &mut ScriptProcessor<J>,
     verb: Verb,
     cpu: u64,
     moment: u64,
     job: J,
 ) -> Line
-    ensures line { IsCall J.key_of verb cpu moment job result processors.old.items
-        processors.new.items }
-    ensures same { SameProcessors processors.old.items processors.new.items }
-    ensures sound { KeepSound J.key_of J.gives processors.old.items processors.new.items }
+    ensures line { CallsOne J.key_of verb cpu moment job result processor.old processor.new }
+    ensures kept { KeepsPresence J.key_of J.gives processor.old processor.new }
 {
-    let place = cpu as usize;
-    if place >= processors.len() {
-        return Line::no_such(verb, cpu);
-    }
-    match call_one(&mut processors[place], verb, moment, job) {
+    let Presence::Here(processor) = processor else {
+        return Line::away(verb, cpu);
+    };
+    match call_one(processor, verb, moment, job) {
         Ok(ticket) => Line::Number {
             verb,
             cpu,
@@ -63,38 +63,126 @@ pub fn call<J: Job>(
     }
 }
 
+/// `call` and `lazy`: the job goes in, or is dropped where it is refused.
+pub fn call<J: Job>(
+    processors: &mut Vec<ScriptProcessor<J>>,
+    verb: Verb,
+    cpu: u64,
+    moment: u64,
+    job: J,
+) -> Line
+    ensures line { IsCall J.key_of verb cpu moment job result processors.old.items
+        processors.new.items }
+    ensures same { SamePresences processors.old.items processors.new.items }
+    ensures sound { KeepSound J.key_of J.gives processors.old.items processors.new.items }
+{
+    let place = cpu as usize;
+    if place >= processors.len() {
+        return Line::no_such(verb, cpu);
+    }
+    call_here(&mut processors[place], verb, cpu, moment, job)
+}
+
+/// A report of this processor.
+fn quiet_here<J: Job>(processor: &mut ScriptProcessor<J>, cpu: u64) -> Line
+    ensures line { TellsOne cpu result processor.old processor.new }
+    ensures kept { KeepsPresence J.key_of J.gives processor.old processor.new }
+{
+    let Presence::Here(processor) = processor else {
+        return Line::away(Verb::Quiet, cpu);
+    };
+    match processor.quiescent() {
+        Some(seq) => Line::Counted { cpu, seq },
+        None => Line::Nothing { cpu },
+    }
+}
+
 /// `quiet`: a report of a quiescent state.
-pub fn quiet<J: Job>(processors: &mut Vec<Processor<J>>, cpu: u64) -> Line
+pub fn quiet<J: Job>(processors: &mut Vec<ScriptProcessor<J>>, cpu: u64) -> Line
     ensures line { IsQuiet cpu result processors.old.items processors.new.items }
-    ensures same { SameProcessors processors.old.items processors.new.items }
+    ensures same { SamePresences processors.old.items processors.new.items }
     ensures sound { KeepSound J.key_of J.gives processors.old.items processors.new.items }
 {
     let place = cpu as usize;
     if place >= processors.len() {
         return Line::no_such(Verb::Quiet, cpu);
     }
-    match processors[place].quiescent() {
-        Some(seq) => Line::Counted { cpu, seq },
-        None => Line::Nothing { cpu },
+    quiet_here(&mut processors[place], cpu)
+}
+
+/// A turn of this processor.
+fn tick_here<J: Job>(processor: &mut ScriptProcessor<J>, cpu: u64, moment: u64) -> Line
+    ensures line { TicksOne cpu moment result processor.old processor.new }
+    ensures kept { KeepsPresence J.key_of J.gives processor.old processor.new }
+{
+    let Presence::Here(processor) = processor else {
+        return Line::away(Verb::Tick, cpu);
+    };
+    let ticked = processor.tick(moment);
+    Line::Ran {
+        verb: Verb::Tick,
+        cpu,
+        ran: ticked.ran,
     }
 }
 
 /// `tick`: a processor's turn.
-pub fn tick<J: Job>(processors: &mut Vec<Processor<J>>, cpu: u64, moment: u64) -> Line
+pub fn tick<J: Job>(processors: &mut Vec<ScriptProcessor<J>>, cpu: u64, moment: u64) -> Line
     ensures line { IsTick cpu moment result processors.old.items processors.new.items }
-    ensures same { SameProcessors processors.old.items processors.new.items }
+    ensures same { SamePresences processors.old.items processors.new.items }
     ensures sound { KeepSound J.key_of J.gives processors.old.items processors.new.items }
 {
     let place = cpu as usize;
     if place >= processors.len() {
         return Line::no_such(Verb::Tick, cpu);
     }
-    let ticked = processors[place].tick(moment);
-    Line::Ran {
-        verb: Verb::Tick,
-        cpu,
-        ran: ticked.ran,
+    tick_here(&mut processors[place], cpu, moment)
+}
+
+/// Puts a processor that was taken out into its place again.
+fn put_back<J: Job>(
+    processors: &mut Vec<ScriptProcessor<J>>,
+    place: usize,
+    processor: ScriptProcessor<J>,
+)
+    requires place { place ≤ vec_len processors.old }
+    requires room { vec_len processors.old < vec_capacity processors.old }
+    ensures { processors.new.items ≡ insert processors.old.items place processor }
+{
+    let Ok(()) = processors.insert(place, processor) else {
+        // (where there is room it can't fail)
+        unreachable!()
+    };
+}
+
+/// `leave`: the processor is away from now on. It is here still where its lane has no room for its bypass list.
+pub fn leave<J: Job>(processors: &mut Vec<ScriptProcessor<J>>, cpu: u64) -> Line
+    ensures line { IsLeave cpu result processors.old.items processors.new.items }
+    ensures same { SamePresences processors.old.items processors.new.items }
+    ensures sound { KeepSound J.key_of J.gives processors.old.items processors.new.items }
+{
+    let place = cpu as usize;
+    if place >= processors.len() {
+        return Line::no_such(Verb::Leave, cpu);
     }
+    let (processor, line) = leave_one(processors.remove(place), cpu);
+    put_back(processors, place, processor);
+    line
+}
+
+/// `return`: the processor that was away is back.
+pub fn come_back<J: Job>(processors: &mut Vec<ScriptProcessor<J>>, cpu: u64) -> Line
+    ensures line { IsReturn cpu result processors.old.items processors.new.items }
+    ensures same { SamePresences processors.old.items processors.new.items }
+    ensures sound { KeepSound J.key_of J.gives processors.old.items processors.new.items }
+{
+    let place = cpu as usize;
+    if place >= processors.len() {
+        return Line::no_such(Verb::Return, cpu);
+    }
+    let (processor, line) = return_one(processors.remove(place), cpu);
+    put_back(processors, place, processor);
+    line
 }
 
 /// `driver`: a turn of the driver.
@@ -245,7 +333,7 @@ fn shown_in<J: Job>(groups: &Vec<Group<J>>, cpu: u64) -> Option<Lists>
 fn show_one<J: Job, W: Write>(
     alloc: Global,
     cpu: u64,
-    processor: &Processor<J>,
+    processor: &ScriptProcessor<J>,
     groups: &Vec<Group<J>>,
     writer: &mut W,
 ) -> Result<(), Fault>
@@ -253,7 +341,7 @@ fn show_one<J: Job, W: Write>(
         (ShowsOne cpu processor.now groups.now.items)) }
     ensures why { IfErr result IsFaultOfOutput }
 {
-    write_lists(alloc, cpu, &processor.lists(), writer)?;
+    write_lists(alloc, cpu, &lists_of(processor), writer)?;
     match shown_in(groups, cpu) {
         Some(lists) => write_lists(alloc, cpu, &lists, writer),
         None => Ok(()),
@@ -263,7 +351,7 @@ fn show_one<J: Job, W: Write>(
 /// `show`: the lists of each processor, and of its group where it is offloadable.
 pub fn show<J: Job, W: Write>(
     alloc: Global,
-    processors: &Vec<Processor<J>>,
+    processors: &Vec<ScriptProcessor<J>>,
     groups: &Vec<Group<J>>,
     writer: &mut W,
 ) -> Result<(), Fault>

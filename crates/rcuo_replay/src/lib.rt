@@ -4,6 +4,8 @@
 #![tactic(auto)]
 
 mod commands;
+mod parts;
+mod presence;
 mod script;
 
 pub use script::replay;

@@ -3,16 +3,19 @@
 ghost use Rattle.std.specs.Prelude.{◌≡◌, IfErr, IfOk, OnOk, count_by, false, vec_len};
 ghost use Rattle.std.specs.Option.{is_some};
 ghost use Rattle.rcu_jobs.specs.Promised.{Promised};
-ghost use Rattle.rcu_parts.specs.OneOpen.{AreOfOneOpen, AreSoundParts};
 ghost use Rattle.rcuo_script.specs.Calls.{is_barrier, is_call, is_show};
 ghost use Rattle.rcuo_script.specs.Faults.{IsFaultOfOutput, IsWantOfMemory};
 ghost use Rattle.rcuo_script.specs.Scripts.{PrintsScript, Writes};
-ghost use Rattle.rcuo_replay.specs.Printed.{IsAnswer, IsOfParts, KeepsParts, Prints};
+ghost use Rattle.rcuo_replay.specs.Printed.{IsAnswer, IsOfParts, Prints};
+ghost use Rattle.rcuo_replay.specs.ScriptParts.{KeepsParts};
 ghost use Rattle.rcuo_replay.specs.Scripts.{Replays};
 
-use crate::commands::{barrier, call, driver, group, hand, poll, quiet, show, shut, switch, tick};
+use crate::commands::{
+    barrier, call, come_back, driver, group, hand, leave, poll, quiet, show, shut, switch, tick,
+};
+use crate::parts::{ScriptParts, all_back, all_here};
 use rcu_jobs::{BoxedJob, Job};
-use rcu_parts::{Barrier, Parts, close, open};
+use rcu_parts::{Barrier, close, open};
 use rcu_setup::{Command, Setup};
 use rcuo_script::{Fault, Line, Verb, is_show, job_for, write_line, write_totals};
 use std::alloc::Global;
@@ -20,8 +23,8 @@ use std::collections::VecDeque;
 use std::io::Write;
 
 /// Runs the commands of the setup's script over the running parts, one call of a part each, and prints for each the line of
-/// the answer that its call gave. Then it closes the runtime and prints the totals. It takes a job for each call line, in
-/// order.
+/// the answer that its call gave. Then each processor that is away comes back, and it closes the runtime and prints the
+/// totals. It takes a job for each call line, in order.
 ///
 /// # Errors
 ///
@@ -37,9 +40,11 @@ pub fn replay<W: Write>(
         (Replays (λ job. job.key) (Promised 65536) setup.now jobs.items)) }
     ensures why { IfErr result IsFaultOfOutput }
 {
-    let mut parts = open(alloc, setup.shape)?;
+    let start = open(alloc, setup.shape)?;
+    let mut parts = all_here(alloc, start)?;
     perform_all(alloc, &mut parts, setup, jobs, writer)?;
-    let Ok(closed) = close(alloc, parts) else {
+    let back = all_back(alloc, parts)?;
+    let Ok(closed) = close(alloc, back) else {
         return Err(Fault::memory());
     };
     write_totals(alloc, &closed, true, writer)
@@ -48,7 +53,7 @@ pub fn replay<W: Write>(
 /// All commands of the script, in order, until one fails.
 fn perform_all<J: Job<Receipt = u64>, W: Write>(
     alloc: Global,
-    parts: &mut Parts<J>,
+    parts: &mut ScriptParts<J>,
     setup: &Setup,
     jobs: Vec<J>,
     writer: &mut W,
@@ -57,9 +62,7 @@ fn perform_all<J: Job<Receipt = u64>, W: Write>(
     ensures prints { OnOk result (Writes (W.contents writer.old) (W.contents writer.new)
         (PrintsScript (Prints J.key_of) parts.old parts.new setup.now.script.items jobs.items)) }
     ensures why { IfErr result IsFaultOfOutput }
-    ensures one { AreOfOneOpen parts.old → AreOfOneOpen parts.new }
-    ensures sound { AreSoundParts J.key_of J.gives parts.old
-        → AreSoundParts J.key_of J.gives parts.new }
+    ensures kept { KeepsParts J.key_of J.gives parts.old parts.new }
 {
     let mut opened = None;
     let mut left = VecDeque::from_vec(jobs);
@@ -73,7 +76,7 @@ fn perform_all<J: Job<Receipt = u64>, W: Write>(
 /// One command, with its job if it is a call, and what it prints. `opened` is the barrier that is open.
 fn perform<J: Job<Receipt = u64>, W: Write>(
     alloc: Global,
-    parts: &mut Parts<J>,
+    parts: &mut ScriptParts<J>,
     opened: &mut Option<Barrier>,
     command: &Command,
     job: Option<J>,
@@ -97,7 +100,7 @@ fn perform<J: Job<Receipt = u64>, W: Write>(
 /// The line that answers a command other than `show`, with its job if it is a call.
 fn answer<J: Job<Receipt = u64>>(
     alloc: Global,
-    parts: &mut Parts<J>,
+    parts: &mut ScriptParts<J>,
     opened: &mut Option<Barrier>,
     command: &Command,
     job: Option<J>,
@@ -127,6 +130,8 @@ fn answer<J: Job<Receipt = u64>>(
         (Command::Hand { cpu }, None) => Ok(hand(&mut parts.hands, n, *cpu)),
         (Command::Offload { cpu }, None) => Ok(switch(&mut parts.control, Verb::Offload, *cpu)),
         (Command::Deoffload { cpu }, None) => Ok(switch(&mut parts.control, Verb::Deoffload, *cpu)),
+        (Command::Leave { cpu }, None) => Ok(leave(&mut parts.processors, *cpu)),
+        (Command::Return { cpu }, None) => Ok(come_back(&mut parts.processors, *cpu)),
         (Command::Barrier, None) => Ok(barrier(&mut parts.control, opened)),
         (Command::Poll, None) => Ok(poll(&mut parts.control, opened)),
         (Command::Shut, None) => shut(alloc, &mut parts.control),

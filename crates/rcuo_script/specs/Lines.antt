@@ -21,6 +21,8 @@ verb_text verb.Group = codes "group"
 verb_text verb.Hand = codes "hand"
 verb_text verb.Offload = codes "offload"
 verb_text verb.Deoffload = codes "deoffload"
+verb_text verb.Leave = codes "leave"
+verb_text verb.Return = codes "return"
 
 abbrev pub driver_text : DriverTurn → List ℕ
 driver_text turn.Idle = codes "idle"
@@ -39,6 +41,8 @@ line_text (line.Ran v cpu n) = verb_text v ++ (codes " " ++ (decimal cpu ++ (cod
 line_text (line.Driver t) = codes "driver " ++ driver_text t
 line_text (line.Group group took gave) = codes "group " ++ (decimal group ++ (codes " took " ++ (decimal took ++ (codes " gave " ++ decimal gave))))
 line_text (line.Asked v cpu) = verb_text v ++ (codes " " ++ (decimal cpu ++ codes " asked"))
+line_text (line.Left cpu) = codes "leave " ++ (decimal cpu ++ codes " away")
+line_text (line.Returned cpu) = codes "return " ++ (decimal cpu ++ codes " back")
 line_text line.Opened = codes "barrier opened"
 line_text line.Passed = codes "barrier passed"
 line_text line.Waits = codes "barrier waits"

@@ -25,6 +25,8 @@ pub enum Verb {
     Hand,
     Offload,
     Deoffload,
+    Leave,
+    Return,
 }
 
 impl fmt::Display for Verb {
@@ -40,6 +42,8 @@ impl fmt::Display for Verb {
             Verb::Hand => "hand",
             Verb::Offload => "offload",
             Verb::Deoffload => "deoffload",
+            Verb::Leave => "leave",
+            Verb::Return => "return",
         })
     }
 }
@@ -87,6 +91,14 @@ pub enum Line {
         verb: Verb,
         cpu: u64,
     },
+    /// The processor left, and is away.
+    Left {
+        cpu: u64,
+    },
+    /// The processor that was away is back.
+    Returned {
+        cpu: u64,
+    },
     /// A barrier was opened.
     Opened,
     /// The barrier that was open has passed.
@@ -105,8 +117,14 @@ const NO_PROCESSOR: u64 = 6;
 /// The number of the refusal "the processor isn't offloadable".
 const NOT_OFFLOADABLE: u64 = 5;
 
+/// The number of the refusal "there is no room".
+const NO_ROOM: u64 = 2;
+
 /// The number of the refusal "the processor is away".
 const AWAY: u64 = 21;
+
+/// The number of the refusal "the processor isn't away".
+const NOT_AWAY: u64 = 22;
 
 impl Line {
     /// The refusal of a command that names a processor or a group that isn't there.
@@ -141,6 +159,28 @@ impl Line {
             refusal: AWAY,
         }
     }
+
+    /// The refusal of `return` of a processor that is here.
+    pub fn not_away(verb: Verb, place: u64) -> Line
+        ensures { result ≡ Refused verb place 22 }
+    {
+        Line::Refused {
+            verb,
+            place,
+            refusal: NOT_AWAY,
+        }
+    }
+
+    /// The refusal of `leave` of a processor whose bypass list finds no room where it is put.
+    pub fn no_room(verb: Verb, place: u64) -> Line
+        ensures { result ≡ Refused verb place 2 }
+    {
+        Line::Refused {
+            verb,
+            place,
+            refusal: NO_ROOM,
+        }
+    }
 }
 
 impl fmt::Display for Line {
@@ -159,6 +199,8 @@ impl fmt::Display for Line {
             Line::Ran { verb, cpu, ran } => write!(f, "{verb} {cpu} ran {ran}"),
             Line::Group { group, took, gave } => write!(f, "group {group} took {took} gave {gave}"),
             Line::Asked { verb, cpu } => write!(f, "{verb} {cpu} asked"),
+            Line::Left { cpu } => write!(f, "leave {cpu} away"),
+            Line::Returned { cpu } => write!(f, "return {cpu} back"),
             Line::Driver(DriverTurn::Idle) => f.write_str("driver idle"),
             Line::Driver(DriverTurn::Started(seq)) => write!(f, "driver started {seq}"),
             Line::Driver(DriverTurn::Ended(seq)) => write!(f, "driver ended {seq}"),

@@ -5,8 +5,11 @@
 #![tactic(auto)]
 
 pub mod echo;
+pub mod in_place;
 pub mod opening;
 pub mod outcomes;
 pub mod steps;
 #[cfg(test)]
 mod tests;
+#[cfg(test)]
+mod tests_in_place;

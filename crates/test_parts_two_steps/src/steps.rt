@@ -11,7 +11,9 @@ ghost use Rattle.test_parts_two_steps.specs.Echoes.{IsOwnKey, key_of_echo};
 
 use crate::echo::Echo;
 use rcu_jobs::{Closed, Job};
-use rcu_parts::{Begins, Closing, Driver, Hand, Parts, Processor, close};
+use rcu_parts::{
+    Begins, Closing, Driver, Hand, HandInPlace, Parts, Processor, ProcessorInPlace, close,
+};
 use std::alloc::Global;
 
 /// Begins a processor's first callback, runs its job, and finishes.
@@ -40,6 +42,40 @@ pub fn step_hand(hand: Hand<Echo>) -> Hand<Echo>
         Begins::Runs(running, job) => {
             let receipt = job.run();
             running.finish(receipt)
+        }
+    }
+}
+
+/// The same of a processor in place.
+pub fn step_in_place(processor: Processor<Echo>, moment: u64) -> Processor<Echo>
+    ensures same { SameProcessor processor.state result.state }
+    ensures sound { IsSound key_of_echo IsOwnKey processor.state
+        → IsSound key_of_echo IsOwnKey result.state }
+{
+    let mut place = ProcessorInPlace::new(processor);
+    match place.begin(moment) {
+        Err(_) => place.into_processor(),
+        Ok(job) => {
+            let receipt = job.run();
+            place.finish(receipt);
+            place.into_processor()
+        }
+    }
+}
+
+/// The same of a hand in place.
+pub fn step_hand_in_place(hand: Hand<Echo>) -> Hand<Echo>
+    ensures same { SameHand hand.state result.state }
+    ensures sound { IsSoundHand key_of_echo IsOwnKey hand.state
+        → IsSoundHand key_of_echo IsOwnKey result.state }
+{
+    let mut place = HandInPlace::new(hand);
+    match place.begin() {
+        Err(_) => place.into_hand(),
+        Ok(job) => {
+            let receipt = job.run();
+            place.finish(receipt);
+            place.into_hand()
         }
     }
 }

@@ -1,4 +1,6 @@
 use Rattle.std.proofs.Common.{sym}
+use Rattle.rcu_c_slots.specs.Processors.{lent_processor}
+use Rattle.rcu_c_slots.specs.Runs.{lent_hand}
 use Rattle.rcu_c_slots.specs.declared.part.Part.TheVariants as part
 use Rattle.rcu_c_slots.specs.declared.part.PartKind.TheVariants as kind
 use Rattle.rcu_c_slots.proofs.TakenOut.{room_for_all, there_kind, there_whole, took_many}
@@ -47,9 +49,9 @@ returns-clause-held c = let ready = c.requires.ready in let slots = c.args.slots
   processors_at = ready.processors_are.places;
   groups_at = ready.groups_are.places;
   hands_at = ready.hands_are.places;
-  many_processors = took_many ready.processors_are (λ x. part.Processor x) c.take_processors.new.out.items c.take_processors.ensures.took;
+  many_processors = took_many ready.processors_are (λ x. part.Processor (lent_processor x)) c.take_processors.new.out.items c.take_processors.ensures.took;
   many_groups = took_many ready.groups_are (λ x. part.Group x) c.take_groups.new.out.items c.take_groups.ensures.took;
-  many_hands = took_many ready.hands_are (λ x. part.Hand x) c.take_hands.new.out.items c.take_hands.ensures.took;
+  many_hands = took_many ready.hands_are (λ x. part.Hand (lent_hand x)) c.take_hands.new.out.items c.take_hands.ensures.took;
 }
 
 pub returns-clause-emptied : goal.returns-clause-emptied

@@ -1,6 +1,6 @@
 use Rattle.std.proofs.Common.{ap, arith, length, ◌≡◌, ◌∙◌}
 use Rattle.rcu_c_slots.specs.Gathers.{lent_of}
-use Rattle.rcu_c_slots.specs.Processors.{ForeignCpu}
+use Rattle.rcu_c_slots.specs.Processors.{ForeignCpu, lent_processor}
 use Rattle.rcu_c_slots.specs.Opens.{lent_processors}
 use Rattle.rcu_c_slots.specs.declared.part.Part.TheVariants as part
 use Rattle.rcu_lists.proofs.Outcomes.{if_ok_never}
@@ -9,12 +9,12 @@ use Rattle.rcu_c_slots.proofs.Jobs.{cpu_fits, job_sends, receipt_sends}
 use Rattle.rcu_c_slots.proofs.opening.box_processors.Goals as goal
 
 pub loop-part-init : goal.loop-part-init
-loop-part-init c = boxed_none c.args.opening (λ (p : ForeignCpu). p.state.cpu) (λ p. part.Processor p) c.new-boxes.result.items c.into_iter-part-iterator.result.rest.items c.args.parts.items c.new-boxes.ensures.items c.into_iter-part-iterator.ensures.into_iter_gives.0
+loop-part-init c = boxed_none c.args.opening (λ (p : ForeignCpu). p.state.cpu) (λ p. part.Processor (lent_processor p)) c.new-boxes.result.items c.into_iter-part-iterator.result.rest.items c.args.parts.items c.new-boxes.ensures.items c.into_iter-part-iterator.ensures.into_iter_gives.0
 
 pub loop-part-preserved : goal.loop-part-preserved
 loop-part-preserved c = let l = c.loop-part in let o = c.args.opening in let x = c.in-Some.part in
-    boxed_more o (λ (p : ForeignCpu). p.state.cpu) (λ p. part.Processor p) l.boxes.items c.push_back.new.self.items c.in_ok-box_part.field-0 x l.part-iterator.rest.items c.next.new.self.rest.items (lent_processors o c.args.parts.items)
-    c.in_ok-push_back.ensures.items (c.in_ok-box_part.ensures ∙ ap (λ n. lent_of o n (part.Processor x)) c.cpu-at.ensures) c.in-Some.ensures.steps.0 l.invariant
+    boxed_more o (λ (p : ForeignCpu). p.state.cpu) (λ p. part.Processor (lent_processor p)) l.boxes.items c.push_back.new.self.items c.in_ok-box_part.field-0 x l.part-iterator.rest.items c.next.new.self.rest.items (lent_processors o c.args.parts.items)
+    c.in_ok-push_back.ensures.items (c.in_ok-box_part.ensures ∙ (ap (λ l. lent_of o c.cpu-at.result (part.Processor l)) c.new.ensures ∙ ap (λ n. lent_of o n (part.Processor (lent_processor x))) c.cpu-at.ensures)) c.in-Some.ensures.steps.0 l.invariant
 
 pub returns-in_err-box_part : goal.returns-in_err-box_part
 returns-in_err-box_part c = if_ok_never _ _ c.from_residual.ensures
@@ -24,7 +24,7 @@ returns-in_err-push_back c = if_ok_never _ _ c.from_residual-in_err-push_back.en
 
 pub returns : goal.returns
 returns c = let l = c.loop-part in let rest = l.part-iterator.rest in let ended = c.in-None.ensures.steps.0 in let many = rest.ok.0 in let none : length rest.items ≡ 0 = omega (arith, ended, many) in
-    boxed_all c.args.opening (λ (p : ForeignCpu). p.state.cpu) (λ p. part.Processor p) l.boxes.items rest.items (lent_processors c.args.opening c.args.parts.items) none l.invariant
+    boxed_all c.args.opening (λ (p : ForeignCpu). p.state.cpu) (λ p. part.Processor (lent_processor p)) l.boxes.items rest.items (lent_processors c.args.opening c.args.parts.items) none l.invariant
 
 pub cpu-at-requires-send-J : goal.cpu-at-requires-send-J
 cpu-at-requires-send-J c κs = job_sends

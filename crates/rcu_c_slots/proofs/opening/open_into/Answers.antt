@@ -2,8 +2,8 @@ use Rattle.std.proofs.Common.{Some, ◌≤◌, ap, arith, length, refl, ◌∙�
 use mathlib.Core.Logic.{inr}
 use Rattle.rcu_c_slots.specs.Gathers.{held_in}
 use Rattle.rcu_c_slots.specs.Opens.{boxed}
-use Rattle.rcu_c_slots.specs.Processors.{ForeignCpu}
-use Rattle.rcu_c_slots.specs.Runs.{ForeignHand}
+use Rattle.rcu_c_slots.specs.Processors.{ForeignCpu, lent_processor}
+use Rattle.rcu_c_slots.specs.Runs.{ForeignHand, lent_hand}
 use Rattle.rcu_c_slots.specs.declared.job.ForeignJob.{ForeignJob}
 use Rattle.rcu_c_slots.specs.declared.part.Part.TheVariants as part
 use Rattle.rcu_part_group.specs.declared.group.Group.{Group}
@@ -14,7 +14,7 @@ use Rattle.rcu_c_slots.proofs.opening.open_into.Goals as goal
 
 pub put_each-requires-clause-rising : goal.put_each-requires-clause-rising
 put_each-requires-clause-rising c = let e = c.in-Ok.ensures in let b = e.boxes_all in let end = length c.args.slots.now.processors in let w = c.args.shape.within.some_processors in let few : c.args.shape.processors ≤ end = omega (arith, w) in
-    for_places b.opening (λ (p : ForeignCpu). p.state.cpu) (λ p. part.Processor p) (processors_in e.parts) (boxed c.in-Ok.boxes.processors.items) end b.boxed.processors_are
+    for_places b.opening (λ (p : ForeignCpu). p.state.cpu) (λ p. part.Processor (lent_processor p)) (processors_in e.parts) (boxed c.in-Ok.boxes.processors.items) end b.boxed.processors_are
     (rising_processors c.args.shape e.parts e.new.opened end few)
 
 pub put_each-requires-2-clause-rising : goal.put_each-requires-2-clause-rising
@@ -24,7 +24,7 @@ put_each-requires-2-clause-rising c = let e = c.in-Ok.ensures in let b = e.boxes
 
 pub put_each-requires-3-clause-rising : goal.put_each-requires-3-clause-rising
 put_each-requires-3-clause-rising c = let e = c.in-Ok.ensures in let b = e.boxes_all in let end = length c.args.slots.now.hands in let w = c.args.shape.within.some_processors in let few : c.args.shape.processors ≤ end = omega (arith, w) in
-    for_places b.opening (λ (h : ForeignHand). h.state.cpu) (λ h. part.Hand h) (hands_in e.parts) (boxed c.in-Ok.boxes.hands.items) end b.boxed.hands_are
+    for_places b.opening (λ (h : ForeignHand). h.state.cpu) (λ h. part.Hand (lent_hand h)) (hands_in e.parts) (boxed c.in-Ok.boxes.hands.items) end b.boxed.hands_are
     (rising_hands c.args.shape e.parts e.new.opened end few)
 
 pub returns-clause-opened : goal.returns-clause-opened
@@ -40,12 +40,12 @@ returns-clause-opened c =
       held = record {
         control_is = c.put-2.ensures.full ∙ ap Some b.boxed.control_is;
         driver_is = c.put.ensures.full ∙ ap Some b.boxed.driver_is;
-        processors_are = put_parts o cpu (λ p. part.Processor p) ps (held_in c.put_each.new.slots) (boxed c.in-Ok.boxes.processors.items) put_ps.put b.boxed.processors_are;
+        processors_are = put_parts o cpu (λ p. part.Processor (lent_processor p)) ps (held_in c.put_each.new.slots) (boxed c.in-Ok.boxes.processors.items) put_ps.put b.boxed.processors_are;
         groups_are = put_parts o group (λ g. part.Group g) gs (held_in c.put_each-2.new.slots) (boxed c.in-Ok.boxes.groups.items) put_gs.put b.boxed.groups_are;
-        hands_are = put_parts o hand (λ h. part.Hand h) hs (held_in c.put_each-3.new.slots) (boxed c.in-Ok.boxes.hands.items) put_hs.put b.boxed.hands_are;
-        processors_at = put_places o cpu (λ p. part.Processor p) ps (held_in c.put_each.new.slots) (boxed c.in-Ok.boxes.processors.items) put_ps.put b.boxed.processors_are put_ps.places;
+        hands_are = put_parts o hand (λ h. part.Hand (lent_hand h)) hs (held_in c.put_each-3.new.slots) (boxed c.in-Ok.boxes.hands.items) put_hs.put b.boxed.hands_are;
+        processors_at = put_places o cpu (λ p. part.Processor (lent_processor p)) ps (held_in c.put_each.new.slots) (boxed c.in-Ok.boxes.processors.items) put_ps.put b.boxed.processors_are put_ps.places;
         groups_at = put_places o group (λ g. part.Group g) gs (held_in c.put_each-2.new.slots) (boxed c.in-Ok.boxes.groups.items) put_gs.put b.boxed.groups_are put_gs.places;
-        hands_at = put_places o hand (λ h. part.Hand h) hs (held_in c.put_each-3.new.slots) (boxed c.in-Ok.boxes.hands.items) put_hs.put b.boxed.hands_are put_hs.places;
+        hands_at = put_places o hand (λ h. part.Hand (lent_hand h)) hs (held_in c.put_each-3.new.slots) (boxed c.in-Ok.boxes.hands.items) put_hs.put b.boxed.hands_are put_hs.places;
         many_processors = b.boxed.many.processors;
         many_groups = b.boxed.many.groups;
         many_hands = b.boxed.many.hands;

@@ -4,7 +4,7 @@ use Rattle.rcuo_script.specs.Calls.{is_call, is_show}
 use Rattle.rcu_world_replay.specs.Printed.{IsAnswer}
 use Rattle.rcuo_script.proofs.Jobs.{job_missing, job_over}
 use Rattle.rcu_world_replay.proofs.script.answer.Goals as goal
-use Rattle.rcu_world_replay.proofs.script.answer.Goals.{in_default-via-in-Call+in_default, in_default-via-in-Lazy+in_default, in_default-via-in-Quiet+in_default, in_default-via-in-Tick+in_default, in_default-via-in-Driver+in_default, in_default-via-in-Group+in_default, in_default-via-in-Hand+in_default, in_default-via-in-Offload+in_default, in_default-via-in-Deoffload+in_default, in_default-via-in-Barrier+in_default, in_default-via-in-Poll+in_default, in_default-via-in-Shut+in_default, in_default-via-in_default}
+use Rattle.rcu_world_replay.proofs.script.answer.Goals.{in_default-via-in-Call+in_default, in_default-via-in-Lazy+in_default, in_default-via-in-Quiet+in_default, in_default-via-in-Tick+in_default, in_default-via-in-Driver+in_default, in_default-via-in-Group+in_default, in_default-via-in-Hand+in_default, in_default-via-in-Offload+in_default, in_default-via-in-Deoffload+in_default, in_default-via-in-Leave+in_default, in_default-via-in-Return+in_default, in_default-via-in-Barrier+in_default, in_default-via-in-Poll+in_default, in_default-via-in-Shut+in_default, in_default-via-in_default}
 
 pub unreachable-requires : goal.unreachable-requires
 unreachable-requires g c = elim c.in_default.branch [
@@ -17,6 +17,8 @@ unreachable-requires g c = elim c.in_default.branch [
   | in_default-via-in-Hand+in_default w ↦ job_over c.args.job c.args.command.now c.requires.job _ w.in_default.is-1 (ap is_call w.in_default.is-0)
   | in_default-via-in-Offload+in_default w ↦ job_over c.args.job c.args.command.now c.requires.job _ w.in_default.is-1 (ap is_call w.in_default.is-0)
   | in_default-via-in-Deoffload+in_default w ↦ job_over c.args.job c.args.command.now c.requires.job _ w.in_default.is-1 (ap is_call w.in_default.is-0)
+  | in_default-via-in-Leave+in_default w ↦ job_over c.args.job c.args.command.now c.requires.job _ w.in_default.is-1 (ap is_call w.in_default.is-0)
+  | in_default-via-in-Return+in_default w ↦ job_over c.args.job c.args.command.now c.requires.job _ w.in_default.is-1 (ap is_call w.in_default.is-0)
   | in_default-via-in-Barrier+in_default w ↦ job_over c.args.job c.args.command.now c.requires.job _ w.in_default.is-1 (ap is_call w.in_default.is-0)
   | in_default-via-in-Poll+in_default w ↦ job_over c.args.job c.args.command.now c.requires.job _ w.in_default.is-1 (ap is_call w.in_default.is-0)
   | in_default-via-in-Shut+in_default w ↦ job_over c.args.job c.args.command.now c.requires.job _ w.in_default.is-1 (ap is_call w.in_default.is-0)
@@ -101,4 +103,16 @@ pub returns-in-Deoffload-None-clause-answers : goal.returns-in-Deoffload-None-cl
 returns-in-Deoffload-None-clause-answers g c = record {
   line = search rules;
   stays = c.switch-in-Deoffload-None.ensures.stays;
+}
+
+pub returns-in-Leave-None-clause-answers : goal.returns-in-Leave-None-clause-answers
+returns-in-Leave-None-clause-answers g c = record {
+  line = search rules;
+  stays = c.leave.ensures.stays;
+}
+
+pub returns-in-Return-None-clause-answers : goal.returns-in-Return-None-clause-answers
+returns-in-Return-None-clause-answers g c = record {
+  line = search rules;
+  stays = c.come_back.ensures.stays;
 }

@@ -8,7 +8,7 @@ use Rattle.rcuo_script.specs.declared.lines.Verb.TheVariants as verb
 use Rattle.rcuo_script.proofs.Jobs.{job_missing, job_over}
 use Rattle.rcuo_replay.proofs.Keeping.{control_kept, driver_kept, groups_kept, hands_kept, processors_kept, stays_ours}
 use Rattle.rcuo_replay.proofs.script.answer.Goals as goal
-use Rattle.rcuo_replay.proofs.script.answer.Goals.{in_default-via-in-Call+in_default, in_default-via-in-Lazy+in_default, in_default-via-in-Quiet+in_default, in_default-via-in-Tick+in_default, in_default-via-in-Driver+in_default, in_default-via-in-Group+in_default, in_default-via-in-Hand+in_default, in_default-via-in-Offload+in_default, in_default-via-in-Deoffload+in_default, in_default-via-in-Barrier+in_default, in_default-via-in-Poll+in_default, in_default-via-in-Shut+in_default, in_default-via-in_default}
+use Rattle.rcuo_replay.proofs.script.answer.Goals.{in_default-via-in-Call+in_default, in_default-via-in-Lazy+in_default, in_default-via-in-Quiet+in_default, in_default-via-in-Tick+in_default, in_default-via-in-Driver+in_default, in_default-via-in-Group+in_default, in_default-via-in-Hand+in_default, in_default-via-in-Offload+in_default, in_default-via-in-Deoffload+in_default, in_default-via-in-Leave+in_default, in_default-via-in-Return+in_default, in_default-via-in-Barrier+in_default, in_default-via-in-Poll+in_default, in_default-via-in-Shut+in_default, in_default-via-in_default}
 
 pub unreachable-requires : goal.unreachable-requires
 unreachable-requires g c = elim c.in_default.branch [
@@ -21,6 +21,8 @@ unreachable-requires g c = elim c.in_default.branch [
   | in_default-via-in-Hand+in_default w ↦ job_over c.args.job c.args.command.now c.requires.job _ w.in_default.is-1 (ap is_call w.in_default.is-0)
   | in_default-via-in-Offload+in_default w ↦ job_over c.args.job c.args.command.now c.requires.job _ w.in_default.is-1 (ap is_call w.in_default.is-0)
   | in_default-via-in-Deoffload+in_default w ↦ job_over c.args.job c.args.command.now c.requires.job _ w.in_default.is-1 (ap is_call w.in_default.is-0)
+  | in_default-via-in-Leave+in_default w ↦ job_over c.args.job c.args.command.now c.requires.job _ w.in_default.is-1 (ap is_call w.in_default.is-0)
+  | in_default-via-in-Return+in_default w ↦ job_over c.args.job c.args.command.now c.requires.job _ w.in_default.is-1 (ap is_call w.in_default.is-0)
   | in_default-via-in-Barrier+in_default w ↦ job_over c.args.job c.args.command.now c.requires.job _ w.in_default.is-1 (ap is_call w.in_default.is-0)
   | in_default-via-in-Poll+in_default w ↦ job_over c.args.job c.args.command.now c.requires.job _ w.in_default.is-1 (ap is_call w.in_default.is-0)
   | in_default-via-in-Shut+in_default w ↦ job_over c.args.job c.args.command.now c.requires.job _ w.in_default.is-1 (ap is_call w.in_default.is-0)
@@ -223,3 +225,41 @@ returns-in-Poll-None-clause-ours g c = c.poll.ensures.many
 
 pub returns-in-Shut-None-clause-barrier : goal.returns-in-Shut-None-clause-barrier
 returns-in-Shut-None-clause-barrier g c = λ _. refl
+
+pub returns-in-Leave-None-clause-kept : goal.returns-in-Leave-None-clause-kept
+returns-in-Leave-None-clause-kept g c = processors_kept g.J.Job.key_of g.J.Job.gives c.args.parts.now c.leave.new.processors c.leave.ensures.same c.leave.ensures.sound
+
+pub returns-in-Leave-None-clause-line : goal.returns-in-Leave-None-clause-line
+returns-in-Leave-None-clause-line g c = let old = c.args.parts.now in subst (λ x. IsAnswer g.J.Job.key_of old c.args.opened.now x c.args.job c.leave.result (record old { processors = c.leave.new.processors }) c.args.opened.now)
+    (sym c.in-Leave-None.is-0) (c.leave.ensures.line, refl)
+
+pub returns-in-Leave-None-clause-barrier : goal.returns-in-Leave-None-clause-barrier
+returns-in-Leave-None-clause-barrier g c = λ _. refl
+
+pub returns-in-Leave-None-clause-ours : goal.returns-in-Leave-None-clause-ours
+returns-in-Leave-None-clause-ours g c = c.requires.ours
+
+pub leave-requires-send-J : goal.leave-requires-send-J
+leave-requires-send-J g c κs within = c.type_bounds.send-J
+
+pub leave-requires-after_bounds : goal.leave-requires-after_bounds
+leave-requires-after_bounds g c κs within = assumption
+
+pub returns-in-Return-None-clause-kept : goal.returns-in-Return-None-clause-kept
+returns-in-Return-None-clause-kept g c = processors_kept g.J.Job.key_of g.J.Job.gives c.args.parts.now c.come_back.new.processors c.come_back.ensures.same c.come_back.ensures.sound
+
+pub returns-in-Return-None-clause-line : goal.returns-in-Return-None-clause-line
+returns-in-Return-None-clause-line g c = let old = c.args.parts.now in subst (λ x. IsAnswer g.J.Job.key_of old c.args.opened.now x c.args.job c.come_back.result (record old { processors = c.come_back.new.processors }) c.args.opened.now)
+    (sym c.in-Return-None.is-0) (c.come_back.ensures.line, refl)
+
+pub returns-in-Return-None-clause-barrier : goal.returns-in-Return-None-clause-barrier
+returns-in-Return-None-clause-barrier g c = λ _. refl
+
+pub returns-in-Return-None-clause-ours : goal.returns-in-Return-None-clause-ours
+returns-in-Return-None-clause-ours g c = c.requires.ours
+
+pub come_back-requires-send-J : goal.come_back-requires-send-J
+come_back-requires-send-J g c κs within = c.type_bounds.send-J
+
+pub come_back-requires-after_bounds : goal.come_back-requires-after_bounds
+come_back-requires-after_bounds g c κs within = assumption

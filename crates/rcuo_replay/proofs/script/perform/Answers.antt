@@ -5,6 +5,7 @@ use denote.Builtin.{u64 as receipt}
 use denote.Param.{param}
 use Rattle.rcu_part_group.specs.contracts.group.Group as group_row
 use Rattle.rcu_part_hand.specs.contracts.hand.Hand as hand_row
+use Rattle.rcu_part_processor.specs.contracts.away.Away as away_row
 use Rattle.rcu_part_processor.specs.contracts.processor.Processor as processor_row
 use Rattle.rcuo_script.specs.Faults.{IsFaultOfOutput}
 use Rattle.rcuo_script.specs.declared.fault.Fault.TheVariants.{CannotWrite}
@@ -31,9 +32,10 @@ returns-clause-why g c = IfErr-weaker c.write_line.result (λ fault. fault ≡ C
 pub answer-requires-after_bounds : goal.answer-requires-after_bounds
 answer-requires-after_bounds g c κs within =
     let p : FitsInMemory (processor_row.the_row (param 0 g.row.J) receipt) = c.requires-raw.1.1.1.0 in
-    let q : FitsInMemory (group_row.the_row (param 0 g.row.J) receipt) = c.requires-raw.1.1.1.1.0 in
-    let h : FitsInMemory (hand_row.the_row (param 0 g.row.J) receipt) = c.requires-raw.1.1.1.1.1.0 in
-    (p, (q, (h, (c.requires.job, (sym c.is_show.ensures ∙ c.if-is_show.false, c.requires.ours)))))
+    let a : FitsInMemory (away_row.the_row (param 0 g.row.J) receipt) = c.requires-raw.1.1.1.1.0 in
+    let q : FitsInMemory (group_row.the_row (param 0 g.row.J) receipt) = c.requires-raw.1.1.1.1.1.0 in
+    let h : FitsInMemory (hand_row.the_row (param 0 g.row.J) receipt) = c.requires-raw.1.1.1.1.1.1.0 in
+    (p, (a, (q, (h, (c.requires.job, (sym c.is_show.ensures ∙ c.if-is_show.false, c.requires.ours))))))
 
 pub show-requires-send-J : goal.show-requires-send-J
 show-requires-send-J g c κs within = c.type_bounds.send-J

@@ -1,7 +1,7 @@
 use Rattle.std.proofs.Common.{◌≡◌, ◌≤◌, ap, arith, count_by, length, take}
 use Rattle.std.proofs.lemmas.List.{take_all}
 use Rattle.std.specs.VecDeque.{deque_len}
-use Rattle.rcu_parts.proofs.StaySame.{stay_same}
+use Rattle.rcuo_replay.proofs.Keeping.{all_kept, kept_again}
 use Rattle.rcuo_script.proofs.Scripts.{printed_more, printed_none, printed_whole}
 use Rattle.rcuo_script.proofs.Counting.{less_one, one_more}
 use Rattle.rcuo_script.specs.Calls.{is_call}
@@ -10,8 +10,7 @@ use Rattle.rcuo_replay.proofs.script.perform_all.Goals as goal
 
 pub loop-command-init : goal.loop-command-init
 loop-command-init g c = record {
-  one = λ one. one;
-  sound = λ sound. sound;
+  kept = all_kept g.J.Job.key_of g.J.Job.gives c.args.parts.now;
   its = tt;
   printed = printed_none (Prints g.J.Job.key_of) c.args.parts.now c.args.setup.now.script.items c.args.jobs.items (g.W.Write.contents c.args.writer.now) c.from_vec-left.result.items c.from_vec-left.ensures.items;
   jobs = omega (arith, c.from_vec-left.ensures.len, c.requires.jobs);
@@ -23,8 +22,7 @@ job_for-job-requires g c = λ is_so. one_more is_call _ _ c.loop-command.command
 
 pub loop-command-preserved : goal.loop-command-preserved
 loop-command-preserved g c = record {
-  one = λ one. stay_same c.loop-command.parts c.perform.new.parts c.perform.ensures.kept.same (c.loop-command.invariant.one one);
-  sound = λ sound. c.perform.ensures.kept.sound (c.loop-command.invariant.sound sound);
+  kept = kept_again g.J.Job.key_of g.J.Job.gives c.args.parts.now c.loop-command.parts c.perform.new.parts c.loop-command.invariant.kept c.perform.ensures.kept;
   its = c.perform.ensures.ours;
   printed = let w = c.in_ok-perform.ensures.prints in let l = c.loop-command in
       printed_more (Prints g.J.Job.key_of) c.args.parts.now c.args.setup.now.script.items c.args.jobs.items l.left.items c.job_for-job.new.jobs.items
@@ -35,11 +33,8 @@ loop-command-preserved g c = record {
       (deque_len c.loop-command.left) (deque_len c.job_for-job.new.jobs) c.job_for-job.ensures.left c.loop-command.invariant.jobs;
 }
 
-pub returns-in_err-perform-clause-one : goal.returns-in_err-perform-clause-one
-returns-in_err-perform-clause-one g c = λ one. stay_same c.loop-command.parts c.perform.new.parts c.perform.ensures.kept.same (c.loop-command.invariant.one one)
-
-pub returns-in_err-perform-clause-sound : goal.returns-in_err-perform-clause-sound
-returns-in_err-perform-clause-sound g c = λ sound. c.perform.ensures.kept.sound (c.loop-command.invariant.sound sound)
+pub returns-in_err-perform-clause-kept : goal.returns-in_err-perform-clause-kept
+returns-in_err-perform-clause-kept g c = kept_again g.J.Job.key_of g.J.Job.gives c.args.parts.now c.loop-command.parts c.perform.new.parts c.loop-command.invariant.kept c.perform.ensures.kept
 
 pub returns-clause-prints : goal.returns-clause-prints
 returns-clause-prints g c = let l = c.loop-command in let cs = c.args.setup.now.script.items in

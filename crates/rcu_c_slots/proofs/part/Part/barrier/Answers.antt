@@ -15,19 +15,4 @@ returns-in-Ok c = subst (λ old. OpensPart (Ok c.in-Ok.barrier) old (part.Contro
 })
 
 pub returns-in-Processor : goal.returns-in-Processor
-returns-in-Processor c = let e = c.barrier-in-Processor.ensures in subst (λ old. OpensPart (Ok c.barrier-in-Processor.result) old (part.Processor c.barrier-in-Processor.new.self)) (sym c.in-Processor.is) (record {
-  answer = c.barrier-in-Processor.result;
-  after = c.barrier-in-Processor.new.self;
-  result_is = refl;
-  new_is = refl;
-  does = record { kept = record { same = e.same; sound = e.sound }; lists = e.keeps; opens = e.opens; own = e.own };
-})
-
-pub barrier-requires-in-Processor-send-J : goal.barrier-requires-in-Processor-send-J
-barrier-requires-in-Processor-send-J c κs = job_sends
-
-pub barrier-requires-in-Processor-send-J-Receipt : goal.barrier-requires-in-Processor-send-J-Receipt
-barrier-requires-in-Processor-send-J-Receipt c κs = receipt_sends
-
-pub barrier-requires-in-Processor-after_bounds : goal.barrier-requires-in-Processor-after_bounds
-barrier-requires-in-Processor-after_bounds c κs = cpu_fits
+returns-in-Processor c = subst (λ old. OpensPart c.barrier-in-Processor.result old (part.Processor c.barrier-in-Processor.new.self)) (sym c.in-Processor.is) (c.barrier-in-Processor.new.self, refl, c.barrier-in-Processor.ensures)

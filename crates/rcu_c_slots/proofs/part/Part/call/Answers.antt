@@ -1,15 +1,15 @@
-use Rattle.std.proofs.Common.{refl, subst, sym}
+use Rattle.std.proofs.Common.{ap, refl, subst, sym}
 use Rattle.std.specs.declared.result.Result.TheVariants.{Err, Ok}
 use Rattle.rcu_c_slots.specs.Processors.{CallsBy}
 use Rattle.rcu_c_slots.specs.declared.part.Part.TheVariants as part
 use Rattle.rcu_c_slots.proofs.part.Part.call.Goals as goal
 
 pub returns-in-Ok : goal.returns-in-Ok
-returns-in-Ok c = let q = c.call_one.new.processor in
+returns-in-Ok c = let q = c.call.new.self in
     subst (λ old. CallsBy c.args.kind c.args.moment c.args.job (Ok c.in-Ok.ticket) old (part.Processor q)) (sym c.in-Processor.is) (q, refl, c.in-Ok.ensures)
 
 pub returns-in-Err : goal.returns-in-Err
-returns-in-Err c = let q = c.call_one.new.processor in
+returns-in-Err c = let q = c.call.new.self in
     subst (λ old. CallsBy c.args.kind c.args.moment c.args.job (Err c.fault_of_refusal.result) old (part.Processor q)) (sym c.in-Processor.is) (
       q,
       refl,
@@ -17,21 +17,5 @@ returns-in-Err c = let q = c.call_one.new.processor in
         refused = c.in-Err.refused;
         named = c.fault_of_refusal.ensures;
         refuses = c.in-Err.ensures;
-      },
-    )
-
-pub returns-in-Ok-call_begun : goal.returns-in-Ok-call_begun
-returns-in-Ok-call_begun c = let e = c.call_begun.new.begun in
-    subst (λ old. CallsBy c.args.kind c.args.moment c.args.job (Ok c.in-Ok-call_begun.ticket) old (part.RunningProcessor e)) (sym c.in-RunningProcessor.is) (e, refl, c.in-Ok-call_begun.ensures)
-
-pub returns-in-Err-call_begun : goal.returns-in-Err-call_begun
-returns-in-Err-call_begun c = let e = c.call_begun.new.begun in
-    subst (λ old. CallsBy c.args.kind c.args.moment c.args.job (Err c.fault_of_refusal-in-Err-call_begun.result) old (part.RunningProcessor e)) (sym c.in-RunningProcessor.is) (
-      e,
-      refl,
-      record {
-        refused = c.in-Err-call_begun.refused;
-        named = c.fault_of_refusal-in-Err-call_begun.ensures;
-        refuses = c.in-Err-call_begun.ensures;
       },
     )

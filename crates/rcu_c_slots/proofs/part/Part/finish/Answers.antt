@@ -1,10 +1,11 @@
-use Rattle.std.proofs.Common.{refl, subst}
-use Rattle.std.specs.declared.result.Result.TheVariants.{Ok}
+use Rattle.std.proofs.Common.{ap, refl, subst, sym}
+use Rattle.std.specs.declared.result.Result.TheVariants.{Err, Ok}
 use Rattle.rcu_c_slots.specs.Runs.{FinishesBy}
+use Rattle.rcu_c_slots.specs.declared.part.Part.TheVariants as part
 use Rattle.rcu_c_slots.proofs.part.Part.finish.Goals as goal
 
-pub returns-in-RunningProcessor : goal.returns-in-RunningProcessor
-returns-in-RunningProcessor c = subst (λ old. FinishesBy (Ok tt) old c.fill.new.self) c.in-RunningProcessor.ensures.value (refl, (c.finish_processor.result, c.fill.ensures, c.finish_processor.ensures))
+pub returns-in-Processor : goal.returns-in-Processor
+returns-in-Processor c = subst (λ old. FinishesBy c.finish.result old (part.Processor c.finish.new.self)) (sym c.in-Processor.is) (c.finish.new.self, refl, c.finish.ensures)
 
-pub returns-in-RunningHand : goal.returns-in-RunningHand
-returns-in-RunningHand c = subst (λ old. FinishesBy (Ok tt) old c.fill-in-RunningHand.new.self) c.in-RunningHand.ensures.value (refl, (c.finish_hand.result, c.fill-in-RunningHand.ensures, c.finish_hand.ensures))
+pub returns-in-Hand : goal.returns-in-Hand
+returns-in-Hand c = subst (λ old. FinishesBy c.finish-in-Hand.result old (part.Hand c.finish-in-Hand.new.self)) (sym c.in-Hand.is) (c.finish-in-Hand.new.self, refl, c.finish-in-Hand.ensures)

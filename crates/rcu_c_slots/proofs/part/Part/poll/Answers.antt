@@ -7,4 +7,4 @@ pub returns-in-Control : goal.returns-in-Control
 returns-in-Control c = let d = c.poll_control.new.control in subst (λ old. PollsPart c.args.counts c.poll_control.result old (part.Control d)) (sym c.in-Control.is) (d, refl, c.poll_control.ensures)
 
 pub returns-in-Processor : goal.returns-in-Processor
-returns-in-Processor c = let q = c.poll_processor.new.processor in subst (λ old. PollsPart c.args.counts c.poll_processor.result old (part.Processor q)) (sym c.in-Processor.is) (q, refl, c.poll_processor.ensures)
+returns-in-Processor c = subst (λ old. PollsPart c.args.counts c.poll.result old (part.Processor c.poll.new.self)) (sym c.in-Processor.is) (c.poll.new.self, refl, c.poll.ensures)

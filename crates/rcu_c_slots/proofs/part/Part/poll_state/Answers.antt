@@ -15,19 +15,4 @@ returns-in-Control c = let e = c.poll_state.ensures in subst (λ old. PollsState
 })
 
 pub returns-in-Processor : goal.returns-in-Processor
-returns-in-Processor c = let e = c.poll_state-in-Processor.ensures in subst (λ old. PollsStateBy c.args.cookie (Ok c.poll_state-in-Processor.result) old (part.Processor c.poll_state-in-Processor.new.self)) (sym c.in-Processor.is) (record {
-  answer = c.poll_state-in-Processor.result;
-  after = c.poll_state-in-Processor.new.self;
-  result_is = refl;
-  new_is = refl;
-  does = record { kept = record { same = e.same; sound = e.sound }; lists = e.keeps; looks = e.looks; over = e.elapsed };
-})
-
-pub poll_state-requires-in-Processor-send-J : goal.poll_state-requires-in-Processor-send-J
-poll_state-requires-in-Processor-send-J c κs = job_sends
-
-pub poll_state-requires-in-Processor-send-J-Receipt : goal.poll_state-requires-in-Processor-send-J-Receipt
-poll_state-requires-in-Processor-send-J-Receipt c κs = receipt_sends
-
-pub poll_state-requires-in-Processor-after_bounds : goal.poll_state-requires-in-Processor-after_bounds
-poll_state-requires-in-Processor-after_bounds c κs = cpu_fits
+returns-in-Processor c = subst (λ old. PollsStateBy c.args.cookie c.poll_state-in-Processor.result old (part.Processor c.poll_state-in-Processor.new.self)) (sym c.in-Processor.is) (c.poll_state-in-Processor.new.self, refl, c.poll_state-in-Processor.ensures)

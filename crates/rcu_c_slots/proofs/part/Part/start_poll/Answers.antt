@@ -15,19 +15,4 @@ returns-in-Control c = let e = c.start_poll.ensures in subst (λ old. StartsPoll
 })
 
 pub returns-in-Processor : goal.returns-in-Processor
-returns-in-Processor c = let e = c.start_poll-in-Processor.ensures in subst (λ old. StartsPollBy (Ok c.start_poll-in-Processor.result) old (part.Processor c.start_poll-in-Processor.new.self)) (sym c.in-Processor.is) (record {
-  answer = c.start_poll-in-Processor.result;
-  after = c.start_poll-in-Processor.new.self;
-  result_is = refl;
-  new_is = refl;
-  does = record { kept = record { same = e.same; sound = e.sound }; lists = e.keeps; cookie_is = e.cookie; asked = e.asked; later = e.later };
-})
-
-pub start_poll-requires-in-Processor-send-J : goal.start_poll-requires-in-Processor-send-J
-start_poll-requires-in-Processor-send-J c κs = job_sends
-
-pub start_poll-requires-in-Processor-send-J-Receipt : goal.start_poll-requires-in-Processor-send-J-Receipt
-start_poll-requires-in-Processor-send-J-Receipt c κs = receipt_sends
-
-pub start_poll-requires-in-Processor-after_bounds : goal.start_poll-requires-in-Processor-after_bounds
-start_poll-requires-in-Processor-after_bounds c κs = cpu_fits
+returns-in-Processor c = subst (λ old. StartsPollBy c.start_poll-in-Processor.result old (part.Processor c.start_poll-in-Processor.new.self)) (sym c.in-Processor.is) (c.start_poll-in-Processor.new.self, refl, c.start_poll-in-Processor.ensures)

@@ -1,8 +1,0 @@
-use Rattle.std.specs.Mem.{FitsInMemory}
-use denote.Param.{param}
-use Rattle.rcu_part_lists.proofs.Sizes.{in_struct}
-use Rattle.rcu_part_processor.specs.contracts.running_processor.RunningProcessorState as row
-use Rattle.rcu_c_slots.proofs.rcu_part_processor++running_processor++RunningProcessorState+Destruct.drop.Goals as goal
-
-pub drop-requires-4 : goal.drop-requires-4
-drop-requires-4 g c = let h : FitsInMemory (row.the_row (param 0 g.row.J) (param 1 g.row.R)) = assumption in in_struct _ _ _ h

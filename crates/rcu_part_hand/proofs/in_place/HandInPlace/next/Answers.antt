@@ -1,0 +1,83 @@
+use Rattle.std.proofs.Common.{None, Some, ◌∙◌, ◌≡◌, List, inl, sym, subst, refl, arith}
+use Rattle.std.specs.Mem.{FitsInMemory}
+use denote.Param.{param}
+use Rattle.rcu_board.proofs.Facts.{same_seat}
+use Rattle.rcu_board.specs.Seats.{view}
+use Rattle.rcu_jobs.specs.declared.Stop.TheVariants.{Limit, Empty, Turn, Memory}
+use Rattle.rcu_jobs.specs.declared.callback.Record.{Record}
+use Rattle.rcu_part_lists.proofs.Sizes.{in_struct}
+use Rattle.rcu_part_lists.specs.Helds.{drawn_by, taken_by}
+use Rattle.rcu_part_hand.specs.HandLaw.{IsLawfulHand}
+use Rattle.rcu_part_hand.specs.contracts.in_place.HandInPlace as row
+use Rattle.rcu_part_hand.proofs.HandRuns.{hand_sound_kept}
+use Rattle.rcu_part_hand.proofs.in_place.HandInPlace.next.Goals as goal
+
+pub first-requires : goal.first-requires
+first-requires g c = let h : FitsInMemory (row.the_row (param 0 g.row.J) (param 1 g.row.J-Receipt)) = assumption in in_struct _ _ _ (in_struct _ _ _ h)
+
+pub snap-requires : goal.snap-requires
+snap-requires g c = c.in-Some.ensures.safe.0
+
+pub invariant_of-state : goal.invariant_of-state
+invariant_of-state g c = let s = c.args.self.now.state in record {
+  here = s.here;
+  role = s.role;
+  rests = λ r. subst (λ (rs : List (Record g.row.J-Receipt.Denot)). IsLawfulHand s.cpu (view s.seat) rs (taken_by s.held)) (sym c.reserve.ensures.items) (s.rests r);
+  runs = λ k f. (let x : None ≡ Some k = sym c.requires.rests ∙ f in cc);
+}
+
+pub returns-in_default-clause-keeps : goal.returns-in_default-clause-keeps
+returns-in_default-clause-keeps g c = λ r. (r, record { part = record { board = refl; seat = same_seat _ }; lane = refl; cpu = refl; blimit = refl }, record { view = refl; held = refl; records = refl })
+
+pub returns-in_default-clause-stops : goal.returns-in_default-clause-stops
+returns-in_default-clause-stops g c = λ r. (c.in_default.ensures.first, refl)
+
+pub returns-in_default-clause-counts : goal.returns-in_default-clause-counts
+returns-in_default-clause-counts g c = λ e. (let f : Empty ≡ Limit = e in cc)
+
+pub returns-in_default-clause-sound : goal.returns-in_default-clause-sound
+returns-in_default-clause-sound g c = λ sound. sound
+
+pub returns-then-snap-seen-clause-keeps : goal.returns-then-snap-seen-clause-keeps
+returns-then-snap-seen-clause-keeps g c = λ r. (r, record { part = record { board = refl; seat = same_seat _ }; lane = refl; cpu = refl; blimit = refl }, record { view = refl; held = refl; records = refl })
+
+pub returns-then-snap-seen-clause-stops : goal.returns-then-snap-seen-clause-stops
+returns-then-snap-seen-clause-stops g c = λ r. let f = c.in-Some.ensures.first in
+    (c.in-Some.first.now, f.0, f.1, inl (omega (arith, c.if-snap-seen.true, c.snap.ensures.value), refl))
+
+pub returns-then-snap-seen-clause-counts : goal.returns-then-snap-seen-clause-counts
+returns-then-snap-seen-clause-counts g c = λ e. (let f : Turn ≡ Limit = e in cc)
+
+pub returns-then-snap-seen-clause-sound : goal.returns-then-snap-seen-clause-sound
+returns-then-snap-seen-clause-sound g c = λ sound. sound
+
+pub returns-in_default-reserve-clause-keeps : goal.returns-in_default-reserve-clause-keeps
+returns-in_default-reserve-clause-keeps g c = λ r. (r, record { part = record { board = refl; seat = same_seat _ }; lane = refl; cpu = refl; blimit = refl }, record { view = refl; held = refl; records = c.reserve.ensures.items })
+
+pub returns-in_default-reserve-clause-stops : goal.returns-in_default-reserve-clause-stops
+returns-in_default-reserve-clause-stops g c = λ r. let f = c.in-Some.ensures.first in ((c.in-Some.first.now, f.0, f.1, omega (arith, c.if-snap-seen.false, c.snap.ensures.value)), refl)
+
+pub returns-in_default-reserve-clause-counts : goal.returns-in_default-reserve-clause-counts
+returns-in_default-reserve-clause-counts g c = λ e. (let f : Memory ≡ Limit = e in cc)
+
+pub returns-in_default-reserve-clause-sound : goal.returns-in_default-reserve-clause-sound
+returns-in_default-reserve-clause-sound g c = hand_sound_kept g.J.Job.key_of g.J.Job.gives (drawn_by c.args.self.now.state.held) (drawn_by c.args.self.now.state.held) c.args.self.now.state.ran.items c.reserve.new.self.items refl c.reserve.ensures.items
+
+pub returns-clause-keeps : goal.returns-clause-keeps
+returns-clause-keeps g c = λ r. (r, record { part = record { board = refl; seat = same_seat _ }; lane = refl; cpu = refl; blimit = refl }, record { view = refl; held = refl; records = c.reserve.ensures.items })
+
+pub returns-clause-next : goal.returns-clause-next
+returns-clause-next g c = λ r. let f = c.in-Some.ensures.first in
+    record { first = c.in-Some.first.now; rest = f.0; held = f.1; claimed = refl; over = omega (arith, c.if-snap-seen.false, c.snap.ensures.value) }
+
+pub returns-clause-ready : goal.returns-clause-ready
+returns-clause-ready g c = refl
+
+pub returns-clause-small : goal.returns-clause-small
+returns-clause-small g c = c.in-Some.ensures.safe.1
+
+pub returns-clause-room : goal.returns-clause-room
+returns-clause-room g c = omega (arith, c.in-Ok.ensures.ok, c.reserve.ensures.len)
+
+pub returns-clause-sound : goal.returns-clause-sound
+returns-clause-sound g c = hand_sound_kept g.J.Job.key_of g.J.Job.gives (drawn_by c.args.self.now.state.held) (drawn_by c.args.self.now.state.held) c.args.self.now.state.ran.items c.reserve.new.self.items refl c.reserve.ensures.items

@@ -1,0 +1,106 @@
+-- A hand in place: between its calls it is a hand, or a running hand, and what its calls do is said of those:
+-- docs/specification/surface.md, "rcu_parts", `begin` and `finish`.
+use Rattle.std.specs.Prelude.{◌≡◌, ℕ}
+use Rattle.std.specs.declared.option.Option.TheVariants.{None, Some}
+use Rattle.std.proofs.lemmas.Option.{none-some}
+use Rattle.rcu_board.specs.Plays.{touched}
+use Rattle.rcu_board.specs.Words.{halt_word}
+use Rattle.rcu_jobs.specs.Records.{Given}
+use Rattle.rcu_jobs.specs.declared.Stop.TheVariants.{Turn}
+use Rattle.rcu_part_lists.specs.Helds.{drawn_by}
+use Rattle.rcu_part_hand.specs.Begins.{SameBegun, SameFinished}
+use Rattle.rcu_part_hand.specs.Hands.{SameHand, Ran, StopsAt, hand_drawn, hand_held, hand_records, hand_view}
+use Rattle.rcu_part_hand.specs.declared.hand.HandState.{HandState}
+use Rattle.rcu_part_hand.specs.declared.in_place.HandInPlaceState.{HandInPlaceState}
+use Rattle.rcu_part_hand.specs.declared.running_hand.RunningHandState.{RunningHandState}
+use Rattle.rcu_part_steps.specs.Places.{AreKeyed}
+use Rattle.rcu_part_steps.specs.declared.begins.ClaimedCallback.{ClaimedCallback}
+
+module _ {J R : Type 0} where
+  -- where no claim runs, it is this hand
+  abbrev pub resting : (p : HandInPlaceState J R) → p.claimed ≡ None → HandState J R
+  resting p e = record {
+    board = p.board;
+    seat = p.seat;
+    cpu = p.cpu;
+    blimit = p.blimit;
+    ran = p.ran;
+    held = p.held;
+    here = p.here;
+    role = p.role;
+    lawful = p.rests e;
+  }
+
+  -- in place it stands so, where no claim runs
+  abbrev pub in_place : HandState J R → HandInPlaceState J R
+  in_place o = record {
+    board = o.board;
+    seat = o.seat;
+    cpu = o.cpu;
+    blimit = o.blimit;
+    ran = o.ran;
+    claimed = None;
+    held = o.held;
+    here = o.here;
+    role = o.role;
+    rests = λ e. o.lawful;
+    runs = λ c e. absurd (none-some c e);
+  }
+
+  -- where one runs, it is this running hand
+  abbrev pub running : (p : HandInPlaceState J R) (c : ClaimedCallback) → p.claimed ≡ Some c → RunningHandState J R
+  running p c e = record {
+    board = p.board;
+    seat = p.seat;
+    cpu = p.cpu;
+    blimit = p.blimit;
+    ran = p.ran;
+    claimed = c;
+    held = p.held;
+    here = p.here;
+    role = p.role;
+    small = (p.runs c e).small;
+    room = (p.runs c e).room;
+    lawful = (p.runs c e).lawful;
+  }
+
+  -- what a hand in place knows of jobs, whether a claim of it runs or not
+  abbrev pub IsSoundInPlace : (J → ℕ) → (ℕ → R → Type 0) → HandInPlaceState J R → Type 0
+  IsSoundInPlace key_of gives p = AreKeyed key_of (drawn_by p.held) → Given gives p.ran.items
+
+  -- what is known of jobs stays known
+  abbrev pub KeepsSoundInPlace : (J → ℕ) → (ℕ → R → Type 0) → HandInPlaceState J R → HandInPlaceState J R → Type 0
+  KeepsSoundInPlace key_of gives p q = IsSoundInPlace key_of gives p → IsSoundInPlace key_of gives q
+
+  -- Of a hand of which no claim runs none runs afterwards, and this is so of what it was and is.
+  abbrev pub StaysResting : (HandState J R → HandState J R → Type 0) → HandInPlaceState J R → HandInPlaceState J R → Type 0
+  StaysResting Does p q = (e : p.claimed ≡ None) → (f : q.claimed ≡ None) × SameHand (resting p e) (resting q f) × Does (resting p e) (resting q f)
+
+  -- Where no claim of it runs, this is so of the hand.
+  abbrev pub IfResting : (HandState J R → Type 0) → HandInPlaceState J R → Type 0
+  IfResting Is p = (e : p.claimed ≡ None) → Is (resting p e)
+
+  -- Of a hand of which no claim runs one runs afterwards, and this is so of what it was and is.
+  abbrev pub StartsRunning : (HandState J R → RunningHandState J R → Type 0) → HandInPlaceState J R → HandInPlaceState J R → Type 0
+  StartsRunning Does p q = (e : p.claimed ≡ None) → (c : ClaimedCallback) × (f : q.claimed ≡ Some c)
+      × SameBegun (resting p e) (running q c f) × Does (resting p e) (running q c f)
+
+  -- Of a hand of which a claim runs none runs afterwards, and this is so of what it was and is.
+  abbrev pub EndsRunning : (RunningHandState J R → HandState J R → Type 0) → HandInPlaceState J R → HandInPlaceState J R → Type 0
+  EndsRunning Does p q = (c : ClaimedCallback) (e : p.claimed ≡ Some c) → (f : q.claimed ≡ None)
+      × SameFinished (running p c e) (resting q f) × Does (running p c e) (resting q f)
+
+  -- Where a claim of it runs, this is so of the running hand.
+  abbrev pub IfRunning : (RunningHandState J R → Type 0) → HandInPlaceState J R → Type 0
+  IfRunning Is p = (c : ClaimedCallback) (e : p.claimed ≡ Some c) → Is (running p c e)
+
+  -- the claim of the first callback wasn't won at the board sight `seen`
+  abbrev pub LosesClaim : ℕ → HandState J R → HandState J R → Type 0
+  LosesClaim seen p q = Ran 0 1 seen p q × StopsAt Turn 0 1 seen q
+
+  -- the halt word was read, and nothing else changed
+  pub record ReadsHalt (found : ℕ) (p q : HandState J R) : Type 0 where
+    pub view : hand_view q ≡ touched halt_word found (hand_view p)
+    pub held : hand_held q ≡ hand_held p
+    pub drawn : hand_drawn q ≡ hand_drawn p
+    pub records : hand_records q ≡ hand_records p

@@ -1,0 +1,15 @@
+-- What a hand in place keeps while a claim of it runs.
+use Rattle.std.specs.Prelude.{ℕ, ◌<◌, List}
+use Rattle.rcu_board.specs.declared.view.View.{View}
+use Rattle.rcu_jobs.specs.declared.callback.Callback.{Callback}
+use Rattle.rcu_jobs.specs.declared.callback.Record.{Record}
+use Rattle.rcu_numbers.specs.declared.shape.TheConstants.{MOST_CALLS}
+use Rattle.rcu_part_hand.specs.HandLaw.{IsRunningHand}
+use Rattle.rcu_part_steps.specs.declared.begins.ClaimedCallback.{ClaimedCallback}
+
+-- The law of a running hand, of processor `cpu` while the claim of this callback runs: it has so many records, and room for
+-- so many.
+pub record RunsAs {J R : Type 0} (cpu : ℕ) (c : ClaimedCallback) (v : View) (ran : List (Record R)) (len places : ℕ) (taken : List (Callback J)) : Type 0 where
+  pub small : c.number < MOST_CALLS
+  pub room : len < places
+  pub lawful : IsRunningHand cpu c v ran taken

@@ -1,0 +1,9 @@
+use Rattle.std.specs.Mem.{FitsInMemory}
+use denote.Param.{param}
+use Rattle.rcu_part_lists.proofs.Sizes.{in_struct}
+use Rattle.rcu_part_processor.specs.contracts.in_place.ProcessorInPlace as row
+use Rattle.rcu_part_processor.proofs.in_place.ProcessorInPlace.drop.Goals as goal
+
+-- the lists are the last field of the state, which is the only one of the processor in place
+pub drop-self-requires-4 : goal.drop-self-requires-4
+drop-self-requires-4 g c = let h : FitsInMemory (row.the_row (param 0 g.row.J) (param 1 g.row.J-Receipt)) = assumption in in_struct _ _ _ (in_struct _ _ _ h)

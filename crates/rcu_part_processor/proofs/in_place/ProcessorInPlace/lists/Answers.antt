@@ -1,0 +1,8 @@
+use Rattle.std.specs.Mem.{FitsInMemory}
+use denote.Param.{param}
+use Rattle.rcu_part_lists.proofs.Sizes.{in_struct}
+use Rattle.rcu_part_processor.specs.contracts.in_place.ProcessorInPlace as row
+use Rattle.rcu_part_processor.proofs.in_place.ProcessorInPlace.lists.Goals as goal
+
+pub lists-requires : goal.lists-requires
+lists-requires g c = let h : FitsInMemory (row.the_row (param 0 g.row.J) (param 1 g.row.J-Receipt)) = assumption in in_struct _ _ _ (in_struct _ _ _ h)
