@@ -1,3 +1,4 @@
+pub mod Keeping
 pub mod Moves
 pub mod Passing
 pub mod Ordering

@@ -1,5 +1,5 @@
 -- The claims of a processor and of its hand, in the order of their numbers
-use Rattle.std.proofs.Common.{◌≡◌, ◌≢◌, ℕ, zero, suc, ◌+◌, ◌<◌, ◌≤◌, Bool, true, false, cond, eq-eqb, ne_eqb, List, [], ◌∷◌, ◌++◌, length, length-append, sym, ap, ◌∙◌, refl, arith, get_or}
+use Rattle.std.proofs.Common.{◌≡◌, ◌≢◌, ℕ, ◌+◌, ◌<◌, ◌≤◌, Bool, true, false, cond, eq-eqb, ne_eqb, List, [], ◌∷◌, ◌++◌, length, sym, ap, ◌∙◌, refl, arith, get_or}
 use Rattle.std.proofs.lemmas.Bool.Decides.{nat_tests}
 use Rattle.rcu_part_order.specs.Places.{Accepted, Numbered, with_number, numbered, Move, claimed_of, put_of, moved, Placed}
 use Rattle.rcu_part_order.specs.Order.{is_number, times, between, Remaining, Next}

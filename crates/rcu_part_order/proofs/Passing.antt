@@ -1,5 +1,5 @@
 -- How the places of a group's part change
-use Rattle.std.proofs.Common.{◌≡◌, List, [], ◌∷◌, ◌++◌, sym, ap, ◌∙◌, refl, append_assoc, append-nil}
+use Rattle.std.proofs.Common.{List, [], ◌++◌, sym, ap, ◌∙◌, append_assoc, append-nil}
 use Rattle.rcu_part_order.specs.Places.{Numbered}
 use Rattle.rcu_part_order.specs.Passing.{Passed}
 

@@ -1,6 +1,6 @@
 -- Where the accepted numbers of one processor are, as its own part knows it (docs/specification/definitions.md, "Places"):
 -- claimed by the processor itself, put on its lane, or held in one of its lists.
-use Rattle.std.specs.Prelude.{◌≡◌, ℕ, ◌+◌, Bool, true, false, if◌then◌else◌, List, [], ◌∷◌, ◌++◌, map}
+use Rattle.std.specs.Prelude.{◌≡◌, ℕ, ◌+◌, Bool, if◌then◌else◌, List, [], ◌∷◌, ◌++◌, map}
 
 -- an accepted number's key and stamp, as the accepted list keeps them
 pub record Accepted : Type 0 where

@@ -1,5 +1,5 @@
 -- Records by their numbers: docs/specification/definitions.md, "Places".
-use Rattle.std.specs.Prelude.{ℕ, ◌≤◌, ◌==◌, ◌⊎◌, Bool, Contains, false, List, [], ◌∷◌, map, All}
+use Rattle.std.specs.Prelude.{ℕ, ◌≤◌, ◌==◌, ◌⊎◌, nat_lt, if◌then◌else◌, Bool, Contains, false, List, [], ◌∷◌, map, All}
 use Rattle.rcu_jobs.specs.declared.callback.Record.{Record}
 use Rattle.rcu_numbers.specs.Numbers.{snap_of}
 use Rattle.rcu_part_order.specs.Places.{Numbered}
@@ -27,3 +27,13 @@ AreOfBoth own hands rs = All (λ r. Contains own r ⊎ Contains hands r) rs
 abbrev pub is_next : {R : Type 0} → ℕ → List (Record R) → Bool
 is_next number [] = false
 is_next number (r ∷ rs) = r.number == number
+
+-- one before these of the other list whose numbers are not below its own, where `rest` merges those behind it with the others
+abbrev pub before : {R : Type 0} → Record R → (List (Record R) → List (Record R)) → List (Record R) → List (Record R)
+before r rest [] = r ∷ rest []
+before r rest (h ∷ hs) = if nat_lt h.number r.number then h ∷ before r rest hs else r ∷ rest (h ∷ hs)
+
+-- the records of two lists as one, by their numbers, which rise in both
+abbrev pub by_number : {R : Type 0} → List (Record R) → List (Record R) → List (Record R)
+by_number [] hands = hands
+by_number (r ∷ own) hands = before r (by_number own) hands

@@ -8,7 +8,9 @@
 #![tactic(auto)]
 
 mod laws;
+mod recorded;
 mod records;
 
 pub use laws::{held_in_order, one_order, places_of_a_group, places_of_a_processor};
+pub use recorded::{Kept, Records};
 pub use records::merge_records;
