@@ -2,4 +2,4 @@ pub mod Keeping
 pub mod Moves
 pub mod Passing
 pub mod Ordering
-pub mod Turns
+pub mod Merging

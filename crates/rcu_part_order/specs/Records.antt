@@ -1,5 +1,5 @@
 -- Records by their numbers: docs/specification/definitions.md, "Places".
-use Rattle.std.specs.Prelude.{ℕ, ◌≤◌, ◌==◌, ◌⊎◌, nat_lt, if◌then◌else◌, Bool, Contains, false, List, [], ◌∷◌, map, All}
+use Rattle.std.specs.Prelude.{ℕ, ◌≤◌, ◌⊎◌, nat_lt, if◌then◌else◌, Bool, Contains, true, false, List, [], ◌∷◌, map, All}
 use Rattle.rcu_jobs.specs.declared.callback.Record.{Record}
 use Rattle.rcu_numbers.specs.Numbers.{snap_of}
 use Rattle.rcu_part_order.specs.Places.{Numbered}
@@ -23,12 +23,13 @@ AreSeenBy x rs = All (λ r. r.ready ≤ x) rs
 abbrev pub AreOfBoth : {R : Type 0} → List (Record R) → List (Record R) → List (Record R) → Type 0
 AreOfBoth own hands rs = All (λ r. Contains own r ⊎ Contains hands r) rs
 
--- the first record has this number
-abbrev pub is_next : {R : Type 0} → ℕ → List (Record R) → Bool
-is_next number [] = false
-is_next number (r ∷ rs) = r.number == number
+-- the next record by its number is the hand's, unless the processor has one with a number that is not greater
+abbrev pub is_hands_next : {R : Type 0} → List (Record R) → List (Record R) → Bool
+is_hands_next [] hands = true
+is_hands_next (r ∷ own) [] = false
+is_hands_next (r ∷ own) (h ∷ hands) = nat_lt h.number r.number
 
--- one before these of the other list whose numbers are not below its own, where `rest` merges those behind it with the others
+-- a record among those of the other list, behind those whose numbers are below its own; `rest` merges what comes behind it
 abbrev pub before : {R : Type 0} → Record R → (List (Record R) → List (Record R)) → List (Record R) → List (Record R)
 before r rest [] = r ∷ rest []
 before r rest (h ∷ hs) = if nat_lt h.number r.number then h ∷ before r rest hs else r ∷ rest (h ∷ hs)

@@ -4,6 +4,11 @@ ghost use Rattle.std.specs.Prelude.{◌≡◌, ◌<◌, ◌≤◌, ◌+◌, ◌+
 ghost use Rattle.rcu_part_order.specs.Order.{Next, Remaining, between, times};
 ghost use Rattle.rcu_part_order.specs.Passing.{Passed};
 ghost use Rattle.rcu_part_order.specs.Places.{Accepted, Numbered, Placed, numbered, with_number};
+ghost use Rattle.rcu_jobs.specs.Records.{Given};
+ghost use Rattle.rcu_jobs.specs.declared.callback.Record.{Record};
+ghost use Rattle.rcu_part_order.specs.Records.{AreOfBoth, AreRipe, AreSeenBy, by_number, numbered_records};
+
+use rcu_jobs::Job;
 
 /// How the places of a processor's own part change: a number that is accepted is held behind the others; the first that is
 /// held may be claimed; the first ones that are held may be put, as one batch.
@@ -57,4 +62,23 @@ pub fn one_order()
     ensures ends { (m : ℕ) (accepted : List Accepted) (own hands back held : List Numbered)
         → Remaining m m accepted own hands back held
         → (own ≡ []) × (hands ≡ []) × (numbered m accepted ≡ back ++ held) }
+{}
+
+/// What the records of a processor and of its hand are as one list, by their numbers ([`merge_records`](crate::merge_records)).
+///
+/// Where each number below `m` was claimed once, by the one or the other, the records have the accepted numbers 0 to
+/// `m - 1` with their keys and stamps, and what is on its way and what is held are the accepted numbers from `m` on.
+pub fn records_in_order<J: Job>()
+    ensures order { (m : ℕ) (accepted : List Accepted) (own hands : List (Record J.Receipt))
+        (back held : List Numbered)
+        → Remaining m 0 accepted (numbered_records own) (numbered_records hands) back held
+        → numbered 0 accepted ≡ numbered_records (by_number own hands) ++ (back ++ held) }
+    ensures records { (own hands : List (Record J.Receipt))
+        → AreOfBoth own hands (by_number own hands) }
+    ensures given { (own hands : List (Record J.Receipt))
+        → Given J.gives own → Given J.gives hands → Given J.gives (by_number own hands) }
+    ensures ripe { (own hands : List (Record J.Receipt))
+        → AreRipe own → AreRipe hands → AreRipe (by_number own hands) }
+    ensures seen { (x : ℕ) (own hands : List (Record J.Receipt))
+        → AreSeenBy x own → AreSeenBy x hands → AreSeenBy x (by_number own hands) }
 {}

@@ -11,6 +11,8 @@ mod laws;
 mod recorded;
 mod records;
 
-pub use laws::{held_in_order, one_order, places_of_a_group, places_of_a_processor};
+pub use laws::{
+    held_in_order, one_order, places_of_a_group, places_of_a_processor, records_in_order,
+};
 pub use recorded::{Kept, Records};
 pub use records::merge_records;

@@ -80,6 +80,7 @@ module _ {J R : Type 0} where
     offloadable = b.offloadable ∙ a.offloadable;
     limit = b.limit ∙ a.limit;
     blimit = b.blimit ∙ a.blimit;
+    kept = b.kept ∙ a.kept;
   }
 
   -- a call leaves it what it was
@@ -91,6 +92,7 @@ module _ {J R : Type 0} where
     offloadable = b.offloadable ∙ a.offloadable;
     limit = b.limit ∙ a.limit;
     blimit = b.blimit ∙ a.blimit;
+    kept = b.kept ∙ a.kept;
   }
 
   -- and so do the two steps of a callback
@@ -102,6 +104,7 @@ module _ {J R : Type 0} where
     offloadable = b.offloadable ∙ a.offloadable;
     limit = b.limit ∙ a.limit;
     blimit = b.blimit ∙ a.blimit;
+    kept = b.kept ∙ a.kept;
   }
 
 module _ {J : Type 0} where

@@ -1,10 +1,10 @@
 -- A callback run in two steps is one run of a tick.
-use Rattle.std.proofs.Common.{◌≡◌, ℕ, ◌+◌, List, [], ◌∷◌, ◌++◌, ap, sym, ◌∙◌, subst}
+use Rattle.std.proofs.Common.{◌≡◌, ℕ, ◌+◌, [], ◌∷◌, ◌++◌, ap, sym, ◌∙◌, subst}
 use Rattle.rcu_board.specs.Words.{turns_word}
 use Rattle.rcu_part_lists.specs.ProcessorLists.{Holding, holding}
 use Rattle.rcu_part_lists.specs.declared.processor_lists.ProcessorLists.{ProcessorLists}
-use Rattle.rcu_jobs.specs.declared.callback.Record.{Record}
 use Rattle.rcu_lists.specs.Labels.{Done, marked}
+use Rattle.rcu_part_order.specs.Recorded.{and_ran}
 use Rattle.rcu_part_order.specs.Records.{numbered_record}
 use Rattle.rcu_part_steps.specs.Begins.{record_with}
 use Rattle.rcu_part_steps.specs.Changes.{StepsOnly}
@@ -25,7 +25,7 @@ module _ {J R : Type 0} where
       done_one seen p q c.first kept
       (c.done ∙ ap (λ (h : Holding J). marked Done (c.first ∷ []) ++ h.own) (sym lists))
       (lists ∙ (c.others ∙ ap (λ (h : Holding J). record (lists_of p) { own = h.own }) (sym lists)))
-      (f.records ∙ ap (λ (rs : List (Record R)). rs ++ kept ∷ []) c.records)
+      (f.records ∙ ap (and_ran (kept ∷ [])) c.records)
       (ap (λ (k : ClaimedCallback). numbered_record (record_with r.receipt k)) c.claimed)
       (ap (λ (k : ClaimedCallback). k.ready) c.claimed)
       (steps_more (turns_word p.cpu) 1 1 (view_of p) (running_view b) (view_of q) c.steps (subst (λ (i : ℕ). StepsOnly (turns_word i) 1 (running_view b) (view_of q)) r.same.cpu f.steps))

@@ -1,5 +1,5 @@
 -- A processor that leaves once its bypass list was released, and comes back, is the same part.
-use Rattle.std.proofs.Common.{◌≡◌, ℕ, ◌+◌, ◌*◌, ap, sym, ◌∙◌}
+use Rattle.std.proofs.Common.{◌≡◌, ℕ, ◌+◌, ◌*◌, ap, ◌∙◌}
 use Rattle.rcu_board.specs.Plays.{leave_own, stepped_own}
 use Rattle.rcu_board.specs.Words.{reports_word}
 use Rattle.rcu_board.specs.declared.view.View.{View}
@@ -18,6 +18,7 @@ module _ {J R : Type 0} where
     offloadable = b.offloadable ∙ a.offloadable;
     limit = b.limit ∙ a.limit;
     blimit = b.blimit ∙ a.blimit;
+    kept = b.kept ∙ a.kept;
   }
 
   pub same_there_and_back : (p : ProcessorState J R) (q : AwayState J R) (r : ProcessorState J R) → SameLeft p q → SameReturned q r → SameProcessor p r
@@ -28,6 +29,7 @@ module _ {J R : Type 0} where
     offloadable = b.offloadable ∙ a.offloadable;
     limit = b.limit ∙ a.limit;
     blimit = b.blimit ∙ a.blimit;
+    kept = b.kept ∙ a.kept;
   }
 
   -- a release makes no step

@@ -10,7 +10,7 @@ use Rattle.rcu_jobs.specs.declared.callback.Callback.{Callback}
 use Rattle.rcu_lists.specs.Labels.{Bare, Labelled}
 use Rattle.rcu_lists.specs.declared.pace.Kind.{Kind}
 use Rattle.rcu_jobs.specs.Records.{Given}
-use Rattle.rcu_jobs.specs.declared.callback.Record.{Record}
+use Rattle.rcu_part_order.specs.Recorded.{Recorded}
 use Rattle.rcu_part_processor.specs.Lawful.{StaysLocal}
 use Rattle.rcu_part_steps.specs.Places.{AreKeyed}
 use Rattle.rcu_part_processor.specs.Processors.{IsSound, lists_of, records_of}
@@ -66,12 +66,12 @@ module _ {J R : Type 0} where
   pub sound_same : (key_of : J → ℕ) (gives : ℕ → R → Type 0) (p q : ProcessorState J R) → lists_of q ≡ lists_of p → records_of q ≡ records_of p → IsSound key_of gives p → IsSound key_of gives q
   sound_same key_of gives p q lists ran s = record {
     keyed = subst (λ (h : Holding J). AreKeyed key_of (passed_on h)) (sym lists) s.keyed;
-    given = subst (λ (rs : List (Record R)). Given gives rs) (sym ran) s.given;
+    given = subst (λ (rs : Recorded R). Given gives rs.all) (sym ran) s.given;
   }
 
   -- what was passed on and is held is the same, and so are the records
   pub sound_moved : (key_of : J → ℕ) (gives : ℕ → R → Type 0) (p q : ProcessorState J R) → passed_on (lists_of q) ≡ passed_on (lists_of p) → records_of q ≡ records_of p → IsSound key_of gives p → IsSound key_of gives q
   sound_moved key_of gives p q passed ran s = record {
     keyed = subst (AreKeyed key_of) (sym passed) s.keyed;
-    given = subst (λ (rs : List (Record R)). Given gives rs) (sym ran) s.given;
+    given = subst (λ (rs : Recorded R). Given gives rs.all) (sym ran) s.given;
   }

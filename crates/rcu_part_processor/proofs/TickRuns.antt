@@ -1,5 +1,5 @@
 -- What the runs of a tick come to.
-use Rattle.std.proofs.Common.{◌≡◌, ◌≢◌, ℕ, ◌+◌, ◌≤◌, Bool, true, false, cond, get_or, List, [], ◌∷◌, ◌++◌, map, length-append, append-nil, append_assoc, ap, sym, ◌∙◌, refl, subst, arith}
+use Rattle.std.proofs.Common.{◌≡◌, ◌≢◌, ℕ, ◌+◌, ◌≤◌, Bool, true, false, cond, get_or, List, [], ◌∷◌, ◌++◌, map, length-append, append_assoc, ap, sym, ◌∙◌, refl, subst, arith}
 use Rattle.std.proofs.lemmas.List.{map-append}
 use Rattle.std.proofs.lemmas.List.Elements.{All-append, All-cons, All-head, All-nil, All-tail}
 use Rattle.std.proofs.lemmas.List.Sums.{sum_by-cons}
@@ -13,7 +13,9 @@ use Rattle.rcu_jobs.specs.declared.callback.Callback.{Callback}
 use Rattle.rcu_jobs.specs.declared.callback.Record.{Record}
 use Rattle.rcu_lists.specs.Labels.{Done, Labelled, marked, count, is_done}
 use Rattle.rcu_part_order.specs.Places.{Numbered}
+use Rattle.rcu_part_order.specs.Recorded.{Recorded, and_ran}
 use Rattle.rcu_part_order.specs.Records.{numbered_record}
+use Rattle.rcu_part_order.proofs.Keeping.{ran_again, ran_none}
 use Rattle.rcu_part_steps.specs.Changes.{StepsOnly}
 use Rattle.rcu_part_steps.specs.Places.{AreKeyed, numbered_callback}
 use Rattle.rcu_part_processor.specs.Processors.{AddsRecords, IsSound, SameProcessor, lists_of, records_of, view_of}
@@ -33,7 +35,7 @@ module _ {J : Type 0} where
 
 module _ {J R : Type 0} where
   pub same_processor : (p : ProcessorState J R) → SameProcessor p p
-  same_processor p = record { part = record { board = refl; seat = same_seat _ }; lane = refl; cpu = refl; offloadable = refl; limit = refl; blimit = refl }
+  same_processor p = record { part = record { board = refl; seat = same_seat _ }; lane = refl; cpu = refl; offloadable = refl; limit = refl; blimit = refl; kept = refl }
 
   pub same_processor_again : (p q r : ProcessorState J R) → SameProcessor p q → SameProcessor q r → SameProcessor p r
   same_processor_again p q r a b = record {
@@ -43,18 +45,19 @@ module _ {J R : Type 0} where
     offloadable = b.offloadable ∙ a.offloadable;
     limit = b.limit ∙ a.limit;
     blimit = b.blimit ∙ a.blimit;
+    kept = b.kept ∙ a.kept;
   }
 
   -- records that stay, or to which others are added, and then others
   pub records_kept : (p q : ProcessorState J R) → records_of q ≡ records_of p → AddsRecords p q
-  records_kept p q e = ([], e ∙ sym (append-nil (records_of p)))
+  records_kept p q e = ([], e ∙ sym (ran_none (records_of p)))
 
   pub records_again : (p q r : ProcessorState J R) → AddsRecords p q → AddsRecords q r → AddsRecords p r
-  records_again p q r a b = (a.0 ++ b.0, b.1 ∙ (ap (λ l. l ++ b.0) a.1 ∙ append_assoc (records_of p) a.0 b.0))
+  records_again p q r a b = (a.0 ++ b.0, b.1 ∙ (ap (and_ran b.0) a.1 ∙ ran_again (records_of p) a.0 b.0))
 
   -- a tick adds the records of what it ran
   pub records_ticked : (moment : ℕ) (answer : Ticked) (p q : ProcessorState J R) → TicksBy moment answer p q → AddsRecords p q
-  records_ticked moment answer p q t = (t.ran.records, t.ran.more ∙ ap (λ l. l ++ t.ran.records) (before p.offloadable refl)) where
+  records_ticked moment answer p q t = (t.ran.records, t.ran.more ∙ ap (and_ran t.ran.records) (before p.offloadable refl)) where
     before : (on : Bool) → p.offloadable ≡ on → records_of t.third ≡ records_of p
     before true is = (t.settles is).records ∙ ((t.heeds is).records ∙ t.catches_up.records)
     before false is = let e = t.local is in ap records_of e.1 ∙ (ap records_of e.0 ∙ t.catches_up.records)
@@ -68,7 +71,7 @@ module _ {J R : Type 0} where
     many = refl;
     done = sym (ap (λ (h : Holding J). h.own) lists);
     others = lists ∙ ap (λ (xs : List (Labelled J)). record (lists_of p) { own = xs }) (sym (ap (λ (h : Holding J). h.own) lists));
-    more = records ∙ sym (append-nil (records_of p));
+    more = records ∙ sym (ran_none (records_of p));
     same = refl;
     ready = All-nil (λ (r : Record R). r.ready ≡ seen);
     steps = subst (λ (k : ℕ). StepsOnly (turns_word p.cpu) k (view_of p) (view_of q)) (omega arith) steps;
@@ -77,7 +80,7 @@ module _ {J R : Type 0} where
 
   -- one was
   pub done_one : (seen : ℕ) (p q : ProcessorState J R) (c : Callback J) (r : Record R) → (lists_of p).own ≡ marked Done (c ∷ []) ++ (lists_of q).own → lists_of q ≡ record (lists_of p) { own = (lists_of q).own }
-      → records_of q ≡ records_of p ++ r ∷ [] → numbered_record r ≡ numbered_callback c → r.ready ≡ seen → StepsOnly (turns_word p.cpu) 2 (view_of p) (view_of q)
+      → records_of q ≡ and_ran (r ∷ []) (records_of p) → numbered_record r ≡ numbered_callback c → r.ready ≡ seen → StepsOnly (turns_word p.cpu) 2 (view_of p) (view_of q)
       → seen_at (view_of p) (turns_word p.cpu) ≤ seen_at (view_of q) (turns_word p.cpu) → RanDone 1 1 seen p q
   done_one seen p q c r done others more same ready steps later = record {
     calls = c ∷ [];
@@ -100,7 +103,7 @@ module _ {J R : Type 0} where
     many = length-append x.records y.records ∙ (let s = x.many in let t = y.many in omega arith);
     done = x.done ∙ (ap (λ l. marked Done x.calls ++ l) y.done ∙ (sym (append_assoc (marked Done x.calls) (marked Done y.calls) (lists_of q).own) ∙ ap (λ l. l ++ (lists_of q).own) (sym (map-append (λ (c : Callback J). done_call c) x.calls y.calls))));
     others = y.others ∙ ap (λ (h : Holding J). record h { own = (lists_of q).own }) x.others;
-    more = y.more ∙ (ap (λ l. l ++ y.records) x.more ∙ append_assoc (records_of o) x.records y.records);
+    more = y.more ∙ (ap (and_ran y.records) x.more ∙ ran_again (records_of o) x.records y.records);
     same = map-append numbered_callback x.calls y.calls ∙ (ap (λ l. l ++ map numbered_callback y.calls) x.same ∙ (ap (λ l. map numbered_record x.records ++ l) y.same ∙ sym (map-append numbered_record x.records y.records)));
     ready = All-append (λ (r : Record R). r.ready ≡ seen) x.records y.records x.ready y.ready;
     steps = subst (λ (k : ℕ). StepsOnly (turns_word o.cpu) k (view_of o) (view_of q)) (omega arith)
@@ -112,11 +115,11 @@ module _ {J R : Type 0} where
 
   -- what the processor knows of jobs, where one was run
   pub sound_ran : (key_of : J → ℕ) (gives : ℕ → R → Type 0) (p q : ProcessorState J R) (c : Callback J) (r : Record R) (before after : List (Callback J)) → passed_on (lists_of p) ≡ before ++ c ∷ after → passed_on (lists_of q) ≡ before ++ after
-      → records_of q ≡ records_of p ++ r ∷ [] → (key_of c.job ≡ c.key → gives r.key r.receipt) → IsSound key_of gives p → IsSound key_of gives q
+      → records_of q ≡ and_ran (r ∷ []) (records_of p) → (key_of c.job ≡ c.key → gives r.key r.receipt) → IsSound key_of gives p → IsSound key_of gives q
   sound_ran key_of gives p q c r before after was is more given s =
       let all = subst (AreKeyed key_of) was s.keyed in record {
         keyed = subst (AreKeyed key_of) (sym is) (keyed_without before all);
-        given = subst (λ (rs : List (Record R)). Given gives rs) (sym more) (All-append (λ (x : Record R). gives x.key x.receipt) (records_of p) (r ∷ []) s.given
+        given = subst (λ (rs : Recorded R). Given gives rs.all) (sym more) (All-append (λ (x : Record R). gives x.key x.receipt) (records_of p).all (r ∷ []) s.given
             (All-cons (λ (x : Record R). gives x.key x.receipt) r [] (given (keyed_at before all)) (All-nil (λ (x : Record R). gives x.key x.receipt))));
       } where
         keyed : Callback J → Type 0

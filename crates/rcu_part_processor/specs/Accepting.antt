@@ -1,5 +1,5 @@
 -- How a job is accepted, whether a claim of the processor runs or not: docs/specification/rules.md, "The calls, step by step".
-use Rattle.std.specs.Prelude.{◌≡◌, ◌≢◌, ℕ, ◌+◌, ◌*◌, true, List, [], Result, IfErr, IsErr}
+use Rattle.std.specs.Prelude.{◌≡◌, ◌≢◌, ℕ, ◌+◌, ◌*◌, true, [], Result, IfErr, IsErr}
 use Rattle.rcu_board.specs.Plays.{touched, looked, accepted}
 use Rattle.rcu_board.specs.Seats.{view}
 use Rattle.rcu_board.specs.Words.{accepts_word}
@@ -12,25 +12,26 @@ use Rattle.rcu_jobs.specs.declared.answers.Refused.{Refused}
 use Rattle.rcu_jobs.specs.declared.answers.Refused.TheVariants.{Limit, Memory, Closed}
 use Rattle.rcu_jobs.specs.declared.answers.Ticket.{Ticket}
 use Rattle.rcu_jobs.specs.declared.callback.Callback.{Callback}
-use Rattle.rcu_jobs.specs.declared.callback.Record.{Record}
 use Rattle.rcu_lists.specs.declared.pace.Kind.{Kind}
+use Rattle.rcu_part_order.specs.Recorded.{Recorded}
+use Rattle.rcu_part_order.specs.declared.recorded.Kept.TheVariants.{Nothing}
 
 -- the callback that an accepted job becomes
 abbrev pub callback : {J : Type 0} → ℕ → ℕ → ℕ → ℕ → J → Callback J
 callback cpu number key stamp job = record { cpu = cpu; number = number; key = key; stamp = stamp; job = job }
 
--- What a call sees and changes of a processor: its number, its limit and its count, its view, its lists, and its records.
+-- What a call sees and changes of a processor: its number, its limit and its count, its view, its lists, and what it ran.
 pub record Accepting (J R : Type 0) : Type 0 where
   pub cpu : ℕ
   pub limit : ℕ
   pub accepted : ℕ
   pub view : View
   pub lists : ProcessorLists J
-  pub records : List (Record R)
+  pub records : Recorded R
 
 -- the pieces of a processor that a call is given, without its records
 abbrev pub pieces : {J : Type 0} → ℕ → ℕ → ℕ → Seat → ProcessorLists J → Accepting J (Unit {0})
-pieces cpu limit count seat lists = record { cpu = cpu; limit = limit; accepted = count; view = view seat; lists = lists; records = [] }
+pieces cpu limit count seat lists = record { cpu = cpu; limit = limit; accepted = count; view = view seat; lists = lists; records = record { kept = Nothing; all = []; gone = 0 } }
 
 -- One more callback wants memory: the list that it goes to in this mode has no room, which an empty bypass list always has.
 pub record WantsMemory {J : Type 0} (lists : ProcessorLists J) : Type 0 where

@@ -1,5 +1,5 @@
 -- What contracts see of a processor that is away, and what leaving and coming back do: docs/specification/tables.md, "Words of the board".
-use Rattle.std.specs.Prelude.{◌≡◌, ◌≢◌, ℕ, ◌+◌, ◌*◌, ◌≤◌, List, [], ◌++◌}
+use Rattle.std.specs.Prelude.{◌≡◌, ◌≢◌, ℕ, ◌+◌, ◌*◌, ◌≤◌, [], ◌++◌}
 use Rattle.std.specs.Arc.{arc_value}
 use Rattle.rcu_board.specs.Plays.{leave_own, stepped_own}
 use Rattle.rcu_board.specs.Seats.{IsAway, view}
@@ -7,11 +7,11 @@ use Rattle.rcu_board.specs.Words.{reports_word}
 use Rattle.rcu_board.specs.declared.board.Board.{Board}
 use Rattle.rcu_board.specs.declared.view.View.{View}
 use Rattle.rcu_jobs.specs.Records.{Given}
-use Rattle.rcu_jobs.specs.declared.callback.Record.{Record}
 use Rattle.rcu_lanes.specs.declared.ends.TheConstants.{FIRST_SLOTS}
 use Rattle.rcu_part_lists.specs.Outgoing.{in_tick, sent_back}
 use Rattle.rcu_part_lists.specs.ProcessorLists.{Holding, holding, passed_on, put_by, rear_of}
 use Rattle.rcu_part_steps.specs.Places.{AreKeyed}
+use Rattle.rcu_part_order.specs.Recorded.{Recorded, recorded}
 use Rattle.rcu_part_processor.specs.Processors.{SameProcessor, lists_of, records_of, view_of}
 use Rattle.rcu_part_processor.specs.Running.{Identity, IsSamePart, identity}
 use Rattle.rcu_part_processor.specs.declared.away.AwayState.{AwayState}
@@ -27,11 +27,11 @@ module _ {J R : Type 0} where
   abbrev pub away_lists : AwayState J R → Holding J
   away_lists p = holding p.lists
 
-  abbrev pub away_records : AwayState J R → List (Record R)
-  away_records p = p.ran.items
+  abbrev pub away_records : AwayState J R → Recorded R
+  away_records p = recorded p.ran
 
   abbrev pub away_identity : AwayState J R → Identity J
-  away_identity p = record { board = away_board p; seat = p.seat; rear = rear_of p.lists; cpu = p.cpu; offloadable = p.offloadable; limit = p.limit; blimit = p.blimit }
+  away_identity p = record { board = away_board p; seat = p.seat; rear = rear_of p.lists; cpu = p.cpu; offloadable = p.offloadable; limit = p.limit; blimit = p.blimit; kept = p.ran.kept }
 
   -- the same part of the same open, as it leaves and as it comes back
   abbrev pub SameLeft : ProcessorState J R → AwayState J R → Type 0
@@ -72,4 +72,4 @@ module _ {J R : Type 0} where
   -- What a processor knows of jobs while it is away: what it knows between its calls.
   pub record IsSoundAway (key_of : J → ℕ) (gives : ℕ → R → Type 0) (p : AwayState J R) : Type 0 where
     pub keyed : AreKeyed key_of (passed_on (away_lists p))
-    pub given : Given gives (away_records p)
+    pub given : Given gives (away_records p).all

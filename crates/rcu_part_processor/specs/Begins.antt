@@ -8,6 +8,7 @@ use Rattle.rcu_numbers.specs.Numbers.{snap_of}
 use Rattle.rcu_part_steps.specs.Begins.{claimed_as, record_with}
 use Rattle.rcu_part_steps.specs.Changes.{Claims, Finishes, StepsOnly}
 use Rattle.rcu_part_steps.specs.declared.begins.ClaimedCallback.{ClaimedCallback}
+use Rattle.rcu_part_order.specs.Recorded.{and_ran}
 use Rattle.rcu_part_processor.specs.Processors.{SameProcessor, view_of, lists_of, records_of}
 use Rattle.rcu_part_processor.specs.Running.{running_view, running_lists, running_records}
 use Rattle.rcu_part_processor.specs.Ticks.{CatchesUp, Heeds, Settles, RanDone, StopsTick, TicksBy}
@@ -70,7 +71,7 @@ module _ {J R : Type 0} where
 
   -- A finish: the claim has ended by one step, its record is added, and nothing else changed.
   pub record FinishesProcessor (receipt : R) (p : RunningProcessorState J R) (q : ProcessorState J R) : Type 0 where
-    pub records : records_of q ≡ running_records p ++ record_with receipt p.claimed ∷ []
+    pub records : records_of q ≡ and_ran (record_with receipt p.claimed ∷ []) (running_records p)
     pub lists : q.lists ≡ p.lists
     pub count : q.accepted ≡ p.accepted
     pub ends : Finishes (running_view p) (view_of q)

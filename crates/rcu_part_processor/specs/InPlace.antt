@@ -1,6 +1,6 @@
 -- A processor in place: between its calls it is a processor, or a running processor, and what its calls do is said of those:
 -- docs/specification/surface.md, "rcu_parts", `begin` and `finish`.
-use Rattle.std.specs.Prelude.{◌≡◌, ℕ, Option, Result, IfOk, IfErr, IsErr}
+use Rattle.std.specs.Prelude.{◌≡◌, ℕ, Result, IfOk, IfErr, IsErr}
 use Rattle.std.specs.declared.option.Option.TheVariants.{None, Some}
 use Rattle.std.specs.Arc.{arc_value}
 use Rattle.std.proofs.lemmas.Option.{none-some}
@@ -9,12 +9,12 @@ use Rattle.rcu_board.specs.declared.board.Board.{Board}
 use Rattle.rcu_board.specs.declared.board.Seat.{Seat}
 use Rattle.rcu_board.specs.declared.view.View.{View}
 use Rattle.rcu_jobs.specs.Records.{Given}
-use Rattle.rcu_jobs.specs.declared.Stop.{Stop}
 use Rattle.rcu_jobs.specs.declared.Stop.TheVariants.{Turn}
 use Rattle.rcu_jobs.specs.declared.answers.Refused.{Refused}
 use Rattle.rcu_jobs.specs.declared.answers.Ticket.{Ticket}
 use Rattle.rcu_lists.specs.declared.pace.Kind.{Kind}
 use Rattle.rcu_part_lists.specs.ProcessorLists.{Holding, holding, passed_on, rear_of}
+use Rattle.rcu_part_order.specs.Recorded.{ran_of, recorded}
 use Rattle.rcu_part_steps.specs.Places.{AreKeyed}
 use Rattle.rcu_part_steps.specs.declared.begins.ClaimedCallback.{ClaimedCallback}
 use Rattle.rcu_part_processor.specs.Accepting.{Accepting, Accepts, AcceptsNone, IsRefusedByLimit, Refuses}
@@ -115,7 +115,7 @@ module _ {J R : Type 0} where
   lists_in p = holding p.lists
 
   abbrev pub identity_in : ProcessorInPlaceState J R → Identity J
-  identity_in p = record { board = board_in p; seat = p.seat; rear = rear_of p.lists; cpu = p.cpu; offloadable = p.offloadable; limit = p.limit; blimit = p.blimit }
+  identity_in p = record { board = board_in p; seat = p.seat; rear = rear_of p.lists; cpu = p.cpu; offloadable = p.offloadable; limit = p.limit; blimit = p.blimit; kept = p.ran.kept }
 
   -- The same part of the same open, with the same claim, if one runs.
   pub record SameInPlace (p q : ProcessorInPlaceState J R) : Type 0 where
@@ -123,7 +123,7 @@ module _ {J R : Type 0} where
     pub claimed : q.claimed ≡ p.claimed
 
   abbrev pub accepting_in : ProcessorInPlaceState J R → Accepting J R
-  accepting_in p = record { cpu = p.cpu; limit = p.limit; accepted = p.accepted; view = view_in p; lists = p.lists; records = p.ran.items }
+  accepting_in p = record { cpu = p.cpu; limit = p.limit; accepted = p.accepted; view = view_in p; lists = p.lists; records = recorded p.ran }
 
   -- the job was accepted under the old count
   abbrev pub IsAccepted : ℕ → Kind → ℕ → J → Ticket → ProcessorInPlaceState J R → ProcessorInPlaceState J R → Type 0
@@ -140,7 +140,7 @@ module _ {J R : Type 0} where
   -- What a processor in place knows of jobs: what a processor knows, whether a claim of it runs or not.
   pub record IsSoundInPlace (key_of : J → ℕ) (gives : ℕ → R → Type 0) (p : ProcessorInPlaceState J R) : Type 0 where
     pub keyed : AreKeyed key_of (passed_on (lists_in p))
-    pub given : Given gives p.ran.items
+    pub given : Given gives (ran_of p.ran)
 
   -- what is known of jobs stays known
   abbrev pub KeepsSoundInPlace : (J → ℕ) → (ℕ → R → Type 0) → ProcessorInPlaceState J R → ProcessorInPlaceState J R → Type 0

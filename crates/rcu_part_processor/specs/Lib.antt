@@ -13,3 +13,4 @@ pub mod Polls
 pub mod InPlaceLaw
 pub mod InPlace
 pub mod LookingInPlace
+pub mod TakenRecords

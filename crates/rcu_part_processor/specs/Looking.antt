@@ -15,7 +15,7 @@ pub record OnlyLooks {J R : Type 0} (key_of : J → ℕ) (gives : ℕ → R → 
 module _ {J R : Type 0} (key_of : J → ℕ) (gives : ℕ → R → Type 0) where
   pub looks_none : (p : ProcessorState J R) → OnlyLooks key_of gives p p
   looks_none p = record {
-    same = record { part = same_part (board_of p) p.seat; lane = refl; cpu = refl; offloadable = refl; limit = refl; blimit = refl };
+    same = record { part = same_part (board_of p) p.seat; lane = refl; cpu = refl; offloadable = refl; limit = refl; blimit = refl; kept = refl };
     keeps = record { count = refl; lists = refl; records = refl };
     sound = λ sound. sound;
   }
@@ -30,6 +30,7 @@ module _ {J R : Type 0} (key_of : J → ℕ) (gives : ℕ → R → Type 0) wher
       offloadable = b.same.offloadable ∙ a.same.offloadable;
       limit = b.same.limit ∙ a.same.limit;
       blimit = b.same.blimit ∙ a.same.blimit;
+      kept = b.same.kept ∙ a.same.kept;
     };
     keeps = record { count = b.keeps.count ∙ a.keeps.count; lists = b.keeps.lists ∙ a.keeps.lists; records = b.keeps.records ∙ a.keeps.records };
     sound = λ sound. b.sound (a.sound sound);

@@ -15,7 +15,7 @@ pub record OnlyLooksInPlace {J R : Type 0} (key_of : J → ℕ) (gives : ℕ →
 module _ {J R : Type 0} (key_of : J → ℕ) (gives : ℕ → R → Type 0) where
   pub looks_none_in_place : (p : ProcessorInPlaceState J R) → OnlyLooksInPlace key_of gives p p
   looks_none_in_place p = record {
-    same = record { part = record { part = same_part (board_in p) p.seat; lane = refl; cpu = refl; offloadable = refl; limit = refl; blimit = refl }; claimed = refl };
+    same = record { part = record { part = same_part (board_in p) p.seat; lane = refl; cpu = refl; offloadable = refl; limit = refl; blimit = refl; kept = refl }; claimed = refl };
     keeps = record { count = refl; lists = refl; records = refl };
     sound = λ sound. sound;
   }
@@ -31,6 +31,7 @@ module _ {J R : Type 0} (key_of : J → ℕ) (gives : ℕ → R → Type 0) wher
         offloadable = b.same.part.offloadable ∙ a.same.part.offloadable;
         limit = b.same.part.limit ∙ a.same.part.limit;
         blimit = b.same.part.blimit ∙ a.same.part.blimit;
+        kept = b.same.part.kept ∙ a.same.part.kept;
       };
       claimed = b.same.claimed ∙ a.same.claimed;
     };

@@ -7,6 +7,7 @@ use Rattle.rcu_board.specs.declared.board.Seat.{Seat}
 use Rattle.rcu_part_lists.specs.ProcessorLists.{holding, put_by}
 use Rattle.rcu_jobs.specs.Modes.{first_mode}
 use Rattle.rcu_part_lists.specs.declared.processor_lists.ProcessorLists.{ProcessorLists}
+use Rattle.rcu_part_order.specs.declared.recorded.Kept.{Kept}
 use Rattle.rcu_part_processor.specs.Processors.{board_of, seat_of, records_of}
 use Rattle.rcu_part_processor.specs.declared.processor.ProcessorState.{ProcessorState}
 
@@ -18,8 +19,8 @@ pub record IsEmpty {J : Type 0} (offloadable : Bool) (lists : ProcessorLists J) 
   pub own : (holding lists).own ≡ []
   pub looked : (holding lists).advanced ≡ 0
 
--- processor cpu of a board, with its seat and its lists: it accepted nothing, and passed no grace period
-pub record IsNew {J R : Type 0} (shape : Shape) (b : Board) (cpu : ℕ) (s : Seat) (lists : ProcessorLists J) (p : ProcessorState J R) : Type 0 where
+-- processor cpu of a board, with its seat and its lists: it accepted nothing, passed no grace period, and keeps what it runs so
+pub record IsNew {J R : Type 0} (shape : Shape) (b : Board) (cpu : ℕ) (s : Seat) (lists : ProcessorLists J) (kept : Kept) (p : ProcessorState J R) : Type 0 where
   pub board : board_of p ≡ b
   pub seat : seat_of p ≡ s
   pub lists_are : p.lists ≡ lists
@@ -29,4 +30,4 @@ pub record IsNew {J R : Type 0} (shape : Shape) (b : Board) (cpu : ℕ) (s : Sea
   pub blimit : p.blimit ≡ shape.blimit
   pub accepted : p.accepted ≡ 0
   pub passed : p.passed ≡ 0
-  pub ran : records_of p ≡ []
+  pub ran : records_of p ≡ record { kept = kept; all = []; gone = 0 }

@@ -1,5 +1,5 @@
 -- What contracts see of a processor of which a claim runs.
-use Rattle.std.specs.Prelude.{◌≡◌, ℕ, Bool, List, Result, IfOk, IfErr, IsErr}
+use Rattle.std.specs.Prelude.{◌≡◌, ℕ, Bool, Result, IfOk, IfErr, IsErr}
 use Rattle.std.specs.Arc.{arc_value}
 use Rattle.rcu_board.specs.Seats.{SawShut, view}
 use Rattle.rcu_board.specs.declared.board.Board.{Board}
@@ -11,18 +11,19 @@ use Rattle.rcu_part_lists.specs.declared.limits.LaneLimits.{LaneLimits}
 use Rattle.rcu_jobs.specs.Records.{Given}
 use Rattle.rcu_jobs.specs.declared.answers.Refused.{Refused}
 use Rattle.rcu_jobs.specs.declared.answers.Ticket.{Ticket}
-use Rattle.rcu_jobs.specs.declared.callback.Record.{Record}
 use Rattle.rcu_lanes.specs.Ends.{SameRear}
 use Rattle.rcu_lanes.specs.declared.ends.Rear.{Rear}
 use Rattle.rcu_lists.specs.declared.pace.Kind.{Kind}
 use Rattle.rcu_lists.specs.declared.parcel.Parcel.{Parcel}
+use Rattle.rcu_part_order.specs.Recorded.{Recorded, recorded}
+use Rattle.rcu_part_order.specs.declared.recorded.Kept.{Kept}
 use Rattle.rcu_part_steps.specs.Places.{AreKeyed}
 use Rattle.rcu_part_processor.specs.Accepting.{Accepting, Accepts, AcceptsNone, IsRefusedByLimit, Refuses}
 use Rattle.rcu_part_processor.specs.Processors.{board_of}
 use Rattle.rcu_part_processor.specs.declared.processor.ProcessorState.{ProcessorState}
 use Rattle.rcu_part_processor.specs.declared.running_processor.RunningProcessorState.{RunningProcessorState}
 
--- Which part of which open it is: its seat, its lane, its number, its kind and its limits.
+-- Which part of which open it is: its seat, its lane, its number, its kind, its limits, and what it keeps.
 pub record Identity (J : Type 0) : Type 0 where
   pub board : Board
   pub seat : Seat
@@ -31,6 +32,7 @@ pub record Identity (J : Type 0) : Type 0 where
   pub offloadable : Bool
   pub limit : ℕ
   pub blimit : ℕ
+  pub kept : Kept
 
 -- the same part of the same open
 pub record IsSamePart {J : Type 0} (x y : Identity J) : Type 0 where
@@ -40,6 +42,7 @@ pub record IsSamePart {J : Type 0} (x y : Identity J) : Type 0 where
   pub offloadable : y.offloadable ≡ x.offloadable
   pub limit : y.limit ≡ x.limit
   pub blimit : y.blimit ≡ x.blimit
+  pub kept : y.kept ≡ x.kept
 
 module _ {J R : Type 0} where
   abbrev pub running_board : RunningProcessorState J R → Board
@@ -51,14 +54,14 @@ module _ {J R : Type 0} where
   abbrev pub running_lists : RunningProcessorState J R → Holding J
   running_lists p = holding p.lists
 
-  abbrev pub running_records : RunningProcessorState J R → List (Record R)
-  running_records p = p.ran.items
+  abbrev pub running_records : RunningProcessorState J R → Recorded R
+  running_records p = recorded p.ran
 
   abbrev pub identity : ProcessorState J R → Identity J
-  identity p = record { board = board_of p; seat = p.seat; rear = rear_of p.lists; cpu = p.cpu; offloadable = p.offloadable; limit = p.limit; blimit = p.blimit }
+  identity p = record { board = board_of p; seat = p.seat; rear = rear_of p.lists; cpu = p.cpu; offloadable = p.offloadable; limit = p.limit; blimit = p.blimit; kept = p.ran.kept }
 
   abbrev pub running_identity : RunningProcessorState J R → Identity J
-  running_identity p = record { board = running_board p; seat = p.seat; rear = rear_of p.lists; cpu = p.cpu; offloadable = p.offloadable; limit = p.limit; blimit = p.blimit }
+  running_identity p = record { board = running_board p; seat = p.seat; rear = rear_of p.lists; cpu = p.cpu; offloadable = p.offloadable; limit = p.limit; blimit = p.blimit; kept = p.ran.kept }
 
   -- the same part of the same open, as a claim of it begins, while it runs, and as it ends
   abbrev pub SameBegun : ProcessorState J R → RunningProcessorState J R → Type 0
@@ -88,7 +91,7 @@ module _ {J R : Type 0} where
   -- What a processor knows of jobs while a claim of it runs: what it knows between its calls.
   pub record IsSoundRunning (key_of : J → ℕ) (gives : ℕ → R → Type 0) (p : RunningProcessorState J R) : Type 0 where
     pub keyed : AreKeyed key_of (passed_on (running_lists p))
-    pub given : Given gives (running_records p)
+    pub given : Given gives (running_records p).all
 
   -- what is known of jobs stays known
   abbrev pub KeepsSoundRunning : (J → ℕ) → (ℕ → R → Type 0) → RunningProcessorState J R → RunningProcessorState J R → Type 0

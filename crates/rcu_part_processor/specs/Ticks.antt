@@ -17,6 +17,7 @@ use Rattle.rcu_jobs.specs.declared.Ticked.{Ticked}
 use Rattle.rcu_jobs.specs.declared.callback.Callback.{Callback}
 use Rattle.rcu_jobs.specs.declared.callback.Record.{Record}
 use Rattle.rcu_lists.specs.Labels.{Done, Labelled, marked, count, is_done}
+use Rattle.rcu_part_order.specs.Recorded.{and_ran}
 use Rattle.rcu_part_order.specs.Records.{numbered_records}
 use Rattle.rcu_part_steps.specs.Changes.{StepsOnly}
 use Rattle.rcu_part_steps.specs.Places.{numbered_callbacks}
@@ -68,7 +69,7 @@ module _ {J R : Type 0} where
     pub many : length records ≡ n
     pub done : (lists_of p).own ≡ marked Done calls ++ (lists_of q).own
     pub others : lists_of q ≡ record (lists_of p) { own = (lists_of q).own }
-    pub more : records_of q ≡ records_of p ++ records
+    pub more : records_of q ≡ and_ran records (records_of p)
     pub same : numbered_callbacks calls ≡ numbered_records records
     pub ready : All (λ r. r.ready ≡ seen) records
     pub steps : StepsOnly (turns_word p.cpu) (tried + n) (view_of p) (view_of q)

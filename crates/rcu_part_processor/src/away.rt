@@ -7,12 +7,14 @@ ghost use Rattle.rcu_numbers.specs.Words.{owes_of};
 ghost use Rattle.rcu_board.specs.Seats.{view, AtBoard};
 ghost use Rattle.rcu_board.specs.declared.board.Role.{Role};
 ghost use Rattle.rcu_part_lists.specs.ProcessorLists.{holding};
+ghost use Rattle.rcu_part_order.specs.Recorded.{ran_of};
 ghost use Rattle.rcu_part_processor.specs.Lawful.{IsAwaySince, IsLawful, StaysLocal};
 
 use crate::processor::{Processor, ProcessorState};
 use rcu_board::{Board, Role, Seat, come_back};
-use rcu_jobs::{Job, Lists, Record};
+use rcu_jobs::{Job, Lists};
 use rcu_part_lists::ProcessorLists;
+use rcu_part_order::Records;
 use std::alloc::Global;
 use std::sync::Arc;
 
@@ -33,7 +35,7 @@ pub struct AwayState<J, R> {
     /// The last grace period that it passed before it left, or 0.
     pub passed: u64,
     /// What it ran itself.
-    pub ran: Vec<Record<R>>,
+    pub ran: Records<R>,
     pub lists: ProcessorLists<J>,
     ghost here: { AtBoard (arc_value board) seat },
     ghost role: { seat.role ≡ Role.Processor cpu },
@@ -42,7 +44,7 @@ pub struct AwayState<J, R> {
     ghost local: { StaysLocal offloadable (holding lists) },
     ghost small: { (accepted ≤ limit) × (limit ≤ MOST_CALLS) },
     ghost since: { IsAwaySince passed (view seat) },
-    ghost lawful: { IsLawful cpu accepted (view seat) ran.items (holding lists) },
+    ghost lawful: { IsLawful cpu accepted (view seat) (ran_of ran) (holding lists) },
     ghost empty: { (holding lists).outgoing.bypass ≡ [] },
 }
 

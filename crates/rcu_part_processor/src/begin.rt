@@ -1,7 +1,7 @@
 //! A processor's run of one callback in two steps: the claim is won and the job handed out, and later the claim is ended.
 
 ghost use Rattle.std.specs.Prelude.{◌≡◌, ◌≢◌, ◌<◌, IfErr, IfOk};
-ghost use Rattle.std.specs.Vec.{vec_len, vec_capacity};
+ghost use Rattle.rcu_part_order.specs.Recorded.{HasRoom};
 ghost use Rattle.rcu_numbers.specs.declared.shape.TheConstants.{MOST_CALLS};
 ghost use Rattle.rcu_board.specs.Views.{sight};
 ghost use Rattle.rcu_jobs.specs.declared.Stop.TheVariants.{Limit};
@@ -25,8 +25,7 @@ impl<J: Job> Processor<J> {
         ensures keeps { KeepsProcessor self.old.state self.new.state }
         ensures next { IfOk result (λ c. IsNext seen c self.new.state) }
         ensures small { IfOk result (λ c. c.number < MOST_CALLS) }
-        ensures room { IfOk result (λ _.
-            vec_len self.new.state.ran < vec_capacity self.new.state.ran) }
+        ensures room { IfOk result (λ _. HasRoom self.new.state.ran) }
         ensures stops { IfErr result (λ stop. StopsTick stop 0 0 self.new.state) }
         ensures counts { IfErr result (λ stop. stop ≢ Limit) }
         ensures sound { KeepsSound J.key_of J.gives self.old.state self.new.state }
@@ -41,7 +40,7 @@ impl<J: Job> Processor<J> {
             stamp: first.stamp,
             ready: seen,
         };
-        let Ok(()) = state.ran.reserve(1) else {
+        let Ok(()) = state.ran.find_room() else {
             return Err(Stop::Memory);
         };
         Ok(claimed)
@@ -127,7 +126,7 @@ impl<J: Job> RunningProcessor<J> {
             lists,
         } = self.state;
         end_claim(&board, &mut seat);
-        ran.push_reserved(Record {
+        ran.add(Record {
             number: claimed.number,
             key: claimed.key,
             stamp: claimed.stamp,

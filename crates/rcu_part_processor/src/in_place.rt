@@ -2,20 +2,21 @@
 
 ghost use Rattle.std.specs.Prelude.{◌≡◌, ◌+◌, ◌<◌, ◌≤◌, true, None, Some, is_some};
 ghost use Rattle.std.specs.Arc.{arc_value};
-ghost use Rattle.std.specs.Vec.{vec_len, vec_capacity};
 ghost use Rattle.rcu_numbers.specs.Words.{owes_of};
 ghost use Rattle.rcu_numbers.specs.declared.shape.TheConstants.{MOST_CALLS, MOST_PROCESSORS};
 ghost use Rattle.rcu_board.specs.Seats.{view, AtBoard};
 ghost use Rattle.rcu_board.specs.declared.board.Role.{Role};
 ghost use Rattle.rcu_part_lists.specs.ProcessorLists.{cpu_lists, holding};
+ghost use Rattle.rcu_part_order.specs.Recorded.{ran_of};
 ghost use Rattle.rcu_part_processor.specs.InPlaceLaw.{RunsAs};
 ghost use Rattle.rcu_part_processor.specs.Lawful.{IsHereSince, IsLawful, StaysLocal};
 ghost use Rattle.rcu_part_steps.specs.declared.begins.ClaimedCallback.{ClaimedCallback as Claimed};
 
 use crate::processor::{Processor, ProcessorState, into_state};
 use rcu_board::{Board, Role, Seat};
-use rcu_jobs::{Job, Lists, Record};
+use rcu_jobs::{Job, Lists};
 use rcu_part_lists::ProcessorLists;
+use rcu_part_order::Records;
 use rcu_part_steps::ClaimedCallback;
 use std::alloc::Global;
 use std::sync::Arc;
@@ -37,7 +38,7 @@ pub struct ProcessorInPlaceState<J, R> {
     /// The last grace period that it passed, or 0.
     pub passed: u64,
     /// What it ran itself.
-    pub ran: Vec<Record<R>>,
+    pub ran: Records<R>,
     /// The callback whose claim runs, if one does. There is room for its record.
     pub claimed: Option<ClaimedCallback>,
     pub lists: ProcessorLists<J>,
@@ -48,9 +49,9 @@ pub struct ProcessorInPlaceState<J, R> {
     ghost local: { StaysLocal offloadable (holding lists) },
     ghost small: { (accepted ≤ limit) × (limit ≤ MOST_CALLS) },
     ghost since: { IsHereSince passed (view seat) },
-    ghost rests: { claimed ≡ None → IsLawful cpu accepted (view seat) ran.items (holding lists) },
+    ghost rests: { claimed ≡ None → IsLawful cpu accepted (view seat) (ran_of ran) (holding lists) },
     ghost runs: { (c : Claimed) → claimed ≡ Some c
-        → RunsAs cpu accepted c (view seat) ran.items (vec_len ran) (vec_capacity ran) (holding lists) },
+        → RunsAs cpu accepted c (view seat) ran (holding lists) },
 }
 
 /// A processor that stays where it is while claims of it begin and end: a [`Processor`] where none runs, and else a

@@ -1,7 +1,7 @@
 //! A callback of a processor in place, in two steps: its claim is won and its job handed out, and later the claim is ended.
 
 ghost use Rattle.std.specs.Prelude.{◌≡◌, ◌≢◌, ◌<◌, true, None, IfNone, IfSome, IfErr, IfOk};
-ghost use Rattle.std.specs.Vec.{vec_len, vec_capacity};
+ghost use Rattle.rcu_part_order.specs.Recorded.{HasRoom};
 ghost use Rattle.rcu_numbers.specs.declared.shape.TheConstants.{MOST_CALLS};
 ghost use Rattle.rcu_board.specs.Views.{sight};
 ghost use Rattle.rcu_jobs.specs.declared.Stop.TheVariants.{Limit};
@@ -74,8 +74,7 @@ impl<J: Job> ProcessorInPlace<J> {
         ensures next { IfOk result (λ c. IfResting (IsNext seen c) self.new.state) }
         ensures ready { IfOk result (λ c. c.ready ≡ seen) }
         ensures small { IfOk result (λ c. c.number < MOST_CALLS) }
-        ensures room { IfOk result (λ _.
-            vec_len self.new.state.ran < vec_capacity self.new.state.ran) }
+        ensures room { IfOk result (λ _. HasRoom self.new.state.ran) }
         ensures stops { IfErr result (λ stop. IfResting (StopsTick stop 0 0) self.new.state) }
         ensures counts { IfErr result (λ stop. stop ≢ Limit) }
         ensures sound { KeepsSoundInPlace J.key_of J.gives self.old.state self.new.state }
@@ -90,7 +89,7 @@ impl<J: Job> ProcessorInPlace<J> {
             stamp: first.stamp,
             ready: seen,
         };
-        let Ok(()) = state.ran.reserve(1) else {
+        let Ok(()) = state.ran.find_room() else {
             return Err(Stop::Memory);
         };
         Ok(claimed)
@@ -103,7 +102,7 @@ impl<J: Job> ProcessorInPlace<J> {
             × ((lists_in self.old.state).advanced ≡ claimed.ready) }
         requires next { IfResting (IsNext claimed.ready claimed) self.old.state }
         requires small { claimed.number < MOST_CALLS }
-        requires room { vec_len self.old.state.ran < vec_capacity self.old.state.ran }
+        requires room { HasRoom self.old.state.ran }
         ensures runs { IfSome result (λ job.
             StartsRunning (λ p q. ClaimsFirst claimed.ready p q job) self.old.state self.new.state) }
         ensures lost { IfNone result (StaysResting (LosesClaim claimed.ready) self.old.state
@@ -188,7 +187,7 @@ impl<J: Job> ProcessorInPlace<J> {
             unreachable!()
         };
         end_claim(&state.board, &mut state.seat);
-        state.ran.push_reserved(Record {
+        state.ran.add(Record {
             number: claimed.number,
             key: claimed.key,
             stamp: claimed.stamp,

@@ -17,6 +17,7 @@ mod laws;
 mod limits;
 mod poll;
 mod processor;
+mod recorded;
 mod report;
 mod run;
 mod running_processor;

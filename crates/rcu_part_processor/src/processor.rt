@@ -7,14 +7,16 @@ ghost use Rattle.rcu_board.specs.Seats.{view, AtBoard};
 ghost use Rattle.rcu_board.specs.declared.board.Role.{Role};
 ghost use Rattle.rcu_part_lists.specs.ProcessorLists.{holding};
 ghost use Rattle.rcu_numbers.specs.Words.{owes_of};
+ghost use Rattle.rcu_part_order.specs.Recorded.{ran_of};
 ghost use Rattle.rcu_part_processor.specs.Lawful.{IsHereSince, IsLawful, StaysLocal};
 
 use crate::away::{Away, AwayState};
 use crate::running_processor::{RunningProcessor, RunningProcessorState};
 use rcu_board::{Board, Role, Seat, leave};
-use rcu_jobs::{Callback, Job, Record, Stop};
+use rcu_jobs::{Callback, Job, Stop};
 use rcu_numbers::Shape;
 use rcu_part_lists::ProcessorLists;
+use rcu_part_order::{Kept, Records};
 use rcu_part_steps::{Begins, ClaimedCallback, try_claim};
 use std::alloc::Global;
 use std::sync::Arc;
@@ -37,7 +39,7 @@ pub struct ProcessorState<J, R> {
     /// The last grace period that it passed, or 0.
     pub passed: u64,
     /// What it ran itself.
-    pub ran: Vec<Record<R>>,
+    pub ran: Records<R>,
     pub lists: ProcessorLists<J>,
     ghost here: { AtBoard (arc_value board) seat },
     ghost role: { seat.role ≡ Role.Processor cpu },
@@ -46,7 +48,7 @@ pub struct ProcessorState<J, R> {
     ghost local: { StaysLocal offloadable (holding lists) },
     ghost small: { (accepted ≤ limit) × (limit ≤ MOST_CALLS) },
     ghost since: { IsHereSince passed (view seat) },
-    ghost lawful: { IsLawful cpu accepted (view seat) ran.items (holding lists) },
+    ghost lawful: { IsLawful cpu accepted (view seat) (ran_of ran) (holding lists) },
 }
 
 /// One processor: it accepts callbacks, reports quiescent states, and runs the callbacks of its own list in its tick.
@@ -61,7 +63,8 @@ impl<J: Job> Processor<J> {
     ghost use Rattle.rcu_part_processor.specs.Opened.{IsNew, IsEmpty};
     ghost use Rattle.rcu_part_processor.specs.Processors.{records_of, view_of};
 
-    /// The part of processor `cpu` of a shape, from its seat and its empty lists. It has accepted nothing.
+    /// The part of processor `cpu` of a shape, from its seat and its empty lists, and what it is to keep of what it runs. It
+    /// has accepted nothing.
     pub fn new(
         alloc: Global,
         shape: &Shape,
@@ -69,11 +72,12 @@ impl<J: Job> Processor<J> {
         seat: Seat,
         cpu: u64,
         lists: ProcessorLists<J>,
+        kept: Kept,
     ) -> Processor<J>
         requires seat { IsNewProcessor (arc_value board) cpu seat }
         requires there { cpu < (arc_value board).processors }
         requires lists { IsEmpty (is_offloadable (arc_value board).offloadable cpu) lists }
-        ensures new { IsNew shape.now (arc_value board) cpu seat lists result.state }
+        ensures new { IsNew shape.now (arc_value board) cpu seat lists kept result.state }
     {
         let offloadable = board.is_offloadable(cpu);
         Processor {
@@ -86,7 +90,7 @@ impl<J: Job> Processor<J> {
                 blimit: shape.blimit,
                 accepted: 0,
                 passed: 0,
-                ran: Vec::new(alloc),
+                ran: Records::new(alloc, kept),
                 lists,
             },
         }
@@ -108,7 +112,7 @@ impl<J: Job> Processor<J> {
 
     /// How many callbacks it ran itself; its hand ran others.
     pub fn ran(&self) -> usize
-        ensures { result ≡ length (records_of self.now.state) }
+        ensures { result ≡ length (ran_of self.now.state.ran) }
     {
         self.state.ran.len()
     }
@@ -131,7 +135,7 @@ impl<J: Job> Processor<J> {
 
 impl<J: Job> Processor<J> {
     ghost use Rattle.std.specs.Prelude.{◌≢◌};
-    ghost use Rattle.std.specs.Vec.{vec_len, vec_capacity};
+    ghost use Rattle.rcu_part_order.specs.Recorded.{HasRoom};
     ghost use Rattle.rcu_board.specs.Views.{sight};
     ghost use Rattle.rcu_jobs.specs.declared.Stop.TheVariants.{Limit};
     ghost use Rattle.rcu_part_processor.specs.Begins.{IsNext, ClaimsFirst};
@@ -149,7 +153,7 @@ impl<J: Job> Processor<J> {
             × ((lists_of self.state).advanced ≡ claimed.ready) }
         requires next { IsNext claimed.ready claimed self.state }
         requires small { claimed.number < MOST_CALLS }
-        requires room { vec_len self.state.ran < vec_capacity self.state.ran }
+        requires room { HasRoom self.state.ran }
         ensures same { IfRuns result (λ running _. SameBegun self.state running.state) }
         ensures stays { IfStops result (λ processor _. SameProcessor self.state processor.state) }
         ensures runs { IfRuns result (λ running job.

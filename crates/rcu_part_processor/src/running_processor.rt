@@ -2,19 +2,20 @@
 
 ghost use Rattle.std.specs.Prelude.{◌≡◌, ◌<◌, ◌≤◌, true};
 ghost use Rattle.std.specs.Arc.{arc_value};
-ghost use Rattle.std.specs.Vec.{vec_len, vec_capacity};
 ghost use Rattle.rcu_numbers.specs.declared.shape.TheConstants.{MOST_CALLS};
 ghost use Rattle.rcu_board.specs.Seats.{view, AtBoard};
 ghost use Rattle.rcu_board.specs.declared.board.Role.{Role};
 ghost use Rattle.rcu_part_lists.specs.ProcessorLists.{holding};
 ghost use Rattle.rcu_numbers.specs.Words.{owes_of};
+ghost use Rattle.rcu_part_order.specs.Recorded.{HasRoom, ran_of};
 ghost use Rattle.rcu_part_processor.specs.Lawful.{IsHereSince, IsRunningProcessor, StaysLocal};
 
 use crate::acceptance::{Request, accept_job};
 use rcu_board::{Board, Role, Seat};
-use rcu_jobs::{Job, Lists, Record, Refused, Ticket};
+use rcu_jobs::{Job, Lists, Refused, Ticket};
 use rcu_lists::Kind;
 use rcu_part_lists::ProcessorLists;
+use rcu_part_order::Records;
 use rcu_part_steps::{ClaimedCallback, report_quiescent_state};
 use std::alloc::Global;
 use std::sync::Arc;
@@ -37,7 +38,7 @@ pub struct RunningProcessorState<J, R> {
     /// The last grace period that it passed, or 0.
     pub passed: u64,
     /// What it ran itself.
-    pub ran: Vec<Record<R>>,
+    pub ran: Records<R>,
     /// The callback whose claim runs.
     pub claimed: ClaimedCallback,
     pub lists: ProcessorLists<J>,
@@ -48,9 +49,9 @@ pub struct RunningProcessorState<J, R> {
     ghost local: { StaysLocal offloadable (holding lists) },
     ghost small: { (accepted ≤ limit) × (limit ≤ MOST_CALLS) },
     ghost below: { claimed.number < MOST_CALLS },
-    ghost room: { vec_len ran < vec_capacity ran },
+    ghost room: { HasRoom ran },
     ghost since: { IsHereSince passed (view seat) },
-    ghost lawful: { IsRunningProcessor cpu accepted claimed (view seat) ran.items (holding lists) },
+    ghost lawful: { IsRunningProcessor cpu accepted claimed (view seat) (ran_of ran) (holding lists) },
 }
 
 /// A processor of which the claim of one callback runs, until `finish` ends it. It neither ticks nor begins until then; the

@@ -86,7 +86,7 @@ impl<J: Job> Processor<J> {
             return Some(Stop::Empty);
         };
         let number = first.number;
-        let Ok(()) = state.ran.reserve(1) else {
+        let Ok(()) = state.ran.find_room() else {
             return Some(Stop::Memory);
         };
         if !try_claim(&state.board, &mut state.seat, state.cpu, number) {
@@ -96,7 +96,7 @@ impl<J: Job> Processor<J> {
             unreachable!()
         };
         let record = run_claimed(&state.board, &mut state.seat, callback, seen);
-        state.ran.push_reserved(record);
+        state.ran.add(record);
         None
     }
 

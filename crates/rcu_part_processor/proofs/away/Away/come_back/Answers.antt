@@ -5,6 +5,7 @@ use Rattle.rcu_board.specs.Roles.{IsProcessor, cpu_of_role}
 use Rattle.rcu_board.specs.Seats.{view}
 use Rattle.rcu_board.specs.Words.{reports_word}
 use Rattle.rcu_part_lists.specs.ProcessorLists.{holding}
+use Rattle.rcu_part_order.specs.Recorded.{ran_of}
 use Rattle.rcu_part_processor.proofs.Keeping.{kept_by_tells}
 use Rattle.rcu_part_processor.proofs.Leaving.{is_away, since_returned, tells_returned}
 use Rattle.rcu_part_processor.proofs.Standing.{stands}
@@ -28,11 +29,11 @@ invariant_of-state g c = let s = c.args.self.state in let e = c.come_back-passed
   local = s.local;
   small = s.small;
   since = since_returned s.seat c.come_back-passed.new.seat s.cpu _ c.come_back-passed.result s.role e.view e.small;
-  lawful = kept_by_tells s.cpu s.accepted _ (view s.seat) (view c.come_back-passed.new.seat) s.ran.items (holding s.lists) (tells_returned _ _ _ _ e.view) (e.same.later (arc_value s.board) s.here) s.lawful;
+  lawful = kept_by_tells s.cpu s.accepted _ (view s.seat) (view c.come_back-passed.new.seat) (ran_of s.ran) (holding s.lists) (tells_returned _ _ _ _ e.view) (e.same.later (arc_value s.board) s.here) s.lawful;
 }
 
 pub returns-clause-same : goal.returns-clause-same
-returns-clause-same g c = record { part = record { board = refl; seat = c.come_back-passed.ensures.same }; lane = refl; cpu = refl; offloadable = refl; limit = refl; blimit = refl }
+returns-clause-same g c = record { part = record { board = refl; seat = c.come_back-passed.ensures.same }; lane = refl; cpu = refl; offloadable = refl; limit = refl; blimit = refl; kept = refl }
 
 pub returns-clause-keeps : goal.returns-clause-keeps
 returns-clause-keeps g c = record { count = refl; records = refl; lists = refl }

@@ -5,6 +5,7 @@ use Rattle.rcu_board.specs.declared.board.Board.{Board}
 use Rattle.rcu_board.specs.Seats.{own_word, view}
 use Rattle.rcu_board.specs.Words.{turns_word}
 use Rattle.rcu_part_lists.specs.ProcessorLists.{holding}
+use Rattle.rcu_part_order.specs.Recorded.{ran_of}
 use Rattle.rcu_part_processor.proofs.Keeping.{kept_by_tells}
 use Rattle.rcu_part_processor.proofs.Standing.{stands}
 use Rattle.rcu_part_steps.proofs.Telling.{tells_touched}
@@ -20,7 +21,7 @@ invariant_of-state g c = let s = c.args.self.now.state in let e = c.turn_of.ensu
   local = s.local;
   small = s.small;
   since = since_kept _ _ _ (ap own_word e.view) s.since;
-  lawful = kept_by_tells s.cpu s.accepted _ v w s.ran.items (holding s.lists) (tells_touched (turns_word c.args.p) c.turn_of.result v w e.view) (e.same.later (arc_value s.board) s.here) s.lawful;
+  lawful = kept_by_tells s.cpu s.accepted _ v w (ran_of s.ran) (holding s.lists) (tells_touched (turns_word c.args.p) c.turn_of.result v w e.view) (e.same.later (arc_value s.board) s.here) s.lawful;
 }
 
 pub returns-clause-keeps : goal.returns-clause-keeps
@@ -32,6 +33,7 @@ returns-clause-keeps g c = record {
     offloadable = refl;
     limit = refl;
     blimit = refl;
+    kept = refl;
   };
   keeps = record { count = refl; lists = refl; records = refl };
   sound = λ x. record { keyed = x.keyed; given = x.given };

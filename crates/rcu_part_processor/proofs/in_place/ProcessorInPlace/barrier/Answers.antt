@@ -2,6 +2,7 @@ use Rattle.std.proofs.Common.{◌∙◌, ap, arith, sym, refl, subst, ◌≡◌,
 use Rattle.rcu_board.specs.Seats.{view}
 use Rattle.rcu_board.specs.declared.board.Board.{Board}
 use Rattle.rcu_part_lists.specs.ProcessorLists.{holding}
+use Rattle.rcu_part_order.specs.Recorded.{ran_of}
 use Rattle.rcu_part_processor.proofs.Barring.{opens_law, opens_word, own_is_exact}
 use Rattle.std.specs.Arc.{arc_value}
 use Rattle.rcu_part_processor.proofs.Standing.{stands}
@@ -19,13 +20,13 @@ invariant_of-state g c = let s = c.args.self.now.state in let e = c.open_barrier
   local = s.local;
   small = s.small;
   since = since_kept _ _ _ (opens_word _ c.open_barrier.result _ _ e.opens) s.since;
-  rests = λ r. opens_law s.cpu s.accepted _ c.open_barrier.result (view s.seat) (view c.open_barrier.new.seat) s.ran.items (holding s.lists) e.opens (s.rests r);
+  rests = λ r. opens_law s.cpu s.accepted _ c.open_barrier.result (view s.seat) (view c.open_barrier.new.seat) (ran_of s.ran) (holding s.lists) e.opens (s.rests r);
   runs = λ k f. (let x : None ≡ Some k = sym c.requires.rests ∙ f in cc);
 }
 
 pub returns-clause-own : goal.returns-clause-own
 returns-clause-own g c = let s = c.args.self.now.state in let low = s.there in let same = ap (λ (b : Board). b.processors) c.deref.ensures in
-    own_is_exact _ s.cpu s.accepted c.open_barrier.result.counts s.seat s.ran.items (holding s.lists) c.open_barrier.ensures.own (omega (arith, low, same)) s.role (s.rests c.requires.rests)
+    own_is_exact _ s.cpu s.accepted c.open_barrier.result.counts s.seat (ran_of s.ran) (holding s.lists) c.open_barrier.ensures.own (omega (arith, low, same)) s.role (s.rests c.requires.rests)
 
 pub open_barrier-requires-clause-board : goal.open_barrier-requires-clause-board
 open_barrier-requires-clause-board g c = let s = c.args.self.now.state in stands (arc_value s.board) c.deref.result.now s.seat c.deref.ensures s.here
@@ -34,7 +35,7 @@ pub open_barrier-requires-clause-who : goal.open_barrier-requires-clause-who
 open_barrier-requires-clause-who g c = subst MayCount (sym c.args.self.now.state.role) tt
 
 pub returns-clause-same : goal.returns-clause-same
-returns-clause-same g c = record { part = record { part = record { board = refl; seat = c.open_barrier.ensures.same }; lane = refl; cpu = refl; offloadable = refl; limit = refl; blimit = refl }; claimed = refl }
+returns-clause-same g c = record { part = record { part = record { board = refl; seat = c.open_barrier.ensures.same }; lane = refl; cpu = refl; offloadable = refl; limit = refl; blimit = refl; kept = refl }; claimed = refl }
 
 pub returns-clause-keeps : goal.returns-clause-keeps
 returns-clause-keeps g c = record { count = refl; lists = refl; records = refl }

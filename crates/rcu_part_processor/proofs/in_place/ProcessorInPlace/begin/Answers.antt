@@ -1,9 +1,6 @@
-use Rattle.std.proofs.Common.{◌≡◌, ◌∙◌, sym}
-use Rattle.std.specs.Prelude.{IfOk, IfErr}
-use Rattle.rcu_jobs.specs.declared.Stop.{Stop}
-use Rattle.rcu_part_processor.specs.Begins.{BeginsTick, ClaimsFirst, ClaimsNone, StopsBegin}
+use Rattle.std.proofs.Common.{◌∙◌, sym}
+use Rattle.rcu_part_processor.specs.Begins.{ClaimsFirst, ClaimsNone}
 use Rattle.rcu_part_processor.specs.InPlace.{StartsRunning, StaysResting, resting, running}
-use Rattle.rcu_part_processor.specs.declared.in_place.ProcessorInPlaceState.{ProcessorInPlaceState}
 use Rattle.rcu_part_processor.proofs.BeginTicks.{begins_local, begins_switching, stops_local, stops_switching}
 use Rattle.rcu_part_processor.proofs.Claiming.{same_begun_after}
 use Rattle.rcu_part_processor.proofs.InPlace.{if_err, if_ok}

@@ -11,6 +11,7 @@ use Rattle.rcu_part_lists.specs.Aims.{wanted}
 use Rattle.rcu_part_lists.specs.ProcessorLists.{Holding, holding}
 use Rattle.rcu_part_lists.proofs.Aims.{up-raised}
 use Rattle.rcu_part_lists.proofs.Sizes.{in_struct}
+use Rattle.rcu_part_order.specs.Recorded.{ran_of}
 use Rattle.rcu_part_processor.specs.contracts.in_place.ProcessorInPlace as row
 use Rattle.rcu_part_processor.proofs.CatchingUp.{asked_for, asks_none, asks_one, caught_law, caught_local, caught_passes}
 use Rattle.rcu_part_processor.proofs.InPlace.{sound_moved_in_place}
@@ -36,7 +37,7 @@ invariant_of-state g c = let s = c.args.self.now.state in let e = c.look_at_numb
       local = caught_local c.look_at_number-seen.result s.offloadable (holding s.lists) (holding c.look.new.self) l.list s.local;
       small = s.small;
       since = since_kept _ _ _ (ap own_word n.view ∙ word_looked c.look_at_number-seen.result _ _ e.view) s.since;
-      rests = λ r. caught_law s.cpu s.accepted c.look_at_number-seen.result (view s.seat) w s.ran.items (holding s.lists) (holding c.look.new.self)
+      rests = λ r. caught_law s.cpu s.accepted c.look_at_number-seen.result (view s.seat) w (ran_of s.ran) (holding s.lists) (holding c.look.new.self)
           (tells_again (view s.seat) u w (tells_looked c.look_at_number-seen.result (view s.seat) u (s.rests r).stamped e.view) (tells_touched needed_word (max c.need.result c.in-Some.number) u w n.view))
           l.list l.places (let a = y.board in omega (arith, a, e.sight.0))
           (l.needed (seen_at w needed_word) (up-raised (seen_at (view s.seat) needed_word) (seen_at w needed_word) (holding s.lists).own (let a = y.needed in let b = z.needed in omega arith) (s.rests r).needed)
@@ -54,7 +55,7 @@ invariant_of-state-in_default g c = let s = c.args.self.now.state in let e = c.l
       local = caught_local c.look_at_number-seen.result s.offloadable (holding s.lists) (holding c.look.new.self) l.list s.local;
       small = s.small;
       since = since_kept _ _ _ (word_looked c.look_at_number-seen.result _ _ e.view) s.since;
-      rests = λ r. caught_law s.cpu s.accepted c.look_at_number-seen.result (view s.seat) w s.ran.items (holding s.lists) (holding c.look.new.self)
+      rests = λ r. caught_law s.cpu s.accepted c.look_at_number-seen.result (view s.seat) w (ran_of s.ran) (holding s.lists) (holding c.look.new.self)
           (tells_looked c.look_at_number-seen.result (view s.seat) w (s.rests r).stamped e.view)
           l.list l.places (omega (arith, e.sight.0))
           (l.needed (seen_at w needed_word) (up-raised (seen_at (view s.seat) needed_word) (seen_at w needed_word) (holding s.lists).own z.needed (s.rests r).needed) tt) (s.rests r);
@@ -64,7 +65,7 @@ invariant_of-state-in_default g c = let s = c.args.self.now.state in let e = c.l
 pub returns-in-Some-clause-catches_up : goal.returns-in-Some-clause-catches_up
 returns-in-Some-clause-catches_up g c = λ r. (
   r,
-  let s = c.args.self.now.state in record { part = record { board = refl; seat = same_seat_again s.seat c.look_at_number-seen.new.seat c.need.new.seat c.look_at_number-seen.ensures.same c.need.ensures.same }; lane = same_lane s.lists c.look.new.self c.in-Some.ensures.rear; cpu = refl; offloadable = refl; limit = refl; blimit = refl },
+  let s = c.args.self.now.state in record { part = record { board = refl; seat = same_seat_again s.seat c.look_at_number-seen.new.seat c.need.new.seat c.look_at_number-seen.ensures.same c.need.ensures.same }; lane = same_lane s.lists c.look.new.self c.in-Some.ensures.rear; cpu = refl; offloadable = refl; limit = refl; blimit = refl; kept = refl },
   let s = c.args.self.now.state in let e = c.look_at_number-seen.ensures in let n = c.need.ensures in let l = c.in-Some.ensures in record {
     asks = asks_one (wanted c.look_at_number-seen.result (holding s.lists).own) c.need.result c.in-Some.number (looked c.look_at_number-seen.result (view s.seat)) (view c.need.new.seat) (sym l.wanted)
         (n.view ∙ ap (λ (v : View). touched needed_word (max c.need.result c.in-Some.number) v) e.view);
@@ -84,7 +85,7 @@ returns-in-Some-clause-sound g c = let s = c.args.self.now.state in let l = c.in
 pub returns-in_default-clause-catches_up : goal.returns-in_default-clause-catches_up
 returns-in_default-clause-catches_up g c = λ r. (
   r,
-  record { part = record { board = refl; seat = c.look_at_number-seen.ensures.same }; lane = same_lane c.args.self.now.state.lists c.look.new.self c.in_default.ensures.rear; cpu = refl; offloadable = refl; limit = refl; blimit = refl },
+  record { part = record { board = refl; seat = c.look_at_number-seen.ensures.same }; lane = same_lane c.args.self.now.state.lists c.look.new.self c.in_default.ensures.rear; cpu = refl; offloadable = refl; limit = refl; blimit = refl; kept = refl },
   let s = c.args.self.now.state in let e = c.look_at_number-seen.ensures in let l = c.in_default.ensures in record {
     asks = asks_none (wanted c.look_at_number-seen.result (holding s.lists).own) (looked c.look_at_number-seen.result (view s.seat)) (view c.look_at_number-seen.new.seat) (sym l.wanted) e.view;
     lists = l.list;

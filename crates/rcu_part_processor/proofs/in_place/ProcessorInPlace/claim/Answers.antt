@@ -2,7 +2,6 @@ use Rattle.std.proofs.Common.{◌≡◌, None, Some, ℕ, ◌≤◌, ◌++◌, �
 use Rattle.std.specs.Arc.{arc_value}
 use Rattle.std.specs.Mem.{FitsInMemory}
 use Rattle.std.specs.Prelude.{IsTrue}
-use Rattle.std.specs.Vec.{vec_len, vec_capacity}
 use Rattle.std.proofs.lemmas.List.Elements.{All-rest}
 use denote.Param.{param}
 use Rattle.rcu_board.specs.Roles.{MayClaim, cpu_of_role}
@@ -16,6 +15,7 @@ use Rattle.rcu_part_steps.specs.Begins.{claimed_as}
 use Rattle.rcu_part_steps.specs.Changes.{Claims}
 use Rattle.rcu_part_steps.specs.Places.{AreKeyed}
 use Rattle.rcu_part_steps.specs.declared.begins.ClaimedCallback.{ClaimedCallback}
+use Rattle.rcu_part_order.specs.Recorded.{ran_of}
 use Rattle.rcu_part_processor.specs.InPlace.{resting}
 use Rattle.rcu_part_processor.specs.InPlaceLaw.{RunsAs}
 use Rattle.rcu_part_processor.specs.contracts.in_place.ProcessorInPlace as row
@@ -57,14 +57,14 @@ invariant_of-state g c = let s = c.args.self.now.state in let e = c.if-not-try_c
   local = s.local;
   small = s.small;
   since = since_kept _ _ _ (e.lost refl).0.word s.since;
-  rests = λ r. kept_by_keeps s.cpu s.accepted _ (view s.seat) (view c.try_claim.new.seat) s.ran.items (holding s.lists) (e.lost refl).0 (e.same.later (arc_value s.board) s.here) (s.rests r);
+  rests = λ r. kept_by_keeps s.cpu s.accepted _ (view s.seat) (view c.try_claim.new.seat) (ran_of s.ran) (holding s.lists) (e.lost refl).0 (e.same.later (arc_value s.board) s.here) (s.rests r);
   runs = λ k f. (let x : None ≡ Some k = sym c.requires.rests ∙ f in cc);
 }
 
 pub returns-then-not-try_claim-clause-lost : goal.returns-then-not-try_claim-clause-lost
 returns-then-not-try_claim-clause-lost g c = λ r. let s = c.args.self.now.state in let e = c.if-not-try_claim.ensures in let n = c.requires.next r in let k = ap (λ (x : ClaimedCallback). x.number) n.claimed in let l = (e.lost refl).2 in (
   r,
-  record { part = record { board = refl; seat = e.same }; lane = refl; cpu = refl; offloadable = refl; limit = refl; blimit = refl },
+  record { part = record { board = refl; seat = e.same }; lane = refl; cpu = refl; offloadable = refl; limit = refl; blimit = refl; kept = refl },
   (
     done_none 1 c.args.claimed.ready (resting s r) _ refl refl e.only ((e.same.later (arc_value s.board) s.here).turns s.cpu s.there),
     (refl, (n.first, n.rest, n.done, λ e. l (omega (arith, e, k)))),
@@ -88,7 +88,7 @@ invariant_of-state-2 g c =
     let later : NeverFalls m (view s.seat) (view c.try_claim.new.seat) = e.same.later (arc_value s.board) s.here in
     let over : snap_of x.stamp ≤ seen = let a = t.graced in let b = c.requires.seen.1 in omega arith in
     let less : (m : ℕ) → AreUpTo m h.own → AreUpTo m h'.own = λ m up. All-rest (λ (y : Labelled g.row.J.Denot). IsTrue (is_up_to m y.label)) (record { label = Done; callback = x }) h'.own h.own t.taken.0 up in
-    let law = begun_law s.cpu s.accepted m seen (view s.seat) (view c.try_claim.new.seat) s.ran.items h h' x c.args.claimed is won later c.requires.seen.0 (ap put_by t.taken.1) t.places (ap (λ (o : Holding g.row.J.Denot). o.advanced) t.taken.1) less over (s.rests c.requires.rests) in record {
+    let law = begun_law s.cpu s.accepted m seen (view s.seat) (view c.try_claim.new.seat) (ran_of s.ran) h h' x c.args.claimed is won later c.requires.seen.0 (ap put_by t.taken.1) t.places (ap (λ (o : Holding g.row.J.Denot). o.advanced) t.taken.1) less over (s.rests c.requires.rests) in record {
       here = e.same.table ∙ s.here;
       role = e.same.role ∙ s.role;
       there = s.there;
@@ -97,7 +97,7 @@ invariant_of-state-2 g c =
       small = s.small;
       since = since_kept _ _ _ (e.won refl).word s.since;
       rests = λ r. (let y : Some c.args.claimed ≡ None = r in cc);
-      runs = λ k f. subst (λ (y : ClaimedCallback). RunsAs s.cpu s.accepted y (view c.try_claim.new.seat) s.ran.items (vec_len s.ran) (vec_capacity s.ran) h') (some_is c.args.claimed k f)
+      runs = λ k f. subst (λ (y : ClaimedCallback). RunsAs s.cpu s.accepted y (view c.try_claim.new.seat) s.ran h') (some_is c.args.claimed k f)
           (record { below = c.requires.small; room = c.requires.room; lawful = law });
     }
 
@@ -109,7 +109,7 @@ returns-clause-runs g c = λ r.
     let is : c.args.claimed ≡ claimed_as seen x = n.claimed ∙ ap (claimed_as seen) first in (
       c.args.claimed,
       refl,
-      record { part = record { board = refl; seat = e.same }; lane = same_lane s.lists c.take.new.self t.rear; cpu = refl; offloadable = refl; limit = refl; blimit = refl },
+      record { part = record { board = refl; seat = e.same }; lane = same_lane s.lists c.take.new.self t.rear; cpu = refl; offloadable = refl; limit = refl; blimit = refl; kept = refl },
       record {
         first = x;
         job_is = refl;

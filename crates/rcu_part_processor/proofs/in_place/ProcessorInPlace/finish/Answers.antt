@@ -1,10 +1,11 @@
-use Rattle.std.proofs.Common.{◌≡◌, None, Some, ℕ, ◌++◌, ◌∷◌, [], ◌∙◌, ap, sym, subst, refl}
+use Rattle.std.proofs.Common.{◌≡◌, None, Some, ℕ, ◌∷◌, [], ◌∙◌, ap, sym, subst, refl}
 use Rattle.std.specs.Arc.{arc_value}
 use Rattle.rcu_board.specs.Roles.{MayClaim, cpu_of_role}
 use Rattle.rcu_board.specs.Seats.{AtBoard, view}
 use Rattle.rcu_board.specs.Words.{turns_word}
 use Rattle.rcu_board.specs.declared.board.Board.{Board}
 use Rattle.rcu_part_lists.specs.ProcessorLists.{holding}
+use Rattle.rcu_part_order.specs.Recorded.{Recorded, and_ran, ran_of, recorded}
 use Rattle.rcu_part_steps.specs.Begins.{claim_that_runs, record_with}
 use Rattle.rcu_part_steps.specs.Changes.{StepsOnly}
 use Rattle.rcu_part_steps.specs.declared.begins.ClaimedCallback.{ClaimedCallback}
@@ -20,8 +21,8 @@ end_claim-requires g c = let s = c.args.self.now.state in let l = s.runs c.in-So
   runs = record { claim = claim_that_runs s.cpu c.in-Some.claimed; alone = l.lawful.runs; cpu = sym (ap cpu_of_role s.role); small = l.below };
 }
 
-pub push_reserved-requires : goal.push_reserved-requires
-push_reserved-requires g c = (c.args.self.now.state.runs c.in-Some.claimed c.in-Some.is).room
+pub add-requires : goal.add-requires
+add-requires g c = record { room = (c.args.self.now.state.runs c.in-Some.claimed c.in-Some.is).room }
 
 pub invariant_of-state : goal.invariant_of-state
 invariant_of-state g c = let s = c.args.self.now.state in let e = c.end_claim.ensures in record {
@@ -32,7 +33,7 @@ invariant_of-state g c = let s = c.args.self.now.state in let e = c.end_claim.en
   local = s.local;
   small = s.small;
   since = since_kept _ _ _ (e.ends.word) s.since;
-  rests = λ r. finished_law s.cpu s.accepted _ c.in-Some.claimed c.args.receipt (view s.seat) (view c.end_claim.new.seat) s.ran.items c.push_reserved.new.self.items (holding s.lists) e.ends (e.same.later (arc_value s.board) s.here) c.push_reserved.ensures.items
+  rests = λ r. finished_law s.cpu s.accepted _ c.in-Some.claimed c.args.receipt (view s.seat) (view c.end_claim.new.seat) (ran_of s.ran) (ran_of c.add.new.self) (holding s.lists) e.ends (e.same.later (arc_value s.board) s.here) (ap (λ (r : Recorded g.row.J-Receipt.Denot). r.all) c.add.ensures.added)
       (s.runs c.in-Some.claimed c.in-Some.is).lawful;
   runs = λ k f. (let x : None ≡ Some k = f in cc);
 }
@@ -40,9 +41,9 @@ invariant_of-state g c = let s = c.args.self.now.state in let e = c.end_claim.en
 pub returns-clause-finishes : goal.returns-clause-finishes
 returns-clause-finishes g c = λ k e. let s = c.args.self.now.state in (
   refl,
-  record { part = record { board = refl; seat = c.end_claim.ensures.same }; lane = refl; cpu = refl; offloadable = refl; limit = refl; blimit = refl },
+  record { part = record { board = refl; seat = c.end_claim.ensures.same }; lane = refl; cpu = refl; offloadable = refl; limit = refl; blimit = refl; kept = ap (λ (r : Recorded g.row.J-Receipt.Denot). r.kept) c.add.ensures.added },
   record {
-    records = c.push_reserved.ensures.items ∙ ap (λ (x : ClaimedCallback). s.ran.items ++ record_with c.args.receipt x ∷ []) (some_is c.in-Some.claimed k (sym c.in-Some.is ∙ e));
+    records = c.add.ensures.added ∙ ap (λ (x : ClaimedCallback). and_ran (record_with c.args.receipt x ∷ []) (recorded s.ran)) (some_is c.in-Some.claimed k (sym c.in-Some.is ∙ e));
     lists = refl;
     count = refl;
     ends = c.end_claim.ensures.ends;
@@ -52,4 +53,4 @@ returns-clause-finishes g c = λ k e. let s = c.args.self.now.state in (
 
 pub returns-clause-sound : goal.returns-clause-sound
 returns-clause-sound g c = λ given sound. let s = c.args.self.now.state in
-    record { keyed = sound.keyed; given = given_finished g.J.Job.gives c.in-Some.claimed c.args.receipt s.ran.items c.push_reserved.new.self.items c.push_reserved.ensures.items (given c.in-Some.claimed c.in-Some.is) sound.given }
+    record { keyed = sound.keyed; given = given_finished g.J.Job.gives c.in-Some.claimed c.args.receipt (ran_of s.ran) (ran_of c.add.new.self) (ap (λ (r : Recorded g.row.J-Receipt.Denot). r.all) c.add.ensures.added) (given c.in-Some.claimed c.in-Some.is) sound.given }

@@ -16,6 +16,7 @@ use Rattle.rcu_board.specs.declared.view.View.{View}
 use Rattle.rcu_board.proofs.Facts.{never_falls_again, same_seat_again}
 use Rattle.rcu_part_lists.specs.ProcessorLists.{holding}
 use Rattle.rcu_part_lists.proofs.Sizes.{in_struct}
+use Rattle.rcu_part_order.specs.Recorded.{ran_of}
 use Rattle.rcu_part_processor.specs.contracts.in_place.ProcessorInPlace as row
 use Rattle.rcu_part_processor.proofs.Heeding.{heeding, shifts_below, shifts_law, shifts_release}
 use Rattle.rcu_part_processor.proofs.InPlace.{sound_moved_in_place}
@@ -35,7 +36,7 @@ release-requires g c = let h : FitsInMemory (row.the_row (param 0 g.row.J) (para
 pub switch-requires : goal.switch-requires
 switch-requires g c = let h : FitsInMemory (row.the_row (param 0 g.row.J) (param 1 g.row.J-Receipt)) = assumption in let s = c.args.self.now.state in let r = c.release.ensures in (
   in_struct _ _ _ (in_struct _ _ _ h),
-  shifts_below s.cpu s.accepted (view s.seat) s.ran.items (holding s.lists) (holding c.release.new.self)
+  shifts_below s.cpu s.accepted (view s.seat) (ran_of s.ran) (holding s.lists) (holding c.release.new.self)
       (shifts_release c.args.moment (not c.asked-on.result) c.heard-urged.result (holding s.lists) (holding c.release.new.self) r.releases) r.places (s.rests c.requires.rests),
 )
 
@@ -54,7 +55,7 @@ invariant_of-state g c = let s = c.args.self.now.state in let a = c.asked-on.ens
       local = λ is. (let f : true ≡ false = sym c.requires.offloadable ∙ is in cc);
       small = s.small;
       since = since_kept _ _ _ (ap own_word b.view ∙ ap own_word a.view) s.since;
-      rests = λ none. shifts_law s.cpu s.accepted n v w s.ran.items h j
+      rests = λ none. shifts_law s.cpu s.accepted n v w (ran_of s.ran) h j
           (tells_again v u w (tells_touched (asks_word (cpu_of_role s.seat.role)) (from_bool c.asked-on.result) v u a.view) (tells_urged (urge_word n) found (bit_and found (all_but_of (cpu_of_role c.asked-on.new.seat.role))) u w step))
           (never_falls_again n v u w first second)
           (heeding c.args.moment c.asked-on.result c.heard-urged.result s.accepted h i j r.releases k.off k.on) (k.places ∙ r.places) (s.rests none);
@@ -64,7 +65,7 @@ invariant_of-state g c = let s = c.args.self.now.state in let a = c.asked-on.ens
 pub returns-clause-heeds : goal.returns-clause-heeds
 returns-clause-heeds g c = λ r. (
   r,
-  record { part = record { board = refl; seat = same_seat_again c.args.self.now.state.seat c.asked-on.new.seat c.heard-urged.new.seat c.asked-on.ensures.same c.heard-urged.ensures.same }; lane = c.switch.ensures.lane ∙ c.release.ensures.lane; cpu = refl; offloadable = refl; limit = refl; blimit = refl },
+  record { part = record { board = refl; seat = same_seat_again c.args.self.now.state.seat c.asked-on.new.seat c.heard-urged.new.seat c.asked-on.ensures.same c.heard-urged.ensures.same }; lane = c.switch.ensures.lane ∙ c.release.ensures.lane; cpu = refl; offloadable = refl; limit = refl; blimit = refl; kept = refl },
   let s = c.args.self.now.state in let a = c.asked-on.ensures in let b = c.heard-urged.ensures in
       let n = (arc_value s.board).processors in let i = urge_word n in let found = seen_at (view c.heard-urged.new.seat) i in
       let u = view c.asked-on.new.seat in let w = view c.heard-urged.new.seat in

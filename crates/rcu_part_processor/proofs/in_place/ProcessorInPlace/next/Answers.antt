@@ -1,4 +1,4 @@
-use Rattle.std.proofs.Common.{◌≡◌, None, Some, ◌∙◌, List, sym, subst, refl, arith}
+use Rattle.std.proofs.Common.{◌≡◌, None, Some, ◌∙◌, List, ap, sym, subst, refl}
 use Rattle.std.specs.Mem.{FitsInMemory}
 use denote.Param.{param}
 use Rattle.rcu_board.proofs.Facts.{same_seat}
@@ -7,6 +7,7 @@ use Rattle.rcu_jobs.specs.declared.Stop.TheVariants.{Limit, Empty, Memory}
 use Rattle.rcu_jobs.specs.declared.callback.Record.{Record}
 use Rattle.rcu_part_lists.proofs.Sizes.{in_struct}
 use Rattle.rcu_part_lists.specs.ProcessorLists.{holding}
+use Rattle.rcu_part_order.specs.Recorded.{Recorded}
 use Rattle.rcu_part_processor.specs.Lawful.{IsLawful}
 use Rattle.rcu_part_processor.specs.contracts.in_place.ProcessorInPlace as row
 use Rattle.rcu_part_processor.proofs.InPlace.{sound_same_in_place}
@@ -25,12 +26,12 @@ invariant_of-state g c = let s = c.args.self.now.state in record {
   local = s.local;
   small = s.small;
   since = s.since;
-  rests = λ r. subst (λ (rs : List (Record g.row.J-Receipt.Denot)). IsLawful s.cpu s.accepted (view s.seat) rs (holding s.lists)) (sym c.reserve.ensures.items) (s.rests r);
+  rests = λ r. subst (λ (rs : List (Record g.row.J-Receipt.Denot)). IsLawful s.cpu s.accepted (view s.seat) rs (holding s.lists)) (sym (ap (λ (r : Recorded g.row.J-Receipt.Denot). r.all) c.find_room.ensures.same)) (s.rests r);
   runs = λ k f. (let x : None ≡ Some k = sym c.requires.rests ∙ f in cc);
 }
 
 pub returns-in_default-clause-keeps : goal.returns-in_default-clause-keeps
-returns-in_default-clause-keeps g c = λ r. (r, record { part = record { board = refl; seat = same_seat _ }; lane = refl; cpu = refl; offloadable = refl; limit = refl; blimit = refl }, record { view = refl; lists = refl; records = refl; count = refl })
+returns-in_default-clause-keeps g c = λ r. (r, record { part = record { board = refl; seat = same_seat _ }; lane = refl; cpu = refl; offloadable = refl; limit = refl; blimit = refl; kept = refl }, record { view = refl; lists = refl; records = refl; count = refl })
 
 pub returns-in_default-clause-stops : goal.returns-in_default-clause-stops
 returns-in_default-clause-stops g c = λ r. (c.in_default.ensures.first, refl)
@@ -41,20 +42,20 @@ returns-in_default-clause-counts g c = λ e. (let f : Empty ≡ Limit = e in cc)
 pub returns-in_default-clause-sound : goal.returns-in_default-clause-sound
 returns-in_default-clause-sound g c = λ sound. record { keyed = sound.keyed; given = sound.given }
 
-pub returns-in_default-reserve-clause-keeps : goal.returns-in_default-reserve-clause-keeps
-returns-in_default-reserve-clause-keeps g c = λ r. (r, record { part = record { board = refl; seat = same_seat _ }; lane = refl; cpu = refl; offloadable = refl; limit = refl; blimit = refl }, record { view = refl; lists = refl; records = c.reserve.ensures.items; count = refl })
+pub returns-in_default-find_room-clause-keeps : goal.returns-in_default-find_room-clause-keeps
+returns-in_default-find_room-clause-keeps g c = λ r. (r, record { part = record { board = refl; seat = same_seat _ }; lane = refl; cpu = refl; offloadable = refl; limit = refl; blimit = refl; kept = ap (λ (r : Recorded g.row.J-Receipt.Denot). r.kept) c.find_room.ensures.same }, record { view = refl; lists = refl; records = c.find_room.ensures.same; count = refl })
 
-pub returns-in_default-reserve-clause-stops : goal.returns-in_default-reserve-clause-stops
-returns-in_default-reserve-clause-stops g c = λ r. let f = c.in-Some.ensures.first in (done_some c.in-Some.first.now f.0 (holding c.args.self.now.state.lists).own f.1, refl)
+pub returns-in_default-find_room-clause-stops : goal.returns-in_default-find_room-clause-stops
+returns-in_default-find_room-clause-stops g c = λ r. let f = c.in-Some.ensures.first in (done_some c.in-Some.first.now f.0 (holding c.args.self.now.state.lists).own f.1, refl)
 
-pub returns-in_default-reserve-clause-counts : goal.returns-in_default-reserve-clause-counts
-returns-in_default-reserve-clause-counts g c = λ e. (let f : Memory ≡ Limit = e in cc)
+pub returns-in_default-find_room-clause-counts : goal.returns-in_default-find_room-clause-counts
+returns-in_default-find_room-clause-counts g c = λ e. (let f : Memory ≡ Limit = e in cc)
 
-pub returns-in_default-reserve-clause-sound : goal.returns-in_default-reserve-clause-sound
-returns-in_default-reserve-clause-sound g c = sound_same_in_place g.J.Job.key_of g.J.Job.gives c.args.self.now.state _ refl c.reserve.ensures.items
+pub returns-in_default-find_room-clause-sound : goal.returns-in_default-find_room-clause-sound
+returns-in_default-find_room-clause-sound g c = sound_same_in_place g.J.Job.key_of g.J.Job.gives c.args.self.now.state _ refl (ap (λ (r : Recorded g.row.J-Receipt.Denot). r.all) c.find_room.ensures.same)
 
 pub returns-clause-keeps : goal.returns-clause-keeps
-returns-clause-keeps g c = λ r. (r, record { part = record { board = refl; seat = same_seat _ }; lane = refl; cpu = refl; offloadable = refl; limit = refl; blimit = refl }, record { view = refl; lists = refl; records = c.reserve.ensures.items; count = refl })
+returns-clause-keeps g c = λ r. (r, record { part = record { board = refl; seat = same_seat _ }; lane = refl; cpu = refl; offloadable = refl; limit = refl; blimit = refl; kept = ap (λ (r : Recorded g.row.J-Receipt.Denot). r.kept) c.find_room.ensures.same }, record { view = refl; lists = refl; records = c.find_room.ensures.same; count = refl })
 
 pub returns-clause-next : goal.returns-clause-next
 returns-clause-next g c = λ r. let f = c.in-Some.ensures.first in record { first = c.in-Some.first.now; rest = f.0; done = f.1; claimed = refl }
@@ -66,7 +67,7 @@ pub returns-clause-small : goal.returns-clause-small
 returns-clause-small g c = c.in-Some.ensures.safe.1
 
 pub returns-clause-room : goal.returns-clause-room
-returns-clause-room g c = omega (arith, c.in-Ok.ensures.ok, c.reserve.ensures.len)
+returns-clause-room g c = c.in-Ok.ensures.room
 
 pub returns-clause-sound : goal.returns-clause-sound
-returns-clause-sound g c = sound_same_in_place g.J.Job.key_of g.J.Job.gives c.args.self.now.state _ refl c.reserve.ensures.items
+returns-clause-sound g c = sound_same_in_place g.J.Job.key_of g.J.Job.gives c.args.self.now.state _ refl (ap (λ (r : Recorded g.row.J-Receipt.Denot). r.all) c.find_room.ensures.same)

@@ -12,6 +12,7 @@ use Rattle.rcu_jobs.specs.Modes.{is_deoffloading}
 use Rattle.rcu_part_lists.specs.Modes.{settled}
 use Rattle.rcu_part_lists.specs.Limits.{AreBelow}
 use Rattle.rcu_part_lists.proofs.Sizes.{in_struct}
+use Rattle.rcu_part_order.specs.Recorded.{ran_of}
 use Rattle.rcu_part_processor.specs.contracts.in_place.ProcessorInPlace as row
 use Rattle.rcu_part_processor.proofs.Heeding.{settled_law}
 use Rattle.rcu_part_processor.proofs.InPlace.{sound_moved_in_place}
@@ -38,7 +39,7 @@ invariant_of-state g c = let s = c.args.self.now.state in let e = c.turn_of-turn
   local = λ is. (let f : true ≡ false = sym c.requires.offloadable ∙ is in cc);
   small = s.small;
   since = since_kept _ _ _ (ap own_word e.view) s.since;
-  rests = λ r. settled_law s.cpu s.accepted _ (view s.seat) (view c.turn_of-turn.new.seat) s.ran.items h (holding c.settle.new.self) (settled h.left c.turn_of-turn.result h.mode)
+  rests = λ r. settled_law s.cpu s.accepted _ (view s.seat) (view c.turn_of-turn.new.seat) (ran_of s.ran) h (holding c.settle.new.self) (settled h.left c.turn_of-turn.result h.mode)
       (tells_touched (turns_word s.cpu) c.turn_of-turn.result (view s.seat) (view c.turn_of-turn.new.seat) e.view) (e.same.later (arc_value s.board) s.here) c.settle.ensures.settled (s.rests r);
   runs = λ k f. (let x : None ≡ Some k = sym c.requires.rests ∙ f in cc);
 }
@@ -49,7 +50,7 @@ invariant_of-state-else-is_deoffloading g c = let s = c.args.self.now.state in r
 pub returns-then-is_deoffloading-clause-settles : goal.returns-then-is_deoffloading-clause-settles
 returns-then-is_deoffloading-clause-settles g c = λ r. (
   r,
-  record { part = record { board = refl; seat = c.turn_of-turn.ensures.same }; lane = same_lane c.args.self.now.state.lists c.settle.new.self c.settle.ensures.rear; cpu = refl; offloadable = refl; limit = refl; blimit = refl },
+  record { part = record { board = refl; seat = c.turn_of-turn.ensures.same }; lane = same_lane c.args.self.now.state.lists c.settle.new.self c.settle.ensures.rear; cpu = refl; offloadable = refl; limit = refl; blimit = refl; kept = refl },
   let s = c.args.self.now.state in let e = c.turn_of-turn.ensures in let h = holding s.lists in let turn = c.turn_of-turn.result in let w = view c.turn_of-turn.new.seat in
       let found : turn ≡ seen_at w (turns_word s.cpu) = sym (ap (λ (v : View). seen_at v (turns_word s.cpu)) e.view ∙ seen-touched s.seat (turns_word s.cpu) turn (let i = words-of-processor s.seat s.cpu s.role in omega arith)) in
       let leaving : is_deoffloading h.mode ≡ true = sym (c.is_deoffloading.ensures ∙ ap is_deoffloading c.mode.ensures) ∙ c.if-is_deoffloading.true in record {
@@ -70,7 +71,7 @@ returns-then-is_deoffloading-clause-sound g c = sound_moved_in_place g.J.Job.key
 pub returns-else-is_deoffloading-clause-settles : goal.returns-else-is_deoffloading-clause-settles
 returns-else-is_deoffloading-clause-settles g c = λ r. (
   r,
-  record { part = record { board = refl; seat = same_seat _ }; lane = refl; cpu = refl; offloadable = refl; limit = refl; blimit = refl },
+  record { part = record { board = refl; seat = same_seat _ }; lane = refl; cpu = refl; offloadable = refl; limit = refl; blimit = refl; kept = refl },
   let h = holding c.args.self.now.state.lists in
       let stays : is_deoffloading h.mode ≡ false = sym (c.is_deoffloading.ensures ∙ ap is_deoffloading c.mode.ensures) ∙ c.if-is_deoffloading.false in record {
         leaving = λ yes. (let f : true ≡ false = sym yes ∙ stays in cc);

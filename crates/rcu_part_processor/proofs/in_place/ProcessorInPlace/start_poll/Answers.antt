@@ -7,6 +7,7 @@ use Rattle.rcu_board.proofs.Facts.{same_seat_again}
 use Rattle.rcu_numbers.specs.Numbers.{snap_of}
 use Rattle.rcu_part_lists.specs.ProcessorLists.{holding}
 use Rattle.rcu_part_steps.proofs.Telling.{sight_touched, tells_again, tells_looked, tells_touched}
+use Rattle.rcu_part_order.specs.Recorded.{ran_of}
 use Rattle.rcu_part_processor.proofs.Keeping.{kept_by_tells}
 use Rattle.rcu_part_processor.proofs.Passing.{since_kept, word_looked}
 use Rattle.rcu_part_processor.proofs.Standing.{stands}
@@ -37,14 +38,14 @@ invariant_of-state g c = let s = c.args.self.now.state in let e = c.look_at_numb
       local = s.local;
       small = s.small;
       since = since_kept _ _ _ (ap own_word n.view ∙ word_looked c.look_at_number-seen.result v u e.view) s.since;
-      rests = λ r. kept_by_tells s.cpu s.accepted _ v w s.ran.items (holding s.lists)
+      rests = λ r. kept_by_tells s.cpu s.accepted _ v w (ran_of s.ran) (holding s.lists)
           (tells_again v u w (tells_looked c.look_at_number-seen.result v u (s.rests r).stamped e.view) (tells_touched needed_word (max c.need.result c.snap-cookie.result) u w n.view))
           (never_falls_again _ v u w (e.same.later (arc_value s.board) s.here) (n.same.later (arc_value s.board) (e.same.table ∙ s.here))) (s.rests r);
       runs = λ k f. (let x : None ≡ Some k = sym c.requires.rests ∙ f in cc);
     }
 
 pub returns-clause-same : goal.returns-clause-same
-returns-clause-same g c = record { part = record { part = record { board = refl; seat = same_seat_again _ _ _ c.look_at_number-seen.ensures.same c.need.ensures.same }; lane = refl; cpu = refl; offloadable = refl; limit = refl; blimit = refl }; claimed = refl }
+returns-clause-same g c = record { part = record { part = record { board = refl; seat = same_seat_again _ _ _ c.look_at_number-seen.ensures.same c.need.ensures.same }; lane = refl; cpu = refl; offloadable = refl; limit = refl; blimit = refl; kept = refl }; claimed = refl }
 
 pub returns-clause-keeps : goal.returns-clause-keeps
 returns-clause-keeps g c = record { count = refl; lists = refl; records = refl }
@@ -56,7 +57,7 @@ returns-clause-cookie g c = let e = c.look_at_number-seen.ensures in let n = c.n
 pub returns-clause-asked : goal.returns-clause-asked
 returns-clause-asked g c = λ r. (
   r,
-  record { part = record { board = refl; seat = same_seat_again _ _ _ c.look_at_number-seen.ensures.same c.need.ensures.same }; lane = refl; cpu = refl; offloadable = refl; limit = refl; blimit = refl },
+  record { part = record { board = refl; seat = same_seat_again _ _ _ c.look_at_number-seen.ensures.same c.need.ensures.same }; lane = refl; cpu = refl; offloadable = refl; limit = refl; blimit = refl; kept = refl },
   let s = c.args.self.now.state in let e = c.look_at_number-seen.ensures in let n = c.need.ensures in let w = view c.need.new.seat in record {
     asks = asks_cookie c.look_at_number-seen.result c.need.result c.snap-cookie.result (view s.seat) (view c.look_at_number-seen.new.seat) w e.sight.0 e.view n.view;
     needed = asked_for (arc_value s.board) c.look_at_number-seen.new.seat c.need.result c.snap-cookie.result w (e.same.table ∙ s.here) n.view;

@@ -5,6 +5,7 @@ use Rattle.rcu_board.specs.declared.board.Board.{Board}
 use Rattle.rcu_board.specs.Seats.{own_word, view}
 use Rattle.rcu_board.specs.Words.{turns_word}
 use Rattle.rcu_part_lists.specs.ProcessorLists.{holding}
+use Rattle.rcu_part_order.specs.Recorded.{ran_of}
 use Rattle.rcu_part_processor.proofs.Keeping.{kept_by_tells, runs_by_tells}
 use Rattle.rcu_part_processor.proofs.Standing.{stands}
 use Rattle.rcu_part_steps.proofs.Telling.{tells_touched}
@@ -21,8 +22,8 @@ invariant_of-state g c = let s = c.args.self.now.state in let e = c.turn_of.ensu
       local = s.local;
       small = s.small;
       since = since_kept _ _ _ (ap own_word e.view) s.since;
-      rests = λ r. kept_by_tells s.cpu s.accepted _ v w s.ran.items (holding s.lists) tells later (s.rests r);
-      runs = λ k f. let l = s.runs k f in record { below = l.below; room = l.room; lawful = runs_by_tells s.cpu s.accepted _ k v w s.ran.items (holding s.lists) tells later l.lawful };
+      rests = λ r. kept_by_tells s.cpu s.accepted _ v w (ran_of s.ran) (holding s.lists) tells later (s.rests r);
+      runs = λ k f. let l = s.runs k f in record { below = l.below; room = l.room; lawful = runs_by_tells s.cpu s.accepted _ k v w (ran_of s.ran) (holding s.lists) tells later l.lawful };
     }
 
 pub returns-clause-keeps : goal.returns-clause-keeps
@@ -35,6 +36,7 @@ returns-clause-keeps g c = record {
       offloadable = refl;
       limit = refl;
       blimit = refl;
+      kept = refl;
     };
     claimed = refl;
   };

@@ -5,6 +5,7 @@ use Rattle.rcu_board.specs.Seats.{view}
 use Rattle.rcu_part_lists.specs.ProcessorLists.{holding}
 use Rattle.rcu_part_lists.proofs.Sizes.{in_struct}
 use Rattle.rcu_part_order.specs.Records.{numbered_records}
+use Rattle.rcu_part_order.specs.Recorded.{ran_of, recorded}
 use Rattle.rcu_part_processor.specs.contracts.processor.Processor as row
 use Rattle.rcu_part_processor.specs.Accepting.{pieces}
 use Rattle.rcu_part_processor.proofs.CallPieces.{accepts_none_with, accepts_with, refuses_with}
@@ -23,8 +24,8 @@ invariant_of-state g c = let s = c.args.self.now.state in let e = c.accept_job.e
   local = e.local s.offloadable s.local;
   small = (e.small, s.small.1);
   since = since_kept _ _ _ (e.word) s.since;
-  lawful = kept_by_places s.cpu s.accepted _ (view s.seat) (view c.accept_job.new.seat) s.ran.items (holding s.lists) (holding c.accept_job.new.lists) e.claims.0 e.claims.1
-      (e.places (numbered_records s.ran.items) (places_of s.cpu s.accepted (view s.seat) s.ran.items (holding s.lists) s.lawful)) s.lawful;
+  lawful = kept_by_places s.cpu s.accepted _ (view s.seat) (view c.accept_job.new.seat) (ran_of s.ran) (holding s.lists) (holding c.accept_job.new.lists) e.claims.0 e.claims.1
+      (e.places (numbered_records (ran_of s.ran)) (places_of s.cpu s.accepted (view s.seat) (ran_of s.ran) (holding s.lists) s.lawful)) s.lawful;
 }
 
 pub accept_job-requires-after_bounds : goal.accept_job-requires-after_bounds
@@ -34,19 +35,19 @@ accept_job-requires-after_bounds g c κs within =
       in_struct _ _ _ (in_struct _ _ _ h),
       (
         stands (arc_value s.board) c.deref.result.now s.seat c.deref.ensures s.here,
-        (s.role, (s.small, (s.lawful.counted, (s.lawful.stamped, few_placed s.accepted (view s.seat) (numbered_records s.ran.items) (holding s.lists) (places_of s.cpu s.accepted (view s.seat) s.ran.items (holding s.lists) s.lawful))))),
+        (s.role, (s.small, (s.lawful.counted, (s.lawful.stamped, few_placed s.accepted (view s.seat) (numbered_records (ran_of s.ran)) (holding s.lists) (places_of s.cpu s.accepted (view s.seat) (ran_of s.ran) (holding s.lists) s.lawful))))),
       ),
     )
 
 pub returns : goal.returns
 returns g c = let s = c.args.self.now.state in let e = c.accept_job.ensures in record {
   calls = record {
-    same = record { part = record { board = refl; seat = e.same }; lane = e.lane; cpu = refl; offloadable = refl; limit = refl; blimit = refl };
-    ok = accepts_with s.ran.items c.args.moment c.args.kind (g.J.Job.key_of c.args.job) c.args.job
+    same = record { part = record { board = refl; seat = e.same }; lane = e.lane; cpu = refl; offloadable = refl; limit = refl; blimit = refl; kept = refl };
+    ok = accepts_with (recorded s.ran) c.args.moment c.args.kind (g.J.Job.key_of c.args.job) c.args.job
         (pieces s.cpu s.limit s.accepted s.seat s.lists) (pieces s.cpu s.limit c.accept_job.new.accepted c.accept_job.new.seat c.accept_job.new.lists) c.accept_job.result e.ok;
-    err = accepts_none_with s.ran.items
+    err = accepts_none_with (recorded s.ran)
         (pieces s.cpu s.limit s.accepted s.seat s.lists) (pieces s.cpu s.limit c.accept_job.new.accepted c.accept_job.new.seat c.accept_job.new.lists) c.accept_job.result e.err;
-    refused = refuses_with s.ran.items c.args.job
+    refused = refuses_with (recorded s.ran) c.args.job
         (pieces s.cpu s.limit s.accepted s.seat s.lists) (pieces s.cpu s.limit c.accept_job.new.accepted c.accept_job.new.seat c.accept_job.new.lists) c.accept_job.result e.refused;
     closed = e.closed;
     full = e.full;

@@ -11,6 +11,7 @@ use Rattle.rcu_part_lists.specs.Aims.{wanted}
 use Rattle.rcu_part_lists.specs.ProcessorLists.{Holding, holding}
 use Rattle.rcu_part_lists.proofs.Aims.{up-raised}
 use Rattle.rcu_part_lists.proofs.Sizes.{in_struct}
+use Rattle.rcu_part_order.specs.Recorded.{ran_of}
 use Rattle.rcu_part_processor.specs.contracts.processor.Processor as row
 use Rattle.rcu_part_processor.proofs.CatchingUp.{asked_for, asks_none, asks_one, caught_law, caught_local, caught_passes}
 use Rattle.rcu_part_processor.proofs.Taking.{sound_moved}
@@ -36,7 +37,7 @@ invariant_of-state g c = let s = c.args.self.now.state in let e = c.look_at_numb
       local = caught_local c.look_at_number-seen.result s.offloadable (holding s.lists) (holding c.look.new.self) l.list s.local;
       small = s.small;
       since = since_kept _ _ _ (ap own_word n.view ∙ word_looked c.look_at_number-seen.result _ _ e.view) s.since;
-      lawful = caught_law s.cpu s.accepted c.look_at_number-seen.result (view s.seat) w s.ran.items (holding s.lists) (holding c.look.new.self)
+      lawful = caught_law s.cpu s.accepted c.look_at_number-seen.result (view s.seat) w (ran_of s.ran) (holding s.lists) (holding c.look.new.self)
           (tells_again (view s.seat) u w (tells_looked c.look_at_number-seen.result (view s.seat) u s.lawful.stamped e.view) (tells_touched needed_word (max c.need.result c.in-Some.number) u w n.view))
           l.list l.places (let a = y.board in omega (arith, a, e.sight.0))
           (l.needed (seen_at w needed_word) (up-raised (seen_at (view s.seat) needed_word) (seen_at w needed_word) (holding s.lists).own (let a = y.needed in let b = z.needed in omega arith) s.lawful.needed)
@@ -53,7 +54,7 @@ invariant_of-state-in_default g c = let s = c.args.self.now.state in let e = c.l
       local = caught_local c.look_at_number-seen.result s.offloadable (holding s.lists) (holding c.look.new.self) l.list s.local;
       small = s.small;
       since = since_kept _ _ _ (word_looked c.look_at_number-seen.result _ _ e.view) s.since;
-      lawful = caught_law s.cpu s.accepted c.look_at_number-seen.result (view s.seat) w s.ran.items (holding s.lists) (holding c.look.new.self)
+      lawful = caught_law s.cpu s.accepted c.look_at_number-seen.result (view s.seat) w (ran_of s.ran) (holding s.lists) (holding c.look.new.self)
           (tells_looked c.look_at_number-seen.result (view s.seat) w s.lawful.stamped e.view)
           l.list l.places (omega (arith, e.sight.0))
           (l.needed (seen_at w needed_word) (up-raised (seen_at (view s.seat) needed_word) (seen_at w needed_word) (holding s.lists).own z.needed s.lawful.needed) tt) s.lawful;
@@ -96,10 +97,10 @@ pub need-requires-clause-who : goal.need-requires-clause-who
 need-requires-clause-who g c = subst MayNeed (sym (c.look_at_number-seen.ensures.same.role ∙ c.args.self.now.state.role)) tt
 
 pub returns-in-Some-clause-same : goal.returns-in-Some-clause-same
-returns-in-Some-clause-same g c = let s = c.args.self.now.state in record { part = record { board = refl; seat = same_seat_again s.seat c.look_at_number-seen.new.seat c.need.new.seat c.look_at_number-seen.ensures.same c.need.ensures.same }; lane = same_lane s.lists c.look.new.self c.in-Some.ensures.rear; cpu = refl; offloadable = refl; limit = refl; blimit = refl }
+returns-in-Some-clause-same g c = let s = c.args.self.now.state in record { part = record { board = refl; seat = same_seat_again s.seat c.look_at_number-seen.new.seat c.need.new.seat c.look_at_number-seen.ensures.same c.need.ensures.same }; lane = same_lane s.lists c.look.new.self c.in-Some.ensures.rear; cpu = refl; offloadable = refl; limit = refl; blimit = refl; kept = refl }
 
 pub returns-in_default-clause-same : goal.returns-in_default-clause-same
-returns-in_default-clause-same g c = record { part = record { board = refl; seat = c.look_at_number-seen.ensures.same }; lane = same_lane c.args.self.now.state.lists c.look.new.self c.in_default.ensures.rear; cpu = refl; offloadable = refl; limit = refl; blimit = refl }
+returns-in_default-clause-same g c = record { part = record { board = refl; seat = c.look_at_number-seen.ensures.same }; lane = same_lane c.args.self.now.state.lists c.look.new.self c.in_default.ensures.rear; cpu = refl; offloadable = refl; limit = refl; blimit = refl; kept = refl }
 
 pub returns-in_default-clause-sight : goal.returns-in_default-clause-sight
 returns-in_default-clause-sight g c = (sym c.look_at_number-seen.ensures.sight.0, ap (λ (h : Holding g.row.J.Denot). h.advanced) c.in_default.ensures.list)

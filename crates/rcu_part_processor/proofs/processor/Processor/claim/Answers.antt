@@ -16,6 +16,7 @@ use Rattle.rcu_part_steps.specs.Begins.{claimed_as}
 use Rattle.rcu_part_steps.specs.Changes.{Claims}
 use Rattle.rcu_part_steps.specs.Places.{AreKeyed}
 use Rattle.rcu_part_steps.specs.declared.begins.ClaimedCallback.{ClaimedCallback}
+use Rattle.rcu_part_order.specs.Recorded.{ran_of}
 use Rattle.rcu_part_processor.specs.contracts.processor.Processor as row
 use Rattle.rcu_part_processor.proofs.Claiming.{begun_law, keyed_in, keyed_without}
 use Rattle.rcu_part_processor.proofs.Keeping.{kept_by_keeps}
@@ -48,11 +49,11 @@ invariant_of-state g c = let s = c.args.self.state in let e = c.if-not-try_claim
   local = s.local;
   small = s.small;
   since = since_kept _ _ _ (e.lost refl).0.word s.since;
-  lawful = kept_by_keeps s.cpu s.accepted _ (view s.seat) (view c.try_claim.new.seat) s.ran.items (holding s.lists) (e.lost refl).0 (e.same.later (arc_value s.board) s.here) s.lawful;
+  lawful = kept_by_keeps s.cpu s.accepted _ (view s.seat) (view c.try_claim.new.seat) (ran_of s.ran) (holding s.lists) (e.lost refl).0 (e.same.later (arc_value s.board) s.here) s.lawful;
 }
 
 pub returns-then-not-try_claim-clause-stays : goal.returns-then-not-try_claim-clause-stays
-returns-then-not-try_claim-clause-stays g c = record { part = record { board = refl; seat = c.if-not-try_claim.ensures.same }; lane = refl; cpu = refl; offloadable = refl; limit = refl; blimit = refl }
+returns-then-not-try_claim-clause-stays g c = record { part = record { board = refl; seat = c.if-not-try_claim.ensures.same }; lane = refl; cpu = refl; offloadable = refl; limit = refl; blimit = refl; kept = refl }
 
 pub returns-then-not-try_claim-clause-lost : goal.returns-then-not-try_claim-clause-lost
 returns-then-not-try_claim-clause-lost g c = let s = c.args.self.state in let e = c.if-not-try_claim.ensures in
@@ -97,11 +98,11 @@ invariant_of-state-2 g c =
       since = since_kept _ _ _ (e.won refl).word s.since;
       below = c.requires.small;
       room = c.requires.room;
-      lawful = begun_law s.cpu s.accepted m seen (view s.seat) (view c.try_claim.new.seat) s.ran.items h h' x c.args.claimed is won later c.requires.seen.0 (ap put_by t.taken.1) t.places (ap (λ (o : Holding g.row.J.Denot). o.advanced) t.taken.1) less over s.lawful;
+      lawful = begun_law s.cpu s.accepted m seen (view s.seat) (view c.try_claim.new.seat) (ran_of s.ran) h h' x c.args.claimed is won later c.requires.seen.0 (ap put_by t.taken.1) t.places (ap (λ (o : Holding g.row.J.Denot). o.advanced) t.taken.1) less over s.lawful;
     }
 
 pub returns-clause-same : goal.returns-clause-same
-returns-clause-same g c = let s = c.args.self.state in record { part = record { board = refl; seat = c.if-not-try_claim.ensures.same }; lane = same_lane s.lists c.take.new.self c.in-Some.ensures.rear; cpu = refl; offloadable = refl; limit = refl; blimit = refl }
+returns-clause-same g c = let s = c.args.self.state in record { part = record { board = refl; seat = c.if-not-try_claim.ensures.same }; lane = same_lane s.lists c.take.new.self c.in-Some.ensures.rear; cpu = refl; offloadable = refl; limit = refl; blimit = refl; kept = refl }
 
 pub returns-clause-runs : goal.returns-clause-runs
 returns-clause-runs g c =

@@ -6,6 +6,7 @@ use Rattle.rcu_board.proofs.Facts.{never_falls_same, same_seat}
 use Rattle.rcu_part_lists.specs.ProcessorLists.{holding}
 use Rattle.rcu_part_lists.proofs.Sizes.{in_struct}
 use Rattle.rcu_part_steps.proofs.Telling.{tells_none}
+use Rattle.rcu_part_order.specs.Recorded.{ran_of}
 use Rattle.rcu_part_processor.specs.contracts.processor.Processor as row
 use Rattle.rcu_part_processor.proofs.Heeding.{shifts_law, shifts_release}
 use Rattle.rcu_part_processor.proofs.Leaving.{none_shown, shown, urged_local}
@@ -27,7 +28,7 @@ invariant_of-state g c = let s = c.args.self.now.state in let r = c.release.ensu
   local = urged_local 0 h n r.releases s.offloadable s.lists.alone s.local;
   small = s.small;
   since = s.since;
-  lawful = shifts_law s.cpu s.accepted 0 (view s.seat) (view s.seat) s.ran.items h n (tells_none _ _ refl) (never_falls_same 0 (view s.seat)) (shifts_release 0 false true h n r.releases) r.places s.lawful;
+  lawful = shifts_law s.cpu s.accepted 0 (view s.seat) (view s.seat) (ran_of s.ran) h n (tells_none _ _ refl) (never_falls_same 0 (view s.seat)) (shifts_release 0 false true h n r.releases) r.places s.lawful;
 }
 
 pub invariant_of-state-2 : goal.invariant_of-state-2
@@ -39,11 +40,11 @@ invariant_of-state-2 g c = let s = c.args.self.now.state in let r = c.release.en
   local = urged_local 0 h n r.releases s.offloadable s.lists.alone s.local;
   small = s.small;
   since = s.since;
-  lawful = shifts_law s.cpu s.accepted 0 (view s.seat) (view s.seat) s.ran.items h n (tells_none _ _ refl) (never_falls_same 0 (view s.seat)) (shifts_release 0 false true h n r.releases) r.places s.lawful;
+  lawful = shifts_law s.cpu s.accepted 0 (view s.seat) (view s.seat) (ran_of s.ran) h n (tells_none _ _ refl) (never_falls_same 0 (view s.seat)) (shifts_release 0 false true h n r.releases) r.places s.lawful;
 }
 
 pub returns-clause-same : goal.returns-clause-same
-returns-clause-same g c = record { part = record { board = refl; seat = same_seat _ }; lane = c.release.ensures.lane; cpu = refl; offloadable = refl; limit = refl; blimit = refl }
+returns-clause-same g c = record { part = record { board = refl; seat = same_seat _ }; lane = c.release.ensures.lane; cpu = refl; offloadable = refl; limit = refl; blimit = refl; kept = refl }
 
 pub returns-clause-view : goal.returns-clause-view
 returns-clause-view g c = refl

@@ -5,6 +5,7 @@ use Rattle.rcu_board.specs.Roles.{IsProcessor, cpu_of_role}
 use Rattle.rcu_board.specs.Seats.{view}
 use Rattle.rcu_board.specs.Words.{reports_word}
 use Rattle.rcu_part_lists.specs.ProcessorLists.{holding}
+use Rattle.rcu_part_order.specs.Recorded.{ran_of}
 use Rattle.rcu_part_processor.proofs.Keeping.{kept_by_tells}
 use Rattle.rcu_part_processor.proofs.Leaving.{is_away, since_left, tells_left}
 use Rattle.rcu_part_processor.proofs.Standing.{stands}
@@ -31,12 +32,12 @@ invariant_of-state g c = let s = c.args.self.state in let e = c.leave.ensures in
   local = s.local;
   small = s.small;
   since = since_left s.seat c.leave.new.seat s.cpu _ s.passed s.role e.view s.since;
-  lawful = kept_by_tells s.cpu s.accepted _ (view s.seat) (view c.leave.new.seat) s.ran.items (holding s.lists) (tells_left _ _ _ _ e.view) (e.same.later (arc_value s.board) s.here) s.lawful;
+  lawful = kept_by_tells s.cpu s.accepted _ (view s.seat) (view c.leave.new.seat) (ran_of s.ran) (holding s.lists) (tells_left _ _ _ _ e.view) (e.same.later (arc_value s.board) s.here) s.lawful;
   empty = c.requires.empty;
 }
 
 pub returns-clause-same : goal.returns-clause-same
-returns-clause-same g c = record { part = record { board = refl; seat = c.leave.ensures.same }; lane = refl; cpu = refl; offloadable = refl; limit = refl; blimit = refl }
+returns-clause-same g c = record { part = record { board = refl; seat = c.leave.ensures.same }; lane = refl; cpu = refl; offloadable = refl; limit = refl; blimit = refl; kept = refl }
 
 pub returns-clause-away : goal.returns-clause-away
 returns-clause-away g c = let s = c.args.self.state in let e = c.leave.ensures in record {

@@ -3,6 +3,7 @@ use Rattle.std.specs.Int.{from_bool}
 use Rattle.rcu_board.specs.Seats.{own_word, view}
 use Rattle.rcu_board.specs.Words.{halt_word}
 use Rattle.rcu_part_lists.specs.ProcessorLists.{holding}
+use Rattle.rcu_part_order.specs.Recorded.{ran_of}
 use Rattle.rcu_part_processor.proofs.Keeping.{kept_by_tells}
 use Rattle.rcu_part_steps.proofs.Telling.{tells_touched}
 use Rattle.std.specs.Arc.{arc_value}
@@ -20,7 +21,7 @@ invariant_of-state g c = let s = c.args.self.now.state in let e = c.halted.ensur
   local = s.local;
   small = s.small;
   since = since_kept _ _ _ (ap own_word e.view) s.since;
-  lawful = kept_by_tells s.cpu s.accepted _ v w s.ran.items (holding s.lists) (tells_touched halt_word (from_bool c.halted.result) v w e.view) (e.same.later (arc_value s.board) s.here) s.lawful;
+  lawful = kept_by_tells s.cpu s.accepted _ v w (ran_of s.ran) (holding s.lists) (tells_touched halt_word (from_bool c.halted.result) v w e.view) (e.same.later (arc_value s.board) s.here) s.lawful;
 }
 
 pub halted-requires-clause-board : goal.halted-requires-clause-board
@@ -30,7 +31,7 @@ pub halted-requires-clause-who : goal.halted-requires-clause-who
 halted-requires-clause-who g c = subst MayHalt (sym c.args.self.now.state.role) tt
 
 pub returns-clause-same : goal.returns-clause-same
-returns-clause-same g c = record { part = record { board = refl; seat = c.halted.ensures.same }; lane = refl; cpu = refl; offloadable = refl; limit = refl; blimit = refl }
+returns-clause-same g c = record { part = record { board = refl; seat = c.halted.ensures.same }; lane = refl; cpu = refl; offloadable = refl; limit = refl; blimit = refl; kept = refl }
 
 pub returns-clause-keeps : goal.returns-clause-keeps
 returns-clause-keeps g c = record { count = refl; lists = refl; records = refl }

@@ -2,6 +2,7 @@ use Rattle.std.proofs.Common.{◌≡◌, true, false, ap, sym, ◌∙◌, refl, 
 use Rattle.rcu_jobs.specs.Records.{Given}
 use Rattle.rcu_part_lists.specs.Outgoing.{Outgoing}
 use Rattle.rcu_part_lists.specs.ProcessorLists.{Holding, holding, passed_on, put_by}
+use Rattle.rcu_part_order.specs.Recorded.{Recorded}
 use Rattle.rcu_part_steps.specs.Places.{AreKeyed}
 use Rattle.rcu_part_processor.specs.Processors.{lists_of}
 use Rattle.rcu_part_processor.proofs.LeavingAfter.{left_after, same_left_after}
@@ -53,7 +54,7 @@ pub returns-clause-sound : goal.returns-clause-sound
 returns-clause-sound g c = λ sound. let s = c.if-not-empty_bypass.ensures.sound sound in let a = c.go_away.ensures in (
   record {
     keyed = subst (λ (h : Holding g.row.J.Denot). AreKeyed g.J.Job.key_of (passed_on h)) (sym (ap holding a.lists)) s.keyed;
-    given = subst (λ rs. Given g.J.Job.gives rs) (sym a.records) s.given;
+    given = subst (λ (rs : Recorded g.row.J-Receipt.Denot). Given g.J.Job.gives rs.all) (sym a.records) s.given;
   },
   tt,
 )

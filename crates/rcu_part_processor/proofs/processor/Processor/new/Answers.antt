@@ -5,6 +5,7 @@ use Rattle.rcu_board.specs.declared.board.Board.{Board}
 use Rattle.rcu_numbers.specs.Words.{owes_of}
 use Rattle.rcu_part_lists.specs.ProcessorLists.{holding}
 use Rattle.rcu_jobs.specs.Modes.{first_mode}
+use Rattle.rcu_part_order.specs.Recorded.{Recorded, ran_of}
 use Rattle.rcu_part_processor.proofs.Beginnings.{first_law, offloads_at}
 use Rattle.rcu_part_processor.proofs.processor.Processor.new.Goals as goal
 
@@ -18,7 +19,7 @@ invariant_of-result g c = let q = c.requires.seat in let e = c.requires.lists in
       local = λ off. (e.mode ∙ ap first_mode (sym kind ∙ off), e.put);
       small = (omega arith, let few = within.accepted.1 in omega arith);
       since = record { word = ap own_word q.first_view; small = omega arith };
-      lawful = first_law (arc_value c.args.board) c.args.cpu (view c.args.seat) c.new.result.items (holding c.args.lists) q.first_view c.new.ensures.items e.put e.bypass e.own e.looked;
+      lawful = first_law (arc_value c.args.board) c.args.cpu (view c.args.seat) (ran_of c.new.result) (holding c.args.lists) q.first_view (ap (λ (r : Recorded g.row.J-Receipt.Denot). r.all) c.new.ensures.none) e.put e.bypass e.own e.looked;
     }
 
 pub returns : goal.returns
@@ -33,6 +34,6 @@ returns g c = let o = c.is_offloadable-offloadable in record {
     blimit = refl;
     accepted = refl;
     passed = refl;
-    ran = c.new.ensures.items;
+    ran = c.new.ensures.none;
   };
 }

@@ -1,11 +1,13 @@
-use Rattle.std.proofs.Common.{◌≡◌, List, sym, subst, refl, arith}
+use Rattle.std.proofs.Common.{◌≡◌, List, ap, sym, subst, refl}
 use Rattle.std.specs.Mem.{FitsInMemory}
 use denote.Param.{param}
+use Rattle.rcu_board.proofs.Facts.{same_seat}
 use Rattle.rcu_board.specs.Seats.{view}
 use Rattle.rcu_part_lists.specs.ProcessorLists.{holding}
 use Rattle.rcu_part_lists.proofs.Sizes.{in_struct}
 use Rattle.rcu_jobs.specs.declared.Stop.TheVariants.{Limit, Empty, Memory}
 use Rattle.rcu_jobs.specs.declared.callback.Record.{Record}
+use Rattle.rcu_part_order.specs.Recorded.{Recorded}
 use Rattle.rcu_part_processor.specs.Lawful.{IsLawful}
 use Rattle.rcu_part_processor.specs.contracts.processor.Processor as row
 use Rattle.rcu_part_processor.proofs.Taking.{sound_same}
@@ -21,17 +23,17 @@ returns-in_default-clause-stops g c = (c.in_default.ensures.first, refl)
 pub returns-in_default-clause-counts : goal.returns-in_default-clause-counts
 returns-in_default-clause-counts g c = λ e. (let f : Empty ≡ Limit = e in cc)
 
-pub returns-in_default-reserve-clause-stops : goal.returns-in_default-reserve-clause-stops
-returns-in_default-reserve-clause-stops g c = let f = c.in-Some.ensures.first in (done_some c.in-Some.first.now f.0 (holding c.args.self.now.state.lists).own f.1, refl)
+pub returns-in_default-find_room-clause-stops : goal.returns-in_default-find_room-clause-stops
+returns-in_default-find_room-clause-stops g c = let f = c.in-Some.ensures.first in (done_some c.in-Some.first.now f.0 (holding c.args.self.now.state.lists).own f.1, refl)
 
-pub returns-in_default-reserve-clause-counts : goal.returns-in_default-reserve-clause-counts
-returns-in_default-reserve-clause-counts g c = λ e. (let f : Memory ≡ Limit = e in cc)
+pub returns-in_default-find_room-clause-counts : goal.returns-in_default-find_room-clause-counts
+returns-in_default-find_room-clause-counts g c = λ e. (let f : Memory ≡ Limit = e in cc)
 
-pub returns-in_default-reserve-clause-keeps : goal.returns-in_default-reserve-clause-keeps
-returns-in_default-reserve-clause-keeps g c = record { view = refl; lists = refl; records = c.reserve.ensures.items; count = refl }
+pub returns-in_default-find_room-clause-keeps : goal.returns-in_default-find_room-clause-keeps
+returns-in_default-find_room-clause-keeps g c = record { view = refl; lists = refl; records = c.find_room.ensures.same; count = refl }
 
-pub returns-in_default-reserve-clause-sound : goal.returns-in_default-reserve-clause-sound
-returns-in_default-reserve-clause-sound g c = sound_same g.J.Job.key_of g.J.Job.gives c.args.self.now.state _ refl c.reserve.ensures.items
+pub returns-in_default-find_room-clause-sound : goal.returns-in_default-find_room-clause-sound
+returns-in_default-find_room-clause-sound g c = sound_same g.J.Job.key_of g.J.Job.gives c.args.self.now.state _ refl c.find_room.ensures.same
 
 pub invariant_of-state : goal.invariant_of-state
 invariant_of-state g c = let s = c.args.self.now.state in record {
@@ -42,11 +44,11 @@ invariant_of-state g c = let s = c.args.self.now.state in record {
   local = s.local;
   small = s.small;
   since = s.since;
-  lawful = subst (λ (rs : List (Record g.row.J-Receipt.Denot)). IsLawful s.cpu s.accepted (view s.seat) rs (holding s.lists)) (sym c.reserve.ensures.items) s.lawful;
+  lawful = subst (λ (rs : List (Record g.row.J-Receipt.Denot)). IsLawful s.cpu s.accepted (view s.seat) rs (holding s.lists)) (sym (ap (λ (r : Recorded g.row.J-Receipt.Denot). r.all) c.find_room.ensures.same)) s.lawful;
 }
 
 pub returns-clause-keeps : goal.returns-clause-keeps
-returns-clause-keeps g c = record { view = refl; lists = refl; records = c.reserve.ensures.items; count = refl }
+returns-clause-keeps g c = record { view = refl; lists = refl; records = c.find_room.ensures.same; count = refl }
 
 pub returns-clause-next : goal.returns-clause-next
 returns-clause-next g c = let f = c.in-Some.ensures.first in record { first = c.in-Some.first.now; rest = f.0; done = f.1; claimed = refl }
@@ -55,7 +57,13 @@ pub returns-clause-small : goal.returns-clause-small
 returns-clause-small g c = c.in-Some.ensures.safe.1
 
 pub returns-clause-room : goal.returns-clause-room
-returns-clause-room g c = omega (arith, c.in-Ok.ensures.ok, c.reserve.ensures.len)
+returns-clause-room g c = c.in-Ok.ensures.room
 
 pub returns-clause-sound : goal.returns-clause-sound
-returns-clause-sound g c = sound_same g.J.Job.key_of g.J.Job.gives c.args.self.now.state _ refl c.reserve.ensures.items
+returns-clause-sound g c = sound_same g.J.Job.key_of g.J.Job.gives c.args.self.now.state _ refl c.find_room.ensures.same
+
+pub returns-in_default-find_room-clause-same : goal.returns-in_default-find_room-clause-same
+returns-in_default-find_room-clause-same g c = record { part = record { board = refl; seat = same_seat _ }; lane = refl; cpu = refl; offloadable = refl; limit = refl; blimit = refl; kept = ap (λ (r : Recorded g.row.J-Receipt.Denot). r.kept) c.find_room.ensures.same }
+
+pub returns-clause-same : goal.returns-clause-same
+returns-clause-same g c = record { part = record { board = refl; seat = same_seat _ }; lane = refl; cpu = refl; offloadable = refl; limit = refl; blimit = refl; kept = ap (λ (r : Recorded g.row.J-Receipt.Denot). r.kept) c.find_room.ensures.same }

@@ -5,6 +5,7 @@ use Rattle.rcu_board.specs.Seats.{view}
 use Rattle.rcu_board.specs.Plays.{looked}
 use Rattle.rcu_part_lists.specs.ProcessorLists.{holding}
 use Rattle.rcu_part_steps.proofs.Telling.{tells_looked}
+use Rattle.rcu_part_order.specs.Recorded.{ran_of}
 use Rattle.rcu_part_processor.proofs.Keeping.{kept_by_tells}
 use Rattle.rcu_part_processor.proofs.Passing.{since_kept, word_looked}
 use Rattle.rcu_part_processor.proofs.Standing.{stands}
@@ -22,11 +23,11 @@ invariant_of-state g c = let s = c.args.self.now.state in let e = c.look_at_numb
   local = s.local;
   small = s.small;
   since = since_kept _ _ _ (word_looked c.look_at_number-seen.result v w e.view) s.since;
-  lawful = kept_by_tells s.cpu s.accepted _ v w s.ran.items (holding s.lists) (tells_looked c.look_at_number-seen.result v w s.lawful.stamped e.view) (e.same.later (arc_value s.board) s.here) s.lawful;
+  lawful = kept_by_tells s.cpu s.accepted _ v w (ran_of s.ran) (holding s.lists) (tells_looked c.look_at_number-seen.result v w s.lawful.stamped e.view) (e.same.later (arc_value s.board) s.here) s.lawful;
 }
 
 pub returns-clause-same : goal.returns-clause-same
-returns-clause-same g c = record { part = record { board = refl; seat = c.look_at_number-seen.ensures.same }; lane = refl; cpu = refl; offloadable = refl; limit = refl; blimit = refl }
+returns-clause-same g c = record { part = record { board = refl; seat = c.look_at_number-seen.ensures.same }; lane = refl; cpu = refl; offloadable = refl; limit = refl; blimit = refl; kept = refl }
 
 pub returns-clause-keeps : goal.returns-clause-keeps
 returns-clause-keeps g c = record { count = refl; lists = refl; records = refl }

@@ -18,6 +18,7 @@ use Rattle.rcu_jobs.specs.declared.callback.Callback.{Callback}
 use Rattle.rcu_jobs.specs.declared.callback.Record.{Record}
 use Rattle.rcu_lists.specs.Labels.{Done, Labelled}
 use Rattle.rcu_numbers.specs.Numbers.{snap_of}
+use Rattle.rcu_part_order.specs.Recorded.{Recorded, and_ran, ran_of}
 use Rattle.rcu_part_steps.specs.Changes.{Claims, StepsOnly}
 use Rattle.rcu_part_processor.specs.Lawful.{IsLawful}
 use Rattle.rcu_part_processor.specs.contracts.processor.Processor as row
@@ -39,8 +40,8 @@ invariant_of-state g c = let s = c.args.self.now.state in record { here = s.here
 pub returns-in_default-clause-not : goal.returns-in_default-clause-not
 returns-in_default-clause-not g c = (0, done_none 0 c.args.seen c.args.self.now.state _ refl refl (steps_none _ _ _ refl) (omega arith), λ n. (c.in_default.ensures.first, omega arith))
 
-pub invariant_of-state-in_default-reserve : goal.invariant_of-state-in_default-reserve
-invariant_of-state-in_default-reserve g c = let s = c.args.self.now.state in record {
+pub invariant_of-state-in_default-find_room : goal.invariant_of-state-in_default-find_room
+invariant_of-state-in_default-find_room g c = let s = c.args.self.now.state in record {
   here = s.here;
   role = s.role;
   there = s.there;
@@ -48,15 +49,15 @@ invariant_of-state-in_default-reserve g c = let s = c.args.self.now.state in rec
   local = s.local;
   small = s.small;
   since = s.since;
-  lawful = subst (λ (rs : List (Record g.row.J-Receipt.Denot)). IsLawful s.cpu s.accepted (view s.seat) rs (holding s.lists)) (sym c.reserve.ensures.items) s.lawful;
+  lawful = subst (λ (rs : List (Record g.row.J-Receipt.Denot)). IsLawful s.cpu s.accepted (view s.seat) rs (holding s.lists)) (sym (ap (λ (r : Recorded g.row.J-Receipt.Denot). r.all) c.find_room.ensures.same)) s.lawful;
 }
 
-pub returns-in_default-reserve-clause-not : goal.returns-in_default-reserve-clause-not
-returns-in_default-reserve-clause-not g c = let f = c.in-Some.ensures.first in
-    (0, done_none 0 c.args.seen c.args.self.now.state _ refl c.reserve.ensures.items (steps_none _ _ _ refl) (omega arith), λ n. (done_some c.in-Some.first.now f.0 (holding c.args.self.now.state.lists).own f.1, omega arith))
+pub returns-in_default-find_room-clause-not : goal.returns-in_default-find_room-clause-not
+returns-in_default-find_room-clause-not g c = let f = c.in-Some.ensures.first in
+    (0, done_none 0 c.args.seen c.args.self.now.state _ refl c.find_room.ensures.same (steps_none _ _ _ refl) (omega arith), λ n. (done_some c.in-Some.first.now f.0 (holding c.args.self.now.state.lists).own f.1, omega arith))
 
-pub returns-in_default-reserve-clause-sound : goal.returns-in_default-reserve-clause-sound
-returns-in_default-reserve-clause-sound g c = sound_same g.J.Job.key_of g.J.Job.gives c.args.self.now.state _ refl c.reserve.ensures.items
+pub returns-in_default-find_room-clause-sound : goal.returns-in_default-find_room-clause-sound
+returns-in_default-find_room-clause-sound g c = sound_same g.J.Job.key_of g.J.Job.gives c.args.self.now.state _ refl c.find_room.ensures.same
 
 pub invariant_of-state-then-not-try_claim : goal.invariant_of-state-then-not-try_claim
 invariant_of-state-then-not-try_claim g c = let s = c.args.self.now.state in let e = c.if-not-try_claim.ensures in record {
@@ -67,14 +68,14 @@ invariant_of-state-then-not-try_claim g c = let s = c.args.self.now.state in let
   local = s.local;
   small = s.small;
   since = since_kept _ _ _ (e.lost refl).0.word s.since;
-  lawful = subst (λ (rs : List (Record g.row.J-Receipt.Denot)). IsLawful s.cpu s.accepted (view c.try_claim.new.seat) rs (holding s.lists)) (sym c.reserve.ensures.items)
-      (kept_by_keeps s.cpu s.accepted _ (view s.seat) (view c.try_claim.new.seat) s.ran.items (holding s.lists) (e.lost refl).0 (e.same.later (arc_value s.board) s.here) s.lawful);
+  lawful = subst (λ (rs : List (Record g.row.J-Receipt.Denot)). IsLawful s.cpu s.accepted (view c.try_claim.new.seat) rs (holding s.lists)) (sym (ap (λ (r : Recorded g.row.J-Receipt.Denot). r.all) c.find_room.ensures.same))
+      (kept_by_keeps s.cpu s.accepted _ (view s.seat) (view c.try_claim.new.seat) (ran_of s.ran) (holding s.lists) (e.lost refl).0 (e.same.later (arc_value s.board) s.here) s.lawful);
 }
 
 pub returns-then-not-try_claim-clause-not : goal.returns-then-not-try_claim-clause-not
 returns-then-not-try_claim-clause-not g c = let s = c.args.self.now.state in let f = c.in-Some.ensures.first in let e = c.if-not-try_claim.ensures in let l = e.lost refl in (
   1,
-  done_none 1 c.args.seen s _ refl c.reserve.ensures.items e.only ((e.same.later (arc_value s.board) s.here).turns s.cpu s.there),
+  done_none 1 c.args.seen s _ refl c.find_room.ensures.same e.only ((e.same.later (arc_value s.board) s.here).turns s.cpu s.there),
   λ n. (refl, (c.in-Some.first.now, f.0, f.1, l.2)),
 )
 
@@ -82,7 +83,7 @@ pub returns-then-not-try_claim-clause-sight : goal.returns-then-not-try_claim-cl
 returns-then-not-try_claim-clause-sight g c = ((c.if-not-try_claim.ensures.lost refl).1 ∙ c.requires.seen.0, c.requires.seen.1)
 
 pub returns-then-not-try_claim-clause-sound : goal.returns-then-not-try_claim-clause-sound
-returns-then-not-try_claim-clause-sound g c = sound_same g.J.Job.key_of g.J.Job.gives c.args.self.now.state _ refl c.reserve.ensures.items
+returns-then-not-try_claim-clause-sound g c = sound_same g.J.Job.key_of g.J.Job.gives c.args.self.now.state _ refl c.find_room.ensures.same
 
 pub take-requires : goal.take-requires
 take-requires g c = let h : FitsInMemory (row.the_row (param 0 g.row.J) (param 1 g.row.J-Receipt)) = assumption in in_struct _ _ _ (in_struct _ _ _ h)
@@ -116,9 +117,9 @@ invariant_of-state-2 g c =
       local = λ is. let l = s.local is in (ap (λ (o : Holding g.row.J.Denot). o.mode) t.taken.1 ∙ l.0, ap put_by t.taken.1 ∙ l.1);
       small = s.small;
       since = since_kept _ _ _ (r.ends.word ∙ w.word) s.since;
-      lawful = kept_by_runs s.cpu s.accepted n c.args.seen (view s.seat) (view c.try_claim.new.seat) (view c.run_claimed-record.new.seat) s.ran.items c.push_reserved.new.self.items h h' x c.run_claimed-record.result
+      lawful = kept_by_runs s.cpu s.accepted n c.args.seen (view s.seat) (view c.try_claim.new.seat) (view c.run_claimed-record.new.seat) (ran_of s.ran) (ran_of c.add.new.self) h h' x c.run_claimed-record.result
           won r.ends (never_falls_again n (view s.seat) (view c.try_claim.new.seat) (view c.run_claimed-record.new.seat) later later2) c.requires.seen.0
-          (c.push_reserved.ensures.items ∙ ap (λ rs. rs ++ c.run_claimed-record.result ∷ []) c.reserve.ensures.items) (ap put_by t.taken.1) t.places (ap (λ (o : Holding g.row.J.Denot). o.advanced) t.taken.1) less r.record r.ready over s.lawful;
+          (ap (λ (r : Recorded g.row.J-Receipt.Denot). r.all) (c.add.ensures.added ∙ ap (and_ran (c.run_claimed-record.result ∷ [])) c.find_room.ensures.same)) (ap put_by t.taken.1) t.places (ap (λ (o : Holding g.row.J.Denot). o.advanced) t.taken.1) less r.record r.ready over s.lawful;
     }
 
 pub returns-clause-ran : goal.returns-clause-ran
@@ -126,7 +127,7 @@ returns-clause-ran g c = let s = c.args.self.now.state in let e = c.if-not-try_c
     let u = view c.try_claim.new.seat in let w = view c.run_claimed-record.new.seat in
     let first : seen_at (view s.seat) (turns_word s.cpu) ≤ seen_at u (turns_word s.cpu) = (e.same.later (arc_value s.board) s.here).turns s.cpu s.there in
     let second : seen_at u (turns_word s.cpu) ≤ seen_at w (turns_word s.cpu) = (r.same.later (arc_value s.board) (e.same.table ∙ s.here)).turns s.cpu s.there in
-    done_one c.args.seen s _ c.in-Some-take.callback c.run_claimed-record.result t.taken.0 t.taken.1 (c.push_reserved.ensures.items ∙ ap (λ rs. rs ++ c.run_claimed-record.result ∷ []) c.reserve.ensures.items) r.record r.ready
+    done_one c.args.seen s _ c.in-Some-take.callback c.run_claimed-record.result t.taken.0 t.taken.1 (c.add.ensures.added ∙ ap (and_ran (c.run_claimed-record.result ∷ [])) c.find_room.ensures.same) r.record r.ready
     (steps_more (turns_word s.cpu) 1 1 (view s.seat) u w e.only (subst (λ (p : ℕ). StepsOnly (turns_word p) 1 u w) (ap cpu_of_role (e.same.role ∙ s.role)) r.only)) (omega (arith, first, second))
 
 pub returns-clause-sight : goal.returns-clause-sight
@@ -136,19 +137,19 @@ returns-clause-sight g c = let w = c.if-not-try_claim.ensures.won refl in
 pub returns-clause-sound : goal.returns-clause-sound
 returns-clause-sound g c = let s = c.args.self.now.state in let t = c.in-Some-take.ensures in let h = holding s.lists in let h' = holding c.take.new.self in
     sound_ran g.J.Job.key_of g.J.Job.gives s _ c.in-Some-take.callback c.run_claimed-record.result (put_by h) (held_in h') (ap (λ l. put_by h ++ l) t.places) (ap (λ l. l ++ held_in h') (ap put_by t.taken.1))
-    (c.push_reserved.ensures.items ∙ ap (λ rs. rs ++ c.run_claimed-record.result ∷ []) c.reserve.ensures.items) c.run_claimed-record.ensures.given
+    (c.add.ensures.added ∙ ap (and_ran (c.run_claimed-record.result ∷ [])) c.find_room.ensures.same) c.run_claimed-record.ensures.given
 
 pub returns-in_default-clause-same : goal.returns-in_default-clause-same
-returns-in_default-clause-same g c = record { part = record { board = refl; seat = same_seat _ }; lane = refl; cpu = refl; offloadable = refl; limit = refl; blimit = refl }
+returns-in_default-clause-same g c = record { part = record { board = refl; seat = same_seat _ }; lane = refl; cpu = refl; offloadable = refl; limit = refl; blimit = refl; kept = refl }
 
 pub returns-in_default-clause-sight : goal.returns-in_default-clause-sight
 returns-in_default-clause-sight g c = c.requires.seen
 
-pub returns-in_default-reserve-clause-same : goal.returns-in_default-reserve-clause-same
-returns-in_default-reserve-clause-same g c = record { part = record { board = refl; seat = same_seat _ }; lane = refl; cpu = refl; offloadable = refl; limit = refl; blimit = refl }
+pub returns-in_default-find_room-clause-same : goal.returns-in_default-find_room-clause-same
+returns-in_default-find_room-clause-same g c = record { part = record { board = refl; seat = same_seat _ }; lane = refl; cpu = refl; offloadable = refl; limit = refl; blimit = refl; kept = ap (λ (r : Recorded g.row.J-Receipt.Denot). r.kept) c.find_room.ensures.same }
 
-pub returns-in_default-reserve-clause-sight : goal.returns-in_default-reserve-clause-sight
-returns-in_default-reserve-clause-sight g c = c.requires.seen
+pub returns-in_default-find_room-clause-sight : goal.returns-in_default-find_room-clause-sight
+returns-in_default-find_room-clause-sight g c = c.requires.seen
 
 pub try_claim-requires-clause-board : goal.try_claim-requires-clause-board
 try_claim-requires-clause-board g c = let s = c.args.self.now.state in stands (arc_value s.board) c.deref.result.now s.seat c.deref.ensures s.here
@@ -166,7 +167,7 @@ pub try_claim-requires-clause-small : goal.try_claim-requires-clause-small
 try_claim-requires-clause-small g c = c.in-Some.ensures.safe.1
 
 pub returns-then-not-try_claim-clause-same : goal.returns-then-not-try_claim-clause-same
-returns-then-not-try_claim-clause-same g c = record { part = record { board = refl; seat = c.if-not-try_claim.ensures.same }; lane = refl; cpu = refl; offloadable = refl; limit = refl; blimit = refl }
+returns-then-not-try_claim-clause-same g c = record { part = record { board = refl; seat = c.if-not-try_claim.ensures.same }; lane = refl; cpu = refl; offloadable = refl; limit = refl; blimit = refl; kept = ap (λ (r : Recorded g.row.J-Receipt.Denot). r.kept) c.find_room.ensures.same }
 
 pub run_claimed-record-requires-clause-board : goal.run_claimed-record-requires-clause-board
 run_claimed-record-requires-clause-board g c κs within = let s = c.args.self.now.state in stands (arc_value s.board) c.deref-2.result.now c.try_claim.new.seat c.deref-2.ensures (c.if-not-try_claim.ensures.same.table ∙ s.here)
@@ -178,13 +179,13 @@ pub run_claimed-record-requires-clause-small : goal.run_claimed-record-requires-
 run_claimed-record-requires-clause-small g c κs within = c.in-Some-take.ensures.safe.1
 
 pub returns-clause-same : goal.returns-clause-same
-returns-clause-same g c = let s = c.args.self.now.state in record { part = record { board = refl; seat = same_seat_again s.seat c.try_claim.new.seat c.run_claimed-record.new.seat c.if-not-try_claim.ensures.same c.run_claimed-record.ensures.same }; lane = same_lane s.lists c.take.new.self c.in-Some-take.ensures.rear; cpu = refl; offloadable = refl; limit = refl; blimit = refl }
+returns-clause-same g c = let s = c.args.self.now.state in record { part = record { board = refl; seat = same_seat_again s.seat c.try_claim.new.seat c.run_claimed-record.new.seat c.if-not-try_claim.ensures.same c.run_claimed-record.ensures.same }; lane = same_lane s.lists c.take.new.self c.in-Some-take.ensures.rear; cpu = refl; offloadable = refl; limit = refl; blimit = refl; kept = ap (λ (r : Recorded g.row.J-Receipt.Denot). r.kept) (c.add.ensures.added ∙ ap (and_ran (c.run_claimed-record.result ∷ [])) c.find_room.ensures.same) }
 
 pub returns-in_default-clause-counts : goal.returns-in_default-clause-counts
 returns-in_default-clause-counts g c = λ e. (let f : Empty ≡ Limit = e in cc)
 
-pub returns-in_default-reserve-clause-counts : goal.returns-in_default-reserve-clause-counts
-returns-in_default-reserve-clause-counts g c = λ e. (let f : Memory ≡ Limit = e in cc)
+pub returns-in_default-find_room-clause-counts : goal.returns-in_default-find_room-clause-counts
+returns-in_default-find_room-clause-counts g c = λ e. (let f : Memory ≡ Limit = e in cc)
 
 pub returns-then-not-try_claim-clause-counts : goal.returns-then-not-try_claim-clause-counts
 returns-then-not-try_claim-clause-counts g c = λ e. (let f : Turn ≡ Limit = e in cc)

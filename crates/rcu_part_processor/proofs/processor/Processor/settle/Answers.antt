@@ -12,6 +12,7 @@ use Rattle.rcu_jobs.specs.Modes.{is_deoffloading}
 use Rattle.rcu_part_lists.specs.Modes.{settled}
 use Rattle.rcu_part_lists.specs.Limits.{AreBelow}
 use Rattle.rcu_part_lists.proofs.Sizes.{in_struct}
+use Rattle.rcu_part_order.specs.Recorded.{ran_of}
 use Rattle.rcu_part_processor.specs.contracts.processor.Processor as row
 use Rattle.rcu_part_processor.proofs.Heeding.{settled_law}
 use Rattle.rcu_part_processor.proofs.Taking.{sound_moved}
@@ -38,7 +39,7 @@ invariant_of-state g c = let s = c.args.self.now.state in let e = c.turn_of-turn
   local = λ is. (let f : true ≡ false = sym c.requires.offloadable ∙ is in cc);
   small = s.small;
   since = since_kept _ _ _ (ap own_word e.view) s.since;
-  lawful = settled_law s.cpu s.accepted _ (view s.seat) (view c.turn_of-turn.new.seat) s.ran.items h (holding c.settle.new.self) (settled h.left c.turn_of-turn.result h.mode)
+  lawful = settled_law s.cpu s.accepted _ (view s.seat) (view c.turn_of-turn.new.seat) (ran_of s.ran) h (holding c.settle.new.self) (settled h.left c.turn_of-turn.result h.mode)
       (tells_touched (turns_word s.cpu) c.turn_of-turn.result (view s.seat) (view c.turn_of-turn.new.seat) e.view) (e.same.later (arc_value s.board) s.here) c.settle.ensures.settled s.lawful;
 }
 
@@ -81,10 +82,10 @@ pub turn_of-turn-requires-clause-processor : goal.turn_of-turn-requires-clause-p
 turn_of-turn-requires-clause-processor g c = let s = c.args.self.now.state in subst (λ (b : Board). s.cpu < b.processors) (sym c.deref.ensures) s.there
 
 pub returns-then-is_deoffloading-clause-same : goal.returns-then-is_deoffloading-clause-same
-returns-then-is_deoffloading-clause-same g c = record { part = record { board = refl; seat = c.turn_of-turn.ensures.same }; lane = same_lane c.args.self.now.state.lists c.settle.new.self c.settle.ensures.rear; cpu = refl; offloadable = refl; limit = refl; blimit = refl }
+returns-then-is_deoffloading-clause-same g c = record { part = record { board = refl; seat = c.turn_of-turn.ensures.same }; lane = same_lane c.args.self.now.state.lists c.settle.new.self c.settle.ensures.rear; cpu = refl; offloadable = refl; limit = refl; blimit = refl; kept = refl }
 
 pub returns-else-is_deoffloading-clause-same : goal.returns-else-is_deoffloading-clause-same
-returns-else-is_deoffloading-clause-same g c = record { part = record { board = refl; seat = same_seat _ }; lane = refl; cpu = refl; offloadable = refl; limit = refl; blimit = refl }
+returns-else-is_deoffloading-clause-same g c = record { part = record { board = refl; seat = same_seat _ }; lane = refl; cpu = refl; offloadable = refl; limit = refl; blimit = refl; kept = refl }
 
 pub returns-else-is_deoffloading-clause-sight : goal.returns-else-is_deoffloading-clause-sight
 returns-else-is_deoffloading-clause-sight g c = (refl, refl)

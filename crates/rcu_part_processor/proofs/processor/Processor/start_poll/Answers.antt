@@ -7,6 +7,7 @@ use Rattle.rcu_board.proofs.Facts.{same_seat_again}
 use Rattle.rcu_numbers.specs.Numbers.{snap_of}
 use Rattle.rcu_part_lists.specs.ProcessorLists.{holding}
 use Rattle.rcu_part_steps.proofs.Telling.{sight_touched, tells_again, tells_looked, tells_touched}
+use Rattle.rcu_part_order.specs.Recorded.{ran_of}
 use Rattle.rcu_part_processor.proofs.Keeping.{kept_by_tells}
 use Rattle.rcu_part_processor.proofs.Passing.{since_kept, word_looked}
 use Rattle.rcu_part_processor.proofs.Standing.{stands}
@@ -37,13 +38,13 @@ invariant_of-state g c = let s = c.args.self.now.state in let e = c.look_at_numb
       local = s.local;
       small = s.small;
       since = since_kept _ _ _ (ap own_word n.view ∙ word_looked c.look_at_number-seen.result v u e.view) s.since;
-      lawful = kept_by_tells s.cpu s.accepted _ v w s.ran.items (holding s.lists)
+      lawful = kept_by_tells s.cpu s.accepted _ v w (ran_of s.ran) (holding s.lists)
           (tells_again v u w (tells_looked c.look_at_number-seen.result v u s.lawful.stamped e.view) (tells_touched needed_word (max c.need.result c.snap-cookie.result) u w n.view))
           (never_falls_again _ v u w (e.same.later (arc_value s.board) s.here) (n.same.later (arc_value s.board) (e.same.table ∙ s.here))) s.lawful;
     }
 
 pub returns-clause-same : goal.returns-clause-same
-returns-clause-same g c = record { part = record { board = refl; seat = same_seat_again _ _ _ c.look_at_number-seen.ensures.same c.need.ensures.same }; lane = refl; cpu = refl; offloadable = refl; limit = refl; blimit = refl }
+returns-clause-same g c = record { part = record { board = refl; seat = same_seat_again _ _ _ c.look_at_number-seen.ensures.same c.need.ensures.same }; lane = refl; cpu = refl; offloadable = refl; limit = refl; blimit = refl; kept = refl }
 
 pub returns-clause-keeps : goal.returns-clause-keeps
 returns-clause-keeps g c = record { count = refl; lists = refl; records = refl }

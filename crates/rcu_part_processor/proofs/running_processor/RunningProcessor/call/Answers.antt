@@ -6,6 +6,7 @@ use Rattle.rcu_part_lists.specs.ProcessorLists.{holding}
 use Rattle.rcu_part_lists.proofs.Sizes.{in_struct}
 use Rattle.rcu_part_order.specs.Records.{numbered_records}
 use Rattle.rcu_part_steps.specs.Begins.{number_that_runs}
+use Rattle.rcu_part_order.specs.Recorded.{ran_of, recorded}
 use Rattle.rcu_part_processor.specs.contracts.running_processor.RunningProcessor as row
 use Rattle.rcu_part_processor.specs.Accepting.{pieces}
 use Rattle.rcu_part_processor.proofs.CallPieces.{accepts_none_with, accepts_with, refuses_with}
@@ -26,8 +27,8 @@ invariant_of-state g c = let s = c.args.self.now.state in let e = c.accept_job.e
   since = since_kept _ _ _ (e.word) s.since;
   below = s.below;
   room = s.room;
-  lawful = runs_by_places s.cpu s.accepted _ s.claimed (view s.seat) (view c.accept_job.new.seat) s.ran.items (holding s.lists) (holding c.accept_job.new.lists) e.claims.0 e.claims.1
-      (e.places (numbered_records s.ran.items ++ number_that_runs s.claimed ∷ []) s.lawful.has) s.lawful;
+  lawful = runs_by_places s.cpu s.accepted _ s.claimed (view s.seat) (view c.accept_job.new.seat) (ran_of s.ran) (holding s.lists) (holding c.accept_job.new.lists) e.claims.0 e.claims.1
+      (e.places (numbered_records (ran_of s.ran) ++ number_that_runs s.claimed ∷ []) s.lawful.has) s.lawful;
 }
 
 pub accept_job-requires-after_bounds : goal.accept_job-requires-after_bounds
@@ -37,19 +38,19 @@ accept_job-requires-after_bounds g c κs within =
       in_struct _ _ _ (in_struct _ _ _ h),
       (
         stands (arc_value s.board) c.deref.result.now s.seat c.deref.ensures s.here,
-        (s.role, (s.small, (s.lawful.has.counted, (s.lawful.has.stamped, few_placed s.accepted (view s.seat) (numbered_records s.ran.items ++ number_that_runs s.claimed ∷ []) (holding s.lists) s.lawful.has)))),
+        (s.role, (s.small, (s.lawful.has.counted, (s.lawful.has.stamped, few_placed s.accepted (view s.seat) (numbered_records (ran_of s.ran) ++ number_that_runs s.claimed ∷ []) (holding s.lists) s.lawful.has)))),
       ),
     )
 
 pub returns : goal.returns
 returns g c = let s = c.args.self.now.state in let e = c.accept_job.ensures in record {
   calls = record {
-    same = record { part = record { board = refl; seat = e.same }; lane = e.lane; cpu = refl; offloadable = refl; limit = refl; blimit = refl };
-    ok = accepts_with s.ran.items c.args.moment c.args.kind (g.J.Job.key_of c.args.job) c.args.job
+    same = record { part = record { board = refl; seat = e.same }; lane = e.lane; cpu = refl; offloadable = refl; limit = refl; blimit = refl; kept = refl };
+    ok = accepts_with (recorded s.ran) c.args.moment c.args.kind (g.J.Job.key_of c.args.job) c.args.job
         (pieces s.cpu s.limit s.accepted s.seat s.lists) (pieces s.cpu s.limit c.accept_job.new.accepted c.accept_job.new.seat c.accept_job.new.lists) c.accept_job.result e.ok;
-    err = accepts_none_with s.ran.items
+    err = accepts_none_with (recorded s.ran)
         (pieces s.cpu s.limit s.accepted s.seat s.lists) (pieces s.cpu s.limit c.accept_job.new.accepted c.accept_job.new.seat c.accept_job.new.lists) c.accept_job.result e.err;
-    refused = refuses_with s.ran.items c.args.job
+    refused = refuses_with (recorded s.ran) c.args.job
         (pieces s.cpu s.limit s.accepted s.seat s.lists) (pieces s.cpu s.limit c.accept_job.new.accepted c.accept_job.new.seat c.accept_job.new.lists) c.accept_job.result e.refused;
     closed = e.closed;
     full = e.full;

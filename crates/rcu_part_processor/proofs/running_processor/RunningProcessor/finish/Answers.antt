@@ -5,6 +5,7 @@ use Rattle.rcu_board.specs.Seats.{AtBoard, view}
 use Rattle.rcu_board.specs.declared.board.Board.{Board}
 use Rattle.rcu_board.specs.Words.{turns_word}
 use Rattle.rcu_part_lists.specs.ProcessorLists.{holding}
+use Rattle.rcu_part_order.specs.Recorded.{Recorded, ran_of}
 use Rattle.rcu_part_steps.specs.Begins.{claim_that_runs}
 use Rattle.rcu_part_steps.specs.Changes.{StepsOnly}
 use Rattle.rcu_part_processor.proofs.Claiming.{finished_law, given_finished}
@@ -20,7 +21,7 @@ invariant_of-state g c = let s = c.args.self.state in let e = c.end_claim.ensure
   local = s.local;
   small = s.small;
   since = since_kept _ _ _ (e.ends.word) s.since;
-  lawful = finished_law s.cpu s.accepted _ s.claimed c.args.receipt (view s.seat) (view c.end_claim.new.seat) s.ran.items c.push_reserved.new.self.items (holding s.lists) e.ends (e.same.later (arc_value s.board) s.here) c.push_reserved.ensures.items s.lawful;
+  lawful = finished_law s.cpu s.accepted _ s.claimed c.args.receipt (view s.seat) (view c.end_claim.new.seat) (ran_of s.ran) (ran_of c.add.new.self) (holding s.lists) e.ends (e.same.later (arc_value s.board) s.here) (ap (λ (r : Recorded g.row.J-Receipt.Denot). r.all) c.add.ensures.added) s.lawful;
 }
 
 pub end_claim-requires : goal.end_claim-requires
@@ -30,15 +31,15 @@ end_claim-requires g c = let s = c.args.self.state in record {
   runs = record { claim = claim_that_runs s.cpu s.claimed; alone = s.lawful.runs; cpu = sym (ap cpu_of_role s.role); small = s.below };
 }
 
-pub push_reserved-requires : goal.push_reserved-requires
-push_reserved-requires g c = c.args.self.state.room
+pub add-requires : goal.add-requires
+add-requires g c = record { room = c.args.self.state.room }
 
 pub returns-clause-same : goal.returns-clause-same
-returns-clause-same g c = record { part = record { board = refl; seat = c.end_claim.ensures.same }; lane = refl; cpu = refl; offloadable = refl; limit = refl; blimit = refl }
+returns-clause-same g c = record { part = record { board = refl; seat = c.end_claim.ensures.same }; lane = refl; cpu = refl; offloadable = refl; limit = refl; blimit = refl; kept = ap (λ (r : Recorded g.row.J-Receipt.Denot). r.kept) c.add.ensures.added }
 
 pub returns-clause-finishes : goal.returns-clause-finishes
 returns-clause-finishes g c = let s = c.args.self.state in record {
-  records = c.push_reserved.ensures.items;
+  records = c.add.ensures.added;
   lists = refl;
   count = refl;
   ends = c.end_claim.ensures.ends;
@@ -47,4 +48,4 @@ returns-clause-finishes g c = let s = c.args.self.state in record {
 
 pub returns-clause-sound : goal.returns-clause-sound
 returns-clause-sound g c = λ sound given. let s = c.args.self.state in
-    record { keyed = sound.keyed; given = given_finished g.J.Job.gives s.claimed c.args.receipt s.ran.items c.push_reserved.new.self.items c.push_reserved.ensures.items given sound.given }
+    record { keyed = sound.keyed; given = given_finished g.J.Job.gives s.claimed c.args.receipt (ran_of s.ran) (ran_of c.add.new.self) (ap (λ (r : Recorded g.row.J-Receipt.Denot). r.all) c.add.ensures.added) given sound.given }

@@ -1,4 +1,5 @@
 use Rattle.std.proofs.Common.{◌∙◌, refl}
+use Rattle.rcu_part_order.specs.Recorded.{ran_of}
 use Rattle.rcu_part_processor.proofs.Keeping.{runs_by_tells}
 use Rattle.std.specs.Arc.{arc_value}
 use Rattle.rcu_part_processor.proofs.Passing.{since_kept, since_reported}
@@ -19,7 +20,7 @@ invariant_of-state g c = let s = c.args.self.now.state in let e = c.report_quies
   below = s.below;
   room = s.room;
   since = since_reported (arc_value s.board) s.cpu c.in-Some.seq s.seat c.report_quiescent_state-counted.new.seat s.here c.in-Some.ensures.reports;
-  lawful = runs_by_tells s.cpu s.accepted _ s.claimed _ _ s.ran.items _ e.tells (e.same.later (arc_value s.board) s.here) s.lawful;
+  lawful = runs_by_tells s.cpu s.accepted _ s.claimed _ _ (ran_of s.ran) _ e.tells (e.same.later (arc_value s.board) s.here) s.lawful;
 }
 
 pub invariant_of-state-in_default : goal.invariant_of-state-in_default
@@ -33,11 +34,11 @@ invariant_of-state-in_default g c = let s = c.args.self.now.state in let e = c.r
   below = s.below;
   room = s.room;
   since = since_kept _ _ _ c.in_default.ensures.reports.word s.since;
-  lawful = runs_by_tells s.cpu s.accepted _ s.claimed _ _ s.ran.items _ e.tells (e.same.later (arc_value s.board) s.here) s.lawful;
+  lawful = runs_by_tells s.cpu s.accepted _ s.claimed _ _ (ran_of s.ran) _ e.tells (e.same.later (arc_value s.board) s.here) s.lawful;
 }
 
 pub returns-in-Some-clause-same : goal.returns-in-Some-clause-same
-returns-in-Some-clause-same g c = record { part = record { board = refl; seat = c.report_quiescent_state-counted.ensures.same }; lane = refl; cpu = refl; offloadable = refl; limit = refl; blimit = refl }
+returns-in-Some-clause-same g c = record { part = record { board = refl; seat = c.report_quiescent_state-counted.ensures.same }; lane = refl; cpu = refl; offloadable = refl; limit = refl; blimit = refl; kept = refl }
 
 pub returns-in-Some-clause-keeps : goal.returns-in-Some-clause-keeps
 returns-in-Some-clause-keeps g c = record { count = refl; lists = refl; records = refl }
@@ -46,7 +47,7 @@ pub returns-in-Some-clause-sound : goal.returns-in-Some-clause-sound
 returns-in-Some-clause-sound g c = λ sound. record { keyed = sound.keyed; given = sound.given }
 
 pub returns-in_default-clause-same : goal.returns-in_default-clause-same
-returns-in_default-clause-same g c = record { part = record { board = refl; seat = c.report_quiescent_state-counted.ensures.same }; lane = refl; cpu = refl; offloadable = refl; limit = refl; blimit = refl }
+returns-in_default-clause-same g c = record { part = record { board = refl; seat = c.report_quiescent_state-counted.ensures.same }; lane = refl; cpu = refl; offloadable = refl; limit = refl; blimit = refl; kept = refl }
 
 pub returns-in_default-clause-keeps : goal.returns-in_default-clause-keeps
 returns-in_default-clause-keeps g c = record { count = refl; lists = refl; records = refl }
