@@ -22,11 +22,11 @@ use Rattle.rcu_numbers.specs.Numbers.{snap_of}
 use Rattle.rcu_part_order.specs.Order.{between, times}
 use Rattle.rcu_part_order.specs.Places.{Accepted, numbered}
 use Rattle.rcu_part_order.specs.Callbacks.{numbered_callback}
-use Rattle.rcu_part_order.specs.Records.{AreSeenBy, numbered_record, numbered_records}
+use Rattle.rcu_part_order.specs.Records.{AreSeenBy, numbered_record, numbered_records, by_number}
 use Rattle.rcu_part_close.specs.Closing.{Closes, CpuEnd, Ends, EndsAs, HaveEnded, IsGraced, IsGracedBy, HasPassed, calls_left, processors_of, seats_of}
 use Rattle.rcu_part_close.specs.Gathered.{gather}
 use Rattle.rcu_part_steps.specs.Places.{accepted_entry, accepted_list, claim_of}
-use Rattle.rcu_part_close.specs.Parts.{HandClaims, HandPart, IsAtRest, IsSoundPart, hand_ran, hand_views, views_of}
+use Rattle.rcu_part_close.specs.Parts.{HandClaims, HandPart, IsAtRest, IsSoundPart, hand_kept, hand_ran, hand_views, views_of}
 use Rattle.rcu_part_close.proofs.Claims.{cpu_at, no_claims, row_at}
 use Rattle.rcu_part_close.proofs.Gathers.{gather_claims, gather_each, gather_seen, gather_sights}
 use Rattle.std.proofs.lemmas.List.Elements.{All-cons, All-head, All-map, All-nil, All-tail, All-weaker}
@@ -174,7 +174,7 @@ module _ {J R : Type 0} (key_of : J → ℕ) (gives : ℕ → R → Type 0) (n x
   once_at k near d lt = λ j. sym (claims_at k j d lt) ∙ all_claimed_at k j near
 
   end_at : (k : ℕ) (near : k < n) (d : CpuEnd J R) → k < length es → IsEnd (accepted_list (get_or es k d).part.view) (ran_at k near) (get_or es k d).ran
-  end_at k near d lt = let rest = h.at_rest k d lt in (h.ended k d lt).ends (accepted_list (get_or es k d).part.view) (ran_at k near) rest.places rest.ripe rest.hand_ripe (once_at k near d lt)
+  end_at k near d lt = let rest = h.at_rest k d lt in (h.ended k d lt).ends.ends (accepted_list (get_or es k d).part.view) (ran_at k near) rest.places rest.ripe rest.hand_ripe (once_at k near d lt)
 
   ends_at : (k : ℕ) (d : CpuEnd J R) → k < length es → EndsAs Views (processors_of es) (get_or es k d)
   ends_at k d lt =
@@ -189,7 +189,8 @@ module _ {J R : Type 0} (key_of : J → ℕ) (gives : ℕ → R → Type 0) (n x
       let m = ran_at k near in
       let number = x in
       let once = once_at k near d lt in
-      let done = h.ended k d lt in
+      let ended = h.ended k d lt in
+      let done = ended.ends in
       let end = end_at k near d lt in
       let long : m ≡ length e.ran = ran_length (accepted_list e.part.view) m e.ran end in
       let seen : AreSeenBy number e.ran = done.seen number (seen_records number e.part.cpu e.part.view e.part.own rest.claims own.1)
@@ -203,6 +204,8 @@ module _ {J R : Type 0} (key_of : J → ℕ) (gives : ℕ → R → Type 0) (n x
       record {
         end = subst (λ (i : ℕ). IsEnd (accepted_list e.part.view) i e.ran) long end;
         records = done.records;
+        kept = ended.kept;
+        whole = λ whole. ended.kept ∙ (ap (λ (l : List (Record R)). by_number l (hand_kept e.part.hand)) whole.own ∙ (ap (by_number e.part.own) whole.hand ∙ sym ended.ran));
         jobs = done.jobs;
         left = done.left (accepted_list e.part.view) m rest.places once ∙ ap (λ (i : ℕ). drop i (numbered 0 (accepted_list e.part.view))) long;
         claims = λ j. ap (λ (p : ℕ). total (claimed p j) Views) cpu ∙ (all_claimed_at k j near ∙ ap (λ (i : ℕ). between 0 i j) long);
@@ -222,7 +225,7 @@ module _ {J R : Type 0} (key_of : J → ℕ) (gives : ℕ → R → Type 0) (n x
   sound_at k d lt sound =
       let e = get_or es k d in
       let near : k < n = omega (arith, lt, h.all) in
-      let end = (h.ended k d lt).sound (accepted_list e.part.view) (ran_at k near) (h.at_rest k d lt).places (once_at k near d lt) sound in
+      let end = (h.ended k d lt).ends.sound (accepted_list e.part.view) (ran_at k near) (h.at_rest k d lt).places (once_at k near d lt) sound in
       subst (λ (i : ℕ). IsSoundEnd key_of gives (accepted_list e.part.view) i e.ran e.back) (ran_length (accepted_list e.part.view) (ran_at k near) e.ran (end_at k near d lt)) end
 
   pub ends : Ends v others es

@@ -12,10 +12,10 @@ use Rattle.rcu_jobs.specs.declared.callback.Record.{Record}
 use Rattle.rcu_part_order.specs.Order.{between}
 use Rattle.rcu_part_order.specs.Places.{numbered}
 use Rattle.rcu_part_order.specs.Callbacks.{numbered_callbacks}
-use Rattle.rcu_part_order.specs.Records.{AreOfBoth}
+use Rattle.rcu_part_order.specs.Records.{AreOfBoth, by_number}
 use Rattle.rcu_part_close.specs.Gathered.{IsSettled, gather}
 use Rattle.rcu_part_steps.specs.Places.{accepted_list}
-use Rattle.rcu_part_close.specs.Parts.{CpuPart, IsAtRest, hand_drawn, hand_ran, hand_taken, views_of}
+use Rattle.rcu_part_close.specs.Parts.{CpuPart, IsAtRest, IsWholePart, hand_drawn, hand_kept, hand_ran, hand_taken, views_of}
 
 -- The processor whose view this is passed the grace period s, by a report in it or by being away.
 abbrev pub HasPassed : ℕ → View → Type 0
@@ -30,10 +30,12 @@ IsGracedBy r v = (j : ℕ) × (j < reports_of v) × (r.stamp < 4 * j + 1) × (4 
 abbrev pub IsGraced : {R : Type 0} → List View → Record R → Type 0
 IsGraced processors r = All (IsGracedBy r) processors
 
--- A processor with its hand, and what is left of it: its records and the jobs that are handed back.
+-- A processor with its hand, and what is left of it: the records of all that ran, those of them that are answered, and the jobs
+-- that are handed back.
 pub record CpuEnd (J R : Type 0) : Type 0 where
   pub part : CpuPart J R
   pub ran : List (Record R)
+  pub kept : List (Record R)
   pub back : List J
 
 module _ {J R : Type 0} where
@@ -55,16 +57,22 @@ module _ {J R : Type 0} where
   calls_left e = left_of e.part.lists (hand_taken e.part.hand)
 
   -- how each was ended, by `end_offloadable` or `end_local`
-  abbrev pub WasEnded : (J → ℕ) → (ℕ → R → Type 0) → CpuEnd J R → Type 0
-  WasEnded key_of gives e = EndsWith key_of gives e.part.own (hand_ran e.part.hand) e.part.lists (hand_taken e.part.hand) (hand_drawn e.part.hand) e.ran e.back
+  pub record WasEnded (key_of : J → ℕ) (gives : ℕ → R → Type 0) (e : CpuEnd J R) : Type 0 where
+    pub ends : EndsWith key_of gives e.part.own (hand_ran e.part.hand) e.part.lists (hand_taken e.part.hand) (hand_drawn e.part.hand) e.ran e.back
+    -- all records of both, by their numbers, and so those that are left
+    pub ran : e.ran ≡ by_number e.part.own (hand_ran e.part.hand)
+    pub kept : e.kept ≡ by_number e.part.kept (hand_kept e.part.hand)
 
   -- What is left of one processor, whatever is known of jobs, where these are all views, and `processors` are those of
   -- processors.
   pub record EndsAs (views processors : List View) (e : CpuEnd J R) : Type 0 where
-    -- as many as ran, 0 to m - 1, have records
+    -- as many as ran, 0 to m - 1, had records
     pub end : IsEnd (accepted_list e.part.view) (length e.ran) e.ran
     -- each record is one that the processor or its hand had, whole
     pub records : AreOfBoth e.part.own (hand_ran e.part.hand) e.ran
+    -- those that were left are answered, in the order of their numbers: all of them, where none was taken and all were kept
+    pub kept : e.kept ≡ by_number e.part.kept (hand_kept e.part.hand)
+    pub whole : IsWholePart e.part → e.kept ≡ e.ran
     -- the jobs that come back are those of the callbacks that are left, which have the numbers from m on
     pub jobs : e.back ≡ jobs_of (calls_left e)
     pub left : numbered_callbacks (calls_left e) ≡ drop (length e.ran) (numbered 0 (accepted_list e.part.view))

@@ -10,18 +10,21 @@ use Rattle.rcu_jobs.specs.declared.callback.Record.{Record}
 use Rattle.rcu_part_steps.specs.Places.{accepted_list, claim_of}
 use Rattle.rcu_part_order.specs.Records.{AreRipe}
 
--- A hand: its view, its records, all that it drew, and what it took of that.
+-- A hand: its view, the records of all that it ran and those that are left of them, all that it drew, and what it took of that.
 pub record HandPart (J R : Type 0) : Type 0 where
   pub view : View
   pub ran : List (Record R)
+  pub kept : List (Record R)
   pub drawn : List (Callback J)
   pub taken : List (Callback J)
 
--- A processor with its hand, if it has one: its number, its view, its records and its lists.
+-- A processor with its hand, if it has one: its number, its view, the records of all that it ran itself, those that are left of
+-- them, and its lists.
 pub record CpuPart (J R : Type 0) : Type 0 where
   pub cpu : ℕ
   pub view : View
   pub own : List (Record R)
+  pub kept : List (Record R)
   pub lists : Holding J
   pub hand : Option (HandPart J R)
 
@@ -35,6 +38,10 @@ module _ {J R : Type 0} where
   hand_ran (Some h) = h.ran
   hand_ran None = []
 
+  abbrev pub hand_kept : Option (HandPart J R) → List (Record R)
+  hand_kept (Some h) = h.kept
+  hand_kept None = []
+
   abbrev pub hand_drawn : Option (HandPart J R) → List (Callback J)
   hand_drawn (Some h) = h.drawn
   hand_drawn None = []
@@ -42,6 +49,11 @@ module _ {J R : Type 0} where
   abbrev pub hand_taken : Option (HandPart J R) → List (Callback J)
   hand_taken (Some h) = h.taken
   hand_taken None = []
+
+  -- all records are left, of the processor and of its hand
+  pub record IsWholePart (c : CpuPart J R) : Type 0 where
+    pub own : c.kept ≡ c.own
+    pub hand : hand_kept c.hand ≡ hand_ran c.hand
 
   -- the views of a processor and of its hand
   abbrev pub views_of : CpuPart J R → List View

@@ -8,7 +8,8 @@ use std::alloc::{AllocError, Global};
 /// What is left of one processor at the end: an element each of `ran` and `back` of `Closed`.
 #[derive(Drop)]
 pub struct ProcessorEnd<J, R> {
-    /// The records of the callbacks that ran, numbered 0, 1, 2, ..
+    /// The records that are left of the callbacks that ran, in the order of their numbers: all, 0, 1, 2, .., where none was taken
+    /// out before and all were kept.
     pub ran: Vec<Record<R>>,
     /// The jobs of the remaining numbers, in order.
     pub back: Vec<J>,

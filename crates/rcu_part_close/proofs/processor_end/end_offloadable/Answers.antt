@@ -1,17 +1,18 @@
-use Rattle.std.proofs.Common.{◌≡◌, ℕ, ◌+◌, List, ◌++◌, length, sym, subst, ap, ◌∙◌, arith}
+use Rattle.std.proofs.Common.{◌≡◌, ◌+◌, ◌≤◌, List, ◌++◌, length, ap, ◌∙◌, arith}
 use Rattle.std.specs.List.{flat_map}
 use denote.Param.{param}
 use Rattle.rcu_part_lists.proofs.Sizes.{held-batch}
 use Rattle.rcu_lists.proofs.Sizes.{in_places}
 use Rattle.rcu_part_lists.specs.ProcessorLists.{holding, held_in, put_by}
 use Rattle.rcu_part_lists.specs.Helds.{drawn_by, held_by, taken_by}
-use Rattle.rcu_jobs.specs.Records.{Given}
 use Rattle.rcu_jobs.specs.declared.callback.Record.{Record}
 use Rattle.rcu_lanes.specs.Ends.{items_drawn, items_left, items_put}
 use Rattle.rcu_lists.specs.Batches.{batch_items}
 use Rattle.rcu_lists.specs.Parcels.{parcel_items}
-use Rattle.rcu_part_order.specs.Order.{Remaining}
-use Rattle.rcu_part_order.specs.Records.{AreOfBoth, AreRipe, AreSeenBy, numbered_records}
+use Rattle.rcu_numbers.specs.Numbers.{snap_of}
+use Rattle.rcu_part_order.specs.Recorded.{left_in, ran_of}
+use Rattle.rcu_part_order.specs.Records.{by_number}
+use Rattle.rcu_part_order.proofs.Merging.{all_by_number, all_in_order, of_both}
 use Rattle.rcu_part_close.proofs.Endings.{all_fit, came_back, ends_of_one, first_fits, rest_fits, takes_then, passage, offloadable_ends, taken_first}
 use Rattle.rcu_part_close.proofs.processor_end.end_offloadable.Goals as goal
 
@@ -112,25 +113,22 @@ returns-clause-ends g c =
     let second = batch_items j.result.3 ++ flat_map parcel_items (items_left c.rest-lane.result) in
     let last = batch_items i.result.2 ++ i.result.1.items in
     let same : last ≡ held_in (holding c.args.processor_lists) = ap (λ l. l ++ i.result.1.items) i.ensures.bypass ∙ ap (λ l. (holding c.args.processor_lists).outgoing.bypass ++ l) i.ensures.own in
-    let m = c.merge_records-ran.ensures in
-    let own = c.args.own in
-    let hands = c.args.hands in
-    let n : c.len.result + c.len-2.result ≡ length own.items + length hands.items = omega (arith, c.len.ensures, c.len-2.ensures, own.ok.0, hands.ok.0) in
-    let a : c.from.result.items ≡ own.items = c.from.ensures.0 in
-    let b : c.from-2.result.items ≡ hands.items = c.from-2.ensures.0 in
-    offloadable_ends g.J.Job.key_of g.J.Job.gives own.items hands.items c.merge_records-ran.result.items (holding c.args.processor_lists) (taken_by c.args.held) (drawn_by c.args.held) c.take_lists.new.jobs.items
+    let own = ran_of c.args.own in
+    let hands = ran_of c.args.hands in
+    offloadable_ends g.J.Job.key_of g.J.Job.gives own hands (by_number own hands) (holding c.args.processor_lists) (taken_by c.args.held) (drawn_by c.args.held) c.take_lists.new.jobs.items
     (taken_first (put_by (holding c.args.processor_lists)) (taken_by c.args.held) _ p.0) (taken_first (put_by (holding c.args.processor_lists)) (drawn_by c.args.held) _ p.1)
     (came_back (put_by (holding c.args.processor_lists)) (taken_by c.args.held) first second last (held_in (holding c.args.processor_lists)) c.args.room.back c.take_lists.new.jobs c.requires.room.1.no_job p.0 same
     (takes_then first (second ++ last) _ _ _ c.take_drawn.ensures (takes_then second last _ _ _ c.take_undrawn.ensures c.take_lists.ensures)))
-    (λ accepted back held r. m.order accepted back held
-    (subst (λ (l : List (Record g.row.J-Receipt.Denot)). Remaining (c.len.result + c.len-2.result) 0 accepted (numbered_records l) (numbered_records c.from-2.result.items) back held) (sym a)
-    (subst (λ (l : List (Record g.row.J-Receipt.Denot)). Remaining (c.len.result + c.len-2.result) 0 accepted (numbered_records own.items) (numbered_records l) back held) (sym b)
-    (subst (λ (k : ℕ). Remaining k 0 accepted (numbered_records own.items) (numbered_records hands.items) back held) (sym n) r))))
-    (λ x y. m.given (subst (λ (l : List (Record g.row.J-Receipt.Denot)). Given g.J.Job.gives l) (sym a) x) (subst (λ (l : List (Record g.row.J-Receipt.Denot)). Given g.J.Job.gives l) (sym b) y))
-    (λ x y. m.ripe (subst (λ (l : List (Record g.row.J-Receipt.Denot)). AreRipe l) (sym a) x) (subst (λ (l : List (Record g.row.J-Receipt.Denot)). AreRipe l) (sym b) y))
-    (λ k x y. m.seen k (subst (λ (l : List (Record g.row.J-Receipt.Denot)). AreSeenBy k l) (sym a) x) (subst (λ (l : List (Record g.row.J-Receipt.Denot)). AreSeenBy k l) (sym b) y))
-    (subst (λ (l : List (Record g.row.J-Receipt.Denot)). AreOfBoth l hands.items c.merge_records-ran.result.items) a
-    (subst (λ (l : List (Record g.row.J-Receipt.Denot)). AreOfBoth c.from.result.items l c.merge_records-ran.result.items) b m.records))
+    (λ accepted back held r. all_in_order (length own + length hands) accepted own hands back held r)
+    (all_by_number (λ (r : Record g.row.J-Receipt.Denot). g.J.Job.gives r.key r.receipt) own hands)
+    (all_by_number (λ (r : Record g.row.J-Receipt.Denot). snap_of r.stamp ≤ r.ready) own hands)
+    (λ x. all_by_number (λ (r : Record g.row.J-Receipt.Denot). r.ready ≤ x) own hands)
+    (of_both own hands)
+
+pub returns-clause-kept : goal.returns-clause-kept
+returns-clause-kept g c =
+    c.merge_records-ran.ensures.merged ∙ (ap (λ (l : List (Record g.row.J-Receipt.Denot)). by_number l c.from-2.result.items) (c.from.ensures.0 ∙ ap (λ v. v.items) c.into_left.ensures)
+    ∙ ap (by_number (left_in c.args.own)) (c.from-2.ensures.0 ∙ ap (λ v. v.items) c.into_left-2.ensures))
 
 pub into_parts-rear-requires : goal.into_parts-rear-requires
 into_parts-rear-requires g c = (assumption, held-batch (param 0 g.row.J) assumption)
@@ -154,7 +152,7 @@ pub rest-lane-requires : goal.rest-lane-requires
 rest-lane-requires g c = ends_of_one _ _ _ _ c.into_parts-front.ensures.ends.0 c.into_parts-rear.ensures.rear c.requires.lane
 
 pub merge_records-ran-requires-clause-none : goal.merge_records-ran-requires-clause-none
-merge_records-ran-requires-clause-none g c = λ κs within. c.requires.room.1.no_record
+merge_records-ran-requires-clause-none g c = c.requires.room.1.no_record
 
 pub merge_records-ran-requires-clause-room : goal.merge_records-ran-requires-clause-room
-merge_records-ran-requires-clause-room g c = λ κs within. omega (arith, ap length c.from.ensures.0, ap length c.from-2.ensures.0, c.requires.room.1.for_records)
+merge_records-ran-requires-clause-room g c = omega (arith, ap length (c.from.ensures.0 ∙ ap (λ v. v.items) c.into_left.ensures), ap length (c.from-2.ensures.0 ∙ ap (λ v. v.items) c.into_left-2.ensures), c.requires.room.1.for_records)
