@@ -60,11 +60,11 @@ module _ {J R : Type 0} where
       subst (λ (rs : List (Record R)). Given gives rs) (sym more) (All-append (λ (x : Record R). gives x.key x.receipt) ran (r ∷ []) (s keyed) (all_one (λ (x : Record R). gives x.key x.receipt) r (given keyed)))
 
   pub same_begun_after : (p q : HandState J R) (r : RunningHandState J R) → SameHand p q → SameBegun q r → SameBegun p r
-  same_begun_after p q r a b = record { part = same_again _ _ _ _ _ _ a.part b.part; lane = b.lane ∙ a.lane; cpu = b.cpu ∙ a.cpu; blimit = b.blimit ∙ a.blimit }
+  same_begun_after p q r a b = record { part = same_again _ _ _ _ _ _ a.part b.part; lane = b.lane ∙ a.lane; cpu = b.cpu ∙ a.cpu; blimit = b.blimit ∙ a.blimit; kept = b.kept ∙ a.kept }
 
   -- the two steps of a callback leave the hand what it was
   pub same_in_two_steps : (p : HandState J R) (q : RunningHandState J R) (r : HandState J R) → SameBegun p q → SameFinished q r → SameHand p r
-  same_in_two_steps p q r a b = record { part = same_again _ _ _ _ _ _ a.part b.part; lane = b.lane ∙ a.lane; cpu = b.cpu ∙ a.cpu; blimit = b.blimit ∙ a.blimit }
+  same_in_two_steps p q r a b = record { part = same_again _ _ _ _ _ _ a.part b.part; lane = b.lane ∙ a.lane; cpu = b.cpu ∙ a.cpu; blimit = b.blimit ∙ a.blimit; kept = b.kept ∙ a.kept }
 
   -- room for records changes no draw
   pub loads_kept : (p q r : HandState J R) → Loads p q → KeepsHand q r → Loads p r

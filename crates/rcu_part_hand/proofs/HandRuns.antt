@@ -18,7 +18,11 @@ use Rattle.rcu_jobs.specs.declared.callback.Callback.{Callback}
 use Rattle.rcu_jobs.specs.declared.callback.Record.{Record}
 use Rattle.rcu_numbers.specs.Numbers.{snap_of}
 use Rattle.rcu_part_order.specs.Places.{Numbered}
+use Rattle.rcu_part_order.specs.Recorded.{Recorded, and_ran, lost}
 use Rattle.rcu_part_order.specs.Records.{numbered_record, AreRipe}
+use Rattle.rcu_part_order.specs.declared.recorded.Kept.{Kept}
+use Rattle.rcu_part_order.specs.declared.recorded.Kept.TheVariants.{Whole, Rest, Nothing}
+use Rattle.rcu_part_order.proofs.Keeping.{ran_again}
 use Rattle.rcu_part_steps.specs.Changes.{Keeps, Claims, Finishes, StepsOnly, claim_at}
 use Rattle.rcu_board.specs.Words.{board_word, turns_word}
 use Rattle.rcu_part_steps.proofs.Turning.{steps_more}
@@ -27,6 +31,22 @@ use Rattle.rcu_part_hand.specs.Hands.{AddsRecords, Looks, Loads, Ran, SameHand, 
 use Rattle.rcu_part_steps.specs.Places.{AreKeyed, numbered_callback, claim_of}
 use Rattle.rcu_part_hand.specs.declared.hand.HandState.{HandState}
 use Rattle.rcu_board.proofs.Facts.{same_seat}
+
+module _ {R : Type 0} where
+  -- where what is recorded is the same, so are all records, and what is kept
+  pub all_as : (a b : Recorded R) → a ≡ b → a.all ≡ b.all
+  all_as a b e = ap (λ (r : Recorded R). r.all) e
+
+  pub kept_as : (a b : Recorded R) → a ≡ b → a.kept ≡ b.kept
+  kept_as a b e = ap (λ (r : Recorded R). r.kept) e
+
+  -- nothing ran, too
+  and_none : (r : Recorded R) → and_ran [] r ≡ r
+  and_none r = ap (λ (l : List (Record R)). record { kept = r.kept; all = l; gone = r.gone + lost r.kept 0 }) (append-nil r.all) ∙ ap (λ (n : ℕ). record { kept = r.kept; all = r.all; gone = n }) (none_gone r.kept) where
+    none_gone : (k : Kept) → r.gone + lost k 0 ≡ r.gone
+    none_gone Whole = omega arith
+    none_gone Rest = omega arith
+    none_gone Nothing = omega arith
 
 pub all_one : {X : Type 0} (P : X → Type 0) (x : X) → P x → All P (x ∷ [])
 all_one P x p zero d low = p
@@ -100,7 +120,7 @@ module _ {J R : Type 0} where
     many = refl;
     held = sym held;
     drawn = drawn;
-    more = records ∙ sym (append-nil (hand_records p));
+    more = records ∙ sym (and_none (hand_records p));
     same = refl;
     ready = none_of (λ (r : Record R). r.ready ≡ seen);
     sight = at;
@@ -108,7 +128,7 @@ module _ {J R : Type 0} where
   }
 
   -- one was
-  pub ran_one : (seen : ℕ) (p q : HandState J R) (c : Callback J) (r : Record R) → hand_held p ≡ c ∷ hand_held q → hand_drawn q ≡ hand_drawn p → hand_records q ≡ hand_records p ++ r ∷ []
+  pub ran_one : (seen : ℕ) (p q : HandState J R) (c : Callback J) (r : Record R) → hand_held p ≡ c ∷ hand_held q → hand_drawn q ≡ hand_drawn p → hand_records q ≡ and_ran (r ∷ []) (hand_records p)
       → numbered_record r ≡ numbered_callback c → r.ready ≡ seen → sight (hand_view q) ≡ seen → StepsOnly (turns_word p.cpu) 2 (hand_view p) (hand_view q) → Ran 1 1 seen p q
   ran_one seen p q c r held drawn more same ready at steps = record {
     calls = c ∷ [];
@@ -131,7 +151,7 @@ module _ {J R : Type 0} where
     many = length-append a.records b.records ∙ (let s = a.many in let t = b.many in omega arith);
     held = a.held ∙ (ap (λ l. a.calls ++ l) b.held ∙ sym (append_assoc a.calls b.calls (hand_held q)));
     drawn = b.drawn ∙ a.drawn;
-    more = b.more ∙ (ap (λ l. l ++ b.records) a.more ∙ append_assoc (hand_records o) a.records b.records);
+    more = b.more ∙ (ap (and_ran b.records) a.more ∙ ran_again (hand_records o) a.records b.records);
     same = map-append numbered_callback a.calls b.calls ∙ (ap (λ l. l ++ map numbered_callback b.calls) a.same ∙ (ap (λ l. map numbered_record a.records ++ l) b.same ∙ sym (map-append numbered_record a.records b.records)));
     ready = All-append (λ (r : Record R). r.ready ≡ seen) a.records b.records a.ready b.ready;
     sight = b.sight;
@@ -154,21 +174,21 @@ module _ {J R : Type 0} where
       (all_one (λ (x : Record R). gives x.key x.receipt) r (given (keyed_at key_of taken c rest split))))
 
   pub same_hand : (p : HandState J R) → SameHand p p
-  same_hand p = record { part = record { board = refl; seat = same_seat _ }; lane = refl; cpu = refl; blimit = refl }
+  same_hand p = record { part = record { board = refl; seat = same_seat _ }; lane = refl; cpu = refl; blimit = refl; kept = refl }
 
   pub same_hand_again : (p q r : HandState J R) → SameHand p q → SameHand q r → SameHand p r
-  same_hand_again p q r a b = record { part = same_again _ _ _ _ _ _ a.part b.part; lane = b.lane ∙ a.lane; cpu = b.cpu ∙ a.cpu; blimit = b.blimit ∙ a.blimit }
+  same_hand_again p q r a b = record { part = same_again _ _ _ _ _ _ a.part b.part; lane = b.lane ∙ a.lane; cpu = b.cpu ∙ a.cpu; blimit = b.blimit ∙ a.blimit; kept = b.kept ∙ a.kept }
 
   -- records that stay, or to which others are added, and then others
   pub records_kept : (p q : HandState J R) → hand_records q ≡ hand_records p → AddsRecords p q
-  records_kept p q e = ([], e ∙ sym (append-nil (hand_records p)))
+  records_kept p q e = ([], e ∙ sym (and_none (hand_records p)))
 
   pub records_again : (p q r : HandState J R) → AddsRecords p q → AddsRecords q r → AddsRecords p r
-  records_again p q r a b = (a.0 ++ b.0, b.1 ∙ (ap (λ l. l ++ b.0) a.1 ∙ append_assoc (hand_records p) a.0 b.0))
+  records_again p q r a b = (a.0 ++ b.0, b.1 ∙ (ap (and_ran b.0) a.1 ∙ ran_again (hand_records p) a.0 b.0))
 
   -- a turn adds the records of what it ran
   pub records_turned : (answer : HandTurn) (p q : HandState J R) → TurnsBy answer p q → AddsRecords p q
-  records_turned answer p q t = (t.ran.records, t.ran.more ∙ ap (λ l. l ++ t.ran.records) (t.loads.records ∙ t.looks.records))
+  records_turned answer p q t = (t.ran.records, t.ran.more ∙ ap (and_ran t.ran.records) (t.loads.records ∙ t.looks.records))
 
   -- a step that changes no claim
   pub hand_watched : (cpu : ℕ) (v w : View) (ran : List (Record R)) (taken : List (Callback J)) → w.claims ≡ v.claims → w.running ≡ v.running → IsLawfulHand cpu v ran taken → IsLawfulHand cpu w ran taken

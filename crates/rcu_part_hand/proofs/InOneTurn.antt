@@ -1,11 +1,11 @@
 -- A callback run in two steps is one run of a turn.
-use Rattle.std.proofs.Common.{◌≡◌, ℕ, ◌+◌, List, [], ◌∷◌, ◌++◌, ap, sym, ◌∙◌, subst}
+use Rattle.std.proofs.Common.{◌≡◌, ℕ, ◌+◌, List, [], ◌∷◌, ap, sym, ◌∙◌, subst}
 use Rattle.rcu_board.specs.Views.{sight}
 use Rattle.rcu_board.specs.Words.{turns_word}
 use Rattle.rcu_part_lists.specs.Helds.{drawn_by, held_by}
 use Rattle.rcu_part_lists.specs.declared.hand.Held.{Held}
 use Rattle.rcu_jobs.specs.declared.callback.Callback.{Callback}
-use Rattle.rcu_jobs.specs.declared.callback.Record.{Record}
+use Rattle.rcu_part_order.specs.Recorded.{and_ran}
 use Rattle.rcu_part_order.specs.Records.{numbered_record}
 use Rattle.rcu_part_steps.specs.Begins.{record_with}
 use Rattle.rcu_part_steps.specs.Changes.{StepsOnly}
@@ -26,7 +26,7 @@ module _ {J R : Type 0} where
       ran_one seen p q c.first kept
       (c.held ∙ ap (λ (cs : List (Callback J)). c.first ∷ cs) (sym held))
       (drawn ∙ c.drawn)
-      (f.records ∙ ap (λ (rs : List (Record R)). rs ++ kept ∷ []) c.records)
+      (f.records ∙ ap (and_ran (kept ∷ [])) c.records)
       (ap (λ (k : ClaimedCallback). numbered_record (record_with r.receipt k)) c.claimed)
       (ap (λ (k : ClaimedCallback). k.ready) c.claimed)
       (f.ends.sights ∙ (c.won.sights ∙ at))

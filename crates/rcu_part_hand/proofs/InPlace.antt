@@ -1,10 +1,10 @@
 -- What a hand in place is, by its parts.
 use Rattle.std.proofs.Common.{◌≡◌, ◌≢◌, ℕ, [], ap, sym, ◌∙◌, Option, None, Some, IfSome}
 use Rattle.std.proofs.lemmas.Option.{none-some}
-use Rattle.std.specs.Vec.{vec_len, vec_capacity}
 use Rattle.std.proofs.Props.{props}
 use Rattle.rcu_jobs.specs.declared.Stop.{Stop}
 use Rattle.rcu_part_lists.specs.Lanes.{IsStopOfLane}
+use Rattle.rcu_part_order.specs.Recorded.{ran_of}
 use Rattle.rcu_part_steps.specs.declared.begins.ClaimedCallback.{ClaimedCallback}
 use Rattle.rcu_part_hand.specs.HandLaw.{IsLawfulHand}
 use Rattle.rcu_part_hand.specs.Hands.{StopsAt, hand_held}
@@ -13,7 +13,6 @@ use Rattle.rcu_part_hand.specs.InPlaceLaw.{RunsAs}
 use Rattle.rcu_part_hand.specs.declared.in_place.HandInPlaceState.{HandInPlaceState}
 use Rattle.std.specs.Arc.{arc_value}
 use Rattle.rcu_board.specs.Seats.{AtBoard, view}
-use Rattle.rcu_board.specs.declared.board.Role.{Role}
 use Rattle.rcu_board.specs.declared.board.Role.TheVariants.{Hand}
 use Rattle.rcu_part_lists.specs.Helds.{taken_by}
 use Rattle.rcu_part_hand.specs.declared.hand.HandState.{HandState}
@@ -37,12 +36,12 @@ module _ {J R : Type 0} where
   stops_in_place B hand (Some s) none why = λ b. stops_empty (Some s) (hand b) (none b) why
 
   -- the same hand, with a claim or none
-  abbrev with_claim : (p : HandInPlaceState J R) (o : Option ClaimedCallback) → (o ≡ None → IsLawfulHand p.cpu (view p.seat) p.ran.items (taken_by p.held))
-      → ((c : ClaimedCallback) → o ≡ Some c → RunsAs p.cpu c (view p.seat) p.ran.items (vec_len p.ran) (vec_capacity p.ran) (taken_by p.held)) → HandInPlaceState J R
+  abbrev with_claim : (p : HandInPlaceState J R) (o : Option ClaimedCallback) → (o ≡ None → IsLawfulHand p.cpu (view p.seat) (ran_of p.ran) (taken_by p.held))
+      → ((c : ClaimedCallback) → o ≡ Some c → RunsAs p.cpu c (view p.seat) p.ran (taken_by p.held)) → HandInPlaceState J R
   with_claim p o rests runs = record p { claimed = o; rests = rests; runs = runs }
 
-  claim_none : (p : HandInPlaceState J R) (o : Option ClaimedCallback) (e : o ≡ None) (rests : o ≡ None → IsLawfulHand p.cpu (view p.seat) p.ran.items (taken_by p.held))
-      (runs : (c : ClaimedCallback) → o ≡ Some c → RunsAs p.cpu c (view p.seat) p.ran.items (vec_len p.ran) (vec_capacity p.ran) (taken_by p.held)) → with_claim p o rests runs ≡ with_claim p None (λ x. rests e) (λ c x. absurd (none-some c x))
+  claim_none : (p : HandInPlaceState J R) (o : Option ClaimedCallback) (e : o ≡ None) (rests : o ≡ None → IsLawfulHand p.cpu (view p.seat) (ran_of p.ran) (taken_by p.held))
+      (runs : (c : ClaimedCallback) → o ≡ Some c → RunsAs p.cpu c (view p.seat) p.ran (taken_by p.held)) → with_claim p o rests runs ≡ with_claim p None (λ x. rests e) (λ c x. absurd (none-some c x))
   claim_none p None e rests runs = let one : rests ≡ (λ x. rests e) = λ i x. ap rests (none_once None x e) i in
       let two : runs ≡ (λ c x. absurd (none-some c x)) = λ i c x. (let q : runs c x ≡ absurd (none-some c x) = absurd (none-some c x) in q i) in
       ap (λ r. with_claim p None r runs) one ∙ ap (λ r. with_claim p None (λ x. rests e) r) two
@@ -53,10 +52,10 @@ module _ {J R : Type 0} where
   rests_as p e = claim_none p p.claimed e p.rests p.runs
 
   -- what is known of a hand is known in one way alone
-  pub hand_once : (h : HandState J R) (here : AtBoard (arc_value h.board) h.seat) (role : h.seat.role ≡ Hand h.cpu) (lawful : IsLawfulHand h.cpu (view h.seat) h.ran.items (taken_by h.held))
+  pub hand_once : (h : HandState J R) (here : AtBoard (arc_value h.board) h.seat) (role : h.seat.role ≡ Hand h.cpu) (lawful : IsLawfulHand h.cpu (view h.seat) (ran_of h.ran) (taken_by h.held))
       → h ≡ record h { here = here; role = role; lawful = lawful }
   hand_once h here role lawful =
       let one : IsProp (AtBoard (arc_value h.board) h.seat) = hlevel props in
       let two : IsProp (h.seat.role ≡ Hand h.cpu) = hlevel props in
-      let three : IsProp (IsLawfulHand h.cpu (view h.seat) h.ran.items (taken_by h.held)) = hlevel props in
+      let three : IsProp (IsLawfulHand h.cpu (view h.seat) (ran_of h.ran) (taken_by h.held)) = hlevel props in
       ap (λ x. record h { here = x }) (one h.here here) ∙ (ap (λ x. record h { here = here; role = x }) (two h.role role) ∙ ap (λ x. record h { here = here; role = role; lawful = x }) (three h.lawful lawful))

@@ -1,5 +1,5 @@
 -- What a hand's begin and finish do: docs/specification/surface.md, "rcu_parts".
-use Rattle.std.specs.Prelude.{◌≡◌, ℕ, ◌≤◌, List, [], ◌∷◌, ◌++◌}
+use Rattle.std.specs.Prelude.{◌≡◌, ℕ, ◌≤◌, List, [], ◌∷◌}
 use Rattle.std.specs.Arc.{arc_value}
 use Rattle.rcu_board.specs.Seats.{view}
 use Rattle.rcu_board.specs.Words.{turns_word}
@@ -10,9 +10,9 @@ use Rattle.rcu_part_lists.specs.Helds.{front_of, drawn_by, held_by}
 use Rattle.rcu_jobs.specs.Records.{Given}
 use Rattle.rcu_jobs.specs.declared.Stop.{Stop}
 use Rattle.rcu_jobs.specs.declared.callback.Callback.{Callback}
-use Rattle.rcu_jobs.specs.declared.callback.Record.{Record}
 use Rattle.rcu_lanes.specs.Ends.{SameFront}
 use Rattle.rcu_numbers.specs.Numbers.{snap_of}
+use Rattle.rcu_part_order.specs.Recorded.{Recorded, and_ran, recorded}
 use Rattle.rcu_part_steps.specs.Begins.{claimed_as, record_with}
 use Rattle.rcu_part_steps.specs.Changes.{Claims, Finishes, StepsOnly}
 use Rattle.rcu_part_steps.specs.Places.{AreKeyed}
@@ -28,8 +28,9 @@ module _ {J R : Type 0} where
   abbrev pub running_view : RunningHandState J R → View
   running_view h = view h.seat
 
-  abbrev pub running_records : RunningHandState J R → List (Record R)
-  running_records h = h.ran.items
+  -- all records of what it ran, and which of them are left
+  abbrev pub running_records : RunningHandState J R → Recorded R
+  running_records h = recorded h.ran
 
   -- all that it drew, and of that what it holds
   abbrev pub running_drawn : RunningHandState J R → List (Callback J)
@@ -44,16 +45,18 @@ module _ {J R : Type 0} where
     pub lane : SameFront (front_of p.held) (front_of q.held)
     pub cpu : q.cpu ≡ p.cpu
     pub blimit : q.blimit ≡ p.blimit
+    pub kept : q.ran.kept ≡ p.ran.kept
 
   pub record SameFinished (p : RunningHandState J R) (q : HandState J R) : Type 0 where
     pub part : SamePart (running_board p) (hand_board q) p.seat q.seat
     pub lane : SameFront (front_of p.held) (front_of q.held)
     pub cpu : q.cpu ≡ p.cpu
     pub blimit : q.blimit ≡ p.blimit
+    pub kept : q.ran.kept ≡ p.ran.kept
 
   -- What a hand knows of jobs while a claim of it runs: what it knows between its calls.
   abbrev pub IsSoundRunning : (J → ℕ) → (ℕ → R → Type 0) → RunningHandState J R → Type 0
-  IsSoundRunning key_of gives h = AreKeyed key_of (running_drawn h) → Given gives (running_records h)
+  IsSoundRunning key_of gives h = AreKeyed key_of (running_drawn h) → Given gives (running_records h).all
 
   -- The job that was handed out has the key that its record will have, where each callback that was drawn has its job's.
   abbrev pub IsKeyed : (J → ℕ) → RunningHandState J R → J → Type 0
@@ -107,7 +110,7 @@ module _ {J R : Type 0} where
 
   -- A finish: the claim has ended by one step, its record is added, and nothing else changed.
   pub record FinishesHand (receipt : R) (p : RunningHandState J R) (q : HandState J R) : Type 0 where
-    pub records : hand_records q ≡ running_records p ++ record_with receipt p.claimed ∷ []
+    pub records : hand_records q ≡ and_ran (record_with receipt p.claimed ∷ []) (running_records p)
     pub held : q.held ≡ p.held
     pub ends : Finishes (running_view p) (hand_view q)
     pub steps : StepsOnly (turns_word p.cpu) 1 (running_view p) (hand_view q)

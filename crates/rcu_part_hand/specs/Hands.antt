@@ -21,7 +21,9 @@ use Rattle.rcu_jobs.specs.declared.callback.Callback.{Callback}
 use Rattle.rcu_jobs.specs.declared.callback.Record.{Record}
 use Rattle.rcu_lanes.specs.Ends.{SameFront}
 use Rattle.rcu_numbers.specs.Numbers.{snap_of}
+use Rattle.rcu_part_order.specs.Recorded.{Recorded, and_ran, recorded}
 use Rattle.rcu_part_order.specs.Records.{numbered_records}
+use Rattle.rcu_part_order.specs.declared.recorded.Kept.{Kept}
 use Rattle.rcu_part_steps.specs.Changes.{StepsOnly}
 use Rattle.rcu_part_steps.specs.Places.{AreKeyed, numbered_callbacks}
 use Rattle.rcu_part_hand.specs.declared.hand.HandState.{HandState}
@@ -33,8 +35,9 @@ module _ {J R : Type 0} where
   abbrev pub hand_view : HandState J R → View
   hand_view h = view h.seat
 
-  abbrev pub hand_records : HandState J R → List (Record R)
-  hand_records h = h.ran.items
+  -- all records of what it ran, and which of them are left
+  abbrev pub hand_records : HandState J R → Recorded R
+  hand_records h = recorded h.ran
 
   -- all that it drew, and of that what it holds
   abbrev pub hand_drawn : HandState J R → List (Callback J)
@@ -43,20 +46,21 @@ module _ {J R : Type 0} where
   abbrev pub hand_held : HandState J R → List (Callback J)
   hand_held h = held_by h.held
 
-  -- the same part of the same open: its seat, its lane, its number and its limit
+  -- the same part of the same open: its seat, its lane, its number, its limit and what it keeps of what it ran
   pub record SameHand (p q : HandState J R) : Type 0 where
     pub part : SamePart (hand_board p) (hand_board q) p.seat q.seat
     pub lane : SameFront (front_of p.held) (front_of q.held)
     pub cpu : q.cpu ≡ p.cpu
     pub blimit : q.blimit ≡ p.blimit
+    pub kept : q.ran.kept ≡ p.ran.kept
 
-  -- the records that there were stand before all others
+  -- the records that there were stand before all others, and none of those that were left was lost
   abbrev pub AddsRecords : HandState J R → HandState J R → Type 0
-  AddsRecords p q = (more : List (Record R)) × (hand_records q ≡ hand_records p ++ more)
+  AddsRecords p q = (more : List (Record R)) × (hand_records q ≡ and_ran more (hand_records p))
 
   -- What a hand knows of jobs: where each callback that it drew has its job's key, each receipt is as the relation wants it.
   abbrev pub IsSoundHand : (J → ℕ) → (ℕ → R → Type 0) → HandState J R → Type 0
-  IsSoundHand key_of gives h = AreKeyed key_of (hand_drawn h) → Given gives (hand_records h)
+  IsSoundHand key_of gives h = AreKeyed key_of (hand_drawn h) → Given gives (hand_records h).all
 
   -- what is known of jobs stays known
   abbrev pub KeepsSoundHand : (J → ℕ) → (ℕ → R → Type 0) → HandState J R → HandState J R → Type 0
@@ -70,7 +74,7 @@ module _ {J R : Type 0} where
     pub many : length records ≡ n
     pub held : hand_held p ≡ calls ++ hand_held q
     pub drawn : hand_drawn q ≡ hand_drawn p
-    pub more : hand_records q ≡ hand_records p ++ records
+    pub more : hand_records q ≡ and_ran records (hand_records p)
     pub same : numbered_callbacks calls ≡ numbered_records records
     pub ready : All (λ r. r.ready ≡ seen) records
     pub sight : sight (hand_view q) ≡ seen
@@ -111,6 +115,11 @@ module _ {J R : Type 0} where
     pub view : hand_view q ≡ hand_view p
     pub records : hand_records q ≡ hand_records p
 
+  -- nothing changed but which records are left
+  pub record KeepsButRecords (p q : HandState J R) : Type 0 where
+    pub view : hand_view q ≡ hand_view p
+    pub held : q.held ≡ p.held
+
   -- A turn: a look, a draw at most, and then the first ones of what is held run.
   pub record TurnsBy (answer : HandTurn) (p q : HandState J R) : Type 0 where
     pub seen : ℕ
@@ -124,11 +133,11 @@ module _ {J R : Type 0} where
     pub ran : Ran answer.ran tried seen second q
     pub stop : StopsAt answer.stop answer.ran tried seen q
 
-  -- the hand of processor cpu of a board, with its seat and what it holds: it ran nothing
-  pub record IsNewHandOf (shape : Shape) (b : Table) (cpu : ℕ) (s : Seat) (held : Held J) (h : HandState J R) : Type 0 where
+  -- the hand of processor cpu of a board, with its seat and what it holds, which keeps this of what it runs: it ran nothing
+  pub record IsNewHandOf (shape : Shape) (b : Table) (cpu : ℕ) (s : Seat) (held : Held J) (kept : Kept) (h : HandState J R) : Type 0 where
     pub board : hand_board h ≡ b
     pub seat : h.seat ≡ s
     pub held_is : h.held ≡ held
     pub cpu_is : h.cpu ≡ cpu
     pub limit : h.blimit ≡ shape.blimit
-    pub ran : hand_records h ≡ []
+    pub ran : hand_records h ≡ record { kept = kept; all = []; gone = 0 }

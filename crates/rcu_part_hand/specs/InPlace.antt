@@ -13,6 +13,7 @@ use Rattle.rcu_part_hand.specs.Hands.{SameHand, Ran, StopsAt, hand_drawn, hand_h
 use Rattle.rcu_part_hand.specs.declared.hand.HandState.{HandState}
 use Rattle.rcu_part_hand.specs.declared.in_place.HandInPlaceState.{HandInPlaceState}
 use Rattle.rcu_part_hand.specs.declared.running_hand.RunningHandState.{RunningHandState}
+use Rattle.rcu_part_order.specs.Recorded.{ran_of}
 use Rattle.rcu_part_steps.specs.Places.{AreKeyed}
 use Rattle.rcu_part_steps.specs.declared.begins.ClaimedCallback.{ClaimedCallback}
 
@@ -66,7 +67,7 @@ module _ {J R : Type 0} where
 
   -- what a hand in place knows of jobs, whether a claim of it runs or not
   abbrev pub IsSoundInPlace : (J → ℕ) → (ℕ → R → Type 0) → HandInPlaceState J R → Type 0
-  IsSoundInPlace key_of gives p = AreKeyed key_of (drawn_by p.held) → Given gives p.ran.items
+  IsSoundInPlace key_of gives p = AreKeyed key_of (drawn_by p.held) → Given gives (ran_of p.ran)
 
   -- what is known of jobs stays known
   abbrev pub KeepsSoundInPlace : (J → ℕ) → (ℕ → R → Type 0) → HandInPlaceState J R → HandInPlaceState J R → Type 0

@@ -1,13 +1,13 @@
 //! A hand's run of one callback in two steps: the claim is won and the job handed out, and later the claim is ended.
 
 ghost use Rattle.std.specs.Prelude.{◌≡◌, ◌≢◌, ◌<◌, IfErr, IfOk};
-ghost use Rattle.std.specs.Vec.{vec_len, vec_capacity};
 ghost use Rattle.rcu_numbers.specs.declared.shape.TheConstants.{MOST_CALLS};
 ghost use Rattle.rcu_board.specs.Views.{sight};
 ghost use Rattle.rcu_jobs.specs.declared.Stop.TheVariants.{Limit};
 ghost use Rattle.rcu_part_hand.specs.Begins.{SameBegun, SameFinished, IsSoundRunning, IsKeyed, IsGivenFor};
 ghost use Rattle.rcu_part_hand.specs.Begins.{IsNext, KeepsHand, ClaimsFirst, BeginsHand, StopsHand, FinishesHand};
 ghost use Rattle.rcu_part_hand.specs.Hands.{SameHand, IsSoundHand, KeepsSoundHand, Ran, StopsAt, hand_view};
+ghost use Rattle.rcu_part_order.specs.Recorded.{HasRoom};
 ghost use Rattle.rcu_part_steps.specs.Begins.{IfRuns, IfStops};
 
 use crate::hand::{Hand, HandState};
@@ -24,8 +24,7 @@ impl<J: Job> Hand<J> {
         ensures keeps { KeepsHand self.old.state self.new.state }
         ensures next { IfOk result (λ c. IsNext seen c self.new.state) }
         ensures small { IfOk result (λ c. c.number < MOST_CALLS) }
-        ensures room { IfOk result (λ _.
-            vec_len self.new.state.ran < vec_capacity self.new.state.ran) }
+        ensures room { IfOk result (λ _. HasRoom self.new.state.ran) }
         ensures stops { IfErr result (λ stop. StopsAt stop 0 0 seen self.new.state) }
         ensures counts { IfErr result (λ stop. stop ≢ Limit) }
         ensures sound { KeepsSoundHand J.key_of J.gives self.old.state self.new.state }
@@ -43,7 +42,7 @@ impl<J: Job> Hand<J> {
         if snap(claimed.stamp) > seen {
             return Err(Stop::Turn);
         }
-        let Ok(()) = state.ran.reserve(1) else {
+        let Ok(()) = state.ran.find_room() else {
             return Err(Stop::Memory);
         };
         Ok(claimed)
@@ -94,7 +93,7 @@ impl<J: Job> RunningHand<J> {
             held,
         } = self.state;
         end_claim(&board, &mut seat);
-        ran.push_reserved(Record {
+        ran.add(Record {
             number: claimed.number,
             key: claimed.key,
             stamp: claimed.stamp,

@@ -6,13 +6,15 @@ ghost use Rattle.rcu_numbers.specs.declared.shape.TheConstants.{MOST_CALLS};
 ghost use Rattle.rcu_board.specs.Seats.{view, AtBoard};
 ghost use Rattle.rcu_board.specs.declared.board.Role.{Role};
 ghost use Rattle.rcu_part_lists.specs.Helds.{taken_by};
+ghost use Rattle.rcu_part_order.specs.Recorded.{ran_of};
 ghost use Rattle.rcu_part_hand.specs.HandLaw.{IsLawfulHand};
 
 use crate::running_hand::{RunningHand, RunningHandState};
 use rcu_board::{Board, Role, Seat};
-use rcu_jobs::{Callback, Job, Record, Stop};
+use rcu_jobs::{Callback, Job, Stop};
 use rcu_numbers::Shape;
 use rcu_part_lists::Held;
+use rcu_part_order::{Kept, Records};
 use rcu_part_steps::{Begins, ClaimedCallback, try_claim};
 use std::alloc::Global;
 use std::sync::Arc;
@@ -25,11 +27,11 @@ pub struct HandState<J, R> {
     pub cpu: u64,
     /// How many callbacks a turn runs at most.
     pub blimit: u64,
-    pub ran: Vec<Record<R>>,
+    pub ran: Records<R>,
     pub held: Held<J>,
     ghost here: { AtBoard (arc_value board) seat },
     ghost role: { seat.role ≡ Role.Hand cpu },
-    ghost lawful: { IsLawfulHand cpu (view seat) ran.items (taken_by held) },
+    ghost lawful: { IsLawfulHand cpu (view seat) (ran_of ran) (taken_by held) },
 }
 
 /// The hand of an offloadable processor: it runs the callbacks that the group gives it, each under a claim of its number.
@@ -43,7 +45,8 @@ impl<J: Job> Hand<J> {
     ghost use Rattle.rcu_part_lists.specs.Helds.{drawn_by, held_by};
     ghost use Rattle.rcu_part_hand.specs.Hands.{IsNewHandOf, hand_records};
 
-    /// The hand of processor `cpu` of a shape, from its seat and the end of its done lane. It has drawn nothing.
+    /// The hand of processor `cpu` of a shape, from its seat and the end of its done lane, and what is kept of the callbacks
+    /// that it runs. It has drawn nothing.
     pub fn new(
         alloc: Global,
         shape: &Shape,
@@ -51,10 +54,11 @@ impl<J: Job> Hand<J> {
         seat: Seat,
         cpu: u64,
         held: Held<J>,
+        kept: Kept,
     ) -> Hand<J>
         requires seat { IsNewHand (arc_value board) cpu seat }
         requires held { (drawn_by held ≡ []) × (held_by held ≡ []) }
-        ensures new { IsNewHandOf shape.now (arc_value board) cpu seat held result.state }
+        ensures new { IsNewHandOf shape.now (arc_value board) cpu seat held kept result.state }
     {
         Hand {
             state: HandState {
@@ -62,7 +66,7 @@ impl<J: Job> Hand<J> {
                 seat,
                 cpu,
                 blimit: shape.blimit,
-                ran: Vec::new(alloc),
+                ran: Records::new(alloc, kept),
                 held,
             },
         }
@@ -77,7 +81,7 @@ impl<J: Job> Hand<J> {
 
     /// How many callbacks it ran.
     pub fn ran(&self) -> usize
-        ensures { result ≡ length (hand_records self.now.state) }
+        ensures { result ≡ length (hand_records self.now.state).all }
     {
         self.state.ran.len()
     }
@@ -93,11 +97,11 @@ impl<J: Job> Hand<J> {
 
 impl<J: Job> Hand<J> {
     ghost use Rattle.std.specs.Prelude.{◌≢◌, ◌<◌};
-    ghost use Rattle.std.specs.Vec.{vec_len, vec_capacity};
     ghost use Rattle.rcu_board.specs.Views.{sight};
     ghost use Rattle.rcu_jobs.specs.declared.Stop.TheVariants.{Limit};
     ghost use Rattle.rcu_part_hand.specs.Begins.{SameBegun, IsSoundRunning, IsKeyed, IsNext, ClaimsFirst};
     ghost use Rattle.rcu_part_hand.specs.Hands.{SameHand, IsSoundHand, Ran, StopsAt, hand_view};
+    ghost use Rattle.rcu_part_order.specs.Recorded.{HasRoom};
     ghost use Rattle.rcu_part_steps.specs.Begins.{IfRuns, IfStops};
 
     /// Wins the claim of the first of what it holds, and hands its job out, or says that it isn't its turn.
@@ -105,7 +109,7 @@ impl<J: Job> Hand<J> {
         requires seen { sight (hand_view self.state) ≡ claimed.ready }
         requires next { IsNext claimed.ready claimed self.state }
         requires small { claimed.number < MOST_CALLS }
-        requires room { vec_len self.state.ran < vec_capacity self.state.ran }
+        requires room { HasRoom self.state.ran }
         ensures same { IfRuns result (λ running _. SameBegun self.state running.state) }
         ensures stays { IfStops result (λ hand _. SameHand self.state hand.state) }
         ensures runs { IfRuns result (λ running job.

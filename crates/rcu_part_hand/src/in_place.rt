@@ -3,7 +3,6 @@
 ghost use Rattle.std.specs.Prelude.{◌≡◌, ◌≢◌, ◌<◌, ◌≤◌, ℕ, None, Some, IfNone, IfSome, IfOk, IfErr, is_some};
 ghost use Rattle.std.specs.Arc.{arc_value};
 ghost use Rattle.std.specs.Int.{from_bool};
-ghost use Rattle.std.specs.Vec.{vec_len, vec_capacity};
 ghost use Rattle.rcu_numbers.specs.declared.sequence.TheConstants.{LAST_NUMBER};
 ghost use Rattle.rcu_numbers.specs.declared.shape.TheConstants.{MOST_CALLS};
 ghost use Rattle.rcu_board.specs.Seats.{view, AtBoard};
@@ -11,6 +10,7 @@ ghost use Rattle.rcu_board.specs.Views.{sight};
 ghost use Rattle.rcu_board.specs.declared.board.Role.{Role};
 ghost use Rattle.rcu_jobs.specs.declared.Stop.TheVariants.{Limit};
 ghost use Rattle.rcu_part_lists.specs.Helds.{taken_by};
+ghost use Rattle.rcu_part_order.specs.Recorded.{HasRoom, ran_of};
 ghost use Rattle.rcu_part_hand.specs.HandLaw.{IsLawfulHand};
 ghost use Rattle.rcu_part_hand.specs.InPlaceLaw.{RunsAs};
 ghost use Rattle.rcu_part_steps.specs.declared.begins.ClaimedCallback.{ClaimedCallback as Claimed};
@@ -20,6 +20,7 @@ use rcu_board::{Board, Role, Seat, halted};
 use rcu_jobs::{Callback, Job, Record, Stop};
 use rcu_numbers::snap;
 use rcu_part_lists::Held;
+use rcu_part_order::Records;
 use rcu_part_steps::{ClaimedCallback, end_claim, look_at_number, try_claim};
 use std::alloc::Global;
 use std::sync::Arc;
@@ -32,15 +33,15 @@ pub struct HandInPlaceState<J, R> {
     pub cpu: u64,
     /// How many callbacks a turn runs at most.
     pub blimit: u64,
-    pub ran: Vec<Record<R>>,
+    pub ran: Records<R>,
     /// The callback whose claim runs, if one does. There is room for its record.
     pub claimed: Option<ClaimedCallback>,
     pub held: Held<J>,
     ghost here: { AtBoard (arc_value board) seat },
     ghost role: { seat.role ≡ Role.Hand cpu },
-    ghost rests: { claimed ≡ None → IsLawfulHand cpu (view seat) ran.items (taken_by held) },
+    ghost rests: { claimed ≡ None → IsLawfulHand cpu (view seat) (ran_of ran) (taken_by held) },
     ghost runs: { (c : Claimed) → claimed ≡ Some c
-        → RunsAs cpu c (view seat) ran.items (vec_len ran) (vec_capacity ran) (taken_by held) },
+        → RunsAs cpu c (view seat) ran (taken_by held) },
 }
 
 /// A hand that stays where it is while claims of it begin and end: a [`Hand`] where none runs, and else a
@@ -160,8 +161,7 @@ impl<J: Job> HandInPlace<J> {
         ensures next { IfOk result (λ c. IfResting (IsNext seen c) self.new.state) }
         ensures ready { IfOk result (λ c. c.ready ≡ seen) }
         ensures small { IfOk result (λ c. c.number < MOST_CALLS) }
-        ensures room { IfOk result (λ _.
-            vec_len self.new.state.ran < vec_capacity self.new.state.ran) }
+        ensures room { IfOk result (λ _. HasRoom self.new.state.ran) }
         ensures stops { IfErr result (λ stop. IfResting (StopsAt stop 0 0 seen) self.new.state) }
         ensures counts { IfErr result (λ stop. stop ≢ Limit) }
         ensures sound { KeepsSoundInPlace J.key_of J.gives self.old.state self.new.state }
@@ -179,7 +179,7 @@ impl<J: Job> HandInPlace<J> {
         if snap(claimed.stamp) > seen {
             return Err(Stop::Turn);
         }
-        let Ok(()) = state.ran.reserve(1) else {
+        let Ok(()) = state.ran.find_room() else {
             return Err(Stop::Memory);
         };
         Ok(claimed)
@@ -191,7 +191,7 @@ impl<J: Job> HandInPlace<J> {
         requires seen { sight (view self.old.state.seat) ≡ claimed.ready }
         requires next { IfResting (IsNext claimed.ready claimed) self.old.state }
         requires small { claimed.number < MOST_CALLS }
-        requires room { vec_len self.old.state.ran < vec_capacity self.old.state.ran }
+        requires room { HasRoom self.old.state.ran }
         ensures runs { IfSome result (λ job.
             StartsRunning (λ p q. ClaimsFirst claimed.ready p q job) self.old.state self.new.state) }
         ensures lost { IfNone result (StaysResting (LosesClaim claimed.ready) self.old.state
@@ -254,7 +254,7 @@ impl<J: Job> HandInPlace<J> {
             unreachable!()
         };
         end_claim(&state.board, &mut state.seat);
-        state.ran.push_reserved(Record {
+        state.ran.add(Record {
             number: claimed.number,
             key: claimed.key,
             stamp: claimed.stamp,

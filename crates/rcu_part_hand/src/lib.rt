@@ -9,6 +9,7 @@ mod begin;
 mod hand;
 mod in_place;
 mod laws;
+mod recorded;
 mod run;
 mod running_hand;
 mod turn;

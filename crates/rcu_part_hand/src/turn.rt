@@ -34,7 +34,7 @@ impl<J: Job> Hand<J> {
         if snap(first.stamp) > seen {
             return Some(Stop::Turn);
         }
-        let Ok(()) = state.ran.reserve(1) else {
+        let Ok(()) = state.ran.find_room() else {
             return Some(Stop::Memory);
         };
         if !try_claim(&state.board, &mut state.seat, state.cpu, number) {
@@ -44,7 +44,7 @@ impl<J: Job> Hand<J> {
             unreachable!()
         };
         let record = run_claimed(&state.board, &mut state.seat, callback, seen);
-        state.ran.push_reserved(record);
+        state.ran.add(record);
         None
     }
 

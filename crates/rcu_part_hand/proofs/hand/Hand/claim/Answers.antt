@@ -38,11 +38,11 @@ pub invariant_of-state : goal.invariant_of-state
 invariant_of-state g c = let s = c.args.self.state in let e = c.if-not-try_claim.ensures in record {
   here = e.same.table ∙ s.here;
   role = e.same.role ∙ s.role;
-  lawful = hand_kept s.cpu (view s.seat) _ s.ran.items _ (taken_by s.held) (e.lost refl).0 refl s.lawful;
+  lawful = hand_kept s.cpu (view s.seat) _ s.ran.all.items _ (taken_by s.held) (e.lost refl).0 refl s.lawful;
 }
 
 pub returns-then-not-try_claim-clause-stays : goal.returns-then-not-try_claim-clause-stays
-returns-then-not-try_claim-clause-stays g c = record { part = record { board = refl; seat = c.if-not-try_claim.ensures.same }; lane = refl; cpu = refl; blimit = refl }
+returns-then-not-try_claim-clause-stays g c = record { part = record { board = refl; seat = c.if-not-try_claim.ensures.same }; lane = refl; cpu = refl; blimit = refl; kept = refl }
 
 pub returns-then-not-try_claim-clause-lost : goal.returns-then-not-try_claim-clause-lost
 returns-then-not-try_claim-clause-lost g c = ran_none 1 c.args.claimed.ready c.args.self.state _ refl refl refl ((c.if-not-try_claim.ensures.lost refl).1 ∙ c.requires.seen) c.if-not-try_claim.ensures.only
@@ -70,12 +70,12 @@ invariant_of-state-2 g c =
       role = e.same.role ∙ s.role;
       small = c.requires.small;
       room = c.requires.room;
-      lawful = hand_begun s.cpu c.args.claimed.ready (view s.seat) (view c.try_claim.new.seat) s.ran.items (taken_by s.held) (taken_by c.take.new.self) x c.args.claimed is won c.requires.seen c.in-Some.ensures.taken
+      lawful = hand_begun s.cpu c.args.claimed.ready (view s.seat) (view c.try_claim.new.seat) s.ran.all.items (taken_by s.held) (taken_by c.take.new.self) x c.args.claimed is won c.requires.seen c.in-Some.ensures.taken
           (subst (λ (y : Callback g.row.J.Denot). snap_of y.stamp ≤ c.args.claimed.ready) first n.over) s.lawful;
     }
 
 pub returns-clause-same : goal.returns-clause-same
-returns-clause-same g c = let s = c.args.self.state in record { part = record { board = refl; seat = c.if-not-try_claim.ensures.same }; lane = same_lane s.held c.take.new.self c.in-Some.ensures.front; cpu = refl; blimit = refl }
+returns-clause-same g c = let s = c.args.self.state in record { part = record { board = refl; seat = c.if-not-try_claim.ensures.same }; lane = same_lane s.held c.take.new.self c.in-Some.ensures.front; cpu = refl; blimit = refl; kept = refl }
 
 pub returns-clause-runs : goal.returns-clause-runs
 returns-clause-runs g c =
@@ -103,7 +103,7 @@ returns-clause-keyed g c =
 
 pub returns-clause-sound : goal.returns-clause-sound
 returns-clause-sound g c = λ sound. let s = c.args.self.state in
-    (hand_sound_kept g.J.Job.key_of g.J.Job.gives (drawn_by s.held) (drawn_by c.take.new.self) s.ran.items s.ran.items (ap (λ f. drawn_calls f) c.in-Some.ensures.front) refl sound, tt)
+    (hand_sound_kept g.J.Job.key_of g.J.Job.gives (drawn_by s.held) (drawn_by c.take.new.self) s.ran.all.items s.ran.all.items (ap (λ f. drawn_calls f) c.in-Some.ensures.front) refl sound, tt)
 
 pub take-requires : goal.take-requires
 take-requires g c = let h : FitsInMemory (row.the_row (param 0 g.row.J) (param 1 g.row.J-Receipt)) = assumption in in_struct _ _ _ (in_struct _ _ _ h)

@@ -8,5 +8,5 @@ pub invariant_of-state : goal.invariant_of-state
 invariant_of-state g c = let s = c.args.self.now.state in let e = c.look_at_number.ensures in record {
   here = e.same.table ∙ s.here;
   role = e.same.role ∙ s.role;
-  lawful = hand_watched s.cpu (view s.seat) (view c.look_at_number.new.seat) s.ran.items (taken_by s.held) e.claims.0 e.claims.1 s.lawful;
+  lawful = hand_watched s.cpu (view s.seat) (view c.look_at_number.new.seat) s.ran.all.items (taken_by s.held) e.claims.0 e.claims.1 s.lawful;
 }

@@ -1,3 +1,4 @@
+use Rattle.rcu_part_order.specs.Recorded.{and_ran, recorded}
 use Rattle.std.proofs.Common.{◌≡◌, ℕ, ◌≤◌, List, [], ◌∷◌, ◌++◌, inl, inr, ◌∙◌, ap, sym, subst, refl, arith}
 use Rattle.rcu_part_hand.specs.contracts.hand.Hand as row
 use Rattle.rcu_part_lists.proofs.Sizes.{in_struct}
@@ -15,7 +16,7 @@ use Rattle.rcu_numbers.specs.Numbers.{snap_of}
 use Rattle.rcu_board.specs.Words.{turns_word}
 use Rattle.rcu_part_steps.specs.Changes.{Claims, StepsOnly}
 use Rattle.rcu_part_steps.proofs.Turning.{steps_more, steps_none}
-use Rattle.rcu_part_hand.proofs.HandRuns.{hand_kept, hand_ran, hand_sound_kept, hand_sound_ran, ran_none, ran_one, same_first, not_none}
+use Rattle.rcu_part_hand.proofs.HandRuns.{all_as, kept_as, hand_kept, hand_ran, hand_sound_kept, hand_sound_ran, ran_none, ran_one, same_first, not_none}
 use Rattle.std.specs.Arc.{arc_value}
 use Rattle.rcu_part_hand.proofs.Standing.{same_lane, stands}
 use Rattle.rcu_jobs.specs.declared.callback.Record.{Record}
@@ -30,26 +31,26 @@ pub returns-then-snap-seen-clause-not : goal.returns-then-snap-seen-clause-not
 returns-then-snap-seen-clause-not g c = let f = c.in-Some.ensures.first in
     (0, ran_none 0 c.args.seen c.args.self.now.state _ refl refl refl c.requires.seen (steps_none _ _ _ refl), λ n. (c.in-Some.first.now, f.0, f.1, inl (omega (arith, c.if-snap-seen.true, c.snap.ensures.value), omega arith)))
 
-pub returns-in_default-reserve-clause-not : goal.returns-in_default-reserve-clause-not
-returns-in_default-reserve-clause-not g c = let f = c.in-Some.ensures.first in
-    (0, ran_none 0 c.args.seen c.args.self.now.state _ refl refl c.reserve.ensures.items c.requires.seen (steps_none _ _ _ refl), λ n. ((c.in-Some.first.now, f.0, f.1, omega (arith, c.if-snap-seen.false, c.snap.ensures.value)), omega arith))
+pub returns-in_default-find_room-clause-not : goal.returns-in_default-find_room-clause-not
+returns-in_default-find_room-clause-not g c = let f = c.in-Some.ensures.first in
+    (0, ran_none 0 c.args.seen c.args.self.now.state _ refl refl c.find_room.ensures.same c.requires.seen (steps_none _ _ _ refl), λ n. ((c.in-Some.first.now, f.0, f.1, omega (arith, c.if-snap-seen.false, c.snap.ensures.value)), omega arith))
 
-pub returns-in_default-reserve-clause-sound : goal.returns-in_default-reserve-clause-sound
-returns-in_default-reserve-clause-sound g c = hand_sound_kept g.J.Job.key_of g.J.Job.gives (drawn_by c.args.self.now.state.held) (drawn_by c.args.self.now.state.held) c.args.self.now.state.ran.items c.reserve.new.self.items refl c.reserve.ensures.items
+pub returns-in_default-find_room-clause-sound : goal.returns-in_default-find_room-clause-sound
+returns-in_default-find_room-clause-sound g c = hand_sound_kept g.J.Job.key_of g.J.Job.gives (drawn_by c.args.self.now.state.held) (drawn_by c.args.self.now.state.held) c.args.self.now.state.ran.all.items c.find_room.new.self.all.items refl (all_as _ _ c.find_room.ensures.same)
 
 pub invariant_of-state-then-not-try_claim : goal.invariant_of-state-then-not-try_claim
 invariant_of-state-then-not-try_claim g c = let s = c.args.self.now.state in let e = c.if-not-try_claim.ensures in record {
   here = e.same.table ∙ s.here;
   role = e.same.role ∙ s.role;
-  lawful = hand_kept s.cpu (view s.seat) _ s.ran.items _ (taken_by s.held) (e.lost refl).0 c.reserve.ensures.items s.lawful;
+  lawful = hand_kept s.cpu (view s.seat) _ s.ran.all.items _ (taken_by s.held) (e.lost refl).0 (all_as _ _ c.find_room.ensures.same) s.lawful;
 }
 
 pub returns-then-not-try_claim-clause-not : goal.returns-then-not-try_claim-clause-not
 returns-then-not-try_claim-clause-not g c = let f = c.in-Some.ensures.first in let l = c.if-not-try_claim.ensures.lost refl in
-    (1, ran_none 1 c.args.seen c.args.self.now.state _ refl refl c.reserve.ensures.items (l.1 ∙ c.requires.seen) c.if-not-try_claim.ensures.only, λ n. (c.in-Some.first.now, f.0, f.1, inr (l.2, refl)))
+    (1, ran_none 1 c.args.seen c.args.self.now.state _ refl refl c.find_room.ensures.same (l.1 ∙ c.requires.seen) c.if-not-try_claim.ensures.only, λ n. (c.in-Some.first.now, f.0, f.1, inr (l.2, refl)))
 
 pub returns-then-not-try_claim-clause-sound : goal.returns-then-not-try_claim-clause-sound
-returns-then-not-try_claim-clause-sound g c = hand_sound_kept g.J.Job.key_of g.J.Job.gives (drawn_by c.args.self.now.state.held) (drawn_by c.args.self.now.state.held) c.args.self.now.state.ran.items c.reserve.new.self.items refl c.reserve.ensures.items
+returns-then-not-try_claim-clause-sound g c = hand_sound_kept g.J.Job.key_of g.J.Job.gives (drawn_by c.args.self.now.state.held) (drawn_by c.args.self.now.state.held) c.args.self.now.state.ran.all.items c.find_room.new.self.all.items refl (all_as _ _ c.find_room.ensures.same)
 
 pub run_claimed-record-requires-clause-runs : goal.run_claimed-record-requires-clause-runs
 run_claimed-record-requires-clause-runs g c κs within =
@@ -59,8 +60,8 @@ run_claimed-record-requires-clause-runs g c κs within =
     w.running ∙ (ap (λ (x : ℕ). at s.cpu c.in-Some.first.now.number x) (sym w.sights) ∙ (ap (λ (x : Callback g.row.J.Denot). at s.cpu x.number (sight (view c.try_claim.new.seat))) first
     ∙ ap (λ (p : ℕ). at p c.in-Some-take.callback.number (sight (view c.try_claim.new.seat))) (sym (ap cpu_of_role (e.same.role ∙ s.role)))))
 
-pub push_reserved-requires : goal.push_reserved-requires
-push_reserved-requires g c = omega (arith, c.in-Ok.ensures.ok, c.reserve.ensures.len)
+pub add-requires : goal.add-requires
+add-requires g c = record { room = c.in-Ok.ensures.room }
 
 pub invariant_of-state-2 : goal.invariant_of-state-2
 invariant_of-state-2 g c =
@@ -70,14 +71,14 @@ invariant_of-state-2 g c =
     let over : snap_of c.in-Some-take.callback.stamp ≤ c.args.seen = omega (arith, c.if-snap-seen.false, c.snap.ensures.value, ap (λ (x : Callback g.row.J.Denot). snap_of x.stamp) first) in record {
       here = r.same.table ∙ (e.same.table ∙ s.here);
       role = r.same.role ∙ (e.same.role ∙ s.role);
-      lawful = hand_ran s.cpu c.args.seen (view s.seat) (view c.try_claim.new.seat) (view c.run_claimed-record.new.seat) s.ran.items c.push_reserved.new.self.items (taken_by s.held) (taken_by c.take.new.self)
-          c.in-Some-take.callback c.run_claimed-record.result won r.ends c.requires.seen (c.push_reserved.ensures.items ∙ ap (λ rs. rs ++ c.run_claimed-record.result ∷ []) c.reserve.ensures.items) c.in-Some-take.ensures.taken r.record r.ready over s.lawful;
+      lawful = hand_ran s.cpu c.args.seen (view s.seat) (view c.try_claim.new.seat) (view c.run_claimed-record.new.seat) s.ran.all.items c.add.new.self.all.items (taken_by s.held) (taken_by c.take.new.self)
+          c.in-Some-take.callback c.run_claimed-record.result won r.ends c.requires.seen (all_as (recorded c.add.new.self) (and_ran (c.run_claimed-record.result ∷ []) (recorded s.ran)) (c.add.ensures.added ∙ ap (and_ran (c.run_claimed-record.result ∷ [])) c.find_room.ensures.same)) c.in-Some-take.ensures.taken r.record r.ready over s.lawful;
     }
 
 pub returns-clause-ran : goal.returns-clause-ran
 returns-clause-ran g c = let s = c.args.self.now.state in let e = c.if-not-try_claim.ensures in let w = e.won refl in let r = c.run_claimed-record.ensures in
     let drawn : drawn_by c.take.new.self ≡ drawn_by s.held = ap (λ f. drawn_calls f) c.in-Some-take.ensures.front in
-    ran_one c.args.seen s _ c.in-Some-take.callback c.run_claimed-record.result c.in-Some-take.ensures.first drawn (c.push_reserved.ensures.items ∙ ap (λ rs. rs ++ c.run_claimed-record.result ∷ []) c.reserve.ensures.items) r.record r.ready
+    ran_one c.args.seen s _ c.in-Some-take.callback c.run_claimed-record.result c.in-Some-take.ensures.first drawn (c.add.ensures.added ∙ ap (and_ran (c.run_claimed-record.result ∷ [])) c.find_room.ensures.same) r.record r.ready
     (r.ends.sights ∙ (w.sights ∙ c.requires.seen))
     (steps_more (turns_word s.cpu) 1 1 (view s.seat) (view c.try_claim.new.seat) (view c.run_claimed-record.new.seat) e.only
     (subst (λ (p : ℕ). StepsOnly (turns_word p) 1 (view c.try_claim.new.seat) (view c.run_claimed-record.new.seat)) (ap cpu_of_role (e.same.role ∙ s.role)) r.only))
@@ -85,20 +86,20 @@ returns-clause-ran g c = let s = c.args.self.now.state in let e = c.if-not-try_c
 pub returns-clause-sound : goal.returns-clause-sound
 returns-clause-sound g c = let s = c.args.self.now.state in
     let drawn : drawn_by c.take.new.self ≡ drawn_by s.held = ap (λ f. drawn_calls f) c.in-Some-take.ensures.front in
-    hand_sound_ran g.J.Job.key_of g.J.Job.gives (drawn_by s.held) (drawn_by c.take.new.self) (taken_by s.held) (held_by c.take.new.self) c.in-Some-take.callback s.ran.items c.push_reserved.new.self.items c.run_claimed-record.result
-    (s.held.order ∙ ap (λ l. taken_by s.held ++ l) c.in-Some-take.ensures.first) drawn (c.push_reserved.ensures.items ∙ ap (λ rs. rs ++ c.run_claimed-record.result ∷ []) c.reserve.ensures.items) c.run_claimed-record.ensures.given
+    hand_sound_ran g.J.Job.key_of g.J.Job.gives (drawn_by s.held) (drawn_by c.take.new.self) (taken_by s.held) (held_by c.take.new.self) c.in-Some-take.callback s.ran.all.items c.add.new.self.all.items c.run_claimed-record.result
+    (s.held.order ∙ ap (λ l. taken_by s.held ++ l) c.in-Some-take.ensures.first) drawn (all_as (recorded c.add.new.self) (and_ran (c.run_claimed-record.result ∷ []) (recorded s.ran)) (c.add.ensures.added ∙ ap (and_ran (c.run_claimed-record.result ∷ [])) c.find_room.ensures.same)) c.run_claimed-record.ensures.given
 
 pub returns-in_default-clause-same : goal.returns-in_default-clause-same
-returns-in_default-clause-same g c = record { part = record { board = refl; seat = same_seat _ }; lane = refl; cpu = refl; blimit = refl }
+returns-in_default-clause-same g c = record { part = record { board = refl; seat = same_seat _ }; lane = refl; cpu = refl; blimit = refl; kept = refl }
 
 pub snap-requires : goal.snap-requires
 snap-requires g c = c.in-Some.ensures.safe.0
 
 pub returns-then-snap-seen-clause-same : goal.returns-then-snap-seen-clause-same
-returns-then-snap-seen-clause-same g c = record { part = record { board = refl; seat = same_seat _ }; lane = refl; cpu = refl; blimit = refl }
+returns-then-snap-seen-clause-same g c = record { part = record { board = refl; seat = same_seat _ }; lane = refl; cpu = refl; blimit = refl; kept = refl }
 
-pub returns-in_default-reserve-clause-same : goal.returns-in_default-reserve-clause-same
-returns-in_default-reserve-clause-same g c = record { part = record { board = refl; seat = same_seat _ }; lane = refl; cpu = refl; blimit = refl }
+pub returns-in_default-find_room-clause-same : goal.returns-in_default-find_room-clause-same
+returns-in_default-find_room-clause-same g c = record { part = record { board = refl; seat = same_seat _ }; lane = refl; cpu = refl; blimit = refl; kept = kept_as _ _ c.find_room.ensures.same }
 
 pub try_claim-requires-clause-board : goal.try_claim-requires-clause-board
 try_claim-requires-clause-board g c = let s = c.args.self.now.state in stands (arc_value s.board) c.deref.result.now s.seat c.deref.ensures s.here
@@ -116,7 +117,7 @@ pub try_claim-requires-clause-small : goal.try_claim-requires-clause-small
 try_claim-requires-clause-small g c = c.in-Some.ensures.safe.1
 
 pub returns-then-not-try_claim-clause-same : goal.returns-then-not-try_claim-clause-same
-returns-then-not-try_claim-clause-same g c = record { part = record { board = refl; seat = c.if-not-try_claim.ensures.same }; lane = refl; cpu = refl; blimit = refl }
+returns-then-not-try_claim-clause-same g c = record { part = record { board = refl; seat = c.if-not-try_claim.ensures.same }; lane = refl; cpu = refl; blimit = refl; kept = kept_as _ _ c.find_room.ensures.same }
 
 pub unreachable-requires : goal.unreachable-requires
 unreachable-requires g c = let f = c.in-Some.ensures.first in not_none c.in-Some.first.now f.0 (held_by c.args.self.now.state.held) f.1 c.in_default-take.ensures.first.0
@@ -131,7 +132,7 @@ pub run_claimed-record-requires-clause-small : goal.run_claimed-record-requires-
 run_claimed-record-requires-clause-small g c κs within = c.in-Some-take.ensures.safe.1
 
 pub returns-clause-same : goal.returns-clause-same
-returns-clause-same g c = let s = c.args.self.now.state in record { part = record { board = refl; seat = same_seat_again s.seat c.try_claim.new.seat c.run_claimed-record.new.seat c.if-not-try_claim.ensures.same c.run_claimed-record.ensures.same }; lane = same_lane s.held c.take.new.self c.in-Some-take.ensures.front; cpu = refl; blimit = refl }
+returns-clause-same g c = let s = c.args.self.now.state in record { part = record { board = refl; seat = same_seat_again s.seat c.try_claim.new.seat c.run_claimed-record.new.seat c.if-not-try_claim.ensures.same c.run_claimed-record.ensures.same }; lane = same_lane s.held c.take.new.self c.in-Some-take.ensures.front; cpu = refl; blimit = refl; kept = kept_as (recorded c.add.new.self) (and_ran (c.run_claimed-record.result ∷ []) (recorded s.ran)) (c.add.ensures.added ∙ ap (and_ran (c.run_claimed-record.result ∷ [])) c.find_room.ensures.same) }
 
 pub invariant_of-state : goal.invariant_of-state
 invariant_of-state g c = let s = c.args.self.now.state in record { here = s.here; role = s.role; lawful = s.lawful }
@@ -139,11 +140,11 @@ invariant_of-state g c = let s = c.args.self.now.state in record { here = s.here
 pub invariant_of-state-then-snap-seen : goal.invariant_of-state-then-snap-seen
 invariant_of-state-then-snap-seen g c = let s = c.args.self.now.state in record { here = s.here; role = s.role; lawful = s.lawful }
 
-pub invariant_of-state-in_default-reserve : goal.invariant_of-state-in_default-reserve
-invariant_of-state-in_default-reserve g c = let s = c.args.self.now.state in record {
+pub invariant_of-state-in_default-find_room : goal.invariant_of-state-in_default-find_room
+invariant_of-state-in_default-find_room g c = let s = c.args.self.now.state in record {
   here = s.here;
   role = s.role;
-  lawful = subst (λ (rs : List (Record g.row.J-Receipt.Denot)). IsLawfulHand s.cpu (view s.seat) rs (taken_by s.held)) (sym c.reserve.ensures.items) s.lawful;
+  lawful = subst (λ (rs : List (Record g.row.J-Receipt.Denot)). IsLawfulHand s.cpu (view s.seat) rs (taken_by s.held)) (sym (all_as _ _ c.find_room.ensures.same)) s.lawful;
 }
 
 pub returns-in_default-clause-sound : goal.returns-in_default-clause-sound
@@ -158,8 +159,8 @@ returns-in_default-clause-counts g c = ((λ e. (let f : Empty ≡ Limit = e in c
 pub returns-then-snap-seen-clause-counts : goal.returns-then-snap-seen-clause-counts
 returns-then-snap-seen-clause-counts g c = ((λ e. (let f : Turn ≡ Limit = e in cc)), λ e. (let f : Turn ≡ Again = e in cc))
 
-pub returns-in_default-reserve-clause-counts : goal.returns-in_default-reserve-clause-counts
-returns-in_default-reserve-clause-counts g c = ((λ e. (let f : Memory ≡ Limit = e in cc)), λ e. (let f : Memory ≡ Again = e in cc))
+pub returns-in_default-find_room-clause-counts : goal.returns-in_default-find_room-clause-counts
+returns-in_default-find_room-clause-counts g c = ((λ e. (let f : Memory ≡ Limit = e in cc)), λ e. (let f : Memory ≡ Again = e in cc))
 
 pub returns-then-not-try_claim-clause-counts : goal.returns-then-not-try_claim-clause-counts
 returns-then-not-try_claim-clause-counts g c = ((λ e. (let f : Turn ≡ Limit = e in cc)), λ e. (let f : Turn ≡ Again = e in cc))

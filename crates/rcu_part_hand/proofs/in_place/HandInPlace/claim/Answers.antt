@@ -1,7 +1,6 @@
 use Rattle.std.proofs.Common.{None, Some, ◌≡◌, ℕ, ◌≤◌, ◌++◌, inr, ◌∙◌, ap, sym, subst, refl, arith}
 use Rattle.std.specs.Arc.{arc_value}
 use Rattle.std.specs.Mem.{FitsInMemory}
-use Rattle.std.specs.Vec.{vec_len, vec_capacity}
 use denote.Param.{param}
 use Rattle.rcu_board.specs.Roles.{MayClaim, cpu_of_role}
 use Rattle.rcu_board.specs.Seats.{view}
@@ -47,14 +46,14 @@ pub invariant_of-state : goal.invariant_of-state
 invariant_of-state g c = let s = c.args.self.now.state in let e = c.if-not-try_claim.ensures in record {
   here = e.same.table ∙ s.here;
   role = e.same.role ∙ s.role;
-  rests = λ r. hand_kept s.cpu (view s.seat) _ s.ran.items _ (taken_by s.held) (e.lost refl).0 refl (s.rests r);
+  rests = λ r. hand_kept s.cpu (view s.seat) _ s.ran.all.items _ (taken_by s.held) (e.lost refl).0 refl (s.rests r);
   runs = λ k f. (let x : None ≡ Some k = sym c.requires.rests ∙ f in cc);
 }
 
 pub returns-then-not-try_claim-clause-lost : goal.returns-then-not-try_claim-clause-lost
 returns-then-not-try_claim-clause-lost g c = λ r. let e = c.if-not-try_claim.ensures in let n = c.requires.next r in let k = ap (λ (x : ClaimedCallback). x.number) n.claimed in let l = (e.lost refl).2 in (
   r,
-  record { part = record { board = refl; seat = e.same }; lane = refl; cpu = refl; blimit = refl },
+  record { part = record { board = refl; seat = e.same }; lane = refl; cpu = refl; blimit = refl; kept = refl },
   (
     ran_none 1 c.args.claimed.ready (resting c.args.self.now.state r) _ refl refl refl ((e.lost refl).1 ∙ c.requires.seen) e.only,
     (n.first, n.rest, n.held, inr (λ e. l (omega (arith, e, k)), refl)),
@@ -70,12 +69,12 @@ invariant_of-state-2 g c =
     let first = same_first n.first x n.rest (held_by c.take.new.self) (sym n.held ∙ c.in-Some.ensures.first) in
     let is : c.args.claimed ≡ claimed_as c.args.claimed.ready x = n.claimed ∙ ap (claimed_as c.args.claimed.ready) first in
     let won : Claims s.cpu x.number (view s.seat) (view c.try_claim.new.seat) = subst (λ (k : ℕ). Claims s.cpu k (view s.seat) (view c.try_claim.new.seat)) (ap (λ (y : ClaimedCallback). y.number) is) (e.won refl) in
-    let law = hand_begun s.cpu c.args.claimed.ready (view s.seat) (view c.try_claim.new.seat) s.ran.items (taken_by s.held) (taken_by c.take.new.self) x c.args.claimed is won c.requires.seen c.in-Some.ensures.taken
+    let law = hand_begun s.cpu c.args.claimed.ready (view s.seat) (view c.try_claim.new.seat) s.ran.all.items (taken_by s.held) (taken_by c.take.new.self) x c.args.claimed is won c.requires.seen c.in-Some.ensures.taken
     (subst (λ (y : Callback g.row.J.Denot). snap_of y.stamp ≤ c.args.claimed.ready) first n.over) (s.rests c.requires.rests) in record {
       here = e.same.table ∙ s.here;
       role = e.same.role ∙ s.role;
       rests = λ r. (let y : Some c.args.claimed ≡ None = r in cc);
-      runs = λ k f. subst (λ (y : ClaimedCallback). RunsAs s.cpu y (view c.try_claim.new.seat) s.ran.items (vec_len s.ran) (vec_capacity s.ran) (taken_by c.take.new.self)) (some_is c.args.claimed k f)
+      runs = λ k f. subst (λ (y : ClaimedCallback). RunsAs s.cpu y (view c.try_claim.new.seat) s.ran (taken_by c.take.new.self)) (some_is c.args.claimed k f)
           (record { small = c.requires.small; room = c.requires.room; lawful = law });
     }
 
@@ -86,7 +85,7 @@ returns-clause-runs g c = λ r.
     let is : c.args.claimed ≡ claimed_as c.args.claimed.ready x = n.claimed ∙ ap (claimed_as c.args.claimed.ready) first in (
       c.args.claimed,
       refl,
-      record { part = record { board = refl; seat = e.same }; lane = same_lane s.held c.take.new.self c.in-Some.ensures.front; cpu = refl; blimit = refl },
+      record { part = record { board = refl; seat = e.same }; lane = same_lane s.held c.take.new.self c.in-Some.ensures.front; cpu = refl; blimit = refl; kept = refl },
       record {
         first = x;
         job_is = refl;
@@ -110,4 +109,4 @@ returns-clause-keyed g c = λ k f.
 
 pub returns-clause-sound : goal.returns-clause-sound
 returns-clause-sound g c = let s = c.args.self.now.state in
-    hand_sound_kept g.J.Job.key_of g.J.Job.gives (drawn_by s.held) (drawn_by c.take.new.self) s.ran.items s.ran.items (ap (λ f. drawn_calls f) c.in-Some.ensures.front) refl
+    hand_sound_kept g.J.Job.key_of g.J.Job.gives (drawn_by s.held) (drawn_by c.take.new.self) s.ran.all.items s.ran.all.items (ap (λ f. drawn_calls f) c.in-Some.ensures.front) refl

@@ -1,4 +1,6 @@
-use Rattle.std.proofs.Common.{◌≡◌, None, Some, ℕ, ◌++◌, ◌∷◌, [], ◌∙◌, ap, sym, subst, refl}
+use Rattle.rcu_part_order.specs.Recorded.{and_ran, recorded}
+use Rattle.rcu_part_hand.proofs.HandRuns.{all_as, kept_as}
+use Rattle.std.proofs.Common.{◌≡◌, None, Some, ℕ, ◌∷◌, [], ◌∙◌, ap, sym, subst, refl}
 use Rattle.rcu_board.specs.Roles.{MayClaim, cpu_of_role}
 use Rattle.rcu_board.specs.Seats.{AtBoard, view}
 use Rattle.rcu_board.specs.Words.{turns_word}
@@ -18,14 +20,14 @@ end_claim-requires g c = let s = c.args.self.now.state in let l = s.runs c.in-So
   runs = record { claim = claim_that_runs s.cpu c.in-Some.claimed; alone = l.lawful.runs; cpu = sym (ap cpu_of_role s.role); small = l.small };
 }
 
-pub push_reserved-requires : goal.push_reserved-requires
-push_reserved-requires g c = (c.args.self.now.state.runs c.in-Some.claimed c.in-Some.is).room
+pub add-requires : goal.add-requires
+add-requires g c = record { room = (c.args.self.now.state.runs c.in-Some.claimed c.in-Some.is).room }
 
 pub invariant_of-state : goal.invariant_of-state
 invariant_of-state g c = let s = c.args.self.now.state in let e = c.end_claim.ensures in record {
   here = e.same.table ∙ s.here;
   role = e.same.role ∙ s.role;
-  rests = λ r. hand_finished s.cpu c.in-Some.claimed c.args.receipt (view s.seat) (view c.end_claim.new.seat) s.ran.items c.push_reserved.new.self.items (taken_by s.held) e.ends c.push_reserved.ensures.items
+  rests = λ r. hand_finished s.cpu c.in-Some.claimed c.args.receipt (view s.seat) (view c.end_claim.new.seat) s.ran.all.items c.add.new.self.all.items (taken_by s.held) e.ends (all_as _ _ c.add.ensures.added)
       (s.runs c.in-Some.claimed c.in-Some.is).lawful;
   runs = λ k f. (let x : None ≡ Some k = f in cc);
 }
@@ -33,9 +35,9 @@ invariant_of-state g c = let s = c.args.self.now.state in let e = c.end_claim.en
 pub returns-clause-finishes : goal.returns-clause-finishes
 returns-clause-finishes g c = λ k e. let s = c.args.self.now.state in (
   refl,
-  record { part = record { board = refl; seat = c.end_claim.ensures.same }; lane = refl; cpu = refl; blimit = refl },
+  record { part = record { board = refl; seat = c.end_claim.ensures.same }; lane = refl; cpu = refl; blimit = refl; kept = kept_as _ _ c.add.ensures.added },
   record {
-    records = c.push_reserved.ensures.items ∙ ap (λ (x : ClaimedCallback). s.ran.items ++ record_with c.args.receipt x ∷ []) (some_is c.in-Some.claimed k (sym c.in-Some.is ∙ e));
+    records = c.add.ensures.added ∙ ap (λ (x : ClaimedCallback). and_ran (record_with c.args.receipt x ∷ []) (recorded s.ran)) (some_is c.in-Some.claimed k (sym c.in-Some.is ∙ e));
     held = refl;
     ends = c.end_claim.ensures.ends;
     steps = subst (λ (p : ℕ). StepsOnly (turns_word p) 1 (view s.seat) (view c.end_claim.new.seat)) (ap cpu_of_role s.role) c.end_claim.ensures.only;
@@ -44,4 +46,4 @@ returns-clause-finishes g c = λ k e. let s = c.args.self.now.state in (
 
 pub returns-clause-sound : goal.returns-clause-sound
 returns-clause-sound g c = λ given sound. let s = c.args.self.now.state in
-    hand_sound_finished g.J.Job.key_of g.J.Job.gives (drawn_by s.held) c.in-Some.claimed c.args.receipt s.ran.items c.push_reserved.new.self.items c.push_reserved.ensures.items sound (given c.in-Some.claimed c.in-Some.is)
+    hand_sound_finished g.J.Job.key_of g.J.Job.gives (drawn_by s.held) c.in-Some.claimed c.args.receipt s.ran.all.items c.add.new.self.all.items (all_as _ _ c.add.ensures.added) sound (given c.in-Some.claimed c.in-Some.is)

@@ -9,14 +9,14 @@ pub invariant_of-state : goal.invariant_of-state
 invariant_of-state g c = let s = c.args.self.now.state in let e = c.halted.ensures in record {
   here = e.same.table ∙ s.here;
   role = e.same.role ∙ s.role;
-  rests = λ r. hand_watched s.cpu (view s.seat) (view c.halted.new.seat) s.ran.items (taken_by s.held) (ap (λ (v : View). v.claims) e.view) (ap (λ (v : View). v.running) e.view) (s.rests r);
+  rests = λ r. hand_watched s.cpu (view s.seat) (view c.halted.new.seat) s.ran.all.items (taken_by s.held) (ap (λ (v : View). v.claims) e.view) (ap (λ (v : View). v.running) e.view) (s.rests r);
   runs = λ k f. (let x : None ≡ Some k = sym c.requires.rests ∙ f in cc);
 }
 
 pub returns-clause-reads : goal.returns-clause-reads
 returns-clause-reads g c = λ r. let e = c.halted.ensures in (
   r,
-  record { part = record { board = refl; seat = e.same }; lane = refl; cpu = refl; blimit = refl },
+  record { part = record { board = refl; seat = e.same }; lane = refl; cpu = refl; blimit = refl; kept = refl },
   record { view = e.view; held = refl; drawn = refl; records = refl },
 )
 

@@ -7,7 +7,6 @@ use Rattle.rcu_jobs.specs.declared.callback.Callback.{Callback}
 use Rattle.rcu_part_lists.proofs.Sizes.{in_struct}
 use Rattle.rcu_part_lists.specs.Helds.{drawn_by, held_by}
 use Rattle.rcu_part_hand.specs.HandLaw.{IsLawfulHand}
-use Rattle.rcu_part_hand.specs.InPlace.{resting}
 use Rattle.rcu_part_hand.specs.contracts.in_place.HandInPlace as row
 use Rattle.rcu_part_hand.proofs.HandRuns.{fetched, hand_sound_drawn}
 use Rattle.rcu_part_hand.proofs.InPlace.{stops_in_place}
@@ -20,7 +19,7 @@ pub invariant_of-self : goal.invariant_of-self
 invariant_of-self g c = let s = c.args.self.now.state in record {
   here = s.here;
   role = s.role;
-  rests = λ r. subst (λ (cs : List (Callback g.row.J.Denot)). IsLawfulHand s.cpu (view s.seat) s.ran.items cs) (sym c.fetch.ensures.taken) (s.rests r);
+  rests = λ r. subst (λ (cs : List (Callback g.row.J.Denot)). IsLawfulHand s.cpu (view s.seat) s.ran.all.items cs) (sym c.fetch.ensures.taken) (s.rests r);
   runs = λ k f. (let x : None ≡ Some k = sym c.requires.rests ∙ f in cc);
 }
 
@@ -28,7 +27,7 @@ pub returns-clause-loads : goal.returns-clause-loads
 returns-clause-loads g c = λ r. let s = c.args.self.now.state in let e = c.fetch.ensures in
     let f = fetched (c.fetch.result ≡ None) (held_by s.held) (held_by c.fetch.new.self) (drawn_by s.held) (drawn_by c.fetch.new.self) e.held e.drawn in (
       r,
-      record { part = record { board = refl; seat = same_seat _ }; lane = e.lane; cpu = refl; blimit = refl },
+      record { part = record { board = refl; seat = same_seat _ }; lane = e.lane; cpu = refl; blimit = refl; kept = refl },
       record { batch = f.0; drawn = f.1; held = f.2; only = f.3; view = refl; records = refl },
     )
 
@@ -38,4 +37,4 @@ returns-clause-none g c = stops_in_place _ _ c.fetch.result (λ e some. (c.fetch
 pub returns-clause-sound : goal.returns-clause-sound
 returns-clause-sound g c = let s = c.args.self.now.state in let e = c.fetch.ensures in
     let f = fetched (c.fetch.result ≡ None) (held_by s.held) (held_by c.fetch.new.self) (drawn_by s.held) (drawn_by c.fetch.new.self) e.held e.drawn in
-    hand_sound_drawn g.J.Job.key_of g.J.Job.gives (drawn_by s.held) (drawn_by c.fetch.new.self) f.0 s.ran.items f.1
+    hand_sound_drawn g.J.Job.key_of g.J.Job.gives (drawn_by s.held) (drawn_by c.fetch.new.self) f.0 s.ran.all.items f.1

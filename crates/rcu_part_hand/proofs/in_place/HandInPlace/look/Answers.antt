@@ -13,14 +13,14 @@ pub invariant_of-state : goal.invariant_of-state
 invariant_of-state g c = let s = c.args.self.now.state in let e = c.look_at_number.ensures in record {
   here = e.same.table ∙ s.here;
   role = e.same.role ∙ s.role;
-  rests = λ r. hand_watched s.cpu (view s.seat) (view c.look_at_number.new.seat) s.ran.items (taken_by s.held) e.claims.0 e.claims.1 (s.rests r);
+  rests = λ r. hand_watched s.cpu (view s.seat) (view c.look_at_number.new.seat) s.ran.all.items (taken_by s.held) e.claims.0 e.claims.1 (s.rests r);
   runs = λ k f. (let x : None ≡ Some k = sym c.requires.rests ∙ f in cc);
 }
 
 pub returns-clause-looks : goal.returns-clause-looks
 returns-clause-looks g c = λ r. let e = c.look_at_number.ensures in (
   r,
-  record { part = record { board = refl; seat = e.same }; lane = refl; cpu = refl; blimit = refl },
+  record { part = record { board = refl; seat = e.same }; lane = refl; cpu = refl; blimit = refl; kept = refl },
   record { step = e.view; sight = sym e.sight.0; held = refl; drawn = refl; records = refl },
 )
 

@@ -1,4 +1,4 @@
-use Rattle.std.proofs.Common.{◌≡◌, None, Some, ◌∙◌, sym, refl}
+use Rattle.std.proofs.Common.{◌≡◌, None, Some, ◌∙◌, sym}
 use Rattle.std.specs.Mem.{FitsInMemory}
 use denote.Param.{param}
 use Rattle.rcu_part_lists.proofs.Sizes.{in_struct}

@@ -9,7 +9,7 @@ use Rattle.rcu_part_lists.proofs.Sizes.{in_struct}
 use Rattle.rcu_part_lists.specs.Helds.{drawn_by, taken_by}
 use Rattle.rcu_part_hand.specs.HandLaw.{IsLawfulHand}
 use Rattle.rcu_part_hand.specs.contracts.in_place.HandInPlace as row
-use Rattle.rcu_part_hand.proofs.HandRuns.{hand_sound_kept}
+use Rattle.rcu_part_hand.proofs.HandRuns.{all_as, kept_as, hand_sound_kept}
 use Rattle.rcu_part_hand.proofs.in_place.HandInPlace.next.Goals as goal
 
 pub first-requires : goal.first-requires
@@ -22,12 +22,12 @@ pub invariant_of-state : goal.invariant_of-state
 invariant_of-state g c = let s = c.args.self.now.state in record {
   here = s.here;
   role = s.role;
-  rests = λ r. subst (λ (rs : List (Record g.row.J-Receipt.Denot)). IsLawfulHand s.cpu (view s.seat) rs (taken_by s.held)) (sym c.reserve.ensures.items) (s.rests r);
+  rests = λ r. subst (λ (rs : List (Record g.row.J-Receipt.Denot)). IsLawfulHand s.cpu (view s.seat) rs (taken_by s.held)) (sym (all_as _ _ c.find_room.ensures.same)) (s.rests r);
   runs = λ k f. (let x : None ≡ Some k = sym c.requires.rests ∙ f in cc);
 }
 
 pub returns-in_default-clause-keeps : goal.returns-in_default-clause-keeps
-returns-in_default-clause-keeps g c = λ r. (r, record { part = record { board = refl; seat = same_seat _ }; lane = refl; cpu = refl; blimit = refl }, record { view = refl; held = refl; records = refl })
+returns-in_default-clause-keeps g c = λ r. (r, record { part = record { board = refl; seat = same_seat _ }; lane = refl; cpu = refl; blimit = refl; kept = refl }, record { view = refl; held = refl; records = refl })
 
 pub returns-in_default-clause-stops : goal.returns-in_default-clause-stops
 returns-in_default-clause-stops g c = λ r. (c.in_default.ensures.first, refl)
@@ -39,7 +39,7 @@ pub returns-in_default-clause-sound : goal.returns-in_default-clause-sound
 returns-in_default-clause-sound g c = λ sound. sound
 
 pub returns-then-snap-seen-clause-keeps : goal.returns-then-snap-seen-clause-keeps
-returns-then-snap-seen-clause-keeps g c = λ r. (r, record { part = record { board = refl; seat = same_seat _ }; lane = refl; cpu = refl; blimit = refl }, record { view = refl; held = refl; records = refl })
+returns-then-snap-seen-clause-keeps g c = λ r. (r, record { part = record { board = refl; seat = same_seat _ }; lane = refl; cpu = refl; blimit = refl; kept = refl }, record { view = refl; held = refl; records = refl })
 
 pub returns-then-snap-seen-clause-stops : goal.returns-then-snap-seen-clause-stops
 returns-then-snap-seen-clause-stops g c = λ r. let f = c.in-Some.ensures.first in
@@ -51,20 +51,20 @@ returns-then-snap-seen-clause-counts g c = λ e. (let f : Turn ≡ Limit = e in 
 pub returns-then-snap-seen-clause-sound : goal.returns-then-snap-seen-clause-sound
 returns-then-snap-seen-clause-sound g c = λ sound. sound
 
-pub returns-in_default-reserve-clause-keeps : goal.returns-in_default-reserve-clause-keeps
-returns-in_default-reserve-clause-keeps g c = λ r. (r, record { part = record { board = refl; seat = same_seat _ }; lane = refl; cpu = refl; blimit = refl }, record { view = refl; held = refl; records = c.reserve.ensures.items })
+pub returns-in_default-find_room-clause-keeps : goal.returns-in_default-find_room-clause-keeps
+returns-in_default-find_room-clause-keeps g c = λ r. (r, record { part = record { board = refl; seat = same_seat _ }; lane = refl; cpu = refl; blimit = refl; kept = kept_as _ _ c.find_room.ensures.same }, record { view = refl; held = refl; records = c.find_room.ensures.same })
 
-pub returns-in_default-reserve-clause-stops : goal.returns-in_default-reserve-clause-stops
-returns-in_default-reserve-clause-stops g c = λ r. let f = c.in-Some.ensures.first in ((c.in-Some.first.now, f.0, f.1, omega (arith, c.if-snap-seen.false, c.snap.ensures.value)), refl)
+pub returns-in_default-find_room-clause-stops : goal.returns-in_default-find_room-clause-stops
+returns-in_default-find_room-clause-stops g c = λ r. let f = c.in-Some.ensures.first in ((c.in-Some.first.now, f.0, f.1, omega (arith, c.if-snap-seen.false, c.snap.ensures.value)), refl)
 
-pub returns-in_default-reserve-clause-counts : goal.returns-in_default-reserve-clause-counts
-returns-in_default-reserve-clause-counts g c = λ e. (let f : Memory ≡ Limit = e in cc)
+pub returns-in_default-find_room-clause-counts : goal.returns-in_default-find_room-clause-counts
+returns-in_default-find_room-clause-counts g c = λ e. (let f : Memory ≡ Limit = e in cc)
 
-pub returns-in_default-reserve-clause-sound : goal.returns-in_default-reserve-clause-sound
-returns-in_default-reserve-clause-sound g c = hand_sound_kept g.J.Job.key_of g.J.Job.gives (drawn_by c.args.self.now.state.held) (drawn_by c.args.self.now.state.held) c.args.self.now.state.ran.items c.reserve.new.self.items refl c.reserve.ensures.items
+pub returns-in_default-find_room-clause-sound : goal.returns-in_default-find_room-clause-sound
+returns-in_default-find_room-clause-sound g c = hand_sound_kept g.J.Job.key_of g.J.Job.gives (drawn_by c.args.self.now.state.held) (drawn_by c.args.self.now.state.held) c.args.self.now.state.ran.all.items c.find_room.new.self.all.items refl (all_as _ _ c.find_room.ensures.same)
 
 pub returns-clause-keeps : goal.returns-clause-keeps
-returns-clause-keeps g c = λ r. (r, record { part = record { board = refl; seat = same_seat _ }; lane = refl; cpu = refl; blimit = refl }, record { view = refl; held = refl; records = c.reserve.ensures.items })
+returns-clause-keeps g c = λ r. (r, record { part = record { board = refl; seat = same_seat _ }; lane = refl; cpu = refl; blimit = refl; kept = kept_as _ _ c.find_room.ensures.same }, record { view = refl; held = refl; records = c.find_room.ensures.same })
 
 pub returns-clause-next : goal.returns-clause-next
 returns-clause-next g c = λ r. let f = c.in-Some.ensures.first in
@@ -77,7 +77,7 @@ pub returns-clause-small : goal.returns-clause-small
 returns-clause-small g c = c.in-Some.ensures.safe.1
 
 pub returns-clause-room : goal.returns-clause-room
-returns-clause-room g c = omega (arith, c.in-Ok.ensures.ok, c.reserve.ensures.len)
+returns-clause-room g c = c.in-Ok.ensures.room
 
 pub returns-clause-sound : goal.returns-clause-sound
-returns-clause-sound g c = hand_sound_kept g.J.Job.key_of g.J.Job.gives (drawn_by c.args.self.now.state.held) (drawn_by c.args.self.now.state.held) c.args.self.now.state.ran.items c.reserve.new.self.items refl c.reserve.ensures.items
+returns-clause-sound g c = hand_sound_kept g.J.Job.key_of g.J.Job.gives (drawn_by c.args.self.now.state.held) (drawn_by c.args.self.now.state.held) c.args.self.now.state.ran.all.items c.find_room.new.self.all.items refl (all_as _ _ c.find_room.ensures.same)

@@ -1,3 +1,4 @@
+use Rattle.rcu_part_hand.proofs.HandRuns.{all_as, kept_as}
 use Rattle.std.proofs.Common.{◌∙◌, ℕ, ap, sym, refl, subst}
 use Rattle.rcu_board.specs.Roles.{MayClaim, cpu_of_role}
 use Rattle.rcu_board.specs.Seats.{AtBoard, view}
@@ -13,7 +14,7 @@ pub invariant_of-state : goal.invariant_of-state
 invariant_of-state g c = let s = c.args.self.state in let e = c.end_claim.ensures in record {
   here = e.same.table ∙ s.here;
   role = e.same.role ∙ s.role;
-  lawful = hand_finished s.cpu s.claimed c.args.receipt (view s.seat) (view c.end_claim.new.seat) s.ran.items c.push_reserved.new.self.items (taken_by s.held) e.ends c.push_reserved.ensures.items s.lawful;
+  lawful = hand_finished s.cpu s.claimed c.args.receipt (view s.seat) (view c.end_claim.new.seat) s.ran.all.items c.add.new.self.all.items (taken_by s.held) e.ends (all_as _ _ c.add.ensures.added) s.lawful;
 }
 
 pub end_claim-requires : goal.end_claim-requires
@@ -23,15 +24,15 @@ end_claim-requires g c = let s = c.args.self.state in record {
   runs = record { claim = claim_that_runs s.cpu s.claimed; alone = s.lawful.runs; cpu = sym (ap cpu_of_role s.role); small = s.small };
 }
 
-pub push_reserved-requires : goal.push_reserved-requires
-push_reserved-requires g c = c.args.self.state.room
+pub add-requires : goal.add-requires
+add-requires g c = record { room = c.args.self.state.room }
 
 pub returns-clause-same : goal.returns-clause-same
-returns-clause-same g c = record { part = record { board = refl; seat = c.end_claim.ensures.same }; lane = refl; cpu = refl; blimit = refl }
+returns-clause-same g c = record { part = record { board = refl; seat = c.end_claim.ensures.same }; lane = refl; cpu = refl; blimit = refl; kept = kept_as _ _ c.add.ensures.added }
 
 pub returns-clause-finishes : goal.returns-clause-finishes
 returns-clause-finishes g c = let s = c.args.self.state in record {
-  records = c.push_reserved.ensures.items;
+  records = c.add.ensures.added;
   held = refl;
   ends = c.end_claim.ensures.ends;
   steps = subst (λ (p : ℕ). StepsOnly (turns_word p) 1 (view s.seat) (view c.end_claim.new.seat)) (ap cpu_of_role s.role) c.end_claim.ensures.only;
@@ -39,4 +40,4 @@ returns-clause-finishes g c = let s = c.args.self.state in record {
 
 pub returns-clause-sound : goal.returns-clause-sound
 returns-clause-sound g c = λ sound given. let s = c.args.self.state in
-    hand_sound_finished g.J.Job.key_of g.J.Job.gives (drawn_by s.held) s.claimed c.args.receipt s.ran.items c.push_reserved.new.self.items c.push_reserved.ensures.items sound given
+    hand_sound_finished g.J.Job.key_of g.J.Job.gives (drawn_by s.held) s.claimed c.args.receipt s.ran.all.items c.add.new.self.all.items (all_as _ _ c.add.ensures.added) sound given

@@ -1,0 +1,27 @@
+use Rattle.std.proofs.Common.{◌≡◌, None, Some, List, ◌∙◌, sym, refl, subst}
+use Rattle.rcu_board.proofs.Facts.{same_seat}
+use Rattle.rcu_board.specs.Seats.{view}
+use Rattle.rcu_jobs.specs.declared.callback.Record.{Record}
+use Rattle.rcu_part_lists.specs.Helds.{drawn_by, taken_by}
+use Rattle.rcu_part_hand.specs.HandLaw.{IsLawfulHand}
+use Rattle.rcu_part_hand.proofs.HandRuns.{all_as, hand_sound_kept, kept_as}
+use Rattle.rcu_part_hand.proofs.in_place.HandInPlace.take_records.Goals as goal
+
+pub invariant_of-state : goal.invariant_of-state
+invariant_of-state g c = let s = c.args.self.now.state in record {
+  here = s.here;
+  role = s.role;
+  rests = λ r. subst (λ (rs : List (Record g.row.J-Receipt.Denot)). IsLawfulHand s.cpu (view s.seat) rs (taken_by s.held)) (sym (all_as _ _ c.take.ensures.rest)) (s.rests r);
+  runs = λ k f. (let x : None ≡ Some k = sym c.requires.rests ∙ f in cc);
+}
+
+pub returns-clause-others : goal.returns-clause-others
+returns-clause-others g c = λ r. (
+  r,
+  record { part = record { board = refl; seat = same_seat _ }; lane = refl; cpu = refl; blimit = refl; kept = kept_as _ _ c.take.ensures.rest },
+  record { view = refl; held = refl },
+)
+
+pub returns-clause-sound : goal.returns-clause-sound
+returns-clause-sound g c = let s = c.args.self.now.state in
+    hand_sound_kept g.J.Job.key_of g.J.Job.gives (drawn_by s.held) (drawn_by s.held) s.ran.all.items c.take.new.self.all.items refl (all_as _ _ c.take.ensures.rest)
