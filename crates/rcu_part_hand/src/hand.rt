@@ -42,6 +42,7 @@ pub struct Hand<J: Job> {
 impl<J: Job> Hand<J> {
     ghost use Rattle.std.specs.Prelude.{[], length};
     ghost use Rattle.rcu_board.specs.Opened.{IsNewHand};
+    ghost use Rattle.rcu_part_order.specs.Recorded.{left_in};
     ghost use Rattle.rcu_part_lists.specs.Helds.{drawn_by, held_by};
     ghost use Rattle.rcu_part_hand.specs.Hands.{IsNewHandOf, hand_records};
 
@@ -84,6 +85,13 @@ impl<J: Job> Hand<J> {
         ensures { result ≡ length (hand_records self.now.state).all }
     {
         self.state.ran.len()
+    }
+
+    /// How many records are left of those.
+    pub fn records_left(&self) -> usize
+        ensures { result ≡ length (left_in self.now.state.ran) }
+    {
+        self.state.ran.records_left()
     }
 
     // What it has, which ends with it.

@@ -1,9 +1,10 @@
 -- What is left of the records of what ran
-use Rattle.std.proofs.Common.{◌≡◌, ◌⊎◌, inl, inr, ℕ, ◌+◌, List, [], ◌++◌, length, length-append, append_assoc, append-nil, sym, ap, ◌∙◌, arith}
+use Rattle.std.proofs.Common.{◌≡◌, ◌⊎◌, inl, inr, ℕ, ◌+◌, List, [], ◌++◌, length, length-append, append_assoc, append-nil, drop, sym, ap, ◌∙◌, arith}
 use Rattle.std.proofs.lemmas.List.{length-drop}
 use Rattle.rcu_jobs.specs.declared.callback.Record.{Record}
 use Rattle.rcu_part_order.specs.Kept.{IsLeft}
-use Rattle.rcu_part_order.specs.Recorded.{Recorded, and_ran, gone_as, lost, takeable_as}
+use Rattle.rcu_part_order.specs.declared.recorded.Records.{Records}
+use Rattle.rcu_part_order.specs.Recorded.{left_in, ran_of, Recorded, and_ran, gone_as, lost, takeable_as}
 use Rattle.rcu_part_order.specs.declared.recorded.Kept.{Kept}
 use Rattle.rcu_part_order.specs.declared.recorded.Kept.TheVariants.{Whole, Rest, Nothing}
 
@@ -11,6 +12,10 @@ module _ {R : Type 0} where
   -- those that are gone and those that are left are all
   pub left_length : (gone : ℕ) (all left : List (Record R)) → IsLeft gone all left → gone + length left ≡ length all
   left_length gone all left i = ap (λ (l : List (Record R)). gone + length l) i.left_is ∙ omega (arith, length-drop gone all, i.within)
+
+  -- where all are kept all are left
+  pub whole_left : (r : Records R) → r.kept ≡ Whole → left_in r ≡ ran_of r
+  whole_left r whole = r.rest.left_is ∙ ap (λ (n : ℕ). drop n r.all.items) (r.choice.whole whole)
 
   pub none_takeable : (k : Kept) (left : List (Record R)) → (k ≡ Whole) ⊎ (k ≡ Nothing) → takeable_as k left ≡ []
   none_takeable k left (inl e) = ap (λ (x : Kept). takeable_as x left) e

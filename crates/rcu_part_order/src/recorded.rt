@@ -57,6 +57,13 @@ impl<R: Drop> Records<R> {
         self.gone + self.left.len()
     }
 
+    /// How many records are left.
+    pub fn records_left(&self) -> usize
+        ensures { result ≡ length self.now.left.items }
+    {
+        self.left.len()
+    }
+
     /// What is kept.
     pub fn kept(&self) -> Kept
         ensures { result ≡ self.now.kept }

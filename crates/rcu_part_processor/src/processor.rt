@@ -60,6 +60,7 @@ impl<J: Job> Processor<J> {
     ghost use Rattle.std.specs.Prelude.{[], None, length};
     ghost use Rattle.rcu_board.specs.Opened.{IsNewProcessor, is_offloadable};
     ghost use Rattle.rcu_board.specs.Seats.{reports_of};
+    ghost use Rattle.rcu_part_order.specs.Recorded.{left_in};
     ghost use Rattle.rcu_part_processor.specs.Opened.{IsNew, IsEmpty};
     ghost use Rattle.rcu_part_processor.specs.Processors.{records_of, view_of};
 
@@ -115,6 +116,13 @@ impl<J: Job> Processor<J> {
         ensures { result ≡ length (ran_of self.now.state.ran) }
     {
         self.state.ran.len()
+    }
+
+    /// How many records are left of those.
+    pub fn records_left(&self) -> usize
+        ensures { result ≡ length (left_in self.now.state.ran) }
+    {
+        self.state.ran.records_left()
     }
 
     /// How many grace periods it passed: the numbers 1, 5, .. up to the last one.

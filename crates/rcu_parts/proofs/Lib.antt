@@ -12,3 +12,4 @@ pub mod Zips
 pub mod Making
 pub mod Whole
 pub mod Draining
+pub mod KeptWhole

@@ -19,6 +19,7 @@ use Rattle.rcu_lists.specs.declared.parcel.Parcel.{Parcel}
 use Rattle.rcu_numbers.specs.declared.shape.Shape.{Shape}
 use Rattle.rcu_part_group.specs.GroupLaw.{cpus_of}
 use Rattle.rcu_part_group.specs.Groups.{IsEmptyGroupMember, IsNewGroupOf, members_of}
+use Rattle.rcu_part_order.specs.declared.recorded.Kept.{Kept}
 use Rattle.rcu_parts.specs.OneOpen.{HasHand, members_in, offloadable_in}
 use Rattle.rcu_parts.specs.Openings.{AreFronts, IsFirstGroup, IsFirstHand, IsFirstProcessor, fronts_of, is_member}
 use Rattle.rcu_part_group.specs.declared.members.GroupMember.{GroupMember}
@@ -37,13 +38,13 @@ group_of_role Driver = 0
 group_of_role Control = 0
 
 module _ {J R : Type 0} where
-  pub processors_more : (shape : Shape) (b : Board) (ps more : List (ProcessorPart J R)) (p : ProcessorPart J R) → AllZip (IsFirstProcessor shape b) (range_with_len 0 (length ps)) ps → IsFirstProcessor shape b (length ps) p → more ≡ ps ++ p ∷ []
-      → AllZip (IsFirstProcessor shape b) (range_with_len 0 (length more)) more
-  processors_more shape b ps more p all one e =
+  pub processors_more : (shape : Shape) (kept : Kept) (b : Board) (ps more : List (ProcessorPart J R)) (p : ProcessorPart J R) → AllZip (IsFirstProcessor shape kept b) (range_with_len 0 (length ps)) ps → IsFirstProcessor shape kept b (length ps) p → more ≡ ps ++ p ∷ []
+      → AllZip (IsFirstProcessor shape kept b) (range_with_len 0 (length more)) more
+  processors_more shape kept b ps more p all one e =
       let long : length (ps ++ p ∷ []) ≡ suc (length ps) = length-append ps (p ∷ []) ∙ (let n : length ps + 1 ≡ suc (length ps) = omega arith in n) in
-      subst (λ (l : List (ProcessorPart J R)). AllZip (IsFirstProcessor shape b) (range_with_len 0 (length l)) l) (sym e)
-      (subst (λ (ks : List ℕ). AllZip (IsFirstProcessor shape b) ks (ps ++ p ∷ [])) (sym (ap (range_with_len 0) long ∙ range_more 0 (length ps) (length ps) (omega arith)))
-      (zip_push (IsFirstProcessor shape b) (range_with_len 0 (length ps)) ps (length ps) p all one))
+      subst (λ (l : List (ProcessorPart J R)). AllZip (IsFirstProcessor shape kept b) (range_with_len 0 (length l)) l) (sym e)
+      (subst (λ (ks : List ℕ). AllZip (IsFirstProcessor shape kept b) ks (ps ++ p ∷ [])) (sym (ap (range_with_len 0) long ∙ range_more 0 (length ps) (length ps) (omega arith)))
+      (zip_push (IsFirstProcessor shape kept b) (range_with_len 0 (length ps)) ps (length ps) p all one))
 
   abbrev LeadsTo : ProcessorPart J R → Front (Parcel J) LaneLimits → Type 0
   LeadsTo p front = IsNewLane front (rear_of p.state.lists)
@@ -64,11 +65,11 @@ module _ {J R : Type 0} where
 
   -- ---- hands
 
-  pub hands_more : (shape : Shape) (b : Board) (k : ℕ) (m : GroupMember J) (ms more : List (GroupMember J)) (h : HandPart J R) (hs longer : List (HandPart J R)) → AllZip (IsFirstHand shape b) (cpus_of ms) hs → AllZip HasHand ms hs
-      → m.cpu ≡ k → IsFirstHand shape b k h → HasHand m h → more ≡ ms ++ m ∷ [] → longer ≡ hs ++ h ∷ [] → AllZip (IsFirstHand shape b) (cpus_of more) longer × AllZip HasHand more longer
-  hands_more shape b k m ms more h hs longer all lanes at first lane e f = (
-    subst (λ (l : List (GroupMember J)). AllZip (IsFirstHand shape b) (cpus_of l) longer) (sym e) (subst (λ (l : List (HandPart J R)). AllZip (IsFirstHand shape b) (cpus_of (ms ++ m ∷ [])) l) (sym f)
-        (subst (λ (l : List ℕ). AllZip (IsFirstHand shape b) l (hs ++ h ∷ [])) (sym (map-append (λ (n : GroupMember J). n.cpu) ms (m ∷ []))) (zip_push (IsFirstHand shape b) (cpus_of ms) hs m.cpu h all (subst (λ (x : ℕ). IsFirstHand shape b x h) (sym at) first)))),
+  pub hands_more : (shape : Shape) (kept : Kept) (b : Board) (k : ℕ) (m : GroupMember J) (ms more : List (GroupMember J)) (h : HandPart J R) (hs longer : List (HandPart J R)) → AllZip (IsFirstHand shape kept b) (cpus_of ms) hs → AllZip HasHand ms hs
+      → m.cpu ≡ k → IsFirstHand shape kept b k h → HasHand m h → more ≡ ms ++ m ∷ [] → longer ≡ hs ++ h ∷ [] → AllZip (IsFirstHand shape kept b) (cpus_of more) longer × AllZip HasHand more longer
+  hands_more shape kept b k m ms more h hs longer all lanes at first lane e f = (
+    subst (λ (l : List (GroupMember J)). AllZip (IsFirstHand shape kept b) (cpus_of l) longer) (sym e) (subst (λ (l : List (HandPart J R)). AllZip (IsFirstHand shape kept b) (cpus_of (ms ++ m ∷ [])) l) (sym f)
+        (subst (λ (l : List ℕ). AllZip (IsFirstHand shape kept b) l (hs ++ h ∷ [])) (sym (map-append (λ (n : GroupMember J). n.cpu) ms (m ∷ []))) (zip_push (IsFirstHand shape kept b) (cpus_of ms) hs m.cpu h all (subst (λ (x : ℕ). IsFirstHand shape kept b x h) (sym at) first)))),
     subst (λ (l : List (GroupMember J)). AllZip HasHand l longer) (sym e) (subst (λ (l : List (HandPart J R)). AllZip HasHand (ms ++ m ∷ []) l) (sym f) (zip_push HasHand ms hs m h lanes lane)),
   )
 

@@ -146,7 +146,7 @@ module _ {J R : Type 0} where
       pub ended : All (WasEnded key_of gives) ends
       pub view : all_view y ≡ gather (all_view x) (seats_of ends)
       pub long : AreLong (board_at x).processors (seats_of ends)
-      pub ran : all_ran y ≡ all_ran x ++ map (λ e. e.ran) ends
+      pub ran : all_ran y ≡ all_ran x ++ map (λ e. e.kept) ends
       pub back : all_back y ≡ all_back x ++ map (λ e. e.back) ends
 
     in_row_more : (k : ℕ) (es : List (CpuEnd J R)) (e : CpuEnd J R) → InRow k es → e.part.cpu ≡ k + length es → InRow k (es ++ e ∷ [])
@@ -197,7 +197,7 @@ module _ {J R : Type 0} where
           ended = all_more (WasEnded key_of gives) s.ends e s.ended o.ended;
           view = o.view ∙ (ap (λ w. gather w (views_of e.part)) s.view ∙ (sym (gather_append (all_view x) (seats_of s.ends) (views_of e.part)) ∙ ap (gather (all_view x)) (sym (seats_more s.ends e))));
           long = subst (AreLong (board_at x).processors) (sym (seats_more s.ends e)) (All-append (λ (w : View). length w.seen ≡ words_of (board_at x).processors) (seats_of s.ends) (views_of e.part) s.long (subst (λ b. AreLong b.processors (views_of e.part)) s.board o.long));
-          ran = o.ran ∙ (ap (λ l. l ++ e.ran ∷ []) s.ran ∙ (append_assoc (all_ran x) (map (λ (d : CpuEnd J R). d.ran) s.ends) (e.ran ∷ []) ∙ ap (λ l. all_ran x ++ l) (sym (map-append (λ (d : CpuEnd J R). d.ran) s.ends (e ∷ [])))));
+          ran = o.ran ∙ (ap (λ l. l ++ e.kept ∷ []) s.ran ∙ (append_assoc (all_ran x) (map (λ (d : CpuEnd J R). d.kept) s.ends) (e.kept ∷ []) ∙ ap (λ l. all_ran x ++ l) (sym (map-append (λ (d : CpuEnd J R). d.kept) s.ends (e ∷ [])))));
           back = o.back ∙ (ap (λ l. l ++ e.back ∷ []) s.back ∙ (append_assoc (all_back x) (map (λ (d : CpuEnd J R). d.back) s.ends) (e.back ∷ []) ∙ ap (λ l. all_back x ++ l) (sym (map-append (λ (d : CpuEnd J R). d.back) s.ends (e ∷ [])))));
         }
 

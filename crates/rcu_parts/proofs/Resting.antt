@@ -1,5 +1,5 @@
 -- A processor and its hand at rest, and the room that they want.
-use Rattle.std.proofs.Common.{◌≡◌, ℕ, ◌+◌, ◌-◌, ◌≤◌, ◌∙◌, Option, Some, None, List, [], ◌∷◌, ◌++◌, map, length, ap, subst, refl, arith, vec_len}
+use Rattle.std.proofs.Common.{◌≡◌, ℕ, ◌+◌, ◌-◌, ◌≤◌, ◌∙◌, Option, Some, None, List, [], ◌∷◌, ◌++◌, map, length, ap, subst, refl, arith}
 use Rattle.std.proofs.Math.Logic.{∥∥₁_elim}
 use Rattle.std.proofs.Props.{props}
 use Rattle.std.specs.List.{All}
@@ -13,18 +13,19 @@ use Rattle.rcu_board.specs.declared.board.Seat.{Seat}
 use Rattle.rcu_board.specs.declared.view.View.{View}
 use Rattle.rcu_part_close.specs.Ends.{HasRoom}
 use Rattle.rcu_part_close.specs.declared.ended.ProcessorEnd.{ProcessorEnd}
-use Rattle.rcu_part_close.specs.Parts.{HandPart, IsAtRest, IsSoundPart, hand_ran, hand_taken}
+use Rattle.rcu_part_close.specs.Parts.{HandPart, IsAtRest, IsSoundPart, hand_kept, hand_taken}
 use Rattle.rcu_part_lists.specs.ProcessorLists.{Holding, held_in, put_by}
 use Rattle.rcu_jobs.specs.declared.callback.Record.{Record}
 use Rattle.rcu_numbers.specs.Numbers.{snap_of}
 use Rattle.rcu_part_order.proofs.Moves.{placed_all}
 use Rattle.rcu_part_order.specs.Records.{numbered_record, numbered_records}
+use Rattle.rcu_part_order.specs.Recorded.{left_in, ran_of}
 use Rattle.rcu_parts.specs.AtClose.{cpu_part, cpu_parts, first_hand, hand_for, hand_part, hands_after}
 use Rattle.rcu_parts.specs.Ending.{AreLong}
 use Rattle.rcu_part_hand.specs.Hands.{IsSoundHand}
 use Rattle.rcu_part_processor.specs.Lawful.{IsLawful}
 use Rattle.rcu_part_steps.specs.Places.{accepted_entry, accepted_list, claim_of, numbered_callback, numbered_callbacks}
-use Rattle.rcu_part_processor.specs.Processors.{IsSound, lists_of, records_of, view_of}
+use Rattle.rcu_part_processor.specs.Processors.{IsSound, lists_of, view_of}
 use Rattle.rcu_parts.specs.Rooms.{FitsCpu}
 use Rattle.rcu_parts.proofs.OneByOne.{all_after}
 use Rattle.rcu_board.proofs.Facts.{seen-long}
@@ -76,7 +77,7 @@ module _ {J R : Type 0} where
     here = is_here p;
     places = record { processor = p.state.lawful.places; hand = h.state.lawful.places };
     claims = p.state.lawful.claims;
-    hand_claims = subst (λ (k : ℕ). (view h.state.seat).claims ≡ map (claim_of k) h.state.ran.items) same h.state.lawful.claims;
+    hand_claims = subst (λ (k : ℕ). (view h.state.seat).claims ≡ map (claim_of k) (ran_of h.state.ran)) same h.state.lawful.claims;
     ripe = p.state.lawful.ripe;
     hand_ripe = h.state.lawful.ripe;
   }
@@ -103,13 +104,12 @@ module _ {J R : Type 0} where
       omega (arith, all, length-map ran (numbered_record {R = R}), length-map (accepted_of v) accepted_entry, length-map (put_by h) (numbered_callback {J = J}), length-map (held_in h) (numbered_callback {J = J}), l.counted))
 
   -- room for its records and its hand's, and for as many jobs as were accepted besides
-  pub fits_cpu : (p : Processor J R) (hand : Option (HandPart J R)) (hands records jobs : ℕ) (room : ProcessorEnd J R) → records ≡ vec_len p.state.ran + hands → jobs ≡ p.state.accepted - records
-      → HasRoom records jobs room → length (hand_ran hand) ≡ hands → length (hand_taken hand) ≡ hands → FitsCpu (cpu_part p hand) room
-  fits_cpu p hand hands records jobs room all rest has ran taken =
-      let n = all_counted p.state.cpu p.state.accepted (view_of p.state) (records_of p.state) (lists_of p.state) p.state.lawful in
-      let long = p.state.ran.ok.0 in
+  pub fits_cpu : (p : Processor J R) (hand : Option (HandPart J R)) (ran left all records jobs : ℕ) (room : ProcessorEnd J R) → all ≡ length (ran_of p.state.ran) + ran → records ≡ length (left_in p.state.ran) + left → jobs ≡ p.state.accepted - all
+      → HasRoom records jobs room → length (hand_kept hand) ≡ left → length (hand_taken hand) ≡ ran → FitsCpu (cpu_part p hand) room
+  fits_cpu p hand ran left all records jobs room many kept rest has hands taken =
+      let n = all_counted p.state.cpu p.state.accepted (view_of p.state) (ran_of p.state.ran) (lists_of p.state) p.state.lawful in
       record {
         jobs = jobs;
-        empty = subst (λ (k : ℕ). HasRoom k jobs room) (let z : records ≡ length (records_of p.state) + length (hand_ran hand) = omega (arith, all, ran, long) in z) has;
-        enough = omega (arith, n, all, rest, taken, long);
+        empty = subst (λ (k : ℕ). HasRoom k jobs room) (let z : records ≡ length (left_in p.state.ran) + length (hand_kept hand) = omega (arith, kept, hands) in z) has;
+        enough = omega (arith, n, many, rest, taken);
       }

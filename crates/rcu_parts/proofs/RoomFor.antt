@@ -1,17 +1,17 @@
 -- Room that is found for one processor after another.
-use Rattle.std.proofs.Common.{◌≡◌, ℕ, zero, suc, ◌+◌, ◌<◌, ◌≤◌, ◌∙◌, true, false, cond, None, List, [], ◌∷◌, ◌++◌, length, drop, get_or, sym, ap, subst, refl, arith}
+use Rattle.std.proofs.Common.{◌≡◌, ℕ, zero, suc, ◌+◌, ◌<◌, ◌≤◌, ◌∙◌, true, false, cond, Option, None, Some, List, [], ◌∷◌, ◌++◌, length, drop, get_or, sym, ap, subst, refl, arith}
 use Rattle.std.proofs.Math.Seq.{drop-cons}
 use Rattle.std.specs.List.{AllZip}
 use Rattle.std.proofs.lemmas.List.{append_assoc, append-nil, drop_all, length-map}
 use Rattle.std.proofs.lemmas.Bool.{cond_both}
 use Rattle.rcu_part_close.specs.declared.ended.ProcessorEnd.{ProcessorEnd}
-use Rattle.rcu_part_close.specs.Parts.{CpuPart, hand_ran, hand_taken}
-use Rattle.rcu_parts.specs.AtClose.{cpu_part, cpu_parts, first_hand, hand_for, hands_after, other_hands}
+use Rattle.rcu_part_close.specs.Parts.{CpuPart, HandPart, hand_ran, hand_taken}
+use Rattle.rcu_parts.specs.AtClose.{cpu_part, cpu_parts, first_hand, hand_for, hand_part, hands_after, other_hands}
 use Rattle.rcu_part_lists.specs.Helds.{taken_by}
+use Rattle.rcu_part_order.specs.Recorded.{ran_of}
 use Rattle.rcu_part_order.specs.Records.{numbered_record}
 use Rattle.rcu_part_steps.specs.Places.{numbered_callback}
 use Rattle.rcu_parts.specs.Rooms.{FitsCpu}
-use Rattle.rcu_part_hand.specs.Hands.{hand_records}
 use Rattle.rcu_part_hand.specs.declared.hand.Hand.{Hand}
 use Rattle.rcu_part_processor.specs.declared.processor.Processor.{Processor}
 use Rattle.rcu_lemmas.proofs.Zips.{zip_push}
@@ -28,28 +28,29 @@ module _ {J R : Type 0} where
 
   first_taken : (hs : List (Hand J R)) → length (hand_taken (first_hand hs)) ≡ length (hand_ran (first_hand hs))
   first_taken [] = refl
-  first_taken (h ∷ hs) = omega (arith, length-map (taken_by h.state.held) (numbered_callback {J = J}), ap length h.state.lawful.places, length-map h.state.ran.items (numbered_record {R = R}))
+  first_taken (h ∷ hs) = omega (arith, length-map (taken_by h.state.held) (numbered_callback {J = J}), ap length h.state.lawful.places, length-map (ran_of h.state.ran) (numbered_record {R = R}))
 
   -- where none is left
   pub none_after : (p : Processor J R) (hs : List (Hand J R)) → p.state.offloadable ≡ true → hs ≡ [] → hs ≡ hands_after p hs
   none_after p hs e none = none ∙ (ap other_hands (sym none) ∙ ap (λ c. cond c (other_hands hs) hs) (sym e))
 
-  pub ran_by_first : (p : Processor J R) (hs : List (Hand J R)) → p.state.offloadable ≡ true → length (hand_ran (first_hand hs)) ≡ length (hand_ran (hand_for p hs))
-  ran_by_first p hs e = ap (λ c. length (hand_ran (cond c (first_hand hs) None))) (sym e)
+  -- of a processor's hand, if it has one: how many it ran, or how many of its records are left
+  pub many_by_first : (many : Option (HandPart J R) → ℕ) (p : Processor J R) (hs : List (Hand J R)) → p.state.offloadable ≡ true → many (first_hand hs) ≡ many (hand_for p hs)
+  many_by_first many p hs e = ap (λ c. many (cond c (first_hand hs) None)) (sym e)
 
   -- where a processor has no hand, nothing ran and none is taken
-  pub none_for : (p : Processor J R) (hs : List (Hand J R)) → p.state.offloadable ≡ false → 0 ≡ length (hand_ran (hand_for p hs))
-  none_for p hs e = ap (λ c. length (hand_ran (cond c (first_hand hs) None))) (sym e)
+  pub none_for : (many : Option (HandPart J R) → ℕ) (p : Processor J R) (hs : List (Hand J R)) → p.state.offloadable ≡ false → many None ≡ many (hand_for p hs)
+  none_for many p hs e = ap (λ c. many (cond c (first_hand hs) None)) (sym e)
 
   pub all_left : (p : Processor J R) (hs : List (Hand J R)) → p.state.offloadable ≡ false → hs ≡ hands_after p hs
   all_left p hs e = ap (λ c. cond c (other_hands hs) hs) (sym e)
 
-  -- what the hand in a place ran, and that nothing ran where there is none
-  pub hand_at : (place : ℕ) (h : Hand J R) (all hs : List (Hand J R)) → all ≡ hs → h ≡ get_or all place h → place < length all → length (hand_records h.state) ≡ length (hand_ran (first_hand (drop place hs)))
-  hand_at place h all hs same is low = ap (λ (x : Hand J R). length (hand_records x.state)) is ∙ (ap (λ (l : List (Hand J R)). length (hand_ran (first_hand l))) (sym (drop-cons all place h low)) ∙ ap (λ (l : List (Hand J R)). length (hand_ran (first_hand (drop place l)))) same)
+  -- the same of the hand in a place, and where there is none
+  pub hand_at : (many : Option (HandPart J R) → ℕ) (place : ℕ) (h : Hand J R) (all hs : List (Hand J R)) → all ≡ hs → h ≡ get_or all place h → place < length all → many (Some (hand_part h)) ≡ many (first_hand (drop place hs))
+  hand_at many place h all hs same is low = ap (λ (x : Hand J R). many (Some (hand_part x))) is ∙ (ap (λ (l : List (Hand J R)). many (first_hand l)) (sym (drop-cons all place h low)) ∙ ap (λ (l : List (Hand J R)). many (first_hand (drop place l))) same)
 
-  pub no_hand_at : (place : ℕ) (all hs : List (Hand J R)) → all ≡ hs → length all ≤ place → 0 ≡ length (hand_ran (first_hand (drop place hs)))
-  no_hand_at place all hs same high = ap (λ (l : List (Hand J R)). length (hand_ran (first_hand l))) (sym (drop_all place all high)) ∙ ap (λ (l : List (Hand J R)). length (hand_ran (first_hand (drop place l)))) same
+  pub no_hand_at : (many : Option (HandPart J R) → ℕ) (place : ℕ) (all hs : List (Hand J R)) → all ≡ hs → length all ≤ place → many None ≡ many (first_hand (drop place hs))
+  no_hand_at many place all hs same high = ap (λ (l : List (Hand J R)). many (first_hand l)) (sym (drop_all place all high)) ∙ ap (λ (l : List (Hand J R)). many (first_hand (drop place l))) same
 
   -- a hand took as many as it ran
   pub taken_ran : (p : Processor J R) (hs : List (Hand J R)) → length (hand_taken (hand_for p hs)) ≡ length (hand_ran (hand_for p hs))

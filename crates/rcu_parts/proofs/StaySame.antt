@@ -25,7 +25,7 @@ module _ {A B : Type 0} where
 
 module _ {A : Type 0} where
   -- what is said of each of one list is said of each of the other
-  all_zipped : (P S : A → Type 0) (Q : A → A → Type 0) → ((x y : A) → Q x y → P x → S y) → (xs ys : List A) → AllZip Q xs ys → All P xs → All S ys
+  pub all_zipped : (P S : A → Type 0) (Q : A → A → Type 0) → ((x y : A) → Q x y → P x → S y) → (xs ys : List A) → AllZip Q xs ys → All P xs → All S ys
   all_zipped P S Q f [] [] z h = All-nil S
   all_zipped P S Q f [] (y ∷ ys) z h = absurd z
   all_zipped P S Q f (x ∷ xs) [] z h = absurd z

@@ -198,7 +198,7 @@ module _ {J R : Type 0} where
         record {
           ends = e.ends;
           parts_are = parts_are;
-          ran = ap (λ r. map (λ c. c.items) r.items) ran_is ∙ (e.ran ∙ ap (λ l. map (λ c. c.items) l ++ map (λ (d : CpuEnd J R). d.ran) e.ends) (ap (λ r. r.items) ran ∙ fits.no_ran));
+          ran = ap (λ r. map (λ c. c.items) r.items) ran_is ∙ (e.ran ∙ ap (λ l. map (λ c. c.items) l ++ map (λ (d : CpuEnd J R). d.kept) e.ends) (ap (λ r. r.items) ran ∙ fits.no_ran));
           back = ap (λ r. map (λ c. c.items) r.items) back_is ∙ (e.back ∙ ap (λ l. map (λ c. c.items) l ++ map (λ (d : CpuEnd J R). d.back) e.ends) (ap (λ r. r.items) back ∙ fits.no_back));
           reports = ap (λ r. r.items) reports_is ∙ (fits.reports ∙ reports_kept (processors_in parts) hs e.ends e.parts);
           closes = closes h;

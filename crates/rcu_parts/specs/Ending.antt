@@ -57,7 +57,7 @@ module _ {J R : Type 0} where
     pub ended : WasEnded key_of gives end
     pub view : all_view y ≡ gather (all_view x) (views_of end.part)
     pub long : AreLong (board_at x).processors (views_of end.part)
-    pub ran : all_ran y ≡ all_ran x ++ end.ran ∷ []
+    pub ran : all_ran y ≡ all_ran x ++ end.kept ∷ []
     pub back : all_back y ≡ all_back x ++ end.back ∷ []
 
   -- One more has ended, in its room, and nothing runs.
@@ -84,5 +84,5 @@ module _ {J R : Type 0} where
     pub ended : All (WasEnded key_of gives) ends
     pub view : all_view y ≡ gather (all_view x) (seats_of ends)
     pub long : AreLong (board_at x).processors (seats_of ends)
-    pub ran : all_ran y ≡ all_ran x ++ map (λ e. e.ran) ends
+    pub ran : all_ran y ≡ all_ran x ++ map (λ e. e.kept) ends
     pub back : all_back y ≡ all_back x ++ map (λ e. e.back) ends

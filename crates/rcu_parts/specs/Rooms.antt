@@ -4,7 +4,7 @@ use Rattle.std.specs.List.{AllZip}
 use Rattle.rcu_board.specs.Seats.{reports_of}
 use Rattle.rcu_part_close.specs.Ends.{HasRoom}
 use Rattle.rcu_part_close.specs.declared.ended.ProcessorEnd.{ProcessorEnd}
-use Rattle.rcu_part_close.specs.Parts.{CpuPart, hand_ran, hand_taken}
+use Rattle.rcu_part_close.specs.Parts.{CpuPart, hand_kept, hand_taken}
 use Rattle.rcu_part_lists.specs.ProcessorLists.{held_in, put_by}
 use Rattle.rcu_parts.specs.AtClose.{cpu_parts}
 use Rattle.rcu_part_hand.specs.declared.hand.Hand.{Hand}
@@ -13,10 +13,10 @@ use Rattle.rcu_part_processor.specs.declared.processor.Processor.{Processor}
 use Rattle.rcu_parts.specs.declared.room.Reserved.{Reserved}
 
 module _ {J R : Type 0} where
-  -- nothing is there yet, and there is room for a processor's records, its hand's, and the jobs that are handed back
+  -- nothing is there yet, and there is room for a processor's records that are left, its hand's, and the jobs that are handed back
   pub record FitsCpu (c : CpuPart J R) (room : ProcessorEnd J R) : Type 0 where
     pub jobs : ℕ
-    pub empty : HasRoom (length c.own + length (hand_ran c.hand)) jobs room
+    pub empty : HasRoom (length c.kept + length (hand_kept c.hand)) jobs room
     pub enough : length (put_by c.lists) + length (held_in c.lists) ≤ length (hand_taken c.hand) + jobs
 
   -- the same for all processors, the members of all groups, and the lists that are answered

@@ -2,9 +2,11 @@
 
 ghost use Rattle.rcu_jobs.specs.declared.Counts.{Counts};
 ghost use Rattle.rcu_jobs.specs.declared.answers.Closed.{Closed};
-ghost use Rattle.rcu_parts.specs.AtClose.{AccountsFor};
+ghost use Rattle.rcu_numbers.specs.declared.shape.Shape.{Shape};
+ghost use Rattle.rcu_parts.specs.AtClose.{AccountsFor, AnswersAll, ClosesWith, KeepWhole};
 ghost use Rattle.rcu_parts.specs.Drained.{HasNoneBack, IsDrained};
 ghost use Rattle.rcu_parts.specs.OneOpen.{AreOfOneOpen, Parts};
+ghost use Rattle.rcu_parts.specs.Openings.{IsOpened};
 ghost use Rattle.rcu_parts.specs.SameParts.{AreSameParts};
 
 use rcu_jobs::Job;
@@ -14,6 +16,19 @@ use rcu_jobs::Job;
 pub fn same_parts<J: Job>()
     ensures one { (old new : Parts J J.Receipt) → AreSameParts old new → AreOfOneOpen old
         → AreOfOneOpen new }
+{}
+
+/// Parts that [`crate::open`] gave keep every record as long as each stays the same part, so that [`crate::close`] answers the
+/// records of all that ran.
+pub fn records_of_all<J: Job>()
+    ensures opened { (shape : Shape) (parts : Parts J J.Receipt) → IsOpened shape parts
+        → KeepWhole parts }
+    ensures stays { (old new : Parts J J.Receipt) → AreSameParts old new → KeepWhole old
+        → KeepWhole new }
+    ensures accounts { (parts : Parts J J.Receipt) (closed : Closed J J.Receipt) → KeepWhole parts
+        → (answer : AccountsFor parts closed) → AnswersAll parts closed answer }
+    ensures closes { (parts : Parts J J.Receipt) (closed : Closed J J.Receipt) → KeepWhole parts
+        → (answer : ClosesWith J.key_of J.gives parts closed) → AnswersAll parts closed answer }
 {}
 
 /// The drain: where every processor was shut, and then a barrier passed that counts all that they had accepted, as one does

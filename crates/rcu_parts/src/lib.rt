@@ -13,11 +13,12 @@ mod room;
 mod seats;
 
 pub use closing::{AllClosing, Closing, close};
-pub use laws::{drained, same_parts};
-pub use opening::open;
+pub use laws::{drained, records_of_all, same_parts};
+pub use opening::{open, open_with};
 pub use parts::{AllParts, Parts};
 pub use rcu_part_control::{Barrier, Control, Driver, ReadsTurns};
 pub use rcu_part_group::{Group, GroupMember, GroupMembers};
 pub use rcu_part_hand::{Hand, HandInPlace, RunningHand};
+pub use rcu_part_order::Kept;
 pub use rcu_part_processor::{Away, Processor, ProcessorInPlace, Reading, RunningProcessor};
 pub use rcu_part_steps::{Begins, ClaimedCallback};

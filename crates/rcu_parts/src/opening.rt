@@ -10,7 +10,7 @@ ghost use Rattle.rcu_lanes.specs.Ends.{IsNewLane, items_drawn};
 ghost use Rattle.rcu_part_group.specs.GroupLaw.{cpus_of, group_members_in};
 ghost use Rattle.rcu_part_group.specs.Groups.{IsEmptyGroupMember};
 ghost use Rattle.rcu_parts.specs.OneOpen.{AreOfOneOpen, AreSoundParts, HasHand, members_in};
-ghost use Rattle.rcu_parts.specs.Openings.{AreFirstGroups, AreFirstHands, AreFirstProcessors, AreFronts, IsFirstHand, IsFirstProcessor, IsOpened, fronts_of, TakesMember, TakesMembers};
+ghost use Rattle.rcu_parts.specs.Openings.{AreFirstGroups, AreFirstHands, AreFirstProcessors, AreFronts, IsFirstHand, IsFirstProcessor, IsOpened, IsOpenedWith, fronts_of, TakesMember, TakesMembers};
 ghost use Rattle.rcu_part_group.specs.declared.members.GroupMember.{GroupMember};
 
 use crate::parts::{AllParts, Parts};
@@ -23,6 +23,7 @@ use rcu_part_control::{Control, Driver};
 use rcu_part_group::{Group, GroupMember, GroupMembers};
 use rcu_part_hand::Hand;
 use rcu_part_lists::{Held, LaneLimits, MemberLists, ProcessorLists};
+use rcu_part_order::Kept;
 use rcu_part_processor::Processor;
 use std::alloc::{AllocError, Global};
 use std::collections::VecDeque;
@@ -35,18 +36,19 @@ fn open_processor<J: Job>(
     board: &Arc<Board, Global>,
     seat: Seat,
     cpu: u64,
+    kept: Kept,
 ) -> Result<(Processor<J>, Front<Parcel<J>, LaneLimits>), AllocError>
     requires seat { IsNewProcessor (arc_value board.now) cpu seat }
     requires there { cpu < (arc_value board.now).processors }
     ensures processor { IfOk result (λ t.
-        IsFirstProcessor shape.now (arc_value board.now) cpu t.0) }
+        IsFirstProcessor shape.now kept (arc_value board.now) cpu t.0) }
     ensures lane { IfOk result (λ t. IsNewLane t.1 (rear_of t.0.state.lists)) }
 {
     let (front, rear) = ruled_lane::<Parcel<J>, LaneLimits>(alloc)?;
     let offloadable = board.is_offloadable(cpu);
     let lists = ProcessorLists::new(alloc, rear, offloadable, shape.qhimark)?;
     let own = Arc::try_clone(board)?;
-    let processor = Processor::new(alloc, shape, own, seat, cpu, lists);
+    let processor = Processor::new(alloc, shape, own, seat, cpu, lists, kept);
     Ok((processor, front))
 }
 
@@ -56,18 +58,19 @@ fn open_processors<J: Job>(
     shape: &Shape,
     board: &Arc<Board, Global>,
     seats: Vec<Seat>,
+    kept: Kept,
 ) -> Result<(Vec<Processor<J>>, VecDeque<Front<Parcel<J>, LaneLimits>>), AllocError>
     requires seats { InOrder (IsNewProcessor (arc_value board.now)) 0 seats.items }
     requires many { length seats.items ≡ (arc_value board.now).processors }
     ensures processors { IfOk result (λ t.
-        AreFirstProcessors shape.now (arc_value board.now) t.0.items) }
+        AreFirstProcessors shape.now kept (arc_value board.now) t.0.items) }
     ensures fronts { IfOk result (λ t. AreFronts t.0.items t.1.items) }
 {
     let mut processors = Vec::new(alloc);
     let mut fronts = VecDeque::new(alloc);
     for seat in seats {
         let cpu = processors.len() as u64;
-        let (processor, front) = open_processor(alloc, shape, board, seat, cpu)?;
+        let (processor, front) = open_processor(alloc, shape, board, seat, cpu, kept)?;
         processors.push(processor)?;
         if !board.is_offloadable(cpu) {
             continue;
@@ -85,19 +88,20 @@ fn open_hand<J: Job>(
     seat: Seat,
     cpu: u64,
     front: Front<Parcel<J>, LaneLimits>,
+    kept: Kept,
 ) -> Result<(GroupMember<J>, Hand<J>), AllocError>
     requires seat { IsNewHand (arc_value board.now) cpu seat }
     requires front { items_drawn front ≡ [] }
     ensures group_member { IfOk result (λ t.
         (t.0.cpu ≡ cpu) × (front_of t.0.member ≡ front) × IsEmptyGroupMember t.0) }
-    ensures hand { IfOk result (λ t. IsFirstHand shape.now (arc_value board.now) cpu t.1) }
+    ensures hand { IfOk result (λ t. IsFirstHand shape.now kept (arc_value board.now) cpu t.1) }
     ensures lane { IfOk result (λ t. HasHand t.0 t.1) }
 {
     let (done_front, done_rear) = ruled_lane::<Parcel<J>, LaneLimits>(alloc)?;
     let own = Arc::try_clone(board)?;
     let member = MemberLists::new(alloc, front, done_rear)?;
     let held = Held::new(alloc, done_front);
-    let hand = Hand::new(alloc, shape, own, seat, cpu, held);
+    let hand = Hand::new(alloc, shape, own, seat, cpu, held, kept);
     Ok((GroupMember { cpu, member }, hand))
 }
 
@@ -108,6 +112,7 @@ fn open_hands<J: Job>(
     board: &Arc<Board, Global>,
     seats: Vec<Seat>,
     mut fronts: VecDeque<Front<Parcel<J>, LaneLimits>>,
+    kept: Kept,
 ) -> Result<(VecDeque<GroupMember<J>>, Vec<Hand<J>>), AllocError>
     requires seats { SeatForEach (IsNewHand (arc_value board.now))
         (numbers_where (is_offloadable (arc_value board.now).offloadable) 0
@@ -120,7 +125,7 @@ fn open_hands<J: Job>(
         (arc_value board.now).processors) }
     ensures fronts { IfOk result (λ t. fronts_of t.0.items ≡ fronts.items) }
     ensures empty { IfOk result (λ t. All IsEmptyGroupMember t.0.items) }
-    ensures hands { IfOk result (λ t. AreFirstHands shape.now (arc_value board.now) t.1.items) }
+    ensures hands { IfOk result (λ t. AreFirstHands shape.now kept (arc_value board.now) t.1.items) }
     ensures lanes { IfOk result (λ t. AllZip HasHand t.0.items t.1.items) }
 {
     let mut group_members = VecDeque::new(alloc);
@@ -132,7 +137,7 @@ fn open_hands<J: Job>(
         let Some(front) = fronts.pop_front() else {
             unreachable!()
         };
-        let (group_member, hand) = open_hand(alloc, shape, board, seat, cpu, front)?;
+        let (group_member, hand) = open_hand(alloc, shape, board, seat, cpu, front, kept)?;
         group_members.push_back(group_member)?;
         hands.push(hand)?;
     }
@@ -227,13 +232,28 @@ fn share_board(
 }
 
 /// Opens all parts of a new board of this shape (docs/specification/surface.md, "rcu_parts"). All lists and counts are
-/// empty; exactly the offloadable processors are Offloaded and have a hand.
+/// empty; exactly the offloadable processors are Offloaded and have a hand. The record of each callback that runs is kept until
+/// [`close`](crate::close), which answers them all.
 ///
 /// # Errors
 ///
 /// Want of memory; then nothing was made.
 pub fn open<J: Job>(alloc: Global, shape: Shape) -> Result<Parts<J>, AllocError>
     ensures opened { IfOk result (λ parts. IsOpened shape parts) }
+    ensures one { IfOk result (λ parts. AreOfOneOpen parts) }
+    ensures sound { IfOk result (λ parts. AreSoundParts J.key_of J.gives parts) }
+{
+    open_with(alloc, shape, Kept::Whole)
+}
+
+/// Opens all parts as [`open`] does, and chooses what is kept of the callbacks that run: with [`Kept::Rest`] processors and
+/// hands hand out their records while they run (`take_records`), and with [`Kept::Nothing`] memory doesn't grow with what ran.
+///
+/// # Errors
+///
+/// Want of memory; then nothing was made.
+pub fn open_with<J: Job>(alloc: Global, shape: Shape, kept: Kept) -> Result<Parts<J>, AllocError>
+    ensures opened { IfOk result (λ parts. IsOpenedWith kept shape parts) }
     ensures one { IfOk result (λ parts. AreOfOneOpen parts) }
     ensures sound { IfOk result (λ parts. AreSoundParts J.key_of J.gives parts) }
 {
@@ -246,8 +266,8 @@ pub fn open<J: Job>(alloc: Global, shape: Shape) -> Result<Parts<J>, AllocError>
         control,
     } = seats;
     let driver = Driver::new(drivers, driver);
-    let (processors, fronts) = open_processors(alloc, &shape, &board, processors)?;
-    let (group_members, hands) = open_hands(alloc, &shape, &board, hands, fronts)?;
+    let (processors, fronts) = open_processors(alloc, &shape, &board, processors, kept)?;
+    let (group_members, hands) = open_hands(alloc, &shape, &board, hands, fronts, kept)?;
     let groups = open_groups(alloc, &shape, &board, groups, group_members)?;
     Ok(AllParts {
         processors,

@@ -3,7 +3,7 @@
 ghost use Rattle.std.specs.Prelude.{◌≡◌, IfOk, Option, drop, length, map};
 ghost use Rattle.std.specs.List.{AllZip};
 ghost use Rattle.rcu_board.specs.Seats.{reports_of};
-ghost use Rattle.rcu_part_close.specs.Parts.{HandPart, hand_ran, hand_taken};
+ghost use Rattle.rcu_part_close.specs.Parts.{HandPart, hand_kept, hand_ran, hand_taken};
 ghost use Rattle.rcu_part_processor.specs.Processors.{view_of};
 ghost use Rattle.rcu_parts.specs.AtClose.{cpu_part, cpu_parts, hand_for, hands_after};
 ghost use Rattle.rcu_parts.specs.Rooms.{FitsAll, FitsCpu};
@@ -74,9 +74,10 @@ fn find_ends<J: Job>(
     let mut ends = Vec::new(alloc);
     let mut next = 0;
     for processor in processors.iter() {
-        let (ran, left) = ran_by_hand(processor, hands, next);
-        ends.push(find_end(alloc, processor, ran)?)?;
-        next = left;
+        let left = left_by_hand(processor, hands, next);
+        let (ran, after) = ran_by_hand(processor, hands, next);
+        ends.push(find_end(alloc, processor, ran, left)?)?;
+        next = after;
     }
     Ok(ends)
 }
@@ -102,19 +103,37 @@ fn ran_by_hand<J: Job>(
     }
 }
 
-/// Room for what is left of this processor and of its hand, which ran so many callbacks.
+/// How many records are left of what the hand of a processor ran, if it has one, where this many hands are those of processors
+/// before it.
+fn left_by_hand<J: Job>(processor: &Processor<J>, hands: &Vec<Hand<J>>, before: usize) -> usize
+    ensures { result ≡ length (hand_kept (hand_for processor.now (drop before hands.now.items))) }
+{
+    if !processor.is_offloadable() {
+        return 0;
+    }
+    match hands.get(before) {
+        Some(hand) => hand.records_left(),
+        None => 0,
+    }
+}
+
+/// Room for what is left of this processor and of its hand, which ran so many callbacks, of whose records so many are left.
 fn find_end<J: Job>(
     alloc: Global,
     processor: &Processor<J>,
-    hands: usize,
+    ran: usize,
+    left: usize,
 ) -> Result<ProcessorEnd<J, J::Receipt>, AllocError>
     ensures { IfOk result (λ room.
-        (hand : Option (HandPart J J.Receipt)) → length (hand_ran hand) ≡ hands
-        → length (hand_taken hand) ≡ hands → FitsCpu (cpu_part processor.now hand) room) }
+        (hand : Option (HandPart J J.Receipt)) → length (hand_kept hand) ≡ left
+        → length (hand_taken hand) ≡ ran → FitsCpu (cpu_part processor.now hand) room) }
 {
-    let Some(records) = processor.ran().checked_add(hands) else {
+    let Some(all) = processor.ran().checked_add(ran) else {
         return Err(AllocError);
     };
-    let jobs = (processor.accepted() as usize).saturating_sub(records);
+    let Some(records) = processor.records_left().checked_add(left) else {
+        return Err(AllocError);
+    };
+    let jobs = (processor.accepted() as usize).saturating_sub(all);
     ProcessorEnd::with_room(alloc, records, jobs)
 }

@@ -20,7 +20,8 @@ use Rattle.rcu_jobs.specs.declared.callback.Record.{Record}
 use Rattle.rcu_part_steps.specs.Places.{accepted_entry, accepted_list}
 use Rattle.rcu_part_close.specs.Parts.{CpuPart}
 use Rattle.rcu_jobs.specs.declared.answers.Closed.{Closed}
-use Rattle.rcu_parts.specs.AtClose.{ClosesWith, cpu_part, cpu_parts, hand_for, hands_after, other_views}
+use Rattle.rcu_parts.proofs.KeptWhole.{answers_all, whole_stays}
+use Rattle.rcu_parts.specs.AtClose.{ClosesWith, KeepWhole, cpu_part, cpu_parts, hand_for, hands_after, other_views}
 use Rattle.rcu_part_group.specs.Groups.{SameGroup}
 use Rattle.rcu_part_hand.specs.Hands.{IsSoundHand}
 use Rattle.rcu_parts.specs.OneOpen.{AreOfOneOpen, AreProcessorsFrom, AreSoundParts, Parts, groups_in, hands_in, parts_board, processors_in}
@@ -134,14 +135,14 @@ module _ {J R : Type 0} (key_of : J → ℕ) (gives : ℕ → R → Type 0) wher
       ∙ ap (λ l. keys_in p ∷ l) (ran_keys_each v views processors es ps (hands_after p hs) rest (All-tail Closed e es h) (All-tail (AllRan v) p ps ran))
 
   -- where nothing had been accepted before, what ran on each processor is what it accepted
-  pub all_ran_keys : (old new : Parts J R) (closed : Closed J R) → HaveRun key_of gives old new → AreUnused old → ClosesWith key_of gives new closed → keys_ran closed ≡ map (λ p. keys_in p) (processors_in new)
-  all_ran_keys old new closed h unused c =
+  pub all_ran_keys : (old new : Parts J R) (closed : Closed J R) → HaveRun key_of gives old new → AreUnused old → KeepWhole old → ClosesWith key_of gives new closed → keys_ran closed ≡ map (λ p. keys_in p) (processors_in new)
+  all_ran_keys old new closed h unused keep c =
       let v = control_view new.control in
       let ran = zip_all (λ (p : Processor J R). p.state.accepted ≡ 0) (HasRun key_of gives v) (AllRan v) (all_ran v) (processors_in old) (processors_in new) h.processors unused in
       let views = other_views new ++ seats_of c.ends in
       let keys = map (λ (r : Record R). r.key) in
       sym (map-map keys (λ x. x.items) closed.ran.items)
-      ∙ (ap (map keys) c.ran ∙ (map-map keys (λ (e : CpuEnd J R). e.ran) c.ends
+      ∙ (ap (map keys) (answers_all _ (λ es closes k d lt. (closes k d lt).ends.whole) new closed (whole_stays old new (all_same old new h) keep) c) ∙ (map-map keys (λ (e : CpuEnd J R). e.ran) c.ends
       ∙ ran_keys_each v views (processors_of c.ends) c.ends (processors_in new) (hands_in new) c.parts_are c.closes ran))
 
   -- Processors of one open, in order, called and ran: the tickets of each are those of its own numbers.
@@ -167,6 +168,6 @@ module _ {J R : Type 0} (key_of : J → ℕ) (gives : ℕ → R → Type 0) wher
       subst (λ c. AreInOrder c 0 (tickets_in (get_or own p []))) here (tickets_at v 0 (parts_board old) (processors_in old) qs own one.processors ran numbers p low)
 
   -- so each job that was handed in has run or was refused
-  pub all_have_run : (old new : Parts J R) (closed : Closed J R) (jobs : List J) (answers : List (List (Result Ticket (Refused J)))) → HaveRun key_of gives old new → AreUnused old → ClosesWith key_of gives new closed
+  pub all_have_run : (old new : Parts J R) (closed : Closed J R) (jobs : List J) (answers : List (List (Result Ticket (Refused J)))) → HaveRun key_of gives old new → AreUnused old → KeepWhole old → ClosesWith key_of gives new closed
       → HaveAllRun key_of jobs answers (map (λ p. keys_in p) (processors_in new)) → HaveAllRun key_of jobs answers (keys_ran closed)
-  all_have_run old new closed jobs answers h unused c all = subst (HaveAllRun key_of jobs answers) (sym (all_ran_keys old new closed h unused c)) all
+  all_have_run old new closed jobs answers h unused keep c all = subst (HaveAllRun key_of jobs answers) (sym (all_ran_keys old new closed h unused keep c)) all

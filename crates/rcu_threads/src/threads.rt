@@ -2,6 +2,7 @@
 
 ghost use Rattle.std.specs.Prelude.{◌≡◌, ◌<◌, map, length, All, IfErr, IfOk, OnOk, is_ok, true, vec_len};
 ghost use Rattle.std.specs.List.{AllZip};
+ghost use Rattle.rcu_parts.specs.AtClose.{KeepWhole};
 ghost use Rattle.rcu_parts.specs.OneOpen.{AreOfOneOpen, AreSoundParts};
 ghost use Rattle.rcu_parts.specs.Drained.{HasNoneBack};
 ghost use Rattle.rcu_part_threads.specs.Calls.{AreRefusalsBy, keys_in};
@@ -144,7 +145,7 @@ pub fn run_in_threads<
     requires sound { AreSoundParts J.key_of J.gives parts }
     ensures closes { IfOk result (λ ended. ClosesSame J.key_of J.gives parts ended.closed) }
     ensures ran { AreUnused parts → IfOk result (λ ended. HasNoneBack ended.closed) }
-    ensures all { AreUnused parts
+    ensures all { AreUnused parts → KeepWhole parts
         → IfOk result (λ ended.
         HaveAllRun J.key_of jobs.items (map (λ own. own.items) ended.answers.items)
         (keys_ran ended.closed)) }

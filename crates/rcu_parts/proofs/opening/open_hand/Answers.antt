@@ -39,7 +39,7 @@ pub returns-clause-group_member : goal.returns-clause-group_member
 returns-clause-group_member g c = let m = c.in_ok-member.ensures in (refl, m.ends.0, m.empty)
 
 pub returns-clause-hand : goal.returns-clause-hand
-returns-clause-hand g c = first_of_hands c.args.shape.now _ (arc_value c.args.board.now) c.args.cpu c.args.seat _ c.new-hand.result c.in_ok-own.ensures c.requires.seat c.new-held.ensures.empty c.new-hand.ensures.new
+returns-clause-hand g c = first_of_hands c.args.shape.now c.args.kept _ (arc_value c.args.board.now) c.args.cpu c.args.seat _ c.new-hand.result c.in_ok-own.ensures c.requires.seat c.new-held.ensures.empty c.new-hand.ensures.new
 
 pub returns-clause-lane : goal.returns-clause-lane
-returns-clause-lane g c = has_hand c.args.shape.now _ c.args.seat _ (record { cpu = c.args.cpu; member = c.in_ok-member.member }) c.new-hand.result _ _ c.new-hand.ensures.new c.new-held.ensures.front c.in_ok-member.ensures.ends.1 c.in_ok-done_front.ensures
+returns-clause-lane g c = has_hand c.args.shape.now c.args.kept _ c.args.seat _ (record { cpu = c.args.cpu; member = c.in_ok-member.member }) c.new-hand.result _ _ c.new-hand.ensures.new c.new-held.ensures.front c.in_ok-member.ensures.ends.1 c.in_ok-done_front.ensures

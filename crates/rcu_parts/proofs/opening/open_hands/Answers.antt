@@ -78,7 +78,7 @@ loop-seat-preserved g c = let b = arc_value c.args.board.now in let i = c.loop-s
     let drawn = λ (f : Front (Parcel g.row.J.Denot) LaneLimits). items_drawn f ≡ [] in
     let cut = c.in-Some-pop_front.ensures.items in let group_member = c.in_ok-group_member.group_member in let e = c.in_ok-push_back.ensures.items in let made = c.in_ok-group_member.ensures in
     let m = made_more ks c.args.fronts.items t.0 c.in-Hand.cpu i.left t.1 c.in-Some-pop_front.front c.loop-seat.fronts.items c.pop_front.new.self.items group_member c.loop-seat.group_members.items c.push_back.new.self.items i.all i.fronts t.2 cut made.group_member.0 same made.group_member.1 e in
-    let h = hands_more c.args.shape.now b c.in-Hand.cpu group_member c.loop-seat.group_members.items c.push_back.new.self.items c.in_ok-group_member.hand c.loop-seat.hands.items c.push.new.self.items i.hands i.lanes made.group_member.0 made.hand made.lane e c.in_ok-push.ensures.items in record {
+    let h = hands_more c.args.shape.now c.args.kept b c.in-Hand.cpu group_member c.loop-seat.group_members.items c.push_back.new.self.items c.in_ok-group_member.hand c.loop-seat.hands.items c.push.new.self.items i.hands i.lanes made.group_member.0 made.hand made.lane e c.in_ok-push.ensures.items in record {
       left = t.1;
       all = m.cpus;
       seats = t.4;
@@ -104,7 +104,7 @@ pub returns-clause-fronts : goal.returns-clause-fronts
 returns-clause-fronts g c = let i = c.loop-seat.invariant in all_of (fronts_of c.loop-seat.group_members.items) c.loop-seat.fronts.items c.args.fronts.items i.fronts (nil_from_length c.loop-seat.fronts.items (i.many ∙ over g c))
 
 pub returns-clause-hands : goal.returns-clause-hands
-returns-clause-hands g c = subst (λ (ks : List ℕ). AllZip (IsFirstHand c.args.shape.now (arc_value c.args.board.now)) ks c.loop-seat.hands.items) (cpus g c) c.loop-seat.invariant.hands
+returns-clause-hands g c = subst (λ (ks : List ℕ). AllZip (IsFirstHand c.args.shape.now c.args.kept (arc_value c.args.board.now)) ks c.loop-seat.hands.items) (cpus g c) c.loop-seat.invariant.hands
 
 pub returns-in_err-group_member : goal.returns-in_err-group_member
 returns-in_err-group_member g c = let e = c.from_residual.ensures in record { cpus = if_ok_never _ _ e; fronts = if_ok_never _ _ e; empty = if_ok_never _ _ e; hands = if_ok_never _ _ e; lanes = if_ok_never _ _ e }

@@ -19,6 +19,6 @@ invariant-loop-seat g l = record {
   drawn : All (λ front. items_drawn front ≡ []) l.fronts.items;
   fronts : fronts_of l.group_members.items ++ l.fronts.items ≡ l.fn.fronts.items;
   empty : All IsEmptyGroupMember l.group_members.items;
-  hands : AllZip (IsFirstHand l.shape (arc_value l.board)) (cpus_of l.group_members.items) l.hands.items;
+  hands : AllZip (IsFirstHand l.shape l.kept (arc_value l.board)) (cpus_of l.group_members.items) l.hands.items;
   lanes : AllZip HasHand l.group_members.items l.hands.items;
 }

@@ -35,7 +35,7 @@ new-processor-requires-after_bounds g c κs within =
     )
 
 pub returns-clause-processor : goal.returns-clause-processor
-returns-clause-processor g c = first_processor c.args.shape.now (arc_value c.in_ok-own.own) (arc_value c.args.board.now) c.args.cpu c.args.seat c.in_ok-lists.lists c.new-processor.result c.is_offloadable-offloadable.result c.in_ok-own.ensures c.requires.seat c.in_ok-lists.ensures.empty (offloads_at (arc_value c.args.board.now) c.deref.result.now c.deref.ensures c.is_offloadable-offloadable.result c.args.cpu c.is_offloadable-offloadable.ensures) c.new-processor.ensures.new
+returns-clause-processor g c = first_processor c.args.shape.now c.args.kept (arc_value c.in_ok-own.own) (arc_value c.args.board.now) c.args.cpu c.args.seat c.in_ok-lists.lists c.new-processor.result c.is_offloadable-offloadable.result c.in_ok-own.ensures c.requires.seat c.in_ok-lists.ensures.empty (offloads_at (arc_value c.args.board.now) c.deref.result.now c.deref.ensures c.is_offloadable-offloadable.result c.args.cpu c.is_offloadable-offloadable.ensures) c.new-processor.ensures.new
 
 pub returns-clause-lane : goal.returns-clause-lane
 returns-clause-lane g c = subst (IsNewLane c.in_ok-front.front) (sym (ap (λ (l : ProcessorLists g.row.J.Denot). rear_of l) c.new-processor.ensures.new.lists_are ∙ c.in_ok-lists.ensures.rear)) c.in_ok-front.ensures

@@ -21,7 +21,7 @@ loop-processor-preserved g c =
     let left = drop c.loop-processor.next c.args.hands.now.items in
     fits_more i c.loop-processor.next c.ran_by_hand-ran.result.1 ps c.args.hands.now.items c.loop-processor.ends.items c.push.new.self.items p c.in_ok-find_end.field-0 c.loop-processor.invariant
     (at ∙ (ap (λ x. x ∷ drop (suc i) ps) (sym item) ∙ ap (λ k. p ∷ drop k ps) next)) c.ran_by_hand-ran.ensures.left c.in_ok-push.ensures.items
-    (c.in_ok-find_end.ensures (hand_for p left) (sym c.ran_by_hand-ran.ensures.ran) (taken_ran p left ∙ sym c.ran_by_hand-ran.ensures.ran))
+    (c.in_ok-find_end.ensures (hand_for p left) (sym c.left_by_hand-left.ensures) (taken_ran p left ∙ sym c.ran_by_hand-ran.ensures.ran))
 
 pub returns : goal.returns
 returns g c = fits_all c.loop-processor.processor-index c.loop-processor.next c.args.processors.now.items c.args.hands.now.items c.loop-processor.ends.items c.loop-processor.invariant (drop_all c.loop-processor.processor-index c.args.processors.now.items (let t = c.loop-processor-test.false in let e = ap length c.deref-processor-items.ensures.value in omega (arith, t, e)))
@@ -37,3 +37,6 @@ find_end-requires g c = assumption
 
 pub ran_by_hand-ran-requires : goal.ran_by_hand-ran-requires
 ran_by_hand-ran-requires g c = assumption
+
+pub left_by_hand-left-requires : goal.left_by_hand-left-requires
+left_by_hand-left-requires g c = assumption

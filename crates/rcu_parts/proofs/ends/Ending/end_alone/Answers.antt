@@ -9,6 +9,8 @@ use Rattle.rcu_board.specs.Views.{joined}
 use Rattle.rcu_part_close.specs.Ends.{EndsWith}
 use Rattle.rcu_part_lists.proofs.Sizes.{in_struct}
 use Rattle.rcu_part_lists.specs.ProcessorLists.{held_in, holding}
+use Rattle.rcu_part_order.specs.Recorded.{left_in, ran_of}
+use Rattle.rcu_part_order.proofs.Merging.{by_number_alone}
 use Rattle.rcu_parts.specs.AtClose.{cpu_part}
 use Rattle.rcu_parts.specs.Ending.{all_back, all_ran, all_view, board_at}
 use Rattle.rcu_part_processor.specs.Processors.{board_of}
@@ -42,10 +44,14 @@ returns-clause-ends g c =
     let s = c.into_state-seat.ensures in
     let p = cpu_part c.args.processor None in
     record {
-      end = record { part = p; ran = c.end_local.result.ran.items; back = c.end_local.result.back.items };
+      end = record { part = p; ran = ran_of c.args.processor.state.ran; kept = c.end_local.result.ran.items; back = c.end_local.result.back.items };
       part = refl;
       at_rest = rests_alone c.args.processor;
-      ended = subst (λ q. EndsWith g.J.Job.key_of g.J.Job.gives q.ran.items [] (holding q.lists) [] [] c.end_local.result.ran.items c.end_local.result.back.items) s e.ends;
+      ended = record {
+        ends = subst (λ q. EndsWith g.J.Job.key_of g.J.Job.gives (ran_of q.ran) [] (holding q.lists) [] [] (ran_of q.ran) c.end_local.result.back.items) s e.ends;
+        ran = sym (by_number_alone (ran_of c.args.processor.state.ran));
+        kept = e.kept ∙ (ap (λ q. left_in q.ran) s ∙ sym (by_number_alone (left_in c.args.processor.state.ran)));
+      };
       view = ap all_view k.others ∙ (t.view ∙ ap (λ q. joined (all_view c.args.self.now) (view q.seat)) s);
       long = one_long (board_at c.args.self.now) (board_of c.args.processor.state) c.args.processor.state.seat c.requires.board c.args.processor.state.here;
       ran = ap (map (λ v. v.items)) k.ran ∙ (map-append (λ v. v.items) c.take_in.new.self.ran.items (c.end_local.result.ran ∷ []) ∙ ap (λ x. all_ran x ++ c.end_local.result.ran.items ∷ []) t.others);

@@ -11,6 +11,8 @@ use Rattle.rcu_part_lists.specs.ProcessorLists.{held_in, holding, put_by, rear_o
 use Rattle.rcu_part_lists.specs.Helds.{drawn_by, front_of as hands_front, taken_by}
 use Rattle.rcu_part_lists.specs.MemberLists.{front_of, rear_of as done_rear}
 use Rattle.rcu_lanes.specs.Ends.{SameLane}
+use Rattle.rcu_part_order.specs.Recorded.{left_in, ran_of}
+use Rattle.rcu_part_order.specs.Records.{by_number}
 use Rattle.rcu_parts.specs.AtClose.{cpu_part, hand_part}
 use Rattle.rcu_parts.specs.Ending.{all_back, all_ran, all_view, board_at}
 use Rattle.rcu_part_hand.specs.Hands.{hand_board}
@@ -52,7 +54,7 @@ end_offloadable-requires-after_bounds g c κs within =
               subst₂ (λ h m. SameLane (hands_front h.held) (done_rear m)) t u c.requires.hand.lane,
               (
                 r.jobs,
-                subst₂ (λ p h. HasRoom (length p.ran.items + length h.ran.items) r.jobs c.args.room) s t r.empty,
+                subst₂ (λ p h. HasRoom (length (left_in p.ran) + length (left_in h.ran)) r.jobs c.args.room) s t r.empty,
                 subst₂ (λ p h. length (put_by (holding p.lists)) + length (held_in (holding p.lists)) ≤ length (taken_by h.held) + r.jobs) s t r.enough,
               ),
             ),
@@ -70,10 +72,19 @@ returns-clause-ends g c =
     let f = c.into_state-hands_seat.ensures in
     let p = cpu_part c.args.processor (Some (hand_part c.args.hand)) in
     record {
-      end = record { part = p; ran = c.end_offloadable.result.ran.items; back = c.end_offloadable.result.back.items };
+      end = record {
+        part = p;
+        ran = by_number (ran_of c.args.processor.state.ran) (ran_of c.args.hand.state.ran);
+        kept = c.end_offloadable.result.ran.items;
+        back = c.end_offloadable.result.back.items;
+      };
       part = refl;
       at_rest = rests_with c.args.processor c.args.hand (c.requires.hand.cpu ∙ c.requires.member.cpu);
-      ended = subst₂ (λ p h. EndsWith g.J.Job.key_of g.J.Job.gives p.ran.items h.ran.items (holding p.lists) (taken_by h.held) (drawn_by h.held) c.end_offloadable.result.ran.items c.end_offloadable.result.back.items) s f c.end_offloadable.ensures.ends;
+      ended = record {
+        ends = subst₂ (λ p h. EndsWith g.J.Job.key_of g.J.Job.gives (ran_of p.ran) (ran_of h.ran) (holding p.lists) (taken_by h.held) (drawn_by h.held) (by_number (ran_of p.ran) (ran_of h.ran)) c.end_offloadable.result.back.items) s f c.end_offloadable.ensures.ends;
+        ran = refl;
+        kept = subst₂ (λ p h. c.end_offloadable.result.ran.items ≡ by_number (left_in p.ran) (left_in h.ran)) s f c.end_offloadable.ensures.kept;
+      };
       view = ap all_view k.others ∙ (u.view ∙ (ap (λ w. joined w (view c.into_state-hands_seat.result.seat)) t.view ∙ subst₂ (λ p h. joined (joined (all_view c.args.self.now) (view c.into_state-seat.result.seat)) (view c.into_state-hands_seat.result.seat) ≡ joined (joined (all_view c.args.self.now) (view p.seat)) (view h.seat)) s f refl));
       long = both_long (board_at c.args.self.now) (board_of c.args.processor.state) (hand_board c.args.hand.state) c.args.processor.state.seat c.args.hand.state.seat c.requires.board c.requires.hand_board c.args.processor.state.here c.args.hand.state.here;
       ran = ap (map (λ v. v.items)) k.ran ∙ (map-append (λ v. v.items) c.take_in-2.new.self.ran.items (c.end_offloadable.result.ran ∷ [])
