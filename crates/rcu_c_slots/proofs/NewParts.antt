@@ -11,13 +11,15 @@ use Rattle.rcu_c_slots.specs.declared.job.ForeignJob.{ForeignJob}
 use Rattle.rcu_c_slots.specs.declared.opening.Boxes.{Boxes}
 use Rattle.rcu_part_group.specs.declared.group.Group.{Group}
 use Rattle.rcu_parts.specs.OneOpen.{groups_in, hands_in, parts_board, processors_in}
-use Rattle.rcu_parts.specs.Openings.{IsFirstGroup, IsFirstHand, IsFirstProcessor, IsOpened}
+use Rattle.rcu_parts.specs.Openings.{IsFirstGroup, IsFirstHand, IsFirstProcessor, IsOpenedWith}
+use Rattle.rcu_parts.specs.declared.opening.OpenOptions.{OpenOptions}
+use Rattle.rcu_part_order.specs.declared.recorded.Kept.{Kept}
 use Rattle.rcu_c_slots.proofs.Placing.{rising_range, rising_where, zip_numbers}
 
-module _ (shape : Shape) (parts : ForeignParts) (o : IsOpened shape parts) (end : ℕ) (few : shape.processors ≤ end) where
+module _ (limit : ℕ) (kept : Kept) (shape : Shape) (parts : ForeignParts) (o : IsOpenedWith limit kept shape parts) (end : ℕ) (few : shape.processors ≤ end) where
   pub rising_processors : AreRising 0 end (map (λ (p : ForeignCpu). p.state.cpu) (processors_in parts))
   rising_processors = let b = parts_board parts in let many = o.many in
-      subst (AreRising 0 end) (sym (zip_numbers (IsFirstProcessor shape b) (λ (p : ForeignCpu). p.state.cpu) (λ k p f. f.part.cpu_is) (range_with_len 0 b.processors) (processors_in parts) o.processors))
+      subst (AreRising 0 end) (sym (zip_numbers (IsFirstProcessor shape limit kept b) (λ (p : ForeignCpu). p.state.cpu) (λ k p f. f.part.cpu_is) (range_with_len 0 b.processors) (processors_in parts) o.processors))
       (rising_range 0 b.processors end (omega (arith, many, few)))
 
   pub rising_groups : AreRising 0 end (map (λ (g : Group ForeignJob ForeignJob). g.state.group) (groups_in parts))
@@ -27,10 +29,10 @@ module _ (shape : Shape) (parts : ForeignParts) (o : IsOpened shape parts) (end 
 
   pub rising_hands : AreRising 0 end (map (λ (h : ForeignHand). h.state.cpu) (hands_in parts))
   rising_hands = let b = parts_board parts in let many = o.many in let test = is_offloadable b.offloadable in
-      subst (AreRising 0 end) (sym (zip_numbers (IsFirstHand shape b) (λ (h : ForeignHand). h.state.cpu) (λ k h f. f.part.cpu_is) (numbers_where test 0 b.processors) (hands_in parts) o.hands))
+      subst (AreRising 0 end) (sym (zip_numbers (IsFirstHand shape kept b) (λ (h : ForeignHand). h.state.cpu) (λ k h f. f.part.cpu_is) (numbers_where test 0 b.processors) (hands_in parts) o.hands))
       (rising_where test 0 b.processors end (omega (arith, many, few)))
 
 -- what was opened, and boxed
-pub opens_boxes : {E : Type 0} (shape : Shape) (number : ℕ) (parts : ForeignParts) (r : Result Boxes E) → AreNew shape parts → IfOk r (λ boxes. BoxesAll number parts boxes) → IfOk r (λ boxes. OpensBoxes shape number boxes)
-opens_boxes shape number parts (Ok boxes) new all = record { parts = parts; new = new; boxes_all = all }
-opens_boxes shape number parts (Err e) new all = tt
+pub opens_boxes : {E : Type 0} (options : OpenOptions) (shape : Shape) (number : ℕ) (parts : ForeignParts) (r : Result Boxes E) → AreNew options shape parts → IfOk r (λ boxes. BoxesAll number parts boxes) → IfOk r (λ boxes. OpensBoxes options shape number boxes)
+opens_boxes options shape number parts (Ok boxes) new all = record { parts = parts; new = new; boxes_all = all }
+opens_boxes options shape number parts (Err e) new all = tt

@@ -17,7 +17,8 @@ use Rattle.rcu_c_slots.specs.declared.part.Part.TheVariants.{Control, Driver, Gr
 use Rattle.rcu_c_slots.specs.declared.slot.PartSlots.{PartSlots}
 use Rattle.rcu_part_group.specs.declared.group.Group.{Group as TheGroup}
 use Rattle.rcu_parts.specs.OneOpen.{groups_in, hands_in, processors_in}
-use Rattle.rcu_parts.specs.Openings.{IsOpened}
+use Rattle.rcu_parts.specs.Openings.{IsOpenedWith}
+use Rattle.rcu_parts.specs.declared.opening.OpenOptions.{OpenOptions}
 
 -- No slot has a part.
 pub record AreEmpty (slots : PartSlots) : Type 0 where
@@ -93,15 +94,15 @@ pub record BoxesAll (number : ℕ) (parts : ForeignParts) (boxes : Boxes) : Type
   pub named : opening.number ≡ number
   pub boxed : AreBoxed opening parts boxes
 
--- What is known of new parts: they are those of a new board of this shape, and can be closed.
-pub record AreNew (shape : Shape) (parts : ForeignParts) : Type 0 where
-  pub opened : IsOpened shape parts
+-- What is known of new parts: they are those of a new board of this shape, opened with these options, and can be closed.
+pub record AreNew (options : OpenOptions) (shape : Shape) (parts : ForeignParts) : Type 0 where
+  pub opened : IsOpenedWith options.limit options.kept shape parts
   pub can_close : CanClose parts
 
 -- A new runtime was opened, and boxed.
-pub record OpensBoxes (shape : Shape) (number : ℕ) (boxes : Boxes) : Type 0 where
+pub record OpensBoxes (options : OpenOptions) (shape : Shape) (number : ℕ) (boxes : Boxes) : Type 0 where
   pub parts : ForeignParts
-  pub new : AreNew shape parts
+  pub new : AreNew options shape parts
   pub boxes_all : BoxesAll number parts boxes
 
 -- Each processor, group and hand is for the place of its own number.
@@ -111,9 +112,9 @@ pub record AreAtHome (o : Opening) (parts : ForeignParts) (slots : PartSlots) : 
   pub hands_are : lents_in slots.hands ≡ lent_hands o (hands_in parts)
 
 -- The slots have all parts of a new runtime under this number, each in the place of its own number.
-pub record OpensInto (shape : Shape) (number : ℕ) (slots : PartSlots) : Type 0 where
+pub record OpensInto (options : OpenOptions) (shape : Shape) (number : ℕ) (slots : PartSlots) : Type 0 where
   pub parts : ForeignParts
-  pub new : AreNew shape parts
+  pub new : AreNew options shape parts
   pub opening : Opening
   pub named : opening.number ≡ number
   pub held : AreHeld opening parts slots

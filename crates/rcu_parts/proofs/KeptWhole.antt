@@ -34,7 +34,7 @@ module _ {J R : Type 0} where
   -- as they are opened
   pub opened_whole : (shape : Shape) (parts : Parts J R) → IsOpened shape parts → KeepWhole parts
   opened_whole shape parts o = record {
-    processors = zip_all (IsFirstProcessor shape Whole _) KeepsAll (λ k p f. ap (λ (r : Recorded R). r.kept) f.part.ran) _ (processors_in parts) o.processors;
+    processors = zip_all (IsFirstProcessor shape shape.limit Whole _) KeepsAll (λ k p f. ap (λ (r : Recorded R). r.kept) f.part.ran) _ (processors_in parts) o.processors;
     hands = zip_all (IsFirstHand shape Whole _) HandKeepsAll (λ k h f. ap (λ (r : Recorded R). r.kept) f.part.ran) _ (hands_in parts) o.hands;
   }
 

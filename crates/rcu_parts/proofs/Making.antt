@@ -38,13 +38,13 @@ group_of_role Driver = 0
 group_of_role Control = 0
 
 module _ {J R : Type 0} where
-  pub processors_more : (shape : Shape) (kept : Kept) (b : Board) (ps more : List (ProcessorPart J R)) (p : ProcessorPart J R) → AllZip (IsFirstProcessor shape kept b) (range_with_len 0 (length ps)) ps → IsFirstProcessor shape kept b (length ps) p → more ≡ ps ++ p ∷ []
-      → AllZip (IsFirstProcessor shape kept b) (range_with_len 0 (length more)) more
-  processors_more shape kept b ps more p all one e =
+  pub processors_more : (shape : Shape) (limit : ℕ) (kept : Kept) (b : Board) (ps more : List (ProcessorPart J R)) (p : ProcessorPart J R) → AllZip (IsFirstProcessor shape limit kept b) (range_with_len 0 (length ps)) ps → IsFirstProcessor shape limit kept b (length ps) p → more ≡ ps ++ p ∷ []
+      → AllZip (IsFirstProcessor shape limit kept b) (range_with_len 0 (length more)) more
+  processors_more shape limit kept b ps more p all one e =
       let long : length (ps ++ p ∷ []) ≡ suc (length ps) = length-append ps (p ∷ []) ∙ (let n : length ps + 1 ≡ suc (length ps) = omega arith in n) in
-      subst (λ (l : List (ProcessorPart J R)). AllZip (IsFirstProcessor shape kept b) (range_with_len 0 (length l)) l) (sym e)
-      (subst (λ (ks : List ℕ). AllZip (IsFirstProcessor shape kept b) ks (ps ++ p ∷ [])) (sym (ap (range_with_len 0) long ∙ range_more 0 (length ps) (length ps) (omega arith)))
-      (zip_push (IsFirstProcessor shape kept b) (range_with_len 0 (length ps)) ps (length ps) p all one))
+      subst (λ (l : List (ProcessorPart J R)). AllZip (IsFirstProcessor shape limit kept b) (range_with_len 0 (length l)) l) (sym e)
+      (subst (λ (ks : List ℕ). AllZip (IsFirstProcessor shape limit kept b) ks (ps ++ p ∷ [])) (sym (ap (range_with_len 0) long ∙ range_more 0 (length ps) (length ps) (omega arith)))
+      (zip_push (IsFirstProcessor shape limit kept b) (range_with_len 0 (length ps)) ps (length ps) p all one))
 
   abbrev LeadsTo : ProcessorPart J R → Front (Parcel J) LaneLimits → Type 0
   LeadsTo p front = IsNewLane front (rear_of p.state.lists)

@@ -72,9 +72,9 @@ module _ {J : Type 0} where
   }
 
 module _ {J R : Type 0} where
-  pub first_processor : (shape : Shape) (kept : Kept) (own b : Board) (k : ℕ) (s : Seat) (lists : ProcessorLists J) (p : Processor J R) (r : Bool) → own ≡ b → IsNewProcessor b k s → holding lists ≡ first_holding r shape.qhimark → r ≡ is_offloadable b.offloadable k
-      → IsNew shape own k s lists kept p.state → IsFirstProcessor shape kept b k p
-  first_processor shape kept own b k s lists p r same seat empty kind new = record {
+  pub first_processor : (shape : Shape) (limit : ℕ) (kept : Kept) (own b : Board) (k : ℕ) (s : Seat) (lists : ProcessorLists J) (p : Processor J R) (r : Bool) → own ≡ b → IsNewProcessor b k s → holding lists ≡ first_holding r shape.qhimark → r ≡ is_offloadable b.offloadable k
+      → IsNew shape limit own k s lists kept p.state → IsFirstProcessor shape limit kept b k p
+  first_processor shape limit kept own b k s lists p r same seat empty kind new = record {
     seat = subst (IsNewProcessor b k) (sym new.seat) seat;
     lists = ap holding new.lists_are ∙ empty ∙ ap (λ o. first_holding o shape.qhimark) kind;
     part = record {

@@ -1,11 +1,12 @@
 //! Opening: all parts of a new board.
 
-ghost use Rattle.std.specs.Prelude.{◌≡◌, ◌/◌, ◌<◌, [], ◌∷◌, List, IfOk, All, length};
+ghost use Rattle.std.specs.Prelude.{◌≡◌, ◌/◌, ◌<◌, ◌≤◌, [], ◌∷◌, List, IfOk, All, length};
 ghost use Rattle.std.specs.Arc.{arc_value};
 ghost use Rattle.std.specs.List.{AllZip};
 ghost use Rattle.rcu_board.specs.Opened.{AreNew, InOrder, IsNewGroup, IsNewHand, IsNewProcessor, SeatForEach, has_offloadable, is_offloadable, numbers_where};
 ghost use Rattle.rcu_part_lists.specs.ProcessorLists.{rear_of};
 ghost use Rattle.rcu_part_lists.specs.MemberLists.{front_of};
+ghost use Rattle.rcu_numbers.specs.declared.shape.TheConstants.{MOST_CALLS};
 ghost use Rattle.rcu_lanes.specs.Ends.{IsNewLane, items_drawn};
 ghost use Rattle.rcu_part_group.specs.GroupLaw.{cpus_of, group_members_in};
 ghost use Rattle.rcu_part_group.specs.Groups.{IsEmptyGroupMember};
@@ -29,6 +30,17 @@ use std::alloc::{AllocError, Global};
 use std::collections::VecDeque;
 use std::sync::Arc;
 
+/// What may be chosen at the open beside the shape.
+#[derive(Clone, Copy, Debug)]
+pub struct OpenOptions {
+    /// How many callbacks each processor accepts in its life, at most [`MOST_CALLS`](rcu_numbers::MOST_CALLS), which no program
+    /// reaches.
+    pub limit: u64,
+    /// What is kept of the callbacks that run.
+    pub kept: Kept,
+    ghost small: { limit ≤ MOST_CALLS },
+}
+
 /// A processor's part, and the other end of its lane.
 fn open_processor<J: Job>(
     alloc: Global,
@@ -36,19 +48,20 @@ fn open_processor<J: Job>(
     board: &Arc<Board, Global>,
     seat: Seat,
     cpu: u64,
-    kept: Kept,
+    options: OpenOptions,
 ) -> Result<(Processor<J>, Front<Parcel<J>, LaneLimits>), AllocError>
     requires seat { IsNewProcessor (arc_value board.now) cpu seat }
     requires there { cpu < (arc_value board.now).processors }
     ensures processor { IfOk result (λ t.
-        IsFirstProcessor shape.now kept (arc_value board.now) cpu t.0) }
+        IsFirstProcessor shape.now options.limit options.kept (arc_value board.now) cpu t.0) }
     ensures lane { IfOk result (λ t. IsNewLane t.1 (rear_of t.0.state.lists)) }
 {
     let (front, rear) = ruled_lane::<Parcel<J>, LaneLimits>(alloc)?;
     let offloadable = board.is_offloadable(cpu);
     let lists = ProcessorLists::new(alloc, rear, offloadable, shape.qhimark)?;
     let own = Arc::try_clone(board)?;
-    let processor = Processor::new(alloc, shape, own, seat, cpu, lists, kept);
+    let OpenOptions { limit, kept } = options;
+    let processor = Processor::new(alloc, shape, limit, own, seat, cpu, lists, kept);
     Ok((processor, front))
 }
 
@@ -58,19 +71,19 @@ fn open_processors<J: Job>(
     shape: &Shape,
     board: &Arc<Board, Global>,
     seats: Vec<Seat>,
-    kept: Kept,
+    options: OpenOptions,
 ) -> Result<(Vec<Processor<J>>, VecDeque<Front<Parcel<J>, LaneLimits>>), AllocError>
     requires seats { InOrder (IsNewProcessor (arc_value board.now)) 0 seats.items }
     requires many { length seats.items ≡ (arc_value board.now).processors }
     ensures processors { IfOk result (λ t.
-        AreFirstProcessors shape.now kept (arc_value board.now) t.0.items) }
+        AreFirstProcessors shape.now options.limit options.kept (arc_value board.now) t.0.items) }
     ensures fronts { IfOk result (λ t. AreFronts t.0.items t.1.items) }
 {
     let mut processors = Vec::new(alloc);
     let mut fronts = VecDeque::new(alloc);
     for seat in seats {
         let cpu = processors.len() as u64;
-        let (processor, front) = open_processor(alloc, shape, board, seat, cpu, kept)?;
+        let (processor, front) = open_processor(alloc, shape, board, seat, cpu, options)?;
         processors.push(processor)?;
         if !board.is_offloadable(cpu) {
             continue;
@@ -243,17 +256,25 @@ pub fn open<J: Job>(alloc: Global, shape: Shape) -> Result<Parts<J>, AllocError>
     ensures one { IfOk result (λ parts. AreOfOneOpen parts) }
     ensures sound { IfOk result (λ parts. AreSoundParts J.key_of J.gives parts) }
 {
-    open_with(alloc, shape, Kept::Whole)
+    let options = OpenOptions {
+        limit: shape.limit,
+        kept: Kept::Whole,
+    };
+    open_with(alloc, shape, options)
 }
 
-/// Opens all parts as [`open`] does, and chooses what is kept of the callbacks that run: with [`Kept::Rest`] processors and
-/// hands hand out their records while they run (`take_records`), and with [`Kept::Nothing`] memory doesn't grow with what ran.
+/// Opens all parts as [`open`] does, with the options in place of the shape's `limit`: with [`Kept::Rest`] processors and hands
+/// hand out their records while they run (`take_records`), and with [`Kept::Nothing`] memory doesn't grow with what ran.
 ///
 /// # Errors
 ///
 /// Want of memory; then nothing was made.
-pub fn open_with<J: Job>(alloc: Global, shape: Shape, kept: Kept) -> Result<Parts<J>, AllocError>
-    ensures opened { IfOk result (λ parts. IsOpenedWith kept shape parts) }
+pub fn open_with<J: Job>(
+    alloc: Global,
+    shape: Shape,
+    options: OpenOptions,
+) -> Result<Parts<J>, AllocError>
+    ensures opened { IfOk result (λ parts. IsOpenedWith options.limit options.kept shape parts) }
     ensures one { IfOk result (λ parts. AreOfOneOpen parts) }
     ensures sound { IfOk result (λ parts. AreSoundParts J.key_of J.gives parts) }
 {
@@ -266,8 +287,8 @@ pub fn open_with<J: Job>(alloc: Global, shape: Shape, kept: Kept) -> Result<Part
         control,
     } = seats;
     let driver = Driver::new(drivers, driver);
-    let (processors, fronts) = open_processors(alloc, &shape, &board, processors, kept)?;
-    let (group_members, hands) = open_hands(alloc, &shape, &board, hands, fronts, kept)?;
+    let (processors, fronts) = open_processors(alloc, &shape, &board, processors, options)?;
+    let (group_members, hands) = open_hands(alloc, &shape, &board, hands, fronts, options.kept)?;
     let groups = open_groups(alloc, &shape, &board, groups, group_members)?;
     Ok(AllParts {
         processors,

@@ -28,7 +28,7 @@ pub returns-clause-ran : goal.returns-clause-ran
 returns-clause-ran g c = λ unused. none_handed_back g.J.Job.key_of g.J.Job.gives c.args.parts c.in_ok-ended.ended c.in-Ok.closed c.in_ok-ended.ensures.ran unused (c.in-Ok.ensures.closes (all_sound g.J.Job.key_of g.J.Job.gives c.args.parts c.in_ok-ended.ended c.in_ok-ended.ensures.ran c.requires.sound))
 
 pub returns-clause-all : goal.returns-clause-all
-returns-clause-all g c = λ unused. all_have_run g.J.Job.key_of g.J.Job.gives c.args.parts c.in_ok-ended.ended c.in-Ok.closed c.args.jobs.items (map (λ own. own.items) c.in_ok-ended.answers.items) c.in_ok-ended.ensures.ran unused (c.in-Ok.ensures.closes (all_sound g.J.Job.key_of g.J.Job.gives c.args.parts c.in_ok-ended.ended c.in_ok-ended.ensures.ran c.requires.sound)) (c.in_ok-ended.ensures.answered unused)
+returns-clause-all g c = λ unused keep. all_have_run g.J.Job.key_of g.J.Job.gives c.args.parts c.in_ok-ended.ended c.in-Ok.closed c.args.jobs.items (map (λ own. own.items) c.in_ok-ended.answers.items) c.in_ok-ended.ensures.ran unused keep (c.in-Ok.ensures.closes (all_sound g.J.Job.key_of g.J.Job.gives c.args.parts c.in_ok-ended.ended c.in_ok-ended.ensures.ran c.requires.sound)) (c.in_ok-ended.ensures.answered unused)
 
 pub returns-clause-refused : goal.returns-clause-refused
 returns-clause-refused g c = λ unused. let key_of = g.J.Job.key_of in let gives = g.J.Job.gives in let old = c.args.parts in let new = c.in_ok-ended.ended in let ran = c.in_ok-ended.ensures.ran in record {
