@@ -7,19 +7,20 @@ use Rattle.rcu_board.specs.Seats.{accepted_of}
 use Rattle.rcu_board.specs.declared.view.View.{View}
 use Rattle.rcu_part_control.specs.Parts.{control_view}
 use Rattle.rcu_part_close.proofs.Closings.{as_many_ended}
-use Rattle.rcu_part_close.specs.Closing.{ClosesAs, CpuEnd, processors_of, seats_of}
+use Rattle.rcu_part_close.specs.Closing.{Closes, ClosesAs, CpuEnd, processors_of, seats_of}
 use Rattle.rcu_part_steps.specs.Places.{accepted_entry, accepted_list}
 use Rattle.rcu_part_close.specs.Parts.{CpuPart}
 use Rattle.rcu_jobs.specs.Records.{Given}
 use Rattle.rcu_jobs.specs.declared.answers.Closed.{Closed}
 use Rattle.rcu_jobs.specs.declared.callback.Record.{Record}
+use Rattle.rcu_parts.proofs.KeptWhole.{answers_all}
 use Rattle.rcu_parts.specs.AtClose.{ClosesWith, cpu_part, cpu_parts, hand_for, hands_after, other_views}
-use Rattle.rcu_parts.specs.OneOpen.{Parts, hands_in, processors_in}
+use Rattle.rcu_parts.specs.OneOpen.{AreSoundParts, Parts, hands_in, processors_in}
 use Rattle.rcu_part_processor.specs.Processors.{view_of}
 use Rattle.rcu_part_hand.specs.declared.hand.Hand.{Hand}
 use Rattle.rcu_part_processor.specs.declared.processor.Processor.{Processor}
-use Rattle.rcu_runtime.specs.Ends.{HaveReceipts, back_in, ran_in}
-use Rattle.rcu_runtime.specs.Runtimes.{accepted_in}
+use Rattle.rcu_runtime.specs.Ends.{ClosesWhole, HaveReceipts, back_in, ran_in}
+use Rattle.rcu_runtime.specs.Runtimes.{CanClose, accepted_in}
 use Rattle.std.proofs.lemmas.List.Elements.{All-head, All-map, All-tail, All-weaker}
 use Rattle.rcu_lemmas.proofs.All.{All-unmap}
 
@@ -60,21 +61,30 @@ module _ {J R : Type 0} (key_of : J → ℕ) (gives : ℕ → R → Type 0) wher
       let accepted = sum_by-cons (λ (p : Processor J R). p.state.accepted) p ps in
       omega (arith, one, more, ran, back, accepted)
 
-  module _ (parts : Parts J R) (closed : Closed J R) (c : ClosesWith key_of gives parts closed) where
+  -- the parts of a runtime keep every record, so they answer them all
+  pub closes_whole : (parts : Parts J R) (closed : Closed J R) → CanClose key_of gives parts → (AreSoundParts key_of gives parts → ClosesWith key_of gives parts closed) → ClosesWhole key_of gives parts closed
+  closes_whole parts closed can closes =
+      let answer = closes can.sound in
+      record {
+        closes = answer;
+        all = answers_all (Closes key_of gives (control_view parts.control) (other_views parts)) (λ es each k d lt. (each k d lt).ends.whole) parts closed can.keep answer;
+      }
+
+  module _ (parts : Parts J R) (closed : Closed J R) (w : ClosesWhole key_of gives parts closed) where
     -- as many as were accepted ran or are handed back
     pub none_lost : ran_in closed + back_in closed ≡ accepted_in parts
     none_lost =
-        let views = control_view parts.control ∷ (other_views parts ++ seats_of c.ends) in
-        let each = each_end views (processors_of c.ends) c.ends (processors_in parts) (hands_in parts) c.parts_are c.closes in
-        let ran = summed (λ v. v.items) (λ (e : CpuEnd J R). e.ran) closed.ran.items c.ends c.ran in
-        let back = summed (λ v. v.items) (λ (e : CpuEnd J R). e.back) closed.back.items c.ends c.back in
+        let views = control_view parts.control ∷ (other_views parts ++ seats_of w.closes.ends) in
+        let each = each_end views (processors_of w.closes.ends) w.closes.ends (processors_in parts) (hands_in parts) w.closes.parts_are w.closes.closes in
+        let ran = summed (λ v. v.items) (λ (e : CpuEnd J R). e.ran) closed.ran.items w.closes.ends w.all in
+        let back = summed (λ v. v.items) (λ (e : CpuEnd J R). e.back) closed.back.items w.closes.ends w.closes.back in
         omega (arith, each, ran, back)
 
     -- each receipt is of the version that its record's key names
     pub have_receipts : HaveReceipts gives closed
     have_receipts =
-        let views = control_view parts.control ∷ (other_views parts ++ seats_of c.ends) in
+        let views = control_view parts.control ∷ (other_views parts ++ seats_of w.closes.ends) in
         let P = λ (records : List (Record R)). Given gives records in
-        let each = All-weaker (ClosesAs key_of gives views (processors_of c.ends)) (λ e. P e.ran) (λ e h. h.sound.given) c.ends c.closes in
-        let lists = All-map P (λ (e : CpuEnd J R). e.ran) c.ends each in
-        All-unmap P (λ v. v.items) closed.ran.items (subst (All P) (sym c.ran) lists)
+        let each = All-weaker (ClosesAs key_of gives views (processors_of w.closes.ends)) (λ e. P e.ran) (λ e h. h.sound.given) w.closes.ends w.closes.closes in
+        let lists = All-map P (λ (e : CpuEnd J R). e.ran) w.closes.ends each in
+        All-unmap P (λ v. v.items) closed.ran.items (subst (All P) (sym w.all) lists)

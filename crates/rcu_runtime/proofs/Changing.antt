@@ -1,9 +1,8 @@
 -- What the change of one item does to a whole list, and what a loop over all items leaves.
 use Rattle.std.proofs.Common.{◌≡◌, ℕ, zero, suc, ◌+◌, ◌<◌, ◌≤◌, List, [], ◌∷◌, ◌++◌, length, get_or, set, take, drop, All, arith, add-one, ap, subst, sym}
-use Rattle.std.proofs.lemmas.List.Elements.{All-get_or, All-set, All-cons, All-head, All-nil, All-tail}
+use Rattle.std.proofs.lemmas.List.Elements.{All-cons, All-head, All-nil, All-tail}
 use Rattle.std.specs.List.{AllZip}
 use Rattle.rcu_part_group.proofs.GroupLists.{written}
-use Rattle.rcu_lemmas.proofs.Zips.{zip_same}
 
 module _ {X : Type 0} where
   -- what is said of each of one list is said of each of the other

@@ -1,5 +1,5 @@
 -- What is said of one outcome, where it is the other one, and what `?` hands on.
-use Rattle.std.proofs.Common.{◌≡◌, Bool, true, false, Result, Ok, Err, IsErr, IfErr, subst, sym}
+use Rattle.std.proofs.Common.{◌≡◌, true, false, Result, Ok, Err, IsErr, IfErr, subst, sym}
 use Rattle.std.specs.Prelude.{IsErrAnd}
 
 -- where the answer is no, nothing is said of yes

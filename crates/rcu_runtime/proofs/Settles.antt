@@ -1,6 +1,6 @@
 -- Where all that was accepted has run, no job comes back.
-use Rattle.std.proofs.Common.{◌≡◌, ℕ, zero, suc, ◌+◌, ◌/◌, ◌<◌, ◌≤◌, ◌∙◌, List, [], ◌∷◌, ◌++◌, Option, Some, Result, Ok, Err, map, drop, length, get_or, slice_index_or, ap, sym, subst, refl, arith}
-use Rattle.std.specs.Prelude.{◌≢◌, All, IfErr, IfOk}
+use Rattle.std.proofs.Common.{◌≡◌, ℕ, zero, suc, ◌+◌, ◌/◌, ◌<◌, ◌≤◌, ◌∙◌, List, [], ◌∷◌, ◌++◌, Option, Some, Ok, map, drop, length, get_or, slice_index_or, ap, sym, subst, refl, arith}
+use Rattle.std.specs.Prelude.{◌≢◌, All}
 use Rattle.std.proofs.lemmas.List.{length-map}
 use Rattle.rcu_board.specs.Seats.{accepted_of}
 use Rattle.rcu_board.specs.Views.{seen_at}
@@ -8,9 +8,8 @@ use Rattle.rcu_board.specs.Words.{turns_word}
 use Rattle.rcu_board.specs.declared.board.Board.{Board}
 use Rattle.rcu_board.specs.declared.view.View.{View}
 use Rattle.rcu_part_control.specs.Barriers.{IsOver}
-use Rattle.rcu_part_control.specs.Parts.{SameControl, control_view}
+use Rattle.rcu_part_control.specs.Parts.{control_view}
 use Rattle.rcu_part_control.specs.declared.barrier.Barrier.{Barrier}
-use Rattle.rcu_part_control.specs.declared.control.Control.{Control}
 use Rattle.rcu_part_close.proofs.Closings.{as_many_ended}
 use Rattle.rcu_part_close.specs.Closing.{CpuEnd, EndsAs, processors_of, seats_of}
 use Rattle.rcu_part_steps.specs.Places.{accepted_entry, accepted_list}
@@ -28,7 +27,6 @@ use Rattle.rcu_parts.specs.SameParts.{AreSameParts}
 use Rattle.rcu_runtime.specs.Calls.{AsksOnce, OnControl, Opens, Polls}
 use Rattle.rcu_runtime.specs.Runtimes.{Continues}
 use Rattle.rcu_runtime.specs.Settled.{HasPassed, HasRunAll, IsCounted}
-use Rattle.rcu_runtime.specs.declared.fault.OtherBarrier.{OtherBarrier}
 use Rattle.std.proofs.lemmas.List.Elements.{All-cons, All-head, All-map, All-nil, All-tail}
 use Rattle.rcu_lemmas.proofs.All.{All-unmap}
 

@@ -1,5 +1,5 @@
 -- How a runtime waits by turns.
-use Rattle.std.proofs.Common.{◌≡◌, ℕ, zero, suc, ◌+◌, ◌<◌, ◌≤◌, ◌∙◌, Bool, true, false, Option, Some, None, add-one, arith, is_some, refl, subst, sym}
+use Rattle.std.proofs.Common.{◌≡◌, ℕ, zero, suc, ◌+◌, ◌<◌, Bool, true, false, Option, Some, None, add-one, arith, is_some, refl, subst, sym}
 use Rattle.rcu_jobs.specs.declared.Counts.{Counts}
 use Rattle.rcu_jobs.specs.declared.Passed.{Passed}
 use Rattle.rcu_jobs.specs.declared.turns.DriverTurn.{DriverTurn}
@@ -9,7 +9,7 @@ use Rattle.rcu_runtime.proofs.Drains.{drained_by}
 use Rattle.rcu_runtime.specs.Calls.{OnControl, Polls}
 use Rattle.rcu_runtime.specs.Runtimes.{IsDrained, IsShutFor}
 use Rattle.rcu_runtime.specs.Turns.{TurnsAll}
-use Rattle.rcu_runtime.specs.Waits.{FindsPassed, TurnsUntil, Waits, WaitsFor}
+use Rattle.rcu_runtime.specs.Waits.{FindsPassed, TurnsUntil, Waits}
 
 -- where one turn would show what isn't so, none was made
 pub none_made : {P : Type 0} (n : ℕ) → (0 < n → P) → (P → ⊥) → n ≡ 0

@@ -19,6 +19,7 @@ use Rattle.rcu_part_processor.specs.Processors.{IsSound, SameProcessor}
 use Rattle.rcu_part_processor.specs.declared.processor.Processor.{Processor}
 use Rattle.rcu_part_processor.specs.declared.processor.ProcessorState.{ProcessorState}
 use Rattle.rcu_parts.proofs.Draining.{stays_drained}
+use Rattle.rcu_parts.proofs.KeptWhole.{whole_stays}
 use Rattle.rcu_parts.proofs.StaySame.{stay_same}
 use Rattle.rcu_parts.specs.OneOpen.{AreOfOneOpen, AreProcessorsFrom, AreSoundParts, Parts, groups_in, hands_in, parts_board, processors_in}
 use Rattle.rcu_parts.specs.SameParts.{AreSameParts}
@@ -102,7 +103,7 @@ module _ {J R : Type 0} where
   module _ (key_of : J → ℕ) (gives : ℕ → R → Type 0) where
     pub whole_kept : (limit : ℕ) (old new : Parts J R) → AreSameParts old new → (AreSoundParts key_of gives old → AreSoundParts key_of gives new) → IsWhole key_of gives limit old → IsWhole key_of gives limit new
     whole_kept limit old new same sound whole = record {
-      close = record { one = stay_same old new same whole.close.one; sound = sound whole.close.sound };
+      close = record { one = stay_same old new same whole.close.one; sound = sound whole.close.sound; keep = whole_stays old new same whole.close.keep };
       limits = all_along (λ (p : Processor J R). p.state.limit ≡ limit) SameCpu (λ p q s e. s.limit ∙ e) (processors_in old) (processors_in new) same.processors whole.limits;
     }
 

@@ -2,7 +2,7 @@
 use Rattle.std.specs.Prelude.{◌≡◌, ℕ, ◌+◌, true, false, length, sum_by, All}
 use Rattle.rcu_jobs.specs.Records.{Given}
 use Rattle.rcu_jobs.specs.declared.answers.Closed.{Closed}
-use Rattle.rcu_parts.specs.AtClose.{ClosesWith}
+use Rattle.rcu_parts.specs.AtClose.{AnswersAll, ClosesWith}
 use Rattle.rcu_parts.specs.OneOpen.{Parts}
 use Rattle.rcu_runtime.specs.Runtimes.{Continues, accepted_in}
 use Rattle.rcu_runtime.specs.Waits.{DrainsBy}
@@ -28,12 +28,17 @@ module _ {J R : Type 0} where
   abbrev pub LosesNone : Parts J R → Closed J R → Type 0
   LosesNone parts closed = ran_in closed + back_in closed ≡ accepted_in parts
 
+  -- What `close` promises of a runtime: the answer is what it promises of its parts, with the records of all that ran.
+  pub record ClosesWhole (key_of : J → ℕ) (gives : ℕ → R → Type 0) (parts : Parts J R) (closed : Closed J R) : Type 0 where
+    pub closes : ClosesWith key_of gives parts closed
+    pub all : AnswersAll parts closed closes
+
   -- What was closed is the same runtime, drained, and the answer is what `close` promises of it.
   pub record ClosesLater (key_of : J → ℕ) (gives : ℕ → R → Type 0) (moment turns : ℕ) (parts : Parts J R) (closed : Closed J R) : Type 0 where
     pub ended : Parts J R
     pub continues : Continues parts ended
     pub drains : DrainsBy moment turns true parts ended
-    pub closes : ClosesWith key_of gives ended closed
+    pub closes : ClosesWhole key_of gives ended closed
 
   -- each receipt is given for the key of its record
   abbrev pub HaveReceipts : (ℕ → R → Type 0) → Closed J R → Type 0

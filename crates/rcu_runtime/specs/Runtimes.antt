@@ -3,6 +3,7 @@ use Rattle.std.specs.Prelude.{◌≡◌, ℕ, ◌<◌, ◌≤◌, sum_by, All}
 use Rattle.rcu_board.specs.Seats.{SawShut}
 use Rattle.rcu_part_control.specs.Parts.{control_view}
 use Rattle.rcu_jobs.specs.declared.Counts.{Counts}
+use Rattle.rcu_parts.specs.AtClose.{KeepWhole}
 use Rattle.rcu_parts.specs.Drained as at_close
 use Rattle.rcu_parts.specs.Drained.{IsCountedFor}
 use Rattle.rcu_parts.specs.OneOpen.{AreOfOneOpen, AreSoundParts, Parts, parts_board, processors_in}
@@ -34,10 +35,11 @@ module _ {J R : Type 0} where
     pub accepted : accepted_in old ≤ accepted_in new
     pub drained : IsDrained old → IsDrained new
 
-  -- What `close` asks: the parts are those of one open, and know of their jobs what they should.
+  -- What a runtime's `close` rests on: the parts are those of one open, know of their jobs what they should, and keep every record.
   pub record CanClose (key_of : J → ℕ) (gives : ℕ → R → Type 0) (parts : Parts J R) : Type 0 where
     pub one : AreOfOneOpen parts
     pub sound : AreSoundParts key_of gives parts
+    pub keep : KeepWhole parts
 
   -- What a runtime keeps at any time: it can be closed, and each of its processors accepts so many callbacks at most.
   pub record IsWhole (key_of : J → ℕ) (gives : ℕ → R → Type 0) (limit : ℕ) (parts : Parts J R) : Type 0 where

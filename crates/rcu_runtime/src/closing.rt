@@ -1,9 +1,8 @@
 //! The end of a runtime.
 
 ghost use Rattle.std.specs.Prelude.{◌≡◌, IfErr, IfOk};
-ghost use Rattle.rcu_parts.specs.AtClose.{ClosesWith};
 ghost use Rattle.rcu_parts.specs.Drained.{HasNoneBack};
-ghost use Rattle.rcu_runtime.specs.Ends.{HaveReceipts, LosesNone};
+ghost use Rattle.rcu_runtime.specs.Ends.{ClosesWhole, HaveReceipts, LosesNone};
 ghost use Rattle.rcu_runtime.specs.Runtimes.{IsDrained};
 
 use crate::whole::{Whole, Wholeness};
@@ -33,7 +32,7 @@ impl<J: Job> Whole<AllParts<Processor<J>, Group<J>, Hand<J>>> {
     ///
     /// Want of memory. No job, record or word has changed.
     pub fn close(self, alloc: Global) -> Result<Closed<J>, Closing<J>>
-        ensures closes { IfOk result (λ closed. ClosesWith J.key_of J.gives self closed) }
+        ensures closes { IfOk result (λ closed. ClosesWhole J.key_of J.gives self closed) }
         ensures none_lost { IfOk result (LosesNone self) }
         ensures receipts { IfOk result (λ closed. HaveReceipts J.gives closed) }
         ensures drained { IsDrained self → IfOk result (λ closed. HasNoneBack closed) }
@@ -56,7 +55,7 @@ impl<J: Job> Whole<AllClosing<Processor<J>, Group<J>, Hand<J>>> {
     ///
     /// As when it was closed first.
     pub fn again(self, alloc: Global) -> Result<Closed<J>, Closing<J>>
-        ensures closes { IfOk result (λ closed. ClosesWith J.key_of J.gives self.parts closed) }
+        ensures closes { IfOk result (λ closed. ClosesWhole J.key_of J.gives self.parts closed) }
         ensures none_lost { IfOk result (LosesNone self.parts) }
         ensures receipts { IfOk result (λ closed. HaveReceipts J.gives closed) }
         ensures drained { IsDrained self.parts → IfOk result (λ closed. HasNoneBack closed) }

@@ -1,9 +1,8 @@
 //! The end of a runtime whose program gives up where there is no memory for it.
 
 ghost use Rattle.std.specs.Prelude.{IfErr, IfOk};
-ghost use Rattle.rcu_parts.specs.AtClose.{ClosesWith};
 ghost use Rattle.rcu_parts.specs.Drained.{HasNoneBack};
-ghost use Rattle.rcu_runtime.specs.Ends.{ClosesLater, HaveReceipts, IsOfDrain, LosesNone};
+ghost use Rattle.rcu_runtime.specs.Ends.{ClosesLater, ClosesWhole, HaveReceipts, IsOfDrain, LosesNone};
 ghost use Rattle.rcu_runtime.specs.Runtimes.{IsDrained};
 ghost use Rattle.rcu_runtime.specs.Settled.{HasRunAll};
 
@@ -21,7 +20,7 @@ impl<J: Job> Whole<AllParts<Processor<J>, Group<J>, Hand<J>>> {
     ///
     /// Want of memory.
     pub fn close_or_drop(self, alloc: Global) -> Result<Closed<J>, AllocError>
-        ensures closes { IfOk result (λ closed. ClosesWith J.key_of J.gives self closed) }
+        ensures closes { IfOk result (λ closed. ClosesWhole J.key_of J.gives self closed) }
         ensures none_lost { IfOk result (LosesNone self) }
         ensures receipts { IfOk result (λ closed. HaveReceipts J.gives closed) }
         ensures drained { IsDrained self → IfOk result (λ closed. HasNoneBack closed) }

@@ -1,18 +1,18 @@
 use Rattle.std.proofs.Common.{◌∙◌, ap, subst, sym}
 use Rattle.rcu_runtime.specs.Runtimes.{CanClose, IsDrained, accepted_in}
-use Rattle.rcu_parts.specs.AtClose.{ClosesWith}
+use Rattle.rcu_runtime.specs.Ends.{ClosesWhole}
 use Rattle.rcu_parts.proofs.Draining.{drained_none_back}
-use Rattle.rcu_runtime.proofs.Accounting.{have_receipts, none_lost}
+use Rattle.rcu_runtime.proofs.Accounting.{closes_whole, have_receipts, none_lost}
 use Rattle.rcu_runtime.proofs.closing.Whole+AllClosing+Processor+J+Group+J+Hand+J.again.Goals as goal
 
 pub returns-in-Ok-clause-closes : goal.returns-in-Ok-clause-closes
-returns-in-Ok-clause-closes g c = subst (λ whole. ClosesWith g.J.Job.key_of g.J.Job.gives whole.parts c.in-Ok.closed) c.into_parts.ensures.parts (c.in-Ok.ensures.closes c.into_parts.ensures.whole.1.sound)
+returns-in-Ok-clause-closes g c = subst (λ whole. ClosesWhole g.J.Job.key_of g.J.Job.gives whole.parts c.in-Ok.closed) c.into_parts.ensures.parts (closes_whole g.J.Job.key_of g.J.Job.gives c.into_parts.result.parts c.in-Ok.closed c.into_parts.ensures.whole.1 c.in-Ok.ensures.closes)
 
 pub returns-in-Ok-clause-none_lost : goal.returns-in-Ok-clause-none_lost
-returns-in-Ok-clause-none_lost g c = none_lost g.J.Job.key_of g.J.Job.gives c.into_parts.result.parts c.in-Ok.closed (c.in-Ok.ensures.closes c.into_parts.ensures.whole.1.sound) ∙ ap (λ whole. accepted_in whole.parts) c.into_parts.ensures.parts
+returns-in-Ok-clause-none_lost g c = none_lost g.J.Job.key_of g.J.Job.gives c.into_parts.result.parts c.in-Ok.closed (closes_whole g.J.Job.key_of g.J.Job.gives c.into_parts.result.parts c.in-Ok.closed c.into_parts.ensures.whole.1 c.in-Ok.ensures.closes) ∙ ap (λ whole. accepted_in whole.parts) c.into_parts.ensures.parts
 
 pub returns-in-Ok-clause-receipts : goal.returns-in-Ok-clause-receipts
-returns-in-Ok-clause-receipts g c = have_receipts g.J.Job.key_of g.J.Job.gives c.into_parts.result.parts c.in-Ok.closed (c.in-Ok.ensures.closes c.into_parts.ensures.whole.1.sound)
+returns-in-Ok-clause-receipts g c = have_receipts g.J.Job.key_of g.J.Job.gives c.into_parts.result.parts c.in-Ok.closed (closes_whole g.J.Job.key_of g.J.Job.gives c.into_parts.result.parts c.in-Ok.closed c.into_parts.ensures.whole.1 c.in-Ok.ensures.closes)
 
 pub returns-in-Ok-clause-drained : goal.returns-in-Ok-clause-drained
 returns-in-Ok-clause-drained g c = λ drained. let own = c.into_parts.result.parts in let d = subst (λ whole. IsDrained whole.parts) (sym c.into_parts.ensures.parts) drained in
