@@ -31,6 +31,7 @@ keeps_away p a q left back sound count = keeps_count 0 p q (record {
   offloadable = back.offloadable ∙ left.offloadable;
   limit = back.limit ∙ left.limit;
   blimit = back.blimit ∙ left.blimit;
+  kept = back.kept ∙ left.kept;
 }) sound count
 
 -- and then more was done

@@ -13,7 +13,7 @@ use Rattle.rcuo_script.specs.declared.lines.Verb.{Verb}
 
 module _ {J : Type 0} where
   pub same_identity : (i : Identity J) → IsSamePart i i
-  same_identity i = record { part = same_part i.board i.seat; lane = refl; cpu = refl; offloadable = refl; limit = refl; blimit = refl }
+  same_identity i = record { part = same_part i.board i.seat; lane = refl; cpu = refl; offloadable = refl; limit = refl; blimit = refl; kept = refl }
 
   pub same_identity_again : (i j k : Identity J) → IsSamePart i j → IsSamePart j k → IsSamePart i k
   same_identity_again i j k a b = record {
@@ -23,6 +23,7 @@ module _ {J : Type 0} where
     offloadable = b.offloadable ∙ a.offloadable;
     limit = b.limit ∙ a.limit;
     blimit = b.blimit ∙ a.blimit;
+    kept = b.kept ∙ a.kept;
   }
 
 module _ {J R : Type 0} where
@@ -41,7 +42,7 @@ module _ {J R : Type 0} (key_of : J → ℕ) (gives : ℕ → R → Type 0) wher
 
   -- a processor that is here, and is here still
   pub keeps_here : (p q : Processor J R) → SameProcessor p.state q.state → (IsSound key_of gives p.state → IsSound key_of gives q.state) → KeepsPresence key_of gives (Here p) (Here q)
-  keeps_here p q s f = record { same = record { part = s.part; lane = s.lane; cpu = s.cpu; offloadable = s.offloadable; limit = s.limit; blimit = s.blimit }; sound = f }
+  keeps_here p q s f = record { same = record { part = s.part; lane = s.lane; cpu = s.cpu; offloadable = s.offloadable; limit = s.limit; blimit = s.blimit; kept = s.kept }; sound = f }
 
   pub keeps_one : (x : ScriptProcessor J R) (p q : Processor J R) → x ≡ Here p → SameProcessor p.state q.state → (IsSound key_of gives p.state → IsSound key_of gives q.state) → KeepsPresence key_of gives x (Here q)
   keeps_one x p q was s f = subst (λ z. KeepsPresence key_of gives z (Here q)) (sym was) (keeps_here p q s f)

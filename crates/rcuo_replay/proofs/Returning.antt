@@ -26,7 +26,7 @@ module _ {A B : Type 0} where
 
 module _ {J R : Type 0} where
   the_same : (p q : Processor J R) → IsSamePart (identity p.state) (identity q.state) → SameProcessor p.state q.state
-  the_same p q s = record { part = s.part; lane = s.lane; cpu = s.cpu; offloadable = s.offloadable; limit = s.limit; blimit = s.blimit }
+  the_same p q s = record { part = s.part; lane = s.lane; cpu = s.cpu; offloadable = s.offloadable; limit = s.limit; blimit = s.blimit; kept = s.kept }
 
   module _ (key_of : J → ℕ) (gives : ℕ → R → Type 0) (start : Parts J R) (first end : ScriptParts J R) (back : Parts J R) (here : AreAllHere start first) (kept : KeepsParts key_of gives first end) (came : AllComeBack end back) (each : KeepEachBack key_of gives end.processors.items back.processors.items) where
     abbrev FromStart : Processor J R → ScriptProcessor J R → Type 0

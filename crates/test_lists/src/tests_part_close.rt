@@ -11,6 +11,7 @@ use rcu_lanes::ruled_lane;
 use rcu_lists::{Kind, Parcel};
 use rcu_part_close::{ProcessorEnd, end_local, end_offloadable};
 use rcu_part_lists::{Held, LaneLimits, MemberLists, ProcessorLists};
+use rcu_part_order::{Kept, Records};
 use std::alloc::{AllocError, Global};
 use std::test::Fail;
 
@@ -66,7 +67,9 @@ fn what_a_local_one_holds_comes_back(rt: HostRuntime) -> Result<(), Fail> {
     let mut processor_lists = ProcessorLists::new(alloc, rear, false, 10000)?;
     call(&mut processor_lists, 1, job(alloc, 1)?)?;
     call(&mut processor_lists, 2, job(alloc, 2)?)?;
-    let own = vec![in alloc; record(0)]?;
+    let mut own = Records::new(alloc, Kept::Whole);
+    own.find_room()?;
+    own.add(record(0));
     let ended = end_local::<Work>(processor_lists, own, Vec::with_capacity(alloc, 2)?);
     assert_eq!(rt; ended.ran.len(), 1);
     assert_eq!(rt; ended.back.len(), 2);
@@ -93,8 +96,8 @@ fn all_places_come_back_in_order(rt: HostRuntime) -> Result<(), Fail> {
         processor_lists,
         member,
         held,
-        Vec::new(alloc),
-        Vec::new(alloc),
+        Records::new(alloc, Kept::Whole),
+        Records::new(alloc, Kept::Whole),
         room,
     );
     assert_eq!(rt; ended.ran.len(), 0);

@@ -17,6 +17,8 @@ mod tests_group;
 #[cfg(test)]
 mod tests_open;
 #[cfg(test)]
+mod tests_records;
+#[cfg(test)]
 mod tests_rows;
 #[cfg(test)]
 mod tests_threads;

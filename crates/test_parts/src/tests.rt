@@ -17,7 +17,7 @@ use rcu_lists::Parcel;
 use rcu_numbers::Shape;
 use rcu_part_control::{Control, Driver};
 use rcu_part_lists::{Held, LaneLimits, ProcessorLists};
-use rcu_parts::{Hand, Processor};
+use rcu_parts::{Hand, Kept, Processor};
 use std::alloc::{AllocError, Global};
 use std::sync::Arc;
 use std::test::Fail;
@@ -161,8 +161,18 @@ fn run_by_hand(alloc: Global) -> Option<[HandTurn; 3]> {
         hand,
         cpu,
         held,
+        Kept::Whole,
     );
-    let mut processor = Processor::new(alloc, &shape, board, processor, 0, lists);
+    let mut processor = Processor::new(
+        alloc,
+        &shape,
+        shape.limit,
+        board,
+        processor,
+        0,
+        lists,
+        Kept::Whole,
+    );
     let before = hand.turn();
     processor.call_rcu(1, job(alloc, 7).ok()?).ok()?;
     let early = hand.turn();
