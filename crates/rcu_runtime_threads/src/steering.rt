@@ -1,6 +1,6 @@
 //! What a program hands in for control: a steering, which says step by step what control does.
 
-ghost use Rattle.std.specs.Prelude.{◌≡◌};
+ghost use Rattle.std.specs.Prelude.{◌≡◌, ⊤};
 ghost use Rattle.rcu_runtime_threads.specs.Steers.{IsSteered, Steers};
 ghost use Rattle.rcu_part_control.specs.Parts.{SameControl};
 
@@ -55,8 +55,8 @@ pub enum Reply {
 pub trait Steering {
     ghost use Rattle.rcu_runtime_threads.specs.declared.steering.Order.{Order};
 
-    // What it may order.
-    ghost may: { Order → Type 0 };
+    // What it may order. Left out, anything.
+    ghost may: { Order → Type 0 } = { λ order. ⊤ };
 
     /// The next order, where this is what the one before came to.
     fn order(&mut self, reply: Reply) -> Order

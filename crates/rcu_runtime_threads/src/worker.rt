@@ -1,6 +1,6 @@
 //! What a program hands in for each processor: a worker, which says step by step what its processor does.
 
-ghost use Rattle.std.specs.Prelude.{◌≡◌, ℕ};
+ghost use Rattle.std.specs.Prelude.{◌≡◌, ℕ, ⊤};
 ghost use Rattle.rcu_runtime_threads.specs.Says.{EndsAs};
 
 use rcu_jobs::{Job, Passed, Refused, Ticked, Ticket};
@@ -72,11 +72,11 @@ pub enum WorkerEnd {
 pub trait Worker<J: Job>: Send + Drop {
     ghost use Rattle.rcu_runtime_threads.specs.declared.worker.WorkerEnd.{WorkerEnd};
 
-    // By what a worker is known again.
-    ghost name_of: { Self → ℕ };
+    // By what a worker is known again. Left out, nothing tells it from another.
+    ghost name_of: { Self → ℕ } = { λ worker. 0 };
 
-    // What a worker is when it says that it is done, and what when it gives up.
-    ghost ends_as: { WorkerEnd → Self → Type 0 };
+    // What a worker is when it says that it is done, and what when it gives up. Left out, nothing is said.
+    ghost ends_as: { WorkerEnd → Self → Type 0 } = { λ end worker. ⊤ };
 
     /// Called once in the processor's thread, before the first step: the place to pin the thread.
     fn begin(&mut self, _cpu: u64)
@@ -85,7 +85,7 @@ pub trait Worker<J: Job>: Send + Drop {
 
     /// The next step, where this is what the one before came to.
     ///
-    /// It has clauses of its own in each worker; `ensures { ⊤ }` where nothing is said of it.
+    /// It needs a clause in each worker: `ensures { ⊤ }` where nothing is said of it.
     fn step(&mut self, answer: Answer<J>) -> Step<J>
         ensures name { name_of self.new ≡ name_of self.old }
         ensures ends { EndsAs ends_as result self.new };
