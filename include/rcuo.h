@@ -144,13 +144,15 @@ struct rcuo_settings {
     uint64_t stride;     /* how many neighbours make a group, 1 to 32 */
     uint64_t blimit;     /* how many callbacks a group gives a hand in one turn at most; 1 to 1000000 */
     uint64_t qhimark;    /* at how many callbacks a bypass list is released at once; 1 to 1000000 */
-    uint64_t limit;      /* how many callbacks a processor accepts in its life; 1 to 1000000 */
+    uint64_t limit;      /* how many callbacks a processor accepts in its life, up to 2^53; 0: 2^53, which no program reaches */
     uint32_t offloadable; /* bit p: processor p starts offloaded, has a hand, and may be switched */
+    uint32_t records;    /* 0: no record is kept of a callback that ran, and memory doesn't grow with what ran; else each is kept
+                          * until `rcuo_close`, to be read by `rcuo_next_ran` */
 };
 
-/* One local processor with the highest limit: `struct rcuo_settings settings = RCUO_SETTINGS_DEFAULT;`, and then what is to
- * differ, as `settings.processors = 4;`. */
-#define RCUO_SETTINGS_DEFAULT {1, 1, 10, 10000, 1000000, 0}
+/* One local processor, which accepts callbacks without end, and no records: `struct rcuo_settings settings =
+ * RCUO_SETTINGS_DEFAULT;`, and then what is to differ, as `settings.processors = 4;`. */
+#define RCUO_SETTINGS_DEFAULT {1, 1, 10, 10000, 0, 0, 0}
 
 /* A callback's function. */
 typedef void rcuo_function(void *argument);
@@ -285,8 +287,8 @@ static inline enum rcuo_answer rcuo_open(const struct rcuo_settings *settings, s
     return RCUO_CALL(rcuo_slot_open(settings, (uint64_t)(uintptr_t)parts, parts));
 }
 
-/* Closes a runtime, whose threads have ended: what is left of it, the records of the callbacks that ran and the jobs of those
- * that didn't, is then read by `rcuo_next_ran` and `rcuo_next_back`. Shut first to know that nothing more is accepted. Takes
+/* Closes a runtime, whose threads have ended: what is left of it, the records of the callbacks that ran, where these are kept
+ * (`records` of the settings), and the jobs of those that didn't, is then read by `rcuo_next_ran` and `rcuo_next_back`. Shut first to know that nothing more is accepted. Takes
  * memory.
  * Answers RCUO_EMPTY where a slot is missing, RCUO_FOREIGN where one has a part of another open or of another place,
  * RCUO_OTHER where one has a part of another kind, RCUO_RUNNING where a callback was begun and isn't finished, RCUO_AWAY where
@@ -298,7 +300,7 @@ static inline enum rcuo_answer rcuo_close(struct rcuo_parts *parts) {
 }
 
 /* After a close: the next record of a callback of this processor that ran, in the order of the callbacks' numbers. `at` is 0
- * at first. RCUO_NONE_LEFT after the last. */
+ * at first. RCUO_NONE_LEFT after the last, and at once where no record was kept. */
 static inline enum rcuo_answer rcuo_next_ran(struct rcuo_parts *parts, uint64_t processor, uint64_t *at, struct rcuo_record *record) {
     if (!parts || !at || !record) return RCUO_NULL;
     enum rcuo_answer answer = RCUO_CALL(rcuo_slot_record(&parts->control, processor, *at, record));
@@ -457,7 +459,7 @@ static inline enum rcuo_answer rcuo_begin(struct rcuo_slot *slot, uint64_t momen
     return RCUO_CALL(rcuo_slot_begin(slot, moment, job));
 }
 
-/* Ends the callback that was begun, and keeps its record. Answers RCUO_NOT_RUNNING where none was. */
+/* Ends the callback that was begun, and keeps its record, where records are kept. Answers RCUO_NOT_RUNNING where none was. */
 static inline enum rcuo_answer rcuo_finish(struct rcuo_slot *slot) {
     if (!slot) return RCUO_NULL;
     return RCUO_CALL(rcuo_slot_finish(slot));

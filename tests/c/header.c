@@ -26,7 +26,7 @@ static void defaults(void) {
     is("open with the defaults", rcuo_open(&settings, &parts), RCUO_OK);
     holds("that there is one local processor", parts.processors[0].full && !parts.processors[1].full && !parts.hands[0].full);
     is("left", rcuo_left(&parts.processors[0], &left), RCUO_OK);
-    holds("that the limit is the highest", left == settings.limit && left == 1000000);
+    holds("that the limit is the highest", settings.limit == 0 && left == UINT64_C(1) << 53);
     end();
     settings.processors = RCUO_PROCESSORS;
     settings.offloadable = UINT32_MAX;

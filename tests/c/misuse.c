@@ -11,7 +11,7 @@ static void count(void *argument) {
 }
 
 static struct rcuo_parts parts, others;
-static const struct rcuo_settings good = {.processors = 2, .stride = 1, .blimit = 8, .qhimark = 8, .limit = 4, .offloadable = 2};
+static const struct rcuo_settings good = {.processors = 2, .stride = 1, .blimit = 8, .qhimark = 8, .limit = 4, .offloadable = 2, .records = 1};
 
 static void null_pointers(void) {
     struct rcuo_slot empty = {0};
@@ -114,9 +114,7 @@ static void settings_outside(void) {
     is("no qhimark", rcuo_open(&bad, &parts), RCUO_SHAPE);
     bad.qhimark = 1000001;
     is("a qhimark too high", rcuo_open(&bad, &parts), RCUO_SHAPE);
-    bad = good, bad.limit = 0;
-    is("no limit", rcuo_open(&bad, &parts), RCUO_SHAPE);
-    bad.limit = 1000001;
+    bad = good, bad.limit = (UINT64_C(1) << 53) + 1;
     is("a limit one too high", rcuo_open(&bad, &parts), RCUO_SHAPE);
     bad = good, bad.limit = UINT64_MAX;
     is("a limit too high", rcuo_open(&bad, &parts), RCUO_SHAPE);

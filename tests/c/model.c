@@ -360,16 +360,16 @@ static void end(void) {
     for (uint64_t p = 0; p < settings.processors; p++) {
         struct rcuo_record record;
         struct rcuo_job job;
-        uint64_t ran = 0, back = 0;
+        uint64_t ran = 0, back = 0, finished = cpus[p].finished;
         while (rcuo_next_ran(&parts, p, &ran, &record) == RCUO_OK) {
             same("a record's number", record.number, ran - 1);
             same("a record's key", record.job.key, cpus[p].callbacks[ran - 1].key);
             if (record.ready < record.stamp) differs("a record's wait", record.ready, record.stamp);
         }
-        same("how many ran", ran, cpus[p].finished);
-        while (rcuo_next_back(&parts, p, &back, &job) == RCUO_OK) same("the key of a job that came back", job.key, cpus[p].callbacks[ran + back - 1].key);
-        same("how many came back", ran + back, cpus[p].accepted);
-        ran_in_all += ran;
+        same("how many records there are", ran, settings.records ? finished : 0);
+        while (rcuo_next_back(&parts, p, &back, &job) == RCUO_OK) same("the key of a job that came back", job.key, cpus[p].callbacks[finished + back - 1].key);
+        same("how many came back", finished + back, cpus[p].accepted);
+        ran_in_all += finished;
         came_back_in_all += back;
     }
     same("the end", rcuo_end(&parts), RCUO_OK);
@@ -388,6 +388,7 @@ static void run(uint64_t number) {
     settings.qhimark = 1 + any(8);
     settings.limit = 1 + any(MOST_CALLS);
     settings.offloadable = (uint32_t)any(1u << settings.processors);
+    settings.records = (uint32_t)any(2);
     for (uint64_t p = 0; p < settings.processors; p++) cpus[p].offloadable = settings.offloadable >> p & 1;
     same("open", rcuo_open(&settings, &parts), RCUO_OK);
     for (uint64_t left = 50 + any(2000); left && !differences; left--) step();

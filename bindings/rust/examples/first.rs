@@ -1,7 +1,7 @@
 //! A whole program, in one thread: `cargo run --offline --example first`.
 
 fn main() -> Result<(), rcuo::Error> {
-    let mut parts = rcuo::open(&rcuo::Settings { processors: 2, ..Default::default() })?;
+    let mut parts = rcuo::open(&rcuo::Settings { processors: 2, records: true, ..Default::default() })?;
     let old = String::from("the old version");
     parts.processors[0].call(0, move || println!("freed {old}"))?;
     while parts.processors[0].run(0, 10)? == 0 {

@@ -45,6 +45,7 @@ pub struct Settings {
     pub qhimark: u64,
     pub limit: u64,
     pub offloadable: u32,
+    pub records: u32,
 }
 
 #[repr(C)]

@@ -10,7 +10,7 @@
 //! use std::sync::atomic::{AtomicU64, Ordering};
 //! use std::sync::Arc;
 //!
-//! let mut parts = open(&Settings { processors: 1, ..Settings::default() })?;
+//! let mut parts = open(&Settings { processors: 1, records: true, ..Settings::default() })?;
 //! let freed = Arc::new(AtomicU64::new(0));
 //!
 //! let told = Arc::clone(&freed);
@@ -136,15 +136,18 @@ pub struct Settings {
     pub blimit: u64,
     /// At how many callbacks a bypass list is released at once, 1 to 1000000.
     pub qhimark: u64,
-    /// How many callbacks a processor accepts in its life, 1 to 1000000.
+    /// How many callbacks a processor accepts in its life, up to 2^53; 0 is 2^53, which no program reaches.
     pub limit: u64,
     /// Bit p: processor p starts offloaded, has a hand, and may be switched.
     pub offloadable: u32,
+    /// Whether the record of each callback that ran is kept for [`Closed::ran`]. Where none is kept, memory doesn't grow with what
+    /// ran.
+    pub records: bool,
 }
 
 impl Default for Settings {
     fn default() -> Settings {
-        Settings { processors: 1, stride: 1, blimit: 10, qhimark: 10000, limit: 1000000, offloadable: 0 }
+        Settings { processors: 1, stride: 1, blimit: 10, qhimark: 10000, limit: 0, offloadable: 0, records: false }
     }
 }
 
@@ -422,7 +425,7 @@ pub struct Recovered {
 
 /// What is left of a runtime that was closed, by processor.
 pub struct Closed {
-    /// The records of the callbacks that ran, numbered 0, 1, 2, ..
+    /// The records of the callbacks that ran, numbered 0, 1, 2, .., where [`Settings::records`] had them kept.
     pub ran: Vec<Vec<Record>>,
     /// The jobs of the remaining numbers, in order.
     pub back: Vec<Vec<Job>>,
@@ -453,6 +456,7 @@ pub fn open(settings: &Settings) -> Result<Parts, Error> {
         qhimark: settings.qhimark,
         limit: settings.limit,
         offloadable: settings.offloadable,
+        records: settings.records.into(),
     };
     let mut slots = Arc::new(Slots {
         slots: UnsafeCell::new(ffi::Parts::EMPTY),
@@ -745,7 +749,7 @@ impl Processor {
     ///
     /// ```
     /// # use rcuo::{Error, Settings};
-    /// let mut parts = rcuo::open(&Settings { processors: 2, ..Default::default() })?;
+    /// let mut parts = rcuo::open(&Settings { processors: 2, records: true, ..Default::default() })?;
     /// let away = parts.processors.pop().unwrap().leave()?;
     /// parts.processors[0].call(0, || ())?;
     /// while parts.processors[0].run(0, 10)? == 0 {

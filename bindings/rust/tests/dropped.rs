@@ -7,7 +7,7 @@ use std::sync::atomic::{AtomicU64, Ordering::SeqCst};
 use std::sync::Arc;
 use std::thread;
 
-const SETTINGS: Settings = Settings { processors: 3, stride: 1, blimit: 4, qhimark: 4, limit: 100, offloadable: 0b110 };
+const SETTINGS: Settings = Settings { processors: 3, stride: 1, blimit: 4, qhimark: 4, limit: 100, offloadable: 0b110, records: true };
 const CALLS: u64 = 5;
 
 /// Jobs, each of which has a share of this as long as it is there.
@@ -250,7 +250,7 @@ fn one_gets_it_where_several_ask_at_once() {
 
 #[test]
 fn a_callback_that_panics_is_over_and_its_processor_is_taken_up_again() {
-    let mut parts = open(&Settings::default()).unwrap();
+    let mut parts = open(&Settings { records: true, ..Settings::default() }).unwrap();
     let token = Arc::new(());
     for number in 0..3 {
         let token = Arc::clone(&token);

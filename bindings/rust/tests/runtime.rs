@@ -8,7 +8,7 @@ use std::thread;
 #[test]
 fn callbacks_run_in_order_in_a_hand() {
     const CALLS: u64 = 2000;
-    let mut parts = open(&Settings { processors: 2, offloadable: 2, qhimark: 16, ..Settings::default() }).unwrap();
+    let mut parts = open(&Settings { processors: 2, offloadable: 2, qhimark: 16, records: true, ..Settings::default() }).unwrap();
     let stop = AtomicBool::new(false);
     let seen = Arc::new(Mutex::new(Vec::new()));
     thread::scope(|scope| {
@@ -210,8 +210,9 @@ fn the_header_and_the_library_are_this_versions() {
     let defined = |name: &str| header.lines().find_map(|line| line.strip_prefix(&format!("#define {name} "))).unwrap();
     assert_eq!(defined("RCUO_VERSION"), format!("\"{}\"", env!("CARGO_PKG_VERSION")));
     assert_eq!(rcuo::version(), env!("CARGO_PKG_VERSION"));
-    let Settings { processors, stride, blimit, qhimark, limit, offloadable } = Settings::default();
-    let defaults = format!("{{{processors}, {stride}, {blimit}, {qhimark}, {limit}, {offloadable}}}");
+    let Settings { processors, stride, blimit, qhimark, limit, offloadable, records } = Settings::default();
+    let records = u32::from(records);
+    let defaults = format!("{{{processors}, {stride}, {blimit}, {qhimark}, {limit}, {offloadable}, {records}}}");
     assert_eq!(defined("RCUO_SETTINGS_DEFAULT"), defaults);
 }
 
