@@ -8,6 +8,13 @@
 #include <stdlib.h>
 #include <sys/resource.h>
 
+/* (AddressSanitizer keeps what was freed for a while, which the peak shows) */
+#if defined(__SANITIZE_ADDRESS__)
+#define MEASURES false
+#else
+#define MEASURES true
+#endif
+
 enum { BATCH = 1000, LOCAL = 0, OFFLOADED = 1 };
 
 static struct rcuo_parts parts;
@@ -69,7 +76,7 @@ int main(int count, char **words) {
     long late = peak();
     fprintf(stderr, "peak memory: %ld KB after a tenth, %ld KB after all\n", early, late);
     holds("that all ran", ran[LOCAL] == batches * BATCH && ran[OFFLOADED] == batches * BATCH);
-    holds("that the peak is flat", early > 0 && late - early <= 64);
+    holds("that the peak is flat", !MEASURES || (early > 0 && late - early <= 64));
     struct rcuo_record record;
     uint64_t at = 0;
     is("close", rcuo_close(&parts), RCUO_OK);
