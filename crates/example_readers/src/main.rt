@@ -23,7 +23,7 @@ const PUBLISHER: u64 = 3;
 /// How often each reader reads in a run, and how many versions a run publishes.
 const READS: u64 = 2000;
 
-const VERSIONS: u64 = 300;
+const VERSIONS: u64 = 90;
 
 /// What a worker does: all processors have workers of one type.
 #[derive(Drop)]
