@@ -2,7 +2,6 @@ use Rattle.std.proofs.Common.{◌≡◌, map, refl, false, inl}
 use Rattle.std.proofs.lemmas.Result.{IfErr-weaker, on_ok_weaker}
 use Rattle.std.specs.List.{range_with_len}
 use Rattle.rcu_jobs.specs.Promised.{Promised}
-use Rattle.rcu_part_order.specs.declared.recorded.Kept.TheVariants.{Whole}
 use Rattle.rcu_parts.proofs.KeptWhole.{opened_whole}
 use Rattle.rcu_parts.proofs.Zips.{zip_all}
 use Rattle.rcu_parts.specs.OneOpen.{parts_board, processors_in}
@@ -22,7 +21,7 @@ returns-in-Ok g c =
     let opened = c.in_ok-parts.ensures.opened in
     -- parts that were just opened have accepted nothing
     let unused : AreUnused start =
-    zip_all (IsFirstProcessor setup.shape setup.shape.limit Whole (parts_board start)) (λ p. p.state.accepted ≡ 0) (λ k p first. first.part.accepted)
+    zip_all (IsFirstProcessor setup.shape setup.shape.limit _ (parts_board start)) (λ p. p.state.accepted ≡ 0) (λ k p first. first.part.accepted)
     (range_with_len 0 (parts_board start).processors) (processors_in start) opened.processors in
     let runs : RunsInThreads (λ job. job.key) (Promised 65536) setup c.args.jobs.items (whole_totals false closed) =
     record {
