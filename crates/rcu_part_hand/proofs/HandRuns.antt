@@ -18,11 +18,9 @@ use Rattle.rcu_jobs.specs.declared.callback.Callback.{Callback}
 use Rattle.rcu_jobs.specs.declared.callback.Record.{Record}
 use Rattle.rcu_numbers.specs.Numbers.{snap_of}
 use Rattle.rcu_part_order.specs.Places.{Numbered}
-use Rattle.rcu_part_order.specs.Recorded.{Recorded, and_ran, lost}
+use Rattle.rcu_part_order.specs.Recorded.{Recorded, and_ran}
 use Rattle.rcu_part_order.specs.Records.{numbered_record, AreRipe}
-use Rattle.rcu_part_order.specs.declared.recorded.Kept.{Kept}
-use Rattle.rcu_part_order.specs.declared.recorded.Kept.TheVariants.{Whole, Rest, Nothing}
-use Rattle.rcu_part_order.proofs.Keeping.{ran_again}
+use Rattle.rcu_part_order.proofs.Keeping.{ran_again, ran_none as nothing_more}
 use Rattle.rcu_part_steps.specs.Changes.{Keeps, Claims, Finishes, StepsOnly, claim_at}
 use Rattle.rcu_board.specs.Words.{board_word, turns_word}
 use Rattle.rcu_part_steps.proofs.Turning.{steps_more}
@@ -39,14 +37,6 @@ module _ {R : Type 0} where
 
   pub kept_as : (a b : Recorded R) → a ≡ b → a.kept ≡ b.kept
   kept_as a b e = ap (λ (r : Recorded R). r.kept) e
-
-  -- nothing ran, too
-  and_none : (r : Recorded R) → and_ran [] r ≡ r
-  and_none r = ap (λ (l : List (Record R)). record { kept = r.kept; all = l; gone = r.gone + lost r.kept 0 }) (append-nil r.all) ∙ ap (λ (n : ℕ). record { kept = r.kept; all = r.all; gone = n }) (none_gone r.kept) where
-    none_gone : (k : Kept) → r.gone + lost k 0 ≡ r.gone
-    none_gone Whole = omega arith
-    none_gone Rest = omega arith
-    none_gone Nothing = omega arith
 
 pub all_one : {X : Type 0} (P : X → Type 0) (x : X) → P x → All P (x ∷ [])
 all_one P x p zero d low = p
@@ -120,7 +110,7 @@ module _ {J R : Type 0} where
     many = refl;
     held = sym held;
     drawn = drawn;
-    more = records ∙ sym (and_none (hand_records p));
+    more = records ∙ sym (nothing_more (hand_records p));
     same = refl;
     ready = none_of (λ (r : Record R). r.ready ≡ seen);
     sight = at;
@@ -181,7 +171,7 @@ module _ {J R : Type 0} where
 
   -- records that stay, or to which others are added, and then others
   pub records_kept : (p q : HandState J R) → hand_records q ≡ hand_records p → AddsRecords p q
-  records_kept p q e = ([], e ∙ sym (and_none (hand_records p)))
+  records_kept p q e = ([], e ∙ sym (nothing_more (hand_records p)))
 
   pub records_again : (p q r : HandState J R) → AddsRecords p q → AddsRecords q r → AddsRecords p r
   records_again p q r a b = (a.0 ++ b.0, b.1 ∙ (ap (and_ran b.0) a.1 ∙ ran_again (hand_records p) a.0 b.0))

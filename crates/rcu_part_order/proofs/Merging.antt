@@ -9,18 +9,7 @@ use Rattle.rcu_jobs.specs.declared.callback.Record.{Record}
 use Rattle.rcu_part_order.specs.Places.{Accepted, Numbered, with_number, numbered}
 use Rattle.rcu_part_order.specs.Order.{Remaining, between, first_own, first_hands, times}
 use Rattle.rcu_part_order.specs.Records.{AreOfBoth, before, by_number, is_hands_next, numbered_record, numbered_records}
-use Rattle.rcu_part_order.proofs.Ordering.{counted_same, merged, next}
-
-tail : List Numbered → List Numbered
-tail [] = []
-tail (x ∷ xs) = xs
-
-tail-cons : (x y : Numbered) (xs ys : List Numbered) → x ∷ xs ≡ y ∷ ys → xs ≡ ys
-unfolding tail
-tail-cons x y xs ys e = ap tail e
-
-head-cons : (x y : Numbered) (xs ys : List Numbered) → x ∷ xs ≡ y ∷ ys → x ≡ y
-head-cons x y xs ys e = ap (λ (l : List Numbered). get_or l 0 x) e
+use Rattle.rcu_part_order.proofs.Ordering.{counted_same, head-cons, merged, next, tail-cons}
 
 below_is : (a b : ℕ) → a < b → nat_lt a b ≡ true
 below_is a b h = grind (arith, nat_tests)

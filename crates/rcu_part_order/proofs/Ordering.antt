@@ -53,11 +53,11 @@ tail : List Numbered → List Numbered
 tail [] = []
 tail (x ∷ xs) = xs
 
-tail-cons : (x y : Numbered) (xs ys : List Numbered) → x ∷ xs ≡ y ∷ ys → xs ≡ ys
+pub tail-cons : (x y : Numbered) (xs ys : List Numbered) → x ∷ xs ≡ y ∷ ys → xs ≡ ys
 unfolding tail
 tail-cons x y xs ys e = ap tail e
 
-head-cons : (x y : Numbered) (xs ys : List Numbered) → x ∷ xs ≡ y ∷ ys → x ≡ y
+pub head-cons : (x y : Numbered) (xs ys : List Numbered) → x ∷ xs ≡ y ∷ ys → x ≡ y
 head-cons x y xs ys e = ap (λ (l : List Numbered). get_or l 0 x) e
 
 between_one : (k m : ℕ) → k < m → between k m k ≡ 1
