@@ -13,7 +13,7 @@
  * All else is tested: a call on a slot that is empty, or of another kind, or on a null pointer, and so on, is answered by
  * name and changes nothing.
  *
- * WHAT IT IS. A program opens a runtime for up to 32 processors, here objects that it owns: a thread reads shared data and
+ * WHAT IT IS. A program opens a runtime for up to 1,024 processors, here objects that it owns: a thread reads shared data and
  * calls `rcuo_call` by its processor's slot, and reports quiescent states between its read sections. A callback runs once a
  * grace period that began after the call has ended, that is, once each processor has reported or was away. A thread that may
  * block leaves before (`rcuo_leave`). A local processor's callbacks run in its own thread; those of an offloaded one in the
@@ -60,7 +60,7 @@ extern "C" {
 uint32_t rcuo_version(void);
 
 /* How many processors a runtime has at most. */
-#define RCUO_PROCESSORS 32
+#define RCUO_PROCESSORS 1024
 
 /* What calls answer. 1 to 7 are the refusals of the specification, under their numbers. */
 enum rcuo_answer {
@@ -140,17 +140,21 @@ struct rcuo_parts {
 
 /* What a runtime is opened with. */
 struct rcuo_settings {
-    uint64_t processors; /* how many, 1 to 32 */
-    uint64_t stride;     /* how many neighbours make a group, 1 to 32 */
+    uint64_t processors; /* how many, 1 to 1024 */
+    uint64_t stride;     /* how many neighbours make a group, 1 to 1024 */
     uint64_t blimit;     /* how many callbacks a group gives a hand in one turn at most; 1 to 1000000 */
     uint64_t qhimark;    /* at how many callbacks a bypass list is released at once; 1 to 1000000 */
-    uint64_t limit;      /* how many callbacks a processor accepts in its life; 1 to 1000000 */
-    uint32_t offloadable; /* bit p: processor p starts offloaded, has a hand, and may be switched */
+    uint64_t limit;      /* how many callbacks a processor accepts in its life; 1 to 2^53, or 0 for none, which is 2^53 */
+    const uint64_t *offloadable; /* bit p % 64 of word p / 64: processor p starts offloaded, has a hand, and may be switched. A
+                                  * bit for each processor, and 0 above them. Null: all processors */
 };
 
-/* One local processor with the highest limit: `struct rcuo_settings settings = RCUO_SETTINGS_DEFAULT;`, and then what is to
- * differ, as `settings.processors = 4;`. */
-#define RCUO_SETTINGS_DEFAULT {1, 1, 10, 10000, 1000000, 0}
+/* No processor, for `offloadable`. */
+__attribute__((unused)) static const uint64_t rcuo_none[RCUO_PROCESSORS / 64] = {0};
+
+/* One local processor without a limit: `struct rcuo_settings settings = RCUO_SETTINGS_DEFAULT;`, and then what is to differ, as
+ * `settings.processors = 4;`. */
+#define RCUO_SETTINGS_DEFAULT {1, 1, 10, 10000, 0, rcuo_none}
 
 /* A callback's function. */
 typedef void rcuo_function(void *argument);
@@ -220,10 +224,21 @@ struct rcuo_record {
     struct rcuo_job job; /* what ran */
 };
 
+/* What `rcuo_open` makes of the settings. */
+struct rcuo_shape {
+    uint64_t processors;
+    uint64_t stride;
+    uint64_t blimit;
+    uint64_t qhimark;
+    uint64_t limit;
+    uint64_t offloadable[RCUO_PROCESSORS / 64];
+    bool all; /* each processor is offloadable, whatever the words say */
+};
+
 /*
  * The exports of the library. Programs call the functions below, which test for null pointers first.
  */
-uint32_t rcuo_slot_open(const struct rcuo_settings *settings, uint64_t number, struct rcuo_parts *parts);
+uint32_t rcuo_slot_open(const struct rcuo_shape *shape, uint64_t number, struct rcuo_parts *parts);
 uint32_t rcuo_slot_close(struct rcuo_parts *parts);
 uint32_t rcuo_slot_call(struct rcuo_slot *slot, bool lazy, uint64_t moment, const struct rcuo_job *job, struct rcuo_ticket *ticket);
 uint32_t rcuo_slot_quiescent(struct rcuo_slot *slot, uint64_t *counted);
@@ -280,9 +295,20 @@ static inline enum rcuo_answer rcuo_after_call(uint32_t answer) {
  * Answers RCUO_FULL where a slot has a part, RCUO_SHAPE where a setting is outside its limits, RCUO_MEMORY; then nothing
  * was made, and the slots are as they were. */
 static inline enum rcuo_answer rcuo_open(const struct rcuo_settings *settings, struct rcuo_parts *parts) {
+    struct rcuo_shape shape;
+    uint64_t word;
     if (!settings || !parts) return RCUO_NULL;
+    shape.processors = settings->processors;
+    shape.stride = settings->stride;
+    shape.blimit = settings->blimit;
+    shape.qhimark = settings->qhimark;
+    shape.limit = settings->limit;
+    shape.all = !settings->offloadable;
+    for (word = 0; word < RCUO_PROCESSORS / 64; word++) {
+        shape.offloadable[word] = settings->offloadable && 64 * word < settings->processors ? settings->offloadable[word] : 0;
+    }
     /* (while the runtime is open no other has its control slot, so the slot's address is the open's number) */
-    return RCUO_CALL(rcuo_slot_open(settings, (uint64_t)(uintptr_t)parts, parts));
+    return RCUO_CALL(rcuo_slot_open(&shape, (uint64_t)(uintptr_t)parts, parts));
 }
 
 /* Closes a runtime, whose threads have ended: what is left of it, the records of the callbacks that ran and the jobs of those

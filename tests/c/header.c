@@ -26,10 +26,10 @@ static void defaults(void) {
     is("open with the defaults", rcuo_open(&settings, &parts), RCUO_OK);
     holds("that there is one local processor", parts.processors[0].full && !parts.processors[1].full && !parts.hands[0].full);
     is("left", rcuo_left(&parts.processors[0], &left), RCUO_OK);
-    holds("that the limit is the highest", left == settings.limit && left == 1000000);
+    holds("that there is no limit", !settings.limit && left == UINT64_C(1) << 53);
     end();
     settings.processors = RCUO_PROCESSORS;
-    settings.offloadable = UINT32_MAX;
+    settings.offloadable = NULL;
     is("open with as many processors as there can be", rcuo_open(&settings, &parts), RCUO_OK);
     holds("that each has a hand", parts.hands[0].full && parts.hands[RCUO_PROCESSORS - 1].full);
     end();
@@ -111,9 +111,10 @@ static void barrier_and_switch(void) {
 }
 
 static void moments(void) {
+    static const uint64_t first[] = {1};
     struct rcuo_settings settings = RCUO_SETTINGS_DEFAULT;
     settings.processors = 2;
-    settings.offloadable = 1;
+    settings.offloadable = first;
     settings.qhimark = HIGH_MARK;
     is("open", rcuo_open(&settings, &parts), RCUO_OK);
     call(1, 100, 0);

@@ -122,7 +122,7 @@ impl Table {
         Ok(Table {
             alloc,
             current: Arc::new(alloc, first)?,
-            runtime: open(alloc, shape)?,
+            runtime: open(alloc, &shape.for_parts())?,
         })
     }
 

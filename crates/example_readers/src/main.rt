@@ -162,7 +162,7 @@ fn main(rt: HostRuntime) -> Result<(), AnyFault> {
     let alloc = rt.alloc();
     let shape = Shape::new(UPDATER + 1, 1 << UPDATER, 2, 10, 16, 1000).ok_or(AnyFault::NoShape)?;
     let table = Arc::new(alloc, Table::new())?;
-    let mut runtime = open::<Retired>(alloc, shape)?;
+    let mut runtime = open::<Retired>(alloc, &shape.for_parts())?;
     for (last, offloads, ending) in [
         (VERSIONS, false, Ending::AfterBarrier),
         (2 * VERSIONS, true, Ending::Drained),

@@ -2,7 +2,7 @@
 use Rattle.std.proofs.Common.{ℕ, ◌≤◌, map, Result, Ok, Err, IfOk, sym, subst, arith}
 use Rattle.std.specs.List.{range_with_len}
 use Rattle.rcu_board.specs.Opened.{has_offloadable, is_offloadable, numbers_where}
-use Rattle.rcu_numbers.specs.declared.shape.Shape.{Shape}
+use Rattle.rcu_numbers.specs.declared.parts_shape.PartsShape.{PartsShape}
 use Rattle.rcu_c_slots.specs.Gathers.{ForeignParts}
 use Rattle.rcu_c_slots.specs.Opens.{AreNew, AreRising, BoxesAll, OpensBoxes}
 use Rattle.rcu_c_slots.specs.Processors.{ForeignCpu}
@@ -14,7 +14,7 @@ use Rattle.rcu_parts.specs.OneOpen.{groups_in, hands_in, parts_board, processors
 use Rattle.rcu_parts.specs.Openings.{IsFirstGroup, IsFirstHand, IsFirstProcessor, IsOpened}
 use Rattle.rcu_c_slots.proofs.Placing.{rising_range, rising_where, zip_numbers}
 
-module _ (shape : Shape) (parts : ForeignParts) (o : IsOpened shape parts) (end : ℕ) (few : shape.processors ≤ end) where
+module _ (shape : PartsShape) (parts : ForeignParts) (o : IsOpened shape parts) (end : ℕ) (few : shape.processors ≤ end) where
   pub rising_processors : AreRising 0 end (map (λ (p : ForeignCpu). p.state.cpu) (processors_in parts))
   rising_processors = let b = parts_board parts in let many = o.many in
       subst (AreRising 0 end) (sym (zip_numbers (IsFirstProcessor shape b) (λ (p : ForeignCpu). p.state.cpu) (λ k p f. f.part.cpu_is) (range_with_len 0 b.processors) (processors_in parts) o.processors))
@@ -31,6 +31,6 @@ module _ (shape : Shape) (parts : ForeignParts) (o : IsOpened shape parts) (end 
       (rising_where test 0 b.processors end (omega (arith, many, few)))
 
 -- what was opened, and boxed
-pub opens_boxes : {E : Type 0} (shape : Shape) (number : ℕ) (parts : ForeignParts) (r : Result Boxes E) → AreNew shape parts → IfOk r (λ boxes. BoxesAll number parts boxes) → IfOk r (λ boxes. OpensBoxes shape number boxes)
+pub opens_boxes : {E : Type 0} (shape : PartsShape) (number : ℕ) (parts : ForeignParts) (r : Result Boxes E) → AreNew shape parts → IfOk r (λ boxes. BoxesAll number parts boxes) → IfOk r (λ boxes. OpensBoxes shape number boxes)
 opens_boxes shape number parts (Ok boxes) new all = record { parts = parts; new = new; boxes_all = all }
 opens_boxes shape number parts (Err e) new all = tt

@@ -16,7 +16,7 @@ use Rattle.rcu_c_slots.specs.declared.part.Opening.{Opening}
 use Rattle.rcu_c_slots.specs.declared.part.Part.{Part}
 use Rattle.rcu_c_slots.specs.declared.part.Part.TheVariants.{Control, Driver, Group, Hand, Nothing, Processor}
 use Rattle.rcu_c_slots.specs.declared.slot.PartSlots.{PartSlots}
-use Rattle.rcu_numbers.specs.declared.shape.Shape.{Shape}
+use Rattle.rcu_numbers.specs.declared.parts_shape.PartsShape.{PartsShape}
 use Rattle.rcu_part_group.specs.Groups.{group_board, group_view}
 use Rattle.rcu_part_group.specs.declared.group.Group.{Group as TheGroup}
 use Rattle.rcu_part_hand.specs.Hands.{IsSoundHand, hand_board, hand_view}
@@ -124,7 +124,7 @@ both_held o p parts others slots h k = can_close_same parts others
     (sym (groups_back (groups_in parts)) ∙ (ap (filter_map group_in) (sym h.groups_are ∙ k.groups_are) ∙ groups_back (groups_in others)))
     (sym (hands_back (hands_in parts)) ∙ (ap (filter_map hand_in) (sym h.hands_are ∙ k.hands_are) ∙ hands_back (hands_in others)))
 
-pub opened_of_the_open : (shape : Shape) (number : ℕ) (slots : PartSlots) → OpensInto shape number slots → AreOfTheOpen slots
+pub opened_of_the_open : (shape : PartsShape) (number : ℕ) (slots : PartSlots) → OpensInto shape number slots → AreOfTheOpen slots
 opened_of_the_open shape number slots o = record {
   first = λ p parts h. both_held p o.opening parts o.parts slots h o.held o.new.can_close;
   again = λ l closing is part.

@@ -2,7 +2,7 @@
 use Rattle.std.specs.Prelude.{◌≡◌, ◌≢◌, ℕ, suc, ◌<◌, ◌≤◌, Option, Some, None, IfSome, List, [], ◌∷◌, length, map, ⊤}
 use Rattle.std.specs.Global.{Box}
 use Rattle.std.proofs.Common.{◌⊎◌}
-use Rattle.rcu_numbers.specs.declared.shape.Shape.{Shape}
+use Rattle.rcu_numbers.specs.declared.parts_shape.PartsShape.{PartsShape}
 use Rattle.rcu_c_slots.specs.Gathers.{AreHeld, CanClose, ForeignParts, lent_of, lents_in}
 use Rattle.rcu_c_slots.specs.Processors.{ForeignCpu, lent_processor}
 use Rattle.rcu_c_slots.specs.Runs.{ForeignHand, lent_hand}
@@ -94,12 +94,12 @@ pub record BoxesAll (number : ℕ) (parts : ForeignParts) (boxes : Boxes) : Type
   pub boxed : AreBoxed opening parts boxes
 
 -- What is known of new parts: they are those of a new board of this shape, and can be closed.
-pub record AreNew (shape : Shape) (parts : ForeignParts) : Type 0 where
+pub record AreNew (shape : PartsShape) (parts : ForeignParts) : Type 0 where
   pub opened : IsOpened shape parts
   pub can_close : CanClose parts
 
 -- A new runtime was opened, and boxed.
-pub record OpensBoxes (shape : Shape) (number : ℕ) (boxes : Boxes) : Type 0 where
+pub record OpensBoxes (shape : PartsShape) (number : ℕ) (boxes : Boxes) : Type 0 where
   pub parts : ForeignParts
   pub new : AreNew shape parts
   pub boxes_all : BoxesAll number parts boxes
@@ -111,7 +111,7 @@ pub record AreAtHome (o : Opening) (parts : ForeignParts) (slots : PartSlots) : 
   pub hands_are : lents_in slots.hands ≡ lent_hands o (hands_in parts)
 
 -- The slots have all parts of a new runtime under this number, each in the place of its own number.
-pub record OpensInto (shape : Shape) (number : ℕ) (slots : PartSlots) : Type 0 where
+pub record OpensInto (shape : PartsShape) (number : ℕ) (slots : PartSlots) : Type 0 where
   pub parts : ForeignParts
   pub new : AreNew shape parts
   pub opening : Opening

@@ -4,10 +4,10 @@ ghost use Rattle.std.specs.Prelude.{ℕ};
 ghost use Rattle.rcu_c_slots.specs.Gathers.{AreOfTheOpen};
 ghost use Rattle.rcu_c_slots.specs.Opens.{OpensInto};
 ghost use Rattle.rcu_c_slots.specs.declared.slot.PartSlots.{PartSlots as Slots};
-ghost use Rattle.rcu_numbers.specs.declared.shape.Shape.{Shape};
+ghost use Rattle.rcu_numbers.specs.declared.parts_shape.PartsShape.{PartsShape};
 
 /// What close asks is true of the slots that [`crate::open_into`] filled.
 pub fn opened_slots()
-    ensures { (shape : Shape) (number : ℕ) (slots : Slots) → OpensInto shape number slots
+    ensures { (shape : PartsShape) (number : ℕ) (slots : Slots) → OpensInto shape number slots
         → AreOfTheOpen slots }
 {}

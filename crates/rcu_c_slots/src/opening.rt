@@ -9,7 +9,7 @@ use crate::job::ForeignJob;
 use crate::lent::{LentHand, LentProcessor};
 use crate::part::{Lent, Opening, Part};
 use crate::slot::{PartSlots, Slot};
-use rcu_numbers::Shape;
+use rcu_numbers::PartsShape;
 use rcu_parts::{AllParts, Group, Hand, Parts, Processor, open};
 use std::alloc::{AllocError, Global};
 use std::collections::VecDeque;
@@ -108,8 +108,8 @@ fn box_all(alloc: Global, number: u64, parts: Parts<ForeignJob>) -> Result<Boxes
 }
 
 /// Opens a runtime, and boxes its parts.
-fn open_boxes(alloc: Global, shape: Shape, number: u64) -> Result<Boxes, AllocError>
-    ensures { IfOk result (λ boxes. OpensBoxes shape number boxes) }
+fn open_boxes(alloc: Global, shape: &PartsShape, number: u64) -> Result<Boxes, AllocError>
+    ensures { IfOk result (λ boxes. OpensBoxes shape.now number boxes) }
 {
     match open::<ForeignJob>(alloc, shape) {
         Ok(parts) => box_all(alloc, number, parts),
@@ -162,11 +162,11 @@ fn are_empty(slots: &[Slot]) -> bool
 /// A slot is full; or want of memory. No slot has changed.
 pub fn open_into(
     alloc: Global,
-    shape: Shape,
+    shape: &PartsShape,
     number: u64,
     slots: &mut PartSlots,
 ) -> Result<(), Fault>
-    ensures opened { IfOk result (λ _. OpensInto shape number slots.new) }
+    ensures opened { IfOk result (λ _. OpensInto shape.now number slots.new) }
     ensures empty { IfOk result (λ _. AreEmpty slots.old) }
     ensures refused { IfErr result (λ _. StayHeld slots.old slots.new) }
     ensures why { IfErr result (λ fault. RefusesOpen fault slots.old) }

@@ -11,7 +11,7 @@ ghost use Rattle.rcu_part_hand.specs.HandLaw.{IsLawfulHand};
 use crate::running_hand::{RunningHand, RunningHandState};
 use rcu_board::{Board, Role, Seat};
 use rcu_jobs::{Callback, Job, Record, Stop};
-use rcu_numbers::Shape;
+use rcu_numbers::PartsShape;
 use rcu_part_lists::Held;
 use rcu_part_steps::{Begins, ClaimedCallback, try_claim};
 use std::alloc::Global;
@@ -46,7 +46,7 @@ impl<J: Job> Hand<J> {
     /// The hand of processor `cpu` of a shape, from its seat and the end of its done lane. It has drawn nothing.
     pub fn new(
         alloc: Global,
-        shape: &Shape,
+        shape: &PartsShape,
         board: Arc<Board, Global>,
         seat: Seat,
         cpu: u64,

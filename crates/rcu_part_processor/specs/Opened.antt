@@ -1,6 +1,6 @@
 -- A processor's part before any step.
 use Rattle.std.specs.Prelude.{◌≡◌, ℕ, Bool, []}
-use Rattle.rcu_numbers.specs.declared.shape.Shape.{Shape}
+use Rattle.rcu_numbers.specs.declared.parts_shape.PartsShape.{PartsShape}
 use Rattle.rcu_board.specs.Opened.{is_offloadable}
 use Rattle.rcu_board.specs.declared.board.Board.{Board}
 use Rattle.rcu_board.specs.declared.board.Seat.{Seat}
@@ -19,7 +19,7 @@ pub record IsEmpty {J : Type 0} (offloadable : Bool) (lists : ProcessorLists J) 
   pub looked : (holding lists).advanced ≡ 0
 
 -- processor cpu of a board, with its seat and its lists: it accepted nothing, and passed no grace period
-pub record IsNew {J R : Type 0} (shape : Shape) (b : Board) (cpu : ℕ) (s : Seat) (lists : ProcessorLists J) (p : ProcessorState J R) : Type 0 where
+pub record IsNew {J R : Type 0} (shape : PartsShape) (b : Board) (cpu : ℕ) (s : Seat) (lists : ProcessorLists J) (p : ProcessorState J R) : Type 0 where
   pub board : board_of p ≡ b
   pub seat : seat_of p ≡ s
   pub lists_are : p.lists ≡ lists

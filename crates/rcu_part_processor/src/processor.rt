@@ -13,7 +13,7 @@ use crate::away::{Away, AwayState};
 use crate::running_processor::{RunningProcessor, RunningProcessorState};
 use rcu_board::{Board, Role, Seat, leave};
 use rcu_jobs::{Callback, Job, Record, Stop};
-use rcu_numbers::Shape;
+use rcu_numbers::PartsShape;
 use rcu_part_lists::ProcessorLists;
 use rcu_part_steps::{Begins, ClaimedCallback, try_claim};
 use std::alloc::Global;
@@ -64,7 +64,7 @@ impl<J: Job> Processor<J> {
     /// The part of processor `cpu` of a shape, from its seat and its empty lists. It has accepted nothing.
     pub fn new(
         alloc: Global,
-        shape: &Shape,
+        shape: &PartsShape,
         board: Arc<Board, Global>,
         seat: Seat,
         cpu: u64,

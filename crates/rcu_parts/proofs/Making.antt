@@ -16,7 +16,7 @@ use Rattle.rcu_part_lists.specs.declared.limits.LaneLimits.{LaneLimits}
 use Rattle.rcu_lanes.specs.Ends.{IsNewLane}
 use Rattle.rcu_lanes.specs.declared.ends.Front.{Front}
 use Rattle.rcu_lists.specs.declared.parcel.Parcel.{Parcel}
-use Rattle.rcu_numbers.specs.declared.shape.Shape.{Shape}
+use Rattle.rcu_numbers.specs.declared.parts_shape.PartsShape.{PartsShape}
 use Rattle.rcu_part_group.specs.GroupLaw.{cpus_of}
 use Rattle.rcu_part_group.specs.Groups.{IsEmptyGroupMember, IsNewGroupOf, members_of}
 use Rattle.rcu_parts.specs.OneOpen.{HasHand, members_in, offloadable_in}
@@ -37,7 +37,7 @@ group_of_role Driver = 0
 group_of_role Control = 0
 
 module _ {J R : Type 0} where
-  pub processors_more : (shape : Shape) (b : Board) (ps more : List (ProcessorPart J R)) (p : ProcessorPart J R) → AllZip (IsFirstProcessor shape b) (range_with_len 0 (length ps)) ps → IsFirstProcessor shape b (length ps) p → more ≡ ps ++ p ∷ []
+  pub processors_more : (shape : PartsShape) (b : Board) (ps more : List (ProcessorPart J R)) (p : ProcessorPart J R) → AllZip (IsFirstProcessor shape b) (range_with_len 0 (length ps)) ps → IsFirstProcessor shape b (length ps) p → more ≡ ps ++ p ∷ []
       → AllZip (IsFirstProcessor shape b) (range_with_len 0 (length more)) more
   processors_more shape b ps more p all one e =
       let long : length (ps ++ p ∷ []) ≡ suc (length ps) = length-append ps (p ∷ []) ∙ (let n : length ps + 1 ≡ suc (length ps) = omega arith in n) in
@@ -64,7 +64,7 @@ module _ {J R : Type 0} where
 
   -- ---- hands
 
-  pub hands_more : (shape : Shape) (b : Board) (k : ℕ) (m : GroupMember J) (ms more : List (GroupMember J)) (h : HandPart J R) (hs longer : List (HandPart J R)) → AllZip (IsFirstHand shape b) (cpus_of ms) hs → AllZip HasHand ms hs
+  pub hands_more : (shape : PartsShape) (b : Board) (k : ℕ) (m : GroupMember J) (ms more : List (GroupMember J)) (h : HandPart J R) (hs longer : List (HandPart J R)) → AllZip (IsFirstHand shape b) (cpus_of ms) hs → AllZip HasHand ms hs
       → m.cpu ≡ k → IsFirstHand shape b k h → HasHand m h → more ≡ ms ++ m ∷ [] → longer ≡ hs ++ h ∷ [] → AllZip (IsFirstHand shape b) (cpus_of more) longer × AllZip HasHand more longer
   hands_more shape b k m ms more h hs longer all lanes at first lane e f = (
     subst (λ (l : List (GroupMember J)). AllZip (IsFirstHand shape b) (cpus_of l) longer) (sym e) (subst (λ (l : List (HandPart J R)). AllZip (IsFirstHand shape b) (cpus_of (ms ++ m ∷ [])) l) (sym f)
@@ -74,7 +74,7 @@ module _ {J R : Type 0} where
 
   -- ---- groups
 
-  pub group_made : (shape : Shape) (own b : Board) (k : ℕ) (s : Seat) (ms : List (GroupMember J)) (g : GroupPart J R) → own ≡ b → IsNewGroup b k s → cpus_of ms ≡ numbers_where (is_member b.offloadable shape.stride k) 0 b.processors → All IsEmptyGroupMember ms
+  pub group_made : (shape : PartsShape) (own b : Board) (k : ℕ) (s : Seat) (ms : List (GroupMember J)) (g : GroupPart J R) → own ≡ b → IsNewGroup b k s → cpus_of ms ≡ numbers_where (is_member b.offloadable shape.stride k) 0 b.processors → All IsEmptyGroupMember ms
       → IsNewGroupOf shape own k s ms g.state → IsFirstGroup shape b k g
   group_made shape own b k s ms g same seat cpus empty new = record {
     seat = subst (IsNewGroup b k) (sym new.seat) seat;
@@ -96,7 +96,7 @@ module _ {J R : Type 0} where
   grouped_more gs more g ms old new all h cut same e = ap (λ (l : List (GroupPart J R)). members_in l ++ new) e ∙ ap (λ (l : List (GroupMember J)). l ++ new) (members_more gs g) ∙ append_assoc (members_in gs) (members_of g.state) new
       ∙ ap (λ (l : List (GroupMember J)). members_in gs ++ (l ++ new)) same ∙ ap (λ (l : List (GroupMember J)). members_in gs ++ l) (sym cut) ∙ h
 
-  pub groups_more : (shape : Shape) (b : Board) (done : List ℕ) (k : ℕ) (gs more : List (GroupPart J R)) (g : GroupPart J R) → AllZip (IsFirstGroup shape b) done gs → IsFirstGroup shape b k g → more ≡ gs ++ g ∷ [] → AllZip (IsFirstGroup shape b) (done ++ k ∷ []) more
+  pub groups_more : (shape : PartsShape) (b : Board) (done : List ℕ) (k : ℕ) (gs more : List (GroupPart J R)) (g : GroupPart J R) → AllZip (IsFirstGroup shape b) done gs → IsFirstGroup shape b k g → more ≡ gs ++ g ∷ [] → AllZip (IsFirstGroup shape b) (done ++ k ∷ []) more
   groups_more shape b done k gs more g all first e = subst (λ (l : List (GroupPart J R)). AllZip (IsFirstGroup shape b) (done ++ k ∷ []) l) (sym e) (zip_push (IsFirstGroup shape b) done gs k g all first)
 
 module _ {J : Type 0} where

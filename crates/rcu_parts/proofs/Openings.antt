@@ -18,7 +18,7 @@ use Rattle.rcu_lists.specs.declared.parcel.Parcel.{Parcel}
 use Rattle.rcu_parts.specs.OneOpen.{HasHand}
 use Rattle.rcu_part_lists.specs.declared.processor_lists.ProcessorLists.{ProcessorLists}
 use Rattle.rcu_part_lists.specs.declared.hand.Held.{Held}
-use Rattle.rcu_numbers.specs.declared.shape.Shape.{Shape}
+use Rattle.rcu_numbers.specs.declared.parts_shape.PartsShape.{PartsShape}
 use Rattle.rcu_part_hand.specs.Hands.{IsNewHandOf}
 use Rattle.rcu_part_processor.specs.Opened.{IsEmpty, IsNew}
 use Rattle.rcu_parts.specs.Openings.{BeginsOutside, IsFirstHand, IsFirstProcessor, TakesMember, TakesMembers}
@@ -71,7 +71,7 @@ module _ {J : Type 0} where
   }
 
 module _ {J R : Type 0} where
-  pub first_processor : (shape : Shape) (own b : Board) (k : ℕ) (s : Seat) (lists : ProcessorLists J) (p : Processor J R) (r : Bool) → own ≡ b → IsNewProcessor b k s → holding lists ≡ first_holding r shape.qhimark → r ≡ is_offloadable b.offloadable k
+  pub first_processor : (shape : PartsShape) (own b : Board) (k : ℕ) (s : Seat) (lists : ProcessorLists J) (p : Processor J R) (r : Bool) → own ≡ b → IsNewProcessor b k s → holding lists ≡ first_holding r shape.qhimark → r ≡ is_offloadable b.offloadable k
       → IsNew shape own k s lists p.state → IsFirstProcessor shape b k p
   first_processor shape own b k s lists p r same seat empty kind new = record {
     seat = subst (IsNewProcessor b k) (sym new.seat) seat;
@@ -90,7 +90,7 @@ module _ {J R : Type 0} where
     };
   }
 
-  pub first_of_hands : (shape : Shape) (own b : Board) (k : ℕ) (s : Seat) (held : Held J) (h : Hand J R) → own ≡ b → IsNewHand b k s → (drawn_by held ≡ []) × (held_by held ≡ []) → IsNewHandOf shape own k s held h.state → IsFirstHand shape b k h
+  pub first_of_hands : (shape : PartsShape) (own b : Board) (k : ℕ) (s : Seat) (held : Held J) (h : Hand J R) → own ≡ b → IsNewHand b k s → (drawn_by held ≡ []) × (held_by held ≡ []) → IsNewHandOf shape own k s held h.state → IsFirstHand shape b k h
   first_of_hands shape own b k s held h same seat empty new = record {
     seat = subst (IsNewHand b k) (sym new.seat) seat;
     empty = (ap drawn_by new.held_is ∙ empty.0, ap held_by new.held_is ∙ empty.1);
@@ -105,7 +105,7 @@ module _ {J R : Type 0} where
   }
 
   -- a member's done lane leads to its hand
-  pub has_hand : (shape : Shape) (b : Board) (s : Seat) (held : Held J) (m : GroupMember J) (h : Hand J R) (front : Front (Parcel J) LaneLimits) (rear : Rear (Parcel J) LaneLimits) → IsNewHandOf shape b m.cpu s held h.state → hands_front held ≡ front → done_rear m.member ≡ rear → IsNewLane front rear → HasHand m h
+  pub has_hand : (shape : PartsShape) (b : Board) (s : Seat) (held : Held J) (m : GroupMember J) (h : Hand J R) (front : Front (Parcel J) LaneLimits) (rear : Rear (Parcel J) LaneLimits) → IsNewHandOf shape b m.cpu s held h.state → hands_front held ≡ front → done_rear m.member ≡ rear → IsNewLane front rear → HasHand m h
   has_hand shape b s held m h front rear new of end lane = record {
     cpu = new.cpu_is;
     lane = subst (λ (f : Front (Parcel J) LaneLimits). SameLane f (done_rear m.member)) (sym (ap hands_front new.held_is ∙ of)) (subst (λ (r : Rear (Parcel J) LaneLimits). SameLane front r) (sym end) lane.one_lane);

@@ -20,7 +20,7 @@ use Rattle.rcu_jobs.specs.declared.callback.Record.{Record}
 use Rattle.rcu_lanes.specs.Ends.{IsNewLane, items_drawn}
 use Rattle.rcu_lanes.specs.declared.ends.Front.{Front}
 use Rattle.rcu_lists.specs.declared.parcel.Parcel.{Parcel}
-use Rattle.rcu_numbers.specs.declared.shape.Shape.{Shape}
+use Rattle.rcu_numbers.specs.declared.parts_shape.PartsShape.{PartsShape}
 use Rattle.rcu_part_group.specs.GroupLaw.{cpus_of}
 use Rattle.rcu_part_group.specs.Groups.{group_board, group_view}
 use Rattle.rcu_part_hand.specs.Hands.{IsSoundHand, hand_board, hand_view}
@@ -34,7 +34,7 @@ use Rattle.rcu_part_hand.specs.declared.hand.Hand.{Hand}
 use Rattle.rcu_part_processor.specs.declared.processor.Processor.{Processor}
 use Rattle.rcu_parts.proofs.Zips.{zip_all, zip_ones}
 
-module _ {J R : Type 0} (shape : Shape) (b : Board) where
+module _ {J R : Type 0} (shape : PartsShape) (b : Board) where
   rest_from : (k n : ℕ) (ps : List (Processor J R)) → AllZip (IsFirstProcessor shape b) (range_with_len (k + 1) n) ps → AllZip (IsFirstProcessor shape b) (range_with_len (suc k) n) ps
   rest_from k n ps h = let e : k + 1 ≡ suc k = omega arith in subst (λ (j : ℕ). AllZip (IsFirstProcessor shape b) (range_with_len j n) ps) e h
 
@@ -119,10 +119,10 @@ pub is_bare : (n o w : ℕ) (d c : Bool) (v : View) → v ≡ new_view n o w d c
 is_bare n o w d c v e = record { own = ap (λ (x : View). x.own) e; claims = ap (λ (x : View). x.claims) e; running = ap (λ (x : View). x.running) e }
 
 -- the seats of a board that has the shape's processors
-pub hands_of_board : (shape : Shape) (b : Board) (s : Seats) → AreNew shape b s → b.processors ≡ shape.processors → b.offloadable ≡ shape.offloadable → SeatForEach (IsNewHand b) (numbers_where (is_offloadable b.offloadable) 0 b.processors) s.hands.items
+pub hands_of_board : (shape : PartsShape) (b : Board) (s : Seats) → AreNew shape b s → b.processors ≡ shape.processors → b.offloadable ≡ shape.offloadable → SeatForEach (IsNewHand b) (numbers_where (is_offloadable b.offloadable) 0 b.processors) s.hands.items
 hands_of_board shape b s new n o = subst (λ (m : ℕ). SeatForEach (IsNewHand b) (numbers_where (is_offloadable m) 0 b.processors) s.hands.items) (sym o)
     (subst (λ (k : ℕ). SeatForEach (IsNewHand b) (numbers_where (is_offloadable shape.offloadable) 0 k) s.hands.items) (sym n) new.hands)
 
-pub groups_of_board : (shape : Shape) (b : Board) (s : Seats) → AreNew shape b s → b.processors ≡ shape.processors → b.offloadable ≡ shape.offloadable → SeatForEach (IsNewGroup b) (numbers_where (has_offloadable b.offloadable shape.stride b.processors) 0 b.processors) s.groups.items
+pub groups_of_board : (shape : PartsShape) (b : Board) (s : Seats) → AreNew shape b s → b.processors ≡ shape.processors → b.offloadable ≡ shape.offloadable → SeatForEach (IsNewGroup b) (numbers_where (has_offloadable b.offloadable shape.stride b.processors) 0 b.processors) s.groups.items
 groups_of_board shape b s new n o = subst (λ (m : ℕ). SeatForEach (IsNewGroup b) (numbers_where (has_offloadable m shape.stride b.processors) 0 b.processors) s.groups.items) (sym o)
     (subst (λ (k : ℕ). SeatForEach (IsNewGroup b) (numbers_where (has_offloadable shape.offloadable shape.stride k) 0 k) s.groups.items) (sym n) new.groups)

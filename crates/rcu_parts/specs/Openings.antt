@@ -12,7 +12,7 @@ use Rattle.rcu_part_lists.specs.declared.limits.LaneLimits.{LaneLimits}
 use Rattle.rcu_lanes.specs.Ends.{IsNewLane}
 use Rattle.rcu_lanes.specs.declared.ends.Front.{Front}
 use Rattle.rcu_lists.specs.declared.parcel.Parcel.{Parcel}
-use Rattle.rcu_numbers.specs.declared.shape.Shape.{Shape}
+use Rattle.rcu_numbers.specs.declared.parts_shape.PartsShape.{PartsShape}
 use Rattle.rcu_part_group.specs.GroupLaw.{cpus_of}
 use Rattle.rcu_part_group.specs.Groups.{IsEmptyGroupMember, IsNewGroupOf, members_of}
 use Rattle.rcu_part_hand.specs.Hands.{IsNewHandOf, hand_drawn, hand_held}
@@ -30,19 +30,19 @@ is_member mask stride g p = is_offloadable mask p && (p / stride == g)
 
 module _ {J R : Type 0} where
   -- Processor k of a board: its seat has made no step, its lists are empty, and it has accepted nothing.
-  pub record IsFirstProcessor (shape : Shape) (b : Board) (k : ℕ) (p : Processor J R) : Type 0 where
+  pub record IsFirstProcessor (shape : PartsShape) (b : Board) (k : ℕ) (p : Processor J R) : Type 0 where
     pub seat : IsNewProcessor b k (seat_of p.state)
     pub lists : lists_of p.state ≡ first_holding (is_offloadable b.offloadable k) shape.qhimark
     pub part : IsNew shape b k (seat_of p.state) p.state.lists p.state
 
   -- The hand of processor k of a board: its seat has made no step, and it has drawn and run nothing.
-  pub record IsFirstHand (shape : Shape) (b : Board) (k : ℕ) (h : Hand J R) : Type 0 where
+  pub record IsFirstHand (shape : PartsShape) (b : Board) (k : ℕ) (h : Hand J R) : Type 0 where
     pub seat : IsNewHand b k h.state.seat
     pub empty : (hand_drawn h.state ≡ []) × (hand_held h.state ≡ [])
     pub part : IsNewHandOf shape b k h.state.seat h.state.held h.state
 
   -- Group g of a board: its seat has made no step, and its members are its offloadable processors, of which nothing has come.
-  pub record IsFirstGroup (shape : Shape) (b : Board) (g : ℕ) (group : Group J R) : Type 0 where
+  pub record IsFirstGroup (shape : PartsShape) (b : Board) (g : ℕ) (group : Group J R) : Type 0 where
     pub seat : IsNewGroup b g group.state.seat
     pub members : cpus_of (members_of group.state) ≡ numbers_where (is_member b.offloadable shape.stride g) 0 b.processors
     pub empty : All IsEmptyGroupMember (members_of group.state)
@@ -50,17 +50,17 @@ module _ {J R : Type 0} where
 
   -- There is one for each processor from 0 on, each offloadable one has a hand, and each group with an offloadable member is
   -- there, all in rising order.
-  abbrev pub AreFirstProcessors : Shape → Board → List (Processor J R) → Type 0
+  abbrev pub AreFirstProcessors : PartsShape → Board → List (Processor J R) → Type 0
   AreFirstProcessors shape b ps = AllZip (IsFirstProcessor shape b) (range_with_len 0 b.processors) ps
 
-  abbrev pub AreFirstHands : Shape → Board → List (Hand J R) → Type 0
+  abbrev pub AreFirstHands : PartsShape → Board → List (Hand J R) → Type 0
   AreFirstHands shape b hs = AllZip (IsFirstHand shape b) (numbers_where (is_offloadable b.offloadable) 0 b.processors) hs
 
-  abbrev pub AreFirstGroups : Shape → Board → List (Group J R) → Type 0
+  abbrev pub AreFirstGroups : PartsShape → Board → List (Group J R) → Type 0
   AreFirstGroups shape b gs = AllZip (IsFirstGroup shape b) (numbers_where (has_offloadable b.offloadable shape.stride b.processors) 0 b.processors) gs
 
   -- The parts are those of a new board of this shape, and none has made a step.
-  pub record IsOpened (shape : Shape) (parts : Parts J R) : Type 0 where
+  pub record IsOpened (shape : PartsShape) (parts : Parts J R) : Type 0 where
     pub many : (parts_board parts).processors ≡ shape.processors
     pub mask : (parts_board parts).offloadable ≡ shape.offloadable
     pub processors : AreFirstProcessors shape (parts_board parts) (processors_in parts)

@@ -18,7 +18,7 @@ use rcu_board::{Board, Role, Seat, Seats, open_board};
 use rcu_jobs::Job;
 use rcu_lanes::{Front, ruled_lane};
 use rcu_lists::Parcel;
-use rcu_numbers::Shape;
+use rcu_numbers::PartsShape;
 use rcu_part_control::{Control, Driver};
 use rcu_part_group::{Group, GroupMember, GroupMembers};
 use rcu_part_hand::Hand;
@@ -31,7 +31,7 @@ use std::sync::Arc;
 /// A processor's part, and the other end of its lane.
 fn open_processor<J: Job>(
     alloc: Global,
-    shape: &Shape,
+    shape: &PartsShape,
     board: &Arc<Board, Global>,
     seat: Seat,
     cpu: u64,
@@ -53,7 +53,7 @@ fn open_processor<J: Job>(
 /// The processors' parts, and the other ends of the lanes of the offloadable ones.
 fn open_processors<J: Job>(
     alloc: Global,
-    shape: &Shape,
+    shape: &PartsShape,
     board: &Arc<Board, Global>,
     seats: Vec<Seat>,
 ) -> Result<(Vec<Processor<J>>, VecDeque<Front<Parcel<J>, LaneLimits>>), AllocError>
@@ -80,7 +80,7 @@ fn open_processors<J: Job>(
 /// The member that offloadable processor `cpu` is of its group, and its hand. The done lane leads from one to the other.
 fn open_hand<J: Job>(
     alloc: Global,
-    shape: &Shape,
+    shape: &PartsShape,
     board: &Arc<Board, Global>,
     seat: Seat,
     cpu: u64,
@@ -104,7 +104,7 @@ fn open_hand<J: Job>(
 /// The members and the hands of all offloadable processors.
 fn open_hands<J: Job>(
     alloc: Global,
-    shape: &Shape,
+    shape: &PartsShape,
     board: &Arc<Board, Global>,
     seats: Vec<Seat>,
     mut fronts: VecDeque<Front<Parcel<J>, LaneLimits>>,
@@ -181,7 +181,7 @@ fn take_members<J: Drop>(
 /// The groups' parts, each with its members.
 fn open_groups<J: Job>(
     alloc: Global,
-    shape: &Shape,
+    shape: &PartsShape,
     board: &Arc<Board, Global>,
     seats: Vec<Seat>,
     mut group_members: VecDeque<GroupMember<J>>,
@@ -213,12 +213,12 @@ fn open_groups<J: Job>(
 /// A new board for all parts and for the driver's, and its seats.
 fn share_board(
     alloc: Global,
-    shape: Shape,
+    shape: &PartsShape,
 ) -> Result<(Arc<Board, Global>, Arc<Board, Global>, Seats), AllocError>
-    ensures many { IfOk result (λ t. (arc_value t.0).processors ≡ shape.processors) }
-    ensures mask { IfOk result (λ t. (arc_value t.0).offloadable ≡ shape.offloadable) }
+    ensures many { IfOk result (λ t. (arc_value t.0).processors ≡ shape.now.processors) }
+    ensures mask { IfOk result (λ t. (arc_value t.0).offloadable ≡ shape.now.offloadable) }
     ensures same { IfOk result (λ t. arc_value t.1 ≡ arc_value t.0) }
-    ensures seats { IfOk result (λ t. AreNew shape (arc_value t.0) t.2) }
+    ensures seats { IfOk result (λ t. AreNew shape.now (arc_value t.0) t.2) }
 {
     let (board, seats) = open_board(alloc, shape)?;
     let board = Arc::new(alloc, board)?;
@@ -232,8 +232,8 @@ fn share_board(
 /// # Errors
 ///
 /// Want of memory; then nothing was made.
-pub fn open<J: Job>(alloc: Global, shape: Shape) -> Result<Parts<J>, AllocError>
-    ensures opened { IfOk result (λ parts. IsOpened shape parts) }
+pub fn open<J: Job>(alloc: Global, shape: &PartsShape) -> Result<Parts<J>, AllocError>
+    ensures opened { IfOk result (λ parts. IsOpened shape.now parts) }
     ensures one { IfOk result (λ parts. AreOfOneOpen parts) }
     ensures sound { IfOk result (λ parts. AreSoundParts J.key_of J.gives parts) }
 {
@@ -246,9 +246,9 @@ pub fn open<J: Job>(alloc: Global, shape: Shape) -> Result<Parts<J>, AllocError>
         control,
     } = seats;
     let driver = Driver::new(drivers, driver);
-    let (processors, fronts) = open_processors(alloc, &shape, &board, processors)?;
-    let (group_members, hands) = open_hands(alloc, &shape, &board, hands, fronts)?;
-    let groups = open_groups(alloc, &shape, &board, groups, group_members)?;
+    let (processors, fronts) = open_processors(alloc, shape, &board, processors)?;
+    let (group_members, hands) = open_hands(alloc, shape, &board, hands, fronts)?;
+    let groups = open_groups(alloc, shape, &board, groups, group_members)?;
     Ok(AllParts {
         processors,
         driver,

@@ -3,12 +3,12 @@ use Rattle.std.proofs.Common.{◌≡◌, ℕ, List, [], ◌∷◌, sum_by, All, 
 use Rattle.std.specs.List.{AllZip}
 use Rattle.std.proofs.lemmas.List.Sums.{sum_by-cons}
 use Rattle.rcu_board.specs.declared.board.Board.{Board}
-use Rattle.rcu_numbers.specs.declared.shape.Shape.{Shape}
+use Rattle.rcu_numbers.specs.declared.parts_shape.PartsShape.{PartsShape}
 use Rattle.rcu_part_processor.specs.declared.processor.Processor.{Processor}
 use Rattle.rcu_parts.specs.Openings.{IsFirstProcessor}
 use Rattle.std.proofs.lemmas.List.Elements.{All-cons, All-nil}
 
-module _ {J R : Type 0} (shape : Shape) (b : Board) where
+module _ {J R : Type 0} (shape : PartsShape) (b : Board) where
   pub first_limits : (ks : List ℕ) (ps : List (Processor J R)) → AllZip (IsFirstProcessor shape b) ks ps → All (λ p. p.state.limit ≡ shape.limit) ps
   first_limits [] [] z = All-nil (λ (p : Processor J R). p.state.limit ≡ shape.limit)
   first_limits [] (p ∷ ps) z = absurd z

@@ -25,13 +25,13 @@ use Rattle.rcu_lists.proofs.Outcomes.{if_ok_never}
 use Rattle.rcu_parts.proofs.opening.open.Goals as goal
 
 pub open_processors-requires-after_bounds : goal.open_processors-requires-after_bounds
-open_processors-requires-after_bounds g c κs within = let shape = c.args.shape in let s = c.in_ok-board.seats in let b = arc_value c.in_ok-board.board in
+open_processors-requires-after_bounds g c κs within = let shape = c.args.shape.now in let s = c.in_ok-board.seats in let b = arc_value c.in_ok-board.board in
     let new = c.in_ok-board.ensures.seats in let many = c.in_ok-board.ensures.many in let mask = c.in_ok-board.ensures.mask in
     let fits : FitsInMemory (processor.the_row (param 0 g.row.J) (param 1 g.row.J-Receipt)) = assumption in
     (fits, (new.processors, new.as_many ∙ sym many))
 
 pub open_hands-requires-after_bounds : goal.open_hands-requires-after_bounds
-open_hands-requires-after_bounds g c κs within = let shape = c.args.shape in let s = c.in_ok-board.seats in let b = arc_value c.in_ok-board.board in
+open_hands-requires-after_bounds g c κs within = let shape = c.args.shape.now in let s = c.in_ok-board.seats in let b = arc_value c.in_ok-board.board in
     let new = c.in_ok-board.ensures.seats in let many = c.in_ok-board.ensures.many in let mask = c.in_ok-board.ensures.mask in
     let ps = c.in_ok-processors.processors.items in let first = c.in_ok-processors.ensures.processors in let fronts = c.in_ok-processors.ensures.fronts in
     let ks = numbers_where (is_offloadable b.offloadable) 0 b.processors in let cpus = offloadable_cpus shape b 0 b.processors ps first in
@@ -41,7 +41,7 @@ open_hands-requires-after_bounds g c κs within = let shape = c.args.shape in le
     (in_struct _ _ _ (in_struct _ _ _ (in_struct _ _ _ group_fits)), (hand_fits, (seats, (many_fronts ps c.in_ok-processors.fronts.items ks fronts cpus ∙ sym (as_many_seats (IsNewHand b) ks s.hands.items seats), none_drawn ps c.in_ok-processors.fronts.items fronts))))
 
 pub open_groups-requires-after_bounds : goal.open_groups-requires-after_bounds
-open_groups-requires-after_bounds g c κs within = let shape = c.args.shape in let s = c.in_ok-board.seats in let b = arc_value c.in_ok-board.board in
+open_groups-requires-after_bounds g c κs within = let shape = c.args.shape.now in let s = c.in_ok-board.seats in let b = arc_value c.in_ok-board.board in
     let new = c.in_ok-board.ensures.seats in let many = c.in_ok-board.ensures.many in let mask = c.in_ok-board.ensures.mask in
     let fits : FitsInMemory (group.the_row (param 0 g.row.J) (param 1 g.row.J-Receipt)) = assumption in
     (in_struct _ _ _ (in_struct _ _ _ (in_struct _ _ _ fits)), (fits, (groups_of_board shape b s new many mask, (c.in_ok-group_members.ensures.cpus, c.in_ok-group_members.ensures.empty))))
@@ -56,7 +56,7 @@ pub new-requires-clause-bare : goal.new-requires-clause-bare
 new-requires-clause-bare g c = let b = arc_value c.in_ok-board.board in is_bare b.processors b.offloadable 1 false true (view c.in_ok-board.seats.control) c.in_ok-board.ensures.seats.control.first_view
 
 pub returns-clause-opened : goal.returns-clause-opened
-returns-clause-opened g c = let shape = c.args.shape in let s = c.in_ok-board.seats in let b = arc_value c.in_ok-board.board in
+returns-clause-opened g c = let shape = c.args.shape.now in let s = c.in_ok-board.seats in let b = arc_value c.in_ok-board.board in
     let new = c.in_ok-board.ensures.seats in let many = c.in_ok-board.ensures.many in let mask = c.in_ok-board.ensures.mask in
     let at : b ≡ control_board c.new.result = sym c.new.ensures.board in record {
       many = ap (λ (x : Board). x.processors) (sym at) ∙ many;
@@ -70,7 +70,7 @@ returns-clause-opened g c = let shape = c.args.shape in let s = c.in_ok-board.se
     }
 
 pub returns-clause-one : goal.returns-clause-one
-returns-clause-one g c = let shape = c.args.shape in let s = c.in_ok-board.seats in let b = arc_value c.in_ok-board.board in
+returns-clause-one g c = let shape = c.args.shape.now in let s = c.in_ok-board.seats in let b = arc_value c.in_ok-board.board in
     let new = c.in_ok-board.ensures.seats in let many = c.in_ok-board.ensures.many in let mask = c.in_ok-board.ensures.mask in
     let ps = c.in_ok-processors.processors.items in let first = c.in_ok-processors.ensures.processors in let fronts = c.in_ok-processors.ensures.fronts in
     let ks = numbers_where (is_offloadable b.offloadable) 0 b.processors in let cpus = offloadable_cpus shape b 0 b.processors ps first in
@@ -98,8 +98,8 @@ returns-clause-one g c = let shape = c.args.shape in let s = c.in_ok-board.seats
 
 pub returns-clause-sound : goal.returns-clause-sound
 returns-clause-sound g c = let b = arc_value c.in_ok-board.board in record {
-  processors = processors_sound c.args.shape b g.J.Job.key_of g.J.Job.gives _ c.in_ok-processors.processors.items c.in_ok-processors.ensures.processors;
-  hands = hands_sound c.args.shape b g.J.Job.key_of g.J.Job.gives _ c.in_ok-group_members.hands.items c.in_ok-group_members.ensures.hands;
+  processors = processors_sound c.args.shape.now b g.J.Job.key_of g.J.Job.gives _ c.in_ok-processors.processors.items c.in_ok-processors.ensures.processors;
+  hands = hands_sound c.args.shape.now b g.J.Job.key_of g.J.Job.gives _ c.in_ok-group_members.hands.items c.in_ok-group_members.ensures.hands;
 }
 
 pub returns-in_err-board : goal.returns-in_err-board

@@ -10,7 +10,7 @@ use Rattle.rcu_parts.proofs.Making.{fronts_more, fronts_same, processors_more}
 use Rattle.rcu_parts.proofs.Zips.{seat_taken}
 use Rattle.rcu_parts.proofs.opening.open_processors.Given.{Over}
 use Rattle.rcu_lists.proofs.Outcomes.{if_ok_never}
-use Rattle.rcu_parts.proofs.Passing.{all_there, below}
+use Rattle.rcu_parts.proofs.Passing.{all_there}
 use Rattle.std.specs.List.{AllZip, range_with_len}
 use Rattle.rcu_parts.proofs.opening.open_processors.Goals as goal
 
@@ -79,11 +79,6 @@ from_residual-requires-in_err-push-room-F-From g c κs within = assumption
 
 pub drop-processors-requires-in_err-push-room-T-Destruct : goal.drop-processors-requires-in_err-push-room-T-Destruct
 drop-processors-requires-in_err-push-room-T-Destruct g c κs within = assumption
-
-pub is_offloadable-requires : goal.is_offloadable-requires
-is_offloadable-requires g c = let i = c.loop-seat.invariant in let b = arc_value c.args.board.now in let ok = c.loop-seat.processors.ok.0 in let r = c.len-cpu.ensures in let ps = c.loop-seat.processors.items in
-    let same : c.len-cpu.result ≡ length ps = omega (arith, ok, r) in
-    below _ _ _ (seat_taken (IsNewProcessor b) (length ps) b.processors c.len-cpu.result c.loop-seat.seat-iterator.rest.items c.in-Some.seat c.next.new.self.rest.items i.seats i.many same c.in-Some.ensures.steps.0).1 b.few
 
 pub drop-processors-requires-in_err-push_back-room-T-Destruct : goal.drop-processors-requires-in_err-push_back-room-T-Destruct
 drop-processors-requires-in_err-push_back-room-T-Destruct g c κs within = assumption

@@ -20,11 +20,13 @@ returns-in-Ok g c =
     let opened = c.in_ok-parts.ensures.opened in
     -- parts that were just opened have accepted nothing
     let unused : AreUnused start =
-    zip_all (IsFirstProcessor setup.shape (parts_board start)) (λ p. p.state.accepted ≡ 0) (λ k p first. first.part.accepted)
+    zip_all (IsFirstProcessor c.for_parts.result (parts_board start)) (λ p. p.state.accepted ≡ 0) (λ k p first. first.part.accepted)
     (range_with_len 0 (parts_board start).processors) (processors_in start) opened.processors in
     let runs : RunsInThreads (λ job. job.key) (Promised 65536) setup c.args.jobs.items (whole_totals false closed) =
     record {
       start = start;
+      shape = c.for_parts.result;
+      of_setup = c.for_parts.ensures;
       opened = opened;
       closed = closed;
       closes = c.in-Ok.ensures.closes;
