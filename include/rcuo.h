@@ -13,7 +13,7 @@
  * All else is tested: a call on a slot that is empty, or of another kind, or on a null pointer, and so on, is answered by
  * name and changes nothing.
  *
- * WHAT IT IS. A program opens a runtime for up to 32 processors, here objects that it owns: a thread reads shared data and
+ * WHAT IT IS. A program opens a runtime for up to 1,024 processors, here objects that it owns: a thread reads shared data and
  * calls `rcuo_call` by its processor's slot, and reports quiescent states between its read sections. A callback runs once a
  * grace period that began after the call has ended, that is, once each processor has reported or was away. A thread that may
  * block leaves before (`rcuo_leave`). A local processor's callbacks run in its own thread; those of an offloaded one in the
@@ -60,7 +60,7 @@ extern "C" {
 uint32_t rcuo_version(void);
 
 /* How many processors a runtime has at most. */
-#define RCUO_PROCESSORS 32
+#define RCUO_PROCESSORS 1024
 
 /* What calls answer. 1 to 7 are the refusals of the specification, under their numbers. */
 enum rcuo_answer {
@@ -140,19 +140,25 @@ struct rcuo_parts {
 
 /* What a runtime is opened with. */
 struct rcuo_settings {
-    uint64_t processors; /* how many, 1 to 32 */
-    uint64_t stride;     /* how many neighbours make a group, 1 to 32 */
+    uint64_t processors; /* how many, 1 to 1024 */
+    uint64_t stride;     /* how many neighbours make a group, 1 to 1024 */
     uint64_t blimit;     /* how many callbacks a group gives a hand in one turn at most; 1 to 1000000 */
     uint64_t qhimark;    /* at how many callbacks a bypass list is released at once; 1 to 1000000 */
     uint64_t limit;      /* how many callbacks a processor accepts in its life, up to 2^53; 0: 2^53, which no program reaches */
-    uint32_t offloadable; /* bit p: processor p starts offloaded, has a hand, and may be switched */
+    const uint64_t *offloadable; /* bit p % 64 of word p / 64: processor p starts offloaded, has a hand, and may be switched. A
+                                  * bit for each processor, and 0 above them. Null: all processors */
+    const uint64_t *away; /* the same bits: processor p is away at first, as after `rcuo_leave`, so that no grace period waits for
+                           * it until `rcuo_return`. Null: none */
     uint32_t records;    /* 0: no record is kept of a callback that ran, and memory doesn't grow with what ran; else each is kept
                           * until `rcuo_close`, to be read by `rcuo_next_ran` */
 };
 
-/* One local processor, which accepts callbacks without end, and no records: `struct rcuo_settings settings =
+/* No processor, for `offloadable` and `away`. */
+__attribute__((unused)) static const uint64_t rcuo_none[RCUO_PROCESSORS / 64] = {0};
+
+/* One local processor, which is here and accepts callbacks without end, and no records: `struct rcuo_settings settings =
  * RCUO_SETTINGS_DEFAULT;`, and then what is to differ, as `settings.processors = 4;`. */
-#define RCUO_SETTINGS_DEFAULT {1, 1, 10, 10000, 0, 0, 0}
+#define RCUO_SETTINGS_DEFAULT {1, 1, 10, 10000, 0, rcuo_none, rcuo_none, 0}
 
 /* A callback's function. */
 typedef void rcuo_function(void *argument);
@@ -222,10 +228,22 @@ struct rcuo_record {
     struct rcuo_job job; /* what ran */
 };
 
+/* What `rcuo_open` makes of the settings. */
+struct rcuo_shape {
+    uint64_t processors;
+    uint64_t stride;
+    uint64_t blimit;
+    uint64_t qhimark;
+    uint64_t limit;
+    uint64_t offloadable[RCUO_PROCESSORS / 64];
+    bool all;     /* each processor is offloadable, whatever the words say */
+    bool records; /* the record of each callback that ran is kept until the runtime closes */
+};
+
 /*
  * The exports of the library. Programs call the functions below, which test for null pointers first.
  */
-uint32_t rcuo_slot_open(const struct rcuo_settings *settings, uint64_t number, struct rcuo_parts *parts);
+uint32_t rcuo_slot_open(const struct rcuo_shape *shape, uint64_t number, struct rcuo_parts *parts);
 uint32_t rcuo_slot_close(struct rcuo_parts *parts);
 uint32_t rcuo_slot_call(struct rcuo_slot *slot, bool lazy, uint64_t moment, const struct rcuo_job *job, struct rcuo_ticket *ticket);
 uint32_t rcuo_slot_quiescent(struct rcuo_slot *slot, uint64_t *counted);
@@ -278,18 +296,51 @@ static inline enum rcuo_answer rcuo_after_call(uint32_t answer) {
 
 /* ---- open and close ---- */
 
+/* Whether bits name a processor above those that there are. (Of more than RCUO_PROCESSORS there is no bit to be read.) */
+static inline bool rcuo_names_more(const uint64_t *bits, uint64_t processors) {
+    return bits && processors < RCUO_PROCESSORS && processors % 64 && bits[processors / 64] >> processors % 64;
+}
+
+/* Has those processors leave that are to be away at first. Nothing was called yet, so nothing keeps one here. */
+static inline enum rcuo_answer rcuo_open_away(const struct rcuo_settings *settings, struct rcuo_parts *parts) {
+    uint64_t processor;
+    for (processor = 0; settings->away && processor < settings->processors; processor++) {
+        enum rcuo_answer answer = RCUO_OK;
+        if (settings->away[processor / 64] >> processor % 64 & 1) {
+            answer = RCUO_CALL(rcuo_slot_leave(&parts->processors[processor]));
+        }
+        if (answer != RCUO_OK) return answer;
+    }
+    return RCUO_OK;
+}
+
 /* Opens a runtime into empty slots. Takes memory.
  * Answers RCUO_FULL where a slot has a part, RCUO_SHAPE where a setting is outside its limits, RCUO_MEMORY; then nothing
  * was made, and the slots are as they were. */
 static inline enum rcuo_answer rcuo_open(const struct rcuo_settings *settings, struct rcuo_parts *parts) {
+    struct rcuo_shape shape;
+    uint64_t word;
+    enum rcuo_answer answer;
     if (!settings || !parts) return RCUO_NULL;
+    if (rcuo_names_more(settings->away, settings->processors)) return RCUO_SHAPE;
+    shape.processors = settings->processors;
+    shape.stride = settings->stride;
+    shape.blimit = settings->blimit;
+    shape.qhimark = settings->qhimark;
+    shape.limit = settings->limit;
+    shape.all = !settings->offloadable;
+    shape.records = settings->records != 0;
+    for (word = 0; word < RCUO_PROCESSORS / 64; word++) {
+        shape.offloadable[word] = settings->offloadable && 64 * word < settings->processors ? settings->offloadable[word] : 0;
+    }
     /* (while the runtime is open no other has its control slot, so the slot's address is the open's number) */
-    return RCUO_CALL(rcuo_slot_open(settings, (uint64_t)(uintptr_t)parts, parts));
+    answer = RCUO_CALL(rcuo_slot_open(&shape, (uint64_t)(uintptr_t)parts, parts));
+    return answer == RCUO_OK ? rcuo_open_away(settings, parts) : answer;
 }
 
 /* Closes a runtime, whose threads have ended: what is left of it, the records of the callbacks that ran, where these are kept
- * (`records` of the settings), and the jobs of those that didn't, is then read by `rcuo_next_ran` and `rcuo_next_back`. Shut first to know that nothing more is accepted. Takes
- * memory.
+ * (`records` of the settings), and the jobs of those that didn't, is then read by `rcuo_next_ran` and `rcuo_next_back`. Shut
+ * first to know that nothing more is accepted. Takes memory.
  * Answers RCUO_EMPTY where a slot is missing, RCUO_FOREIGN where one has a part of another open or of another place,
  * RCUO_OTHER where one has a part of another kind, RCUO_RUNNING where a callback was begun and isn't finished, RCUO_AWAY where
  * a processor is away (`rcuo_return` first), RCUO_READING where a read section is counted (RCUO_DEBUG), RCUO_MEMORY; then

@@ -101,7 +101,8 @@ static void *run_hand(void *argument) {
 }
 
 static void run_once(bool offloaded) {
-    struct rcuo_settings settings = {.processors = 1, .stride = 1, .blimit = 64, .qhimark = 64, .limit = 1000000, .offloadable = offloaded};
+    const uint64_t offloadable[] = {offloaded};
+    struct rcuo_settings settings = {.processors = 1, .stride = 1, .blimit = 64, .qhimark = 64, .offloadable = offloadable};
     check("open", rcuo_open(&settings, &parts));
     atomic_store(&stop, false);
     atomic_store(&ran, 0);

@@ -180,7 +180,9 @@ static void end(unsigned long *ran, unsigned long *back) {
 }
 
 int main(int argc, char **argv) {
-    struct rcuo_settings settings = {.processors = PROCESSORS, .stride = 2, .blimit = 64, .qhimark = 100, .limit = 1000000, .offloadable = 1u << OFFLOADED, .records = 1};
+    const uint64_t offloadable[] = {UINT64_C(1) << OFFLOADED};
+    struct rcuo_settings settings = {
+        .processors = PROCESSORS, .stride = 2, .blimit = 64, .qhimark = 100, .offloadable = offloadable, .records = 1};
     if (argc > 1) updates = strtoul(argv[1], NULL, 10);
     enum rcuo_answer answer = rcuo_open(&settings, &parts);
     if (answer != RCUO_OK) {

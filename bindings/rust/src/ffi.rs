@@ -2,7 +2,10 @@
 
 use std::ffi::c_void;
 
-pub const PROCESSORS: usize = 32;
+pub const PROCESSORS: usize = 1024;
+
+/// How many words hold a bit for each processor.
+pub const WORDS: usize = PROCESSORS / 64;
 
 #[repr(C)]
 #[derive(Clone, Copy)]
@@ -38,14 +41,15 @@ impl Parts {
 }
 
 #[repr(C)]
-pub struct Settings {
+pub struct Shape {
     pub processors: u64,
     pub stride: u64,
     pub blimit: u64,
     pub qhimark: u64,
     pub limit: u64,
-    pub offloadable: u32,
-    pub records: u32,
+    pub offloadable: [u64; WORDS],
+    pub all: bool,
+    pub records: bool,
 }
 
 #[repr(C)]
@@ -64,10 +68,16 @@ pub struct Ticket {
 }
 
 #[repr(C)]
-#[derive(Clone, Copy, Default)]
+#[derive(Clone, Copy)]
 pub struct Counts {
     pub processors: u64,
     pub counts: [u64; PROCESSORS],
+}
+
+impl Default for Counts {
+    fn default() -> Counts {
+        Counts { processors: 0, counts: [0; PROCESSORS] }
+    }
 }
 
 impl Counts {
@@ -103,7 +113,7 @@ pub struct Record {
 
 extern "C" {
     pub fn rcuo_version() -> u32;
-    pub fn rcuo_slot_open(settings: *const Settings, number: u64, parts: *mut Parts) -> u32;
+    pub fn rcuo_slot_open(shape: *const Shape, number: u64, parts: *mut Parts) -> u32;
     pub fn rcuo_slot_close(parts: *mut Parts) -> u32;
     pub fn rcuo_slot_call(slot: *mut Slot, lazy: bool, moment: u64, job: *const Job, ticket: *mut Ticket) -> u32;
     pub fn rcuo_slot_quiescent(slot: *mut Slot, counted: *mut u64) -> u32;

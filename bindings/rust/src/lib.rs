@@ -127,10 +127,10 @@ fn answer(number: u32) -> Result<(), Error> {
 
 /// What a runtime is opened with.
 #[derive(Clone, Copy, Debug)]
-pub struct Settings {
-    /// How many processors, 1 to 32.
+pub struct Settings<'a> {
+    /// How many processors, 1 to 1024.
     pub processors: u64,
-    /// How many neighbours make a group, 1 to 32.
+    /// How many neighbours make a group, 1 to 1024.
     pub stride: u64,
     /// How many callbacks a group gives a hand in one turn at most, 1 to 1000000.
     pub blimit: u64,
@@ -138,16 +138,40 @@ pub struct Settings {
     pub qhimark: u64,
     /// How many callbacks a processor accepts in its life, up to 2^53; 0 is 2^53, which no program reaches.
     pub limit: u64,
-    /// Bit p: processor p starts offloaded, has a hand, and may be switched.
-    pub offloadable: u32,
+    /// Bit p % 64 of word p / 64: processor p starts offloaded, has a hand, and may be switched. Words that aren't given are 0.
+    /// None: all processors.
+    pub offloadable: Option<&'a [u64]>,
     /// Whether the record of each callback that ran is kept for [`Closed::ran`]. Where none is kept, memory doesn't grow with what
     /// ran.
     pub records: bool,
 }
 
-impl Default for Settings {
-    fn default() -> Settings {
-        Settings { processors: 1, stride: 1, blimit: 10, qhimark: 10000, limit: 0, offloadable: 0, records: false }
+impl Default for Settings<'_> {
+    fn default() -> Settings<'static> {
+        Settings { processors: 1, stride: 1, blimit: 10, qhimark: 10000, limit: 0, offloadable: Some(&[]), records: false }
+    }
+}
+
+impl Settings<'_> {
+    /// What the library is asked for; none where a processor is named that no runtime has.
+    fn shape(&self) -> Result<ffi::Shape, Error> {
+        let named = self.offloadable.unwrap_or_default();
+        let (named, above) = named.split_at(named.len().min(ffi::WORDS));
+        if above.iter().any(|word| *word != 0) {
+            return Err(Error::Shape);
+        }
+        let mut offloadable = [0; ffi::WORDS];
+        offloadable[..named.len()].copy_from_slice(named);
+        Ok(ffi::Shape {
+            processors: self.processors,
+            stride: self.stride,
+            blimit: self.blimit,
+            qhimark: self.qhimark,
+            limit: self.limit,
+            offloadable,
+            all: self.offloadable.is_none(),
+            records: self.records,
+        })
     }
 }
 
@@ -209,14 +233,44 @@ pub struct Record {
     pub ready: u64,
 }
 
-/// Which parts of a runtime: of each kind, bit n stands for the one in place n.
+/// Which parts of one kind: bit n % 64 of word n / 64 stands for the one in place n.
+#[derive(Clone, Copy, Default, PartialEq, Eq)]
+struct PlaceSet([u64; ffi::WORDS]);
+
+impl PlaceSet {
+    fn has(&self, at: usize) -> bool {
+        self.0[at / 64] >> (at % 64) & 1 == 1
+    }
+
+    fn insert(&mut self, at: usize) {
+        self.0[at / 64] |= 1 << (at % 64);
+    }
+
+    fn remove(&mut self, at: usize) {
+        self.0[at / 64] &= !(1 << (at % 64));
+    }
+
+    fn len(&self) -> u64 {
+        self.0.iter().map(|word| u64::from(word.count_ones())).sum()
+    }
+}
+
+impl FromIterator<usize> for PlaceSet {
+    fn from_iter<I: IntoIterator<Item = usize>>(places: I) -> PlaceSet {
+        let mut set = PlaceSet::default();
+        places.into_iter().for_each(|at| set.insert(at));
+        set
+    }
+}
+
+/// Which parts of a runtime.
 #[derive(Clone, Copy, Default, PartialEq, Eq)]
 struct Places {
-    processors: u32,
-    groups: u32,
-    hands: u32,
-    driver: u32,
-    control: u32,
+    processors: PlaceSet,
+    groups: PlaceSet,
+    hands: PlaceSet,
+    driver: PlaceSet,
+    control: PlaceSet,
 }
 
 /// The slots of one runtime, which stay where they are while a handle of a part lives.
@@ -241,7 +295,7 @@ impl Slots {
     /// Handles of all parts that have none.
     fn recover(self: &Arc<Slots>) -> Recovered {
         let mut held = self.held();
-        let without = |opened: u32, held: u32| (0..ffi::PROCESSORS).filter(move |at| (opened & !held) >> at & 1 == 1);
+        let without = |opened: PlaceSet, held: PlaceSet| (0..ffi::PROCESSORS).filter(move |at| opened.has(*at) && !held.has(*at));
         let recovered = Recovered {
             processors: without(self.opened.processors, held.processors).map(|at| Processor::back(self, at)).collect(),
             groups: without(self.opened.groups, held.groups).map(|at| Group::of(self, at)).collect(),
@@ -264,7 +318,7 @@ impl Slots {
     /// The caller has all handles, or there are none.
     unsafe fn close(&self) -> Result<Closed, Error> {
         answer(ffi::rcuo_slot_close(self.slots.get()))?;
-        let processors = 0..u64::from(self.opened.processors.count_ones());
+        let processors = 0..self.opened.processors.len();
         let ran = processors.clone().map(|processor| self.records_of(processor)).collect();
         let back = processors.map(|processor| self.jobs_of(processor)).collect();
         answer(ffi::rcuo_slot_end(self.control()))?;
@@ -344,10 +398,6 @@ macro_rules! part {
                 unsafe { (&raw mut (*self.slots.slots.get()).$slot).cast::<ffi::Slot>().add(self.at) }
             }
 
-            fn place(&self) -> u32 {
-                1 << self.at
-            }
-
             /// Takes up again those parts of this runtime that were dropped, as by threads that panicked, with all their jobs.
             pub fn recover(&self) -> Recovered {
                 self.slots.recover()
@@ -356,7 +406,7 @@ macro_rules! part {
 
         impl Drop for $name {
             fn drop(&mut self) {
-                self.slots.held().$slot &= !self.place();
+                self.slots.held().$slot.remove(self.at);
             }
         }
 
@@ -439,8 +489,8 @@ impl fmt::Debug for Closed {
 }
 
 /// The places whose slots are full.
-fn full(slots: &[ffi::Slot]) -> u32 {
-    slots.iter().rev().fold(0, |mask, slot| mask << 1 | u32::from(slot.full))
+fn full(slots: &[ffi::Slot]) -> PlaceSet {
+    slots.iter().enumerate().filter(|(_, slot)| slot.full).map(|(at, _)| at).collect()
 }
 
 /// Opens a runtime.
@@ -448,16 +498,8 @@ fn full(slots: &[ffi::Slot]) -> u32 {
 /// # Errors
 ///
 /// [`Error::Shape`]: a setting is outside its limits. [`Error::Memory`].
-pub fn open(settings: &Settings) -> Result<Parts, Error> {
-    let asked = ffi::Settings {
-        processors: settings.processors,
-        stride: settings.stride,
-        blimit: settings.blimit,
-        qhimark: settings.qhimark,
-        limit: settings.limit,
-        offloadable: settings.offloadable,
-        records: settings.records.into(),
-    };
+pub fn open(settings: &Settings<'_>) -> Result<Parts, Error> {
+    let asked = settings.shape()?;
     let mut slots = Arc::new(Slots {
         slots: UnsafeCell::new(ffi::Parts::EMPTY),
         opened: Places::default(),
@@ -471,8 +513,8 @@ pub fn open(settings: &Settings) -> Result<Parts, Error> {
         processors: full(&filled.processors),
         groups: full(&filled.groups),
         hands: full(&filled.hands),
-        driver: 1,
-        control: 1,
+        driver: PlaceSet::from_iter([0]),
+        control: PlaceSet::from_iter([0]),
     };
     let Recovered { processors, groups, hands, driver, control } = slots.recover();
     let (driver, control) = (driver.expect("it was opened"), control.expect("it was opened"));
@@ -546,11 +588,11 @@ impl Parts {
             return Err(Error::Foreign);
         }
         Ok(Places {
-            processors: self.processors.iter().fold(0, |mask, part| mask | part.place()),
-            groups: self.groups.iter().fold(0, |mask, part| mask | part.place()),
-            hands: self.hands.iter().fold(0, |mask, part| mask | part.place()),
-            driver: self.driver.place(),
-            control: self.control.place(),
+            processors: self.processors.iter().map(|part| part.at).collect(),
+            groups: self.groups.iter().map(|part| part.at).collect(),
+            hands: self.hands.iter().map(|part| part.at).collect(),
+            driver: PlaceSet::from_iter([self.driver.at]),
+            control: PlaceSet::from_iter([self.control.at]),
         })
     }
 

@@ -7,7 +7,8 @@ use std::sync::atomic::{AtomicU64, Ordering::SeqCst};
 use std::sync::Arc;
 use std::thread;
 
-const SETTINGS: Settings = Settings { processors: 3, stride: 1, blimit: 4, qhimark: 4, limit: 100, offloadable: 0b110, records: true };
+const SETTINGS: Settings<'static> =
+    Settings { processors: 3, stride: 1, blimit: 4, qhimark: 4, limit: 100, offloadable: Some(&[0b110]), records: true };
 const CALLS: u64 = 5;
 
 /// Jobs, each of which has a share of this as long as it is there.

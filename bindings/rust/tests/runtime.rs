@@ -8,7 +8,8 @@ use std::thread;
 #[test]
 fn callbacks_run_in_order_in_a_hand() {
     const CALLS: u64 = 2000;
-    let mut parts = open(&Settings { processors: 2, offloadable: 2, qhimark: 16, records: true, ..Settings::default() }).unwrap();
+    let settings = Settings { processors: 2, offloadable: Some(&[2]), qhimark: 16, records: true, ..Settings::default() };
+    let mut parts = open(&settings).unwrap();
     let stop = AtomicBool::new(false);
     let seen = Arc::new(Mutex::new(Vec::new()));
     thread::scope(|scope| {
@@ -97,7 +98,7 @@ fn jobs_that_did_not_run_come_back() {
 
 #[test]
 fn close_wants_all_parts_of_one_open() {
-    let settings = Settings { processors: 2, offloadable: 1, ..Settings::default() };
+    let settings = Settings { processors: 2, offloadable: Some(&[1]), ..Settings::default() };
     let mut parts = open(&settings).unwrap();
     let mut others = open(&settings).unwrap();
     std::mem::swap(&mut parts.hands, &mut others.hands);
@@ -126,7 +127,13 @@ fn a_dropped_runtime_drops_its_jobs() {
 
 #[test]
 fn errors_are_named() {
-    assert_eq!(open(&Settings { processors: 33, ..Settings::default() }).map(drop), Err(Error::Shape));
+    for processors in [0, 1025] {
+        assert_eq!(open(&Settings { processors, ..Settings::default() }).map(drop), Err(Error::Shape));
+    }
+    for offloadable in [[2].as_slice(), &[0, 1], &[[0; 16].as_slice(), &[1]].concat()] {
+        let asked = Settings { offloadable: Some(offloadable), ..Settings::default() };
+        assert_eq!(open(&asked).map(drop), Err(Error::Shape));
+    }
     let mut parts = open(&Settings::default()).unwrap();
     assert_eq!(parts.control.offload(0), Err(Error::NotOffloadable));
     assert_eq!(parts.control.offload(1), Err(Error::NoProcessor));
@@ -137,7 +144,7 @@ fn errors_are_named() {
 
 #[test]
 fn each_part_but_control_reads_the_halt_word() {
-    let mut parts = open(&Settings { offloadable: 1, ..Settings::default() }).unwrap();
+    let mut parts = open(&Settings { offloadable: Some(&[1]), ..Settings::default() }).unwrap();
     for wanted in [false, true] {
         assert_eq!(parts.processors[0].is_halted(), Ok(wanted));
         assert_eq!(parts.hands[0].is_halted(), Ok(wanted));
@@ -195,7 +202,7 @@ fn refusals_are_errors() {
 
 #[test]
 fn types_show_themselves() {
-    let mut parts = open(&Settings { processors: 2, offloadable: 2, ..Settings::default() }).unwrap();
+    let mut parts = open(&Settings { processors: 2, offloadable: Some(&[2]), ..Settings::default() }).unwrap();
     parts.processors[0].call(0, || ()).unwrap();
     let shown = "Parts { processors: [Processor(0), Processor(1)], groups: [Group(1)], hands: [Hand(1)], driver: Driver, control: Control }";
     assert_eq!(format!("{parts:?}"), shown);
@@ -211,8 +218,9 @@ fn the_header_and_the_library_are_this_versions() {
     assert_eq!(defined("RCUO_VERSION"), format!("\"{}\"", env!("CARGO_PKG_VERSION")));
     assert_eq!(rcuo::version(), env!("CARGO_PKG_VERSION"));
     let Settings { processors, stride, blimit, qhimark, limit, offloadable, records } = Settings::default();
+    assert_eq!(offloadable, Some([].as_slice()));
     let records = u32::from(records);
-    let defaults = format!("{{{processors}, {stride}, {blimit}, {qhimark}, {limit}, {offloadable}, {records}}}");
+    let defaults = format!("{{{processors}, {stride}, {blimit}, {qhimark}, {limit}, rcuo_none, rcuo_none, {records}}}");
     assert_eq!(defined("RCUO_SETTINGS_DEFAULT"), defaults);
 }
 
@@ -235,4 +243,16 @@ fn a_grace_period_without_a_callback() {
     }
     assert_eq!(parts.recover(), 1);
     parts.close().unwrap();
+}
+
+/// As many processors as there can be, all of them offloadable, in groups of 64; a callback of the last one runs in its hand.
+#[test]
+fn a_thousand_and_twenty_four_processors() {
+    let settings = Settings { processors: 1024, stride: 64, offloadable: None, ..Settings::default() };
+    let mut parts = open(&settings).unwrap();
+    assert_eq!((parts.processors.len(), parts.groups.len(), parts.hands.len()), (1024, 16, 1024));
+    assert_eq!(parts.processors[1023].left(), Ok(1 << 53));
+    drop(parts.hands.pop());
+    assert_eq!(parts.recover(), 1);
+    assert!(parts.close().unwrap().ran.len() == 1024);
 }

@@ -6,7 +6,7 @@ ghost use Rattle.rcu_board.specs.declared.board.Board.{Board};
 ghost use Rattle.rcu_board.specs.declared.board.Seat.{Seat};
 ghost use Rattle.rcu_board.specs.declared.board.Role.TheVariants.{Processor, Driver, Control};
 ghost use Rattle.rcu_board.specs.Roles.{MayClaim, MayCount, cpu_of_role};
-ghost use Rattle.rcu_board.specs.Words.{accepts_word, asks_word, board_word, halt_word, needed_word, reports_word, turns_word, urge_word};
+ghost use Rattle.rcu_board.specs.Words.{accepts_word, asks_word, board_word, halt_word, needed_word, reports_word, turns_word, urge_word, urges_word};
 ghost use Rattle.rcu_board.specs.declared.board.Role.{Role};
 ghost use Rattle.bench_board.specs.Stays.{HasStepped, StaysSeat};
 ghost use Rattle.rcu_board.specs.Seats.{view, AtBoard, accepted_of, fresh_of, own_word};
@@ -270,12 +270,12 @@ pub(crate) struct Urge;
 impl Kind for Urge {
     ghost ready = { λ board seat number. seat.role ≡ Control };
 
-    ghost word = { λ board role. urge_word board.processors };
+    ghost word = { λ board role. urges_word board.processors 0 };
 
     ghost steps = { 1 };
 
     fn step(board: &Board, seat: &mut Seat, _number: u64) -> bool {
-        urge(board, seat);
+        urge(board, seat, 0);
         true
     }
 }
@@ -285,7 +285,7 @@ pub(crate) struct Hear;
 impl Kind for Hear {
     ghost ready = { λ board seat number. (seat.role ≡ Processor 0) × (owes_of board.offloadable 0 ≡ 1) };
 
-    ghost word = { λ board role. urge_word board.processors };
+    ghost word = { λ board role. urge_word board.processors (cpu_of_role role) };
 
     ghost steps = { 1 };
 

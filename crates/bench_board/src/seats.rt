@@ -7,7 +7,7 @@ ghost use Rattle.rcu_board.specs.Roles.{MayClaim};
 ghost use Rattle.rcu_board.specs.Seats.{view, AtBoard};
 
 use rcu_board::{Board, Role, Seat, Seats, open_board};
-use rcu_numbers::Shape;
+use rcu_numbers::{PartsShape, Shape};
 use std::alloc::{AllocError, Global};
 
 /// The seats of such a board, but the group's.
@@ -30,8 +30,8 @@ fn only(mut seats: Vec<Seat>) -> Option<Seat>
 }
 
 /// The seats, one by one.
-fn take_apart(shape: Shape, board: &Board, seats: Seats) -> Option<OneOfEach>
-    requires { AreNew shape board.now seats }
+fn take_apart(shape: &PartsShape, board: &Board, seats: Seats) -> Option<OneOfEach>
+    requires { AreNew shape.now board.now seats }
     ensures processor { IfSome result (λ each. IsNewProcessor board.now 0 each.processor) }
     ensures hand { IfSome result (λ each.
         AtBoard board.now each.hand × MayClaim each.hand.role × ((view each.hand).running ≡ [])) }
@@ -72,11 +72,12 @@ pub(crate) fn open_one(alloc: Global) -> Result<Option<(Board, OneOfEach)>, Allo
     let Some(shape) = Shape::new(1, 1, 1, 10, 16, 1000) else {
         return Ok(None);
     };
-    let (board, seats) = open_board(alloc, shape)?;
+    let shape = shape.for_parts();
+    let (board, seats) = open_board(alloc, &shape)?;
     if board.processors() != 1 || !board.is_offloadable(0) {
         return Ok(None);
     }
-    let Some(each) = take_apart(shape, &board, seats) else {
+    let Some(each) = take_apart(&shape, &board, seats) else {
         return Ok(None);
     };
     Ok(Some((board, each)))

@@ -119,7 +119,7 @@ fn run<R: Threads + Wait + Clock + Copy + Send + 'static>(
     let Some(shape) = plan.shape() else {
         return Err(Fault::NoShape);
     };
-    let parts = open::<Work>(alloc, shape)?;
+    let parts = open::<Work>(alloc, &shape.for_parts())?;
     if plan.latency {
         let times = wait_times(host, rt, alloc, parts, &plan)?;
         print_times(host, &plan, times.as_slice())?;

@@ -44,7 +44,7 @@ pub fn run<R: Threads + Wait + Clock + Copy + Send + 'static>(
     let Some(shape) = Shape::new(4, 0b1100, 2, 10, 10000, 1000) else {
         return Ok(0);
     };
-    let parts = open(alloc, shape)?;
+    let parts = open(alloc, &shape.for_parts())?;
     let jobs = vec![in alloc; job]?;
     match run_in_threads(rt, alloc, parts, jobs) {
         Ok(ended) => Ok(ended.closed.ran.first().map_or(0, |ran| ran.len())),

@@ -94,9 +94,9 @@ pub fn play_board(alloc: Global) -> Result<Refusals, Broken> {
         at: Growth::OpenBoard,
         what: "no shape",
     })?;
-    if open_board(alloc, shape).is_err() {
+    if open_board(alloc, &shape.for_parts()).is_err() {
         refusals.note(Growth::OpenBoard)?;
-        let again = open_board(alloc, shape);
+        let again = open_board(alloc, &shape.for_parts());
         stands(again.is_ok(), Growth::OpenBoard, "refused again")?;
     }
     Ok(refusals)

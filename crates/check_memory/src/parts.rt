@@ -165,11 +165,11 @@ fn open_parts(alloc: Global, refusals: &mut Refusals) -> Result<Parts<Work>, Bro
         at: Growth::Open,
         what: "no shape",
     })?;
-    if let Ok(parts) = open(alloc, shape) {
+    if let Ok(parts) = open(alloc, &shape.for_parts()) {
         return Ok(parts);
     }
     refusals.note(Growth::Open)?;
-    match open(alloc, shape) {
+    match open(alloc, &shape.for_parts()) {
         Ok(parts) => Ok(parts),
         Err(_) => Err(Broken {
             at: Growth::Open,

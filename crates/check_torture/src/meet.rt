@@ -45,7 +45,7 @@ fn wrong_counts() -> Counts {
 /// A processor, with what its thread keeps beside it, which takes it for another one.
 fn mistaken(alloc: Global, shared: &Arc<Shared>) -> Option<Actor> {
     let own = Arc::try_clone(shared).ok()?;
-    let mut parts = open(alloc, Shape::new(1, 0, 1, 1, 1, 1)?).ok()?;
+    let mut parts = open(alloc, &Shape::new(1, 0, 1, 1, 1, 1)?.for_parts()).ok()?;
     let processor = parts.processors.pop()?;
     Some(Actor::new(alloc, processor, WRONG, own, Chance::new(0, 0, 0)))
 }

@@ -212,7 +212,7 @@ pub fn run_once<R: Threads + Wait + Clock + Copy + Send + 'static>(
     let Ok(shared) = share(alloc, plan.processors, versions_of(plan)) else {
         return Err(ThreadsFault::Memory);
     };
-    let Ok(parts) = open(alloc, shape) else {
+    let Ok(parts) = open(alloc, &shape.for_parts()) else {
         return Err(ThreadsFault::Memory);
     };
     let Outcome { counters, .. } = run_to_end(rt, alloc, parts, &shared, plan, run)?;

@@ -109,7 +109,7 @@ impl Table {
         Ok(Table {
             alloc,
             current: Arc::new(alloc, Version { rows })?,
-            runtime: open(alloc, shape)?,
+            runtime: open(alloc, &shape.for_parts())?,
         })
     }
 

@@ -174,7 +174,7 @@ fn main(rt: HostRuntime) -> Result<(), AnyFault> {
     let shape = Shape::new(PUBLISHER + 1, 1 << PUBLISHER, 2, 10, 16, 1000);
     let shape = shape.ok_or(AnyFault::NoShape)?;
     let cache = Arc::new(alloc, Cache::new())?;
-    let runtime = open::<Retired>(alloc, shape)?;
+    let runtime = open::<Retired>(alloc, &shape.for_parts())?;
 
     let mut switcher = Switcher {
         cache: Arc::try_clone(&cache)?,

@@ -143,7 +143,7 @@ fn main(rt: HostRuntime) -> Result<(), AnyFault> {
     })?;
     let mut ran = 0;
     for _ in 0..MOST_RUNTIMES {
-        let runtime = open::<Number>(alloc, shape)?;
+        let runtime = open::<Number>(alloc, &shape.for_parts())?;
         let ending = Ending::AtOnce;
         let worked = run_or_drop(&rt, alloc, runtime, callers, &mut NoSteering, ending)?;
         callers = worked.workers;

@@ -156,7 +156,7 @@ joins n seats id other v w live live' s k at apart at' =
       alone = each (ViewAlone n) k.alone record {
         no_seat = λ e. absurd (omega arith);
         seen_long = λ _. joined-words-long w.controls 0 v.seen w.seen (words_of n) lv lw;
-        steps_long = λ _. joined-tallies-long v.steps w.steps (4 + 4 * n) (tv.steps_long live) (tw.steps_long live');
+        steps_long = λ _. joined-tallies-long v.steps w.steps (words_of n) (tv.steps_long live) (tw.steps_long live');
         processors = subst (Every (λ (q : ℕ). q < n)) (sym (cpus-append v.own w.own)) (every_append (λ (q : ℕ). q < n) (cpus v.own) (cpus w.own) tv.processors tw.processors);
         stamps = every_append (λ (o : Own). Every (λ (a : Accepted). a.stamp ≤ sight b) o.accepted) v.own w.own (stamps v sv v.own tv.stamps) (stamps w sw w.own tw.stamps);
         running = every_append (λ (c : Claim). 0 < claimed c.cpu c.number b) v.running w.running (every (λ (c : Claim). 0 < claimed c.cpu c.number v) (λ (c : Claim). 0 < claimed c.cpu c.number b) (λ c h. let e = total-append (one_if_claim c.cpu c.number) v.claims w.claims in omega arith) v.running tv.running)

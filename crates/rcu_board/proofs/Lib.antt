@@ -15,3 +15,4 @@ pub mod Facts
 pub mod Later
 pub mod Bits
 pub mod Stepping
+pub mod Urging

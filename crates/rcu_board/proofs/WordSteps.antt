@@ -2,7 +2,7 @@
 use Rattle.rcu_board.specs.Views.{one_if, Every, total, seen_at, sight, accepted_count, fresh_count, one_if_claim, one_if_on, claimed, runs, cpus, one_if_equal, own_count, control_count}
 use Rattle.rcu_board.specs.Laws.{OddEquals, BoardRule, ViewAlone, AcceptLawInView, TurnLawInView, OwnLaw, ReportLawInView}
 use Rattle.rcu_board.specs.Quiets.{Chain}
-use Rattle.rcu_board.specs.Words.{urge_word, accepts_word, turns_word, asks_word, reports_word, period_of, cpu_of}
+use Rattle.rcu_board.specs.Words.{words_of, urges_word, accepts_word, turns_word, asks_word, reports_word, period_of, cpu_of}
 use Rattle.rcu_board.specs.Plays.{SeatState, touched, Loading, Switching, Needing, accept_own, accepted, Accepting, Counting, Shutting, claim_of, claiming, Claiming, finished, Finishing, urged, Urging, Hearing}
 use Rattle.std.proofs.Common.{◌≡◌, ◌≢◌, ℕ, zero, suc, ◌+◌, ◌*◌, ◌%◌, ◌/◌, ◌^◌, ◌<◌, ◌≤◌, Bool, true, cond, eqb, ltb, None, List, [], ◌∷◌, ◌++◌, map, length, get_or, set, sym, refl, ap, ◌∙◌, subst, arith, eq-eqb, ne_eqb, max}
 use mathlib.Core.Logic.{dite}
@@ -26,7 +26,7 @@ use Rattle.rcu_board.proofs.BoardSteps.{seen_here, seen_else, alone_touched, bes
 
 -- ---- what a step on a word but the board's shares
 
-module _ (n seats : ℕ) (s : State ℕ View) (k : BoardRule n seats s) (id : ℕ) (v : View) (at : get_elem? s.views id ≡ some v) (live : 0 < v.weight) (i : ℕ) (not_board : i ≢ 0) (near : i < 4 + 4 * n) where
+module _ (n seats : ℕ) (s : State ℕ View) (k : BoardRule n seats s) (id : ℕ) (v : View) (at : get_elem? s.views id ≡ some v) (live : 0 < v.weight) (i : ℕ) (not_board : i ≢ 0) (near : i < words_of n) where
   -- what the view says by itself still holds where its lists of own, claims and running are
   pub still_alone : (x : ℕ) (w : View) → w.weight ≡ v.weight → w.drives ≡ v.drives → w.seen ≡ v.seen → w.steps ≡ v.steps
       → cpus w.own ≡ cpus v.own
@@ -161,7 +161,7 @@ module _ (n seats slots id : ℕ) (m : SeatState) (live : 0 < m.0.weight) (p : �
   pub shut_allowed : m.0.controls ≡ true → Allows (BoardRule n seats) slots id m (accepts_word p) (λ y. bit_or y 1) (Shutting (step slots (accepts_word p) 1 0 none) m)
   shut_allowed commanding s k _ at _ = let i : ℕ = accepts_word p in let x : ℕ = get_or s.words i 0 in let y : ℕ = x / 2 * 2 + 1 in let v : View = m.0 in let w : View = touched i y v in
       let t = k.alone id v at in let a = k.accept p low id v at in
-      let off : i ≢ 0 = λ e. omega arith in let near : i < 4 + 4 * n = omega arith in
+      let off : i ≢ 0 = λ e. omega arith in let near : i < words_of n = omega arith in
       let now : seen_at w i ≡ y = now_seen n seats s k id v at live i off near y v refl in
       let half : y / 2 ≡ x / 2 = omega arith in
       let count : (u : View) → Every (λ (o : Own). o.cpu ≡ p → x / 2 ≡ accepted_count o) u.own → Every (λ (o : Own). o.cpu ≡ p → y / 2 ≡ accepted_count o) u.own
@@ -188,7 +188,7 @@ module _ (n seats slots id : ℕ) (m : SeatState) (live : 0 < m.0.weight) (p : �
       → Allows (BoardRule n seats) slots id m (accepts_word p) (λ y. either (eqb y (2 * c)) (2 * c + 2) y) (Accepting (step slots (accepts_word p) (2 * c) (2 * c + 2) (some key)) m)
   accept_allowed o key c only is clean counts s k _ at _ = let i : ℕ = accepts_word p in let x : ℕ = get_or s.words i 0 in let y : ℕ = 2 * c + 2 in let v : View = m.0 in
       let t = k.alone id v at in let a = k.accept p low id v at in
-      let off : i ≢ 0 = λ e. omega arith in let near : i < 4 + 4 * n = omega arith in
+      let off : i ≢ 0 = λ e. omega arith in let near : i < words_of n = omega arith in
       let near_own = the_one (λ (u : ℕ). u < n) o.cpu (subst (λ (l : List Own). Every (λ (u : ℕ). u < n) (cpus l)) only t.processors) in let one_own : own_count o.cpu v ≡ 1 = ap (λ (l : List Own). total (one_if_equal o.cpu) (cpus l)) only ∙ (let e = at_same o.cpu o.cpu refl in omega arith) in
       let was : x / 2 ≡ accepted_count o = the_one (λ (u : Own). u.cpu ≡ p → x / 2 ≡ accepted_count u) o (subst (Every (λ (u : Own). u.cpu ≡ p → x / 2 ≡ accepted_count u)) only a.count) is in
       let none_fresh : fresh_count o.fresh ≡ 0 = ap fresh_count clean in
@@ -270,7 +270,7 @@ module _ (n seats slots id : ℕ) (m : SeatState) (live : 0 < m.0.weight) (p : �
   pub claim_allowed : (q : ℕ) → m.0.running ≡ [] → Allows (BoardRule n seats) slots id m (turns_word p) (λ y. either (eqb y (2 * q)) (2 * q + 1) y) (Claiming (step slots (turns_word p) (2 * q) (2 * q + 1) none) m)
   claim_allowed q rests s k _ at _ = let i : ℕ = turns_word p in let x : ℕ = get_or s.words i 0 in let y : ℕ = 2 * q + 1 in let v : View = m.0 in
       let t = k.alone id v at in let a = (k.turn p low).in_views id v at in let turning = turn_counts _ _ _ (k.turn p low) in
-      let off : i ≢ 0 = λ e. omega arith in let near : i < 4 + 4 * n = omega arith in
+      let off : i ≢ 0 = λ e. omega arith in let near : i < words_of n = omega arith in
       exchanged x (2 * q) y (λ z. (w : View) × (b : Act ℕ) × Valid s.homes m.1 b × BoardRule n seats (stepped s i z id m.1 w b) × Claiming (step slots i (2 * q) y none) m x (w, carried_after m.1 b))
       (λ hit. let c : Claim = claim_of p q v in let v' : View = record v { claims = v.claims ++ c ∷ []; running = c ∷ [] } in let w : View = claiming i y p q v in
       let now : seen_at w i ≡ y = now_seen n seats s k id v at live i off near y v' refl in
@@ -305,7 +305,7 @@ module _ (n seats slots id : ℕ) (m : SeatState) (live : 0 < m.0.weight) (p : �
       → Allows (BoardRule n seats) slots id m (turns_word p) (λ y. (y + 1) % 2 ^ 64) (Finishing (step slots (turns_word p) 1 0 none) m)
   finish_allowed c runs_it is small s k _ at _ = let i : ℕ = turns_word p in let x : ℕ = get_or s.words i 0 in let y : ℕ = x + 1 in let v : View = m.0 in
       let t = k.alone id v at in let a = (k.turn p low).in_views id v at in let turning = turn_counts _ _ _ (k.turn p low) in
-      let off : i ≢ 0 = λ e. omega arith in let near : i < 4 + 4 * n = omega arith in
+      let off : i ≢ 0 = λ e. omega arith in let near : i < words_of n = omega arith in
       let odd : x ≡ 2 * c.number + 1 = the_one (λ (d : Claim). d.cpu ≡ p → x ≡ 2 * d.number + 1) c (subst (Every (λ (d : Claim). d.cpu ≡ p → x ≡ 2 * d.number + 1)) runs_it a.running) is in
       let v' : View = record v { running = [] } in let w : View = finished i y v in
       let now : seen_at w i ≡ y = now_seen n seats s k id v at live i off near y v' refl in
@@ -332,7 +332,7 @@ module _ (n seats slots id : ℕ) (m : SeatState) (live : 0 < m.0.weight) (p : �
 
 -- ---- the urged processors
 
-module _ (n seats slots id : ℕ) (m : SeatState) (live : 0 < m.0.weight) (i : ℕ) (is : i ≡ urge_word n) where
+module _ (n seats slots id : ℕ) (m : SeatState) (live : 0 < m.0.weight) (i k' : ℕ) (is : i ≡ urges_word n k') (there : k' ≤ n / 64) where
   urge_goes : (s : State ℕ View) (k : BoardRule n seats s) → get_elem? s.views id ≡ some m.0 → (y left : ℕ) → BoardRule n seats (after s i y id (urged i (get_or s.words i 0) left m.0))
   urge_goes s k at y left = let v : View = m.0 in let x : ℕ = get_or s.words i 0 in let v' : View = record v { left = left } in let t = k.alone id v at in
       moved n seats s k id v (urged i x left v) at live i y (omega arith)

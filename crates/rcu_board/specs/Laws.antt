@@ -1,6 +1,6 @@
 -- The rule of a board, law by law: docs/specification/definitions.md, "The running parts: laws". A quoted sentence is one of that section.
 use Rattle.std.specs.Prelude.{◌≡◌, ℕ, ◌+◌, ◌-◌, ◌*◌, ◌/◌, ◌%◌, ◌<◌, ◌≤◌, true, false, List, length, slice_index}
-use Rattle.rcu_numbers.specs.declared.shape.TheConstants.{MOST_PROCESSORS}
+use Rattle.rcu_numbers.specs.declared.set.TheConstants.{PARTS_PROCESSORS}
 use Rattle.rcu_numbers.specs.declared.sequence.TheConstants.{LAST_NUMBER}
 use mathlib.Core.Option.{some}
 use lib.ListN.{get_elem?}
@@ -137,7 +137,7 @@ pub record SeatLaw (n all : ℕ) (views : List View) : Type 0 where
 
 -- Between any two steps of any threads: the words and the views of a board for n processors, whose seats weigh `all` together.
 pub record BoardRule (n all : ℕ) (s : State ℕ View) : Type 0 where
-  pub few : n ≤ MOST_PROCESSORS
+  pub few : n ≤ PARTS_PROCESSORS
   pub words : length s.words ≡ words_of n
   pub board : BoardLaw (slice_index s.words board_word) s.views
   pub accounted : (p : ℕ) → p < n → Accounted (slice_index s.words board_word) (slice_index s.words (reports_word p))

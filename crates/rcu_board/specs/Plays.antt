@@ -168,9 +168,9 @@ Hearing st m r n = n ≡ (urged st.word r (bit_and r st.first) m.0, m.1)
 
 -- ---- what the seat learns that took in others
 
--- the weight of all seats of a board together
+-- the weight of all seats of a board together: four for each of 1,024 processors, of which the seats in use take three, and two besides
 abbrev pub all_seats : ℕ
-all_seats = 128
+all_seats = 4096
 
 -- the number found: no stamp and no claim is later
 pub record GatheredBoardLaw (x : ℕ) (v : View) : Type 0 where

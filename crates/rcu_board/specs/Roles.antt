@@ -2,6 +2,7 @@
 use Rattle.std.specs.Prelude.{◌≡◌, ℕ, ◌+◌, ◌*◌, ◌<◌, ◌≤◌, true, [], ◌∷◌, length}
 use Rattle.rcu_numbers.specs.declared.sequence.TheConstants.{LAST_NUMBER}
 use Rattle.atomic_table.specs.Table.{Me}
+use Rattle.rcu_board.specs.Words.{words_of}
 use Rattle.rcu_board.specs.Views.{sight, cpus}
 use Rattle.rcu_board.specs.declared.board.Role.{Role}
 use Rattle.rcu_board.specs.declared.board.Role.TheVariants.{Processor, Hand, Group, Driver, Control}
@@ -15,11 +16,11 @@ pub record CanStep (words : ℕ) (m : Me ℕ View) : Type 0 where
   pub seen_long : length m.0.seen ≡ words
   pub steps_long : length m.0.steps ≡ words
 
--- what a seat of this role has besides
+-- what a seat of this role has besides: its processor is one of the board's
 pub record SeatOfRole (role : Role) (words : ℕ) (m : Me ℕ View) : Type 0 where
   pub can_step : CanStep words m
-  pub processor : (p : ℕ) → role ≡ Processor p → 6 + 4 * p < words
-  pub hand : (p : ℕ) → role ≡ Hand p → 6 + 4 * p < words
+  pub processor : (p : ℕ) → role ≡ Processor p → words_of (p + 1) ≤ words
+  pub hand : (p : ℕ) → role ≡ Hand p → words_of (p + 1) ≤ words
   pub own : (p : ℕ) → role ≡ Processor p → cpus m.0.own ≡ p ∷ []
   pub driver : role ≡ Driver → m.0.drives ≡ true
   pub control : role ≡ Control → m.0.controls ≡ true

@@ -1,21 +1,22 @@
 //! What the parts share, and what each of them steps with.
 
 ghost use Rattle.std.specs.Prelude.{◌≡◌, ◌+◌, ◌*◌, ◌<◌, ◌≤◌, ◌^◌, ◌↔◌, IsTrue};
-ghost use Rattle.rcu_numbers.specs.declared.shape.TheConstants.{MOST_PROCESSORS};
+ghost use Rattle.rcu_numbers.specs.declared.set.TheConstants.{PARTS_PROCESSORS};
 ghost use Rattle.rcu_board.specs.Memory.{id_of, many};
 ghost use Rattle.rcu_board.specs.Roles.{SeatOfRole, FirstSeat};
 ghost use Rattle.rcu_board.specs.declared.padding.TheConstants.{LINE_WORDS};
+ghost use Rattle.rcu_board.specs.Words.{words_of};
 ghost use Rattle.rcu_numbers.specs.Words.{owes_of};
 
 use crate::padding::Words;
 use crate::view::View;
-use rcu_numbers::BoardWord;
+use rcu_numbers::ProcessorSet;
 
-/// What a board was made for: how many processors, and the mask of the offloadable ones.
-#[derive(Clone, Copy)]
+/// What a board was made for: how many processors, and which are offloadable.
+#[derive(Drop)]
 pub struct Frame {
     pub processors: u64,
-    pub offloadable: u32,
+    pub offloadable: ProcessorSet,
 }
 
 /// The words that all parts share (docs/specification/tables.md, "Words of the board"). Each changes only by the steps
@@ -25,36 +26,27 @@ pub struct Frame {
 pub struct Board {
     pub(crate) words: Words,
     pub(crate) processors: u64,
-    pub(crate) offloadable: u32,
-    ghost sized: { (id_of words).words ≡ LINE_WORDS * (4 + 4 * processors) },
+    pub(crate) offloadable: ProcessorSet,
+    ghost sized: { (id_of words).words ≡ LINE_WORDS * words_of processors },
     ghost framed: { words.table.shared.key.processors ≡ processors },
-    ghost few: { processors ≤ MOST_PROCESSORS },
+    ghost few: { processors ≤ PARTS_PROCESSORS },
 }
 
 impl Board {
-    /// How many processors there are, 1 to 32.
+    /// How many processors there are, 1 to 1024.
     pub fn processors(&self) -> u64
         ensures same { result ≡ self.now.processors }
-        ensures few { result ≤ MOST_PROCESSORS }
+        ensures few { result ≤ PARTS_PROCESSORS }
     {
         self.processors
     }
 
     /// Whether processor `p` starts Offloaded and may be switched.
     pub fn is_offloadable(&self, p: u64) -> bool
-        requires { p < MOST_PROCESSORS }
         ensures { IsTrue result ↔ (owes_of self.now.offloadable p ≡ 1) }
     {
-        is_offloadable(self.offloadable, p)
+        self.offloadable.has(p)
     }
-}
-
-/// Whether bit `p` stands in the mask.
-pub(crate) fn is_offloadable(mask: u32, p: u64) -> bool
-    requires { p < MOST_PROCESSORS }
-    ensures { IsTrue result ↔ (owes_of mask p ≡ 1) }
-{
-    BoardWord::pack(0, mask).owes(p)
 }
 
 /// Whose seat it is.

@@ -20,6 +20,6 @@ pub use open::{Seats, open_board};
 pub use plays::Rule;
 pub use steps::{
     Claimed, accept, ask, asked, claim, come_back, count_of, end, finish, halt, halted, heard,
-    leave, look, meet, need, needed, report, shut_one, sighted, start, turn_of, urge,
+    leave, look, meet, need, needed, report, shut_one, sighted, start, turn_of, urge, urge_words,
 };
 pub use view::{Accepted, Claim, Own, Quiet, View};

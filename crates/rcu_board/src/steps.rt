@@ -1,13 +1,13 @@
 //! The steps of the running seats, each on one word (docs/specification/tables.md, "Kinds of atomic step"). Each asks
 //! that its seat is one of those that the table names.
 
-ghost use Rattle.std.specs.Prelude.{◌≡◌, ◌≢◌, ℕ, ◌+◌, ◌-◌, ◌*◌, ◌/◌, ◌%◌, ◌<◌, ◌≤◌, ◌↔◌, IsTrue, IfSome, IfNone, IsNone, IfOk, IfErr, None, [], length, max, bit_or, bit_and};
+ghost use Rattle.std.specs.Prelude.{◌≡◌, ◌≢◌, ℕ, min, ◌+◌, ◌-◌, ◌*◌, ◌/◌, ◌%◌, ◌<◌, ◌≤◌, ◌↔◌, IsTrue, IfSome, IfNone, IsNone, IfOk, IfErr, None, [], length, max, bit_or, bit_and};
 ghost use Rattle.std.specs.Int.{from_bool};
 ghost use Rattle.rcu_numbers.specs.declared.shape.TheConstants.{MOST_CALLS};
 ghost use Rattle.rcu_numbers.specs.declared.sequence.TheConstants.{LAST_NUMBER};
 ghost use Rattle.rcu_numbers.specs.Numbers.{IsIdle, IsInProgress};
-ghost use Rattle.rcu_numbers.specs.Words.{all_of, all_but_of, owes_of};
-ghost use Rattle.rcu_board.specs.Words.{accepts_word, turns_word, asks_word, urge_word, reports_word, period_of};
+ghost use Rattle.rcu_numbers.specs.Words.{all_but_of, owes_of};
+ghost use Rattle.rcu_board.specs.Words.{accepts_word, turns_word, asks_word, urges_of, urges_word, urge_bits, urge_word, urge_bit, reports_word, period_of};
 ghost use Rattle.rcu_board.specs.Views.{sight, seen_at};
 ghost use Rattle.rcu_board.specs.Laws.{IsNumber, Accounted};
 ghost use Rattle.rcu_board.specs.Plays.{touched, looked, stepped_own, report_own, leave_own, return_own, accepted, claiming, finished, urged};
@@ -20,7 +20,7 @@ use crate::plays::{
     Accept, Claim, Count, Drive, Finish, Hear, Leave, Load, Look, Meet, Need, Report, Return, Shut,
     Sight, Switch, Urge,
 };
-use rcu_numbers::{all_but, all_processors};
+use rcu_numbers::{all_but, first_bits};
 
 /// The word of the number and the mask.
 pub(crate) const BOARD_WORD: usize = 0;
@@ -31,7 +31,7 @@ pub(crate) const NEEDED_WORD: usize = 1;
 /// The word that `halt` sets.
 pub(crate) const HALT_WORD: usize = 2;
 
-/// Where the accept word of processor 0 stands. The urge word stands where that of the next processor would.
+/// Where the accept word of processor 0 stands. The urge words stand where those of the next processors would.
 pub(crate) const FIRST_ACCEPTS: usize = 3;
 
 /// Where the turn word of processor 0 stands.
@@ -430,20 +430,29 @@ pub fn halted(board: &Board, seat: &mut Seat) -> bool
     board.words.load::<Switch>(&mut seat.seat, HALT_WORD) == 1
 }
 
-/// Urges every processor to release its bypass list.
-pub fn urge(board: &Board, seat: &mut Seat)
+/// How many urge words there are: the processors share one in 64.
+pub fn urge_words(board: &Board) -> u64
+    ensures { result ≡ urges_of board.now.processors }
+{
+    board.processors.div_ceil(64)
+}
+
+/// Urges each processor that shares the `k`-th urge word to release its bypass list: those from `64 * k` on.
+pub fn urge(board: &Board, seat: &mut Seat, k: u64)
     requires board { AtBoard board.now seat.old }
     requires who { MayCount seat.old.role }
+    requires word { k < urges_of board.now.processors }
     ensures same { SameSeat seat.old seat.new }
-    ensures view { let i = urge_word board.now.processors in
+    ensures view { let i = urges_word board.now.processors k in
         let found = seen_at (view seat.new) i in
-        view seat.new ≡ urged i found (bit_or found (all_of board.now.processors)) (view seat.old) }
+        view seat.new ≡ urged i found (bit_or found (urge_bits board.now.processors k))
+        (view seat.old) }
 {
-    let every = u64::from(all_processors(board.processors));
-    let urge_word = FIRST_ACCEPTS + WORDS_EACH * board.processors as usize;
+    let sharing = (board.processors - 64 * k).min(64);
+    let urge_word = FIRST_ACCEPTS + WORDS_EACH * (board.processors + k) as usize;
     board
         .words
-        .fetch_or::<Urge>(&mut seat.seat, urge_word, every);
+        .fetch_or::<Urge>(&mut seat.seat, urge_word, first_bits(sharing));
 }
 
 /// Whether the seat's processor was urged since it last asked.
@@ -451,20 +460,21 @@ pub fn heard(board: &Board, seat: &mut Seat) -> bool
     requires board { AtBoard board.now seat.old }
     requires who { MayHear board.now seat.old.role }
     ensures same { SameSeat seat.old seat.new }
-    ensures view { let i = urge_word board.now.processors in
+    ensures view { let p = cpu_of_role seat.old.role in
+        let i = urge_word board.now.processors p in
         let found = seen_at (view seat.new) i in
         view seat.new
-        ≡ urged i found (bit_and found (all_but_of (cpu_of_role seat.old.role))) (view seat.old) }
-    ensures heard { IsTrue result
-        ↔ (owes_of (seen_at (view seat.new) (urge_word board.now.processors))
-        (cpu_of_role seat.old.role) ≡ 1) }
+        ≡ urged i found (bit_and found (all_but_of (urge_bit p))) (view seat.old) }
+    ensures heard { let p = cpu_of_role seat.old.role in
+        IsTrue result
+        ↔ (owes_of (seen_at (view seat.new) (urge_word board.now.processors p)) (urge_bit p) ≡ 1) }
 {
     let Role::Processor(p) = seat.role else {
         unreachable!()
     };
-    let urge_word = FIRST_ACCEPTS + WORDS_EACH * board.processors as usize;
+    let urge_word = FIRST_ACCEPTS + WORDS_EACH * (board.processors + p / 64) as usize;
     let found = board
         .words
-        .fetch_and::<Hear>(&mut seat.seat, urge_word, all_but(p));
-    (found >> p) & 1 == 1
+        .fetch_and::<Hear>(&mut seat.seat, urge_word, all_but(p % 64));
+    (found >> (p % 64)) & 1 == 1
 }

@@ -1,8 +1,8 @@
 -- What an export answers and does: docs/c.md, "Answers".
-use Rattle.std.specs.Prelude.{◌≡◌, ℕ, ◌≤◌, Bool, cond, Result, IfOk, is_some}
+use Rattle.std.specs.Prelude.{◌≡◌, ℕ, Bool, cond, Result, IfOk, is_some}
 use Rattle.std.specs.declared.result.Result.TheVariants.{Ok, Err}
 use Rattle.std.proofs.Common.{◌⊎◌}
-use Rattle.rcu_c.specs.Words.{AreCountsOf, AreOptionsOf, AreTurnWords, IsShapeOf}
+use Rattle.rcu_c.specs.Words.{AreCountsOf, AreTurnWords, IsShapeOf, limit_of, offloadable_of, records_kept}
 use Rattle.rcu_c.specs.declared.words.CountWords.{CountWords}
 use Rattle.rcu_c.specs.declared.words.DriverWords.{DriverWords}
 use Rattle.rcu_c.specs.declared.words.Settings.{Settings}
@@ -22,10 +22,8 @@ use Rattle.rcu_c_slots.specs.declared.fault.Fault.TheVariants.{Memory, Shape as 
 use Rattle.rcu_c_slots.specs.declared.part.Part.{Part}
 use Rattle.rcu_c_slots.specs.declared.slot.PartSlots.{PartSlots}
 use Rattle.rcu_c_slots.specs.declared.slot.Slot.{Slot}
-use Rattle.rcu_numbers.specs.Limits.{IsWithinLimits}
-use Rattle.rcu_numbers.specs.declared.shape.TheConstants.{DEFAULT_LIMIT, MOST_CALLS}
-use Rattle.rcu_parts.specs.declared.opening.OpenOptions.{OpenOptions}
-use Rattle.rcu_numbers.specs.declared.shape.Shape.{Shape}
+use Rattle.rcu_numbers.specs.Limits.{IsWithinPartsLimits}
+use Rattle.rcu_numbers.specs.declared.parts_shape.PartsShape.{PartsShape}
 use Rattle.rcu_lists.specs.declared.pace.Kind.{Kind}
 use Rattle.rcu_lists.specs.declared.pace.Kind.TheVariants.{Lazy, Plain}
 
@@ -62,15 +60,13 @@ kind_of_call lazy = cond lazy Lazy Plain
 
 -- The slots have all parts of a new runtime of these settings, under this number, each in its place.
 pub record OpensBy (settings : Settings) (number : ℕ) (slots : PartSlots) : Type 0 where
-  pub shape : Shape
+  pub shape : PartsShape
   pub is : IsShapeOf settings shape
-  pub options : OpenOptions
-  pub are : AreOptionsOf settings options
-  pub opens : OpensInto options shape number slots
+  pub opens : OpensInto (records_kept settings.records) shape number slots
 
 -- Each setting is within its limits; and one is outside.
 abbrev pub IsInside : Settings → Type 0
-IsInside s = IsWithinLimits s.processors s.offloadable s.stride s.blimit s.qhimark DEFAULT_LIMIT × (s.limit ≤ MOST_CALLS)
+IsInside s = IsWithinPartsLimits s.processors (offloadable_of s) s.stride s.blimit s.qhimark (limit_of s)
 
 abbrev pub IsOutside : Settings → Type 0
 IsOutside s = IsInside s → ⊥

@@ -1,5 +1,8 @@
 -- What words say, as include/rcuo.h has them.
-use Rattle.std.specs.Prelude.{◌≡◌, ℕ, ◌+◌, ◌*◌, ◌<◌, ◌==◌, if◌then◌else◌, ⊤, slice_index}
+use Rattle.std.specs.Prelude.{◌≡◌, ℕ, ◌+◌, ◌*◌, ◌<◌, ◌==◌, ⊤, Bool, cond, slice_index}
+use Rattle.rcu_numbers.specs.Sets.{number_of_words}
+use Rattle.rcu_numbers.specs.Words.{all_of}
+use Rattle.rcu_numbers.specs.declared.shape.TheConstants.{MOST_CALLS}
 use Rattle.rcu_jobs.specs.declared.Counts.{Counts}
 use Rattle.rcu_jobs.specs.declared.DriverTurn.{DriverTurn}
 use Rattle.rcu_jobs.specs.declared.DriverTurn.TheVariants.{Ended, Idle, Spent, Started, Waits}
@@ -14,11 +17,9 @@ use Rattle.rcu_c.specs.declared.words.DriverWords.{DriverWords}
 use Rattle.rcu_c.specs.declared.words.ListWords.{ListWords}
 use Rattle.rcu_c.specs.declared.words.RecordWords.{RecordWords}
 use Rattle.rcu_c.specs.declared.words.Settings.{Settings}
-use Rattle.rcu_numbers.specs.declared.shape.Shape.{Shape}
-use Rattle.rcu_numbers.specs.declared.shape.TheConstants.{MOST_CALLS}
+use Rattle.rcu_numbers.specs.declared.parts_shape.PartsShape.{PartsShape}
 use Rattle.rcu_part_order.specs.declared.recorded.Kept.{Kept}
 use Rattle.rcu_part_order.specs.declared.recorded.Kept.TheVariants.{Nothing, Whole}
-use Rattle.rcu_parts.specs.declared.opening.OpenOptions.{OpenOptions}
 
 -- `enum rcuo_step`, with the number or the mask
 abbrev pub AreTurnWords : DriverTurn → DriverWords → Type 0
@@ -28,26 +29,26 @@ AreTurnWords (Ended n) w = (w.step ≡ 2) × (w.number ≡ n)
 AreTurnWords (Waits processor) w = (w.step ≡ 3) × (w.number ≡ processor)
 AreTurnWords Spent w = ⊤
 
--- the shape of `struct rcuo_settings`, whose limit the options have
-pub record IsShapeOf (settings : Settings) (shape : Shape) : Type 0 where
+-- the offloadable processors: all that there are, or those of the words
+abbrev pub offloadable_of : Settings → ℕ
+offloadable_of s = cond s.all (all_of s.processors) (number_of_words s.offloadable)
+
+-- how many callbacks a processor accepts: where the setting is 0, as many as can be counted
+abbrev pub limit_of : Settings → ℕ
+limit_of s = cond (s.limit == 0) MOST_CALLS s.limit
+
+-- the shape of `struct rcuo_settings`
+pub record IsShapeOf (settings : Settings) (shape : PartsShape) : Type 0 where
   pub processors : shape.processors ≡ settings.processors
-  pub offloadable : shape.offloadable ≡ settings.offloadable
+  pub offloadable : shape.offloadable ≡ offloadable_of settings
   pub stride : shape.stride ≡ settings.stride
   pub blimit : shape.blimit ≡ settings.blimit
   pub qhimark : shape.qhimark ≡ settings.qhimark
+  pub limit : shape.limit ≡ limit_of settings
 
--- how many callbacks a processor accepts at most: 0 says that nothing ends it
-abbrev pub calls_limit : ℕ → ℕ
-calls_limit n = if n == 0 then MOST_CALLS else n
-
--- what is kept of what ran: 0 says that nothing is
-abbrev pub records_kept : ℕ → Kept
-records_kept n = if n == 0 then Nothing else Whole
-
--- the options of these settings
-pub record AreOptionsOf (settings : Settings) (options : OpenOptions) : Type 0 where
-  pub limit : options.limit ≡ calls_limit settings.limit
-  pub kept : options.kept ≡ records_kept settings.records
+-- what is kept of what ran: every record until the runtime closes, or none
+abbrev pub records_kept : Bool → Kept
+records_kept records = cond records Whole Nothing
 
 -- the counts of a barrier's words
 pub record AreCountsOf (words : CountWords) (counts : Counts) : Type 0 where

@@ -2,7 +2,7 @@
 
 ghost use Rattle.std.specs.Prelude.{◌≡◌, ◌≢◌, ◌<◌, ◌≤◌};
 ghost use Rattle.std.specs.Int.{from_bool};
-ghost use Rattle.rcu_numbers.specs.declared.shape.TheConstants.{MOST_PROCESSORS};
+ghost use Rattle.rcu_numbers.specs.declared.set.TheConstants.{PARTS_PROCESSORS};
 ghost use Rattle.rcu_c.specs.Exports.{Refuses, Tells, TellsPoll};
 ghost use Rattle.rcu_c_slots.specs.Barriers.{OpensPart};
 ghost use Rattle.rcu_c_slots.specs.Others.{HaltsBy, ShutsBy, SwitchesPart};
@@ -49,9 +49,9 @@ pub extern "C" fn rcuo_slot_poll(
     barrier: &CountWords,
     passed: &mut bool,
 ) -> u32
-    ensures tells { barrier.now.processors ≤ MOST_PROCESSORS
+    ensures tells { barrier.now.processors ≤ PARTS_PROCESSORS
         → TellsPoll barrier.now passed.new result slot.old slot.new }
-    ensures foreign { MOST_PROCESSORS < barrier.now.processors
+    ensures foreign { PARTS_PROCESSORS < barrier.now.processors
         → Refuses Foreign result slot.old slot.new }
     ensures stays { result ≢ 0 → passed.new ≡ passed.old }
 {

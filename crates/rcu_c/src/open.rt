@@ -1,60 +1,70 @@
 //! Open and close.
 
-ghost use Rattle.std.specs.Prelude.{◌≡◌, ◌≢◌, ◌≤◌, ◌↔◌, IsSome, IfSome};
-ghost use Rattle.rcu_numbers.specs.declared.shape.TheConstants.{MOST_CALLS};
-ghost use Rattle.rcu_c.specs.Exports.{IsDoneUnlessForMemory, IsInside, OpensBy, RefusesCloseBy, RefusesOpenBy, TellsClose};
-ghost use Rattle.rcu_c.specs.Words.{AreOptionsOf, IsShapeOf, calls_limit, records_kept};
+ghost use Rattle.std.specs.Prelude.{◌≡◌, ◌≢◌, ◌≤◌, IfNone, IfSome};
+ghost use Rattle.rcu_numbers.specs.declared.set.TheConstants.{PARTS_PROCESSORS};
+ghost use Rattle.rcu_c.specs.Exports.{IsDoneUnlessForMemory, OpensBy, RefusesCloseBy, RefusesOpenBy, TellsClose};
+ghost use Rattle.rcu_c.specs.Exports.{IsInside, IsOutside};
+ghost use Rattle.rcu_c.specs.Words.{IsShapeOf, limit_of, offloadable_of, records_kept};
 ghost use Rattle.rcu_c_slots.specs.Gathers.{AreOfTheOpen, CanTryClose, StayHeld, StayRead};
 ghost use Rattle.rcu_c_slots.specs.Opens.{AreEmpty};
 
 use crate::words::Settings;
 use rcu_c_slots::{Fault, PartSlots, close_from, open_into};
-use rcu_numbers::{DEFAULT_LIMIT, MOST_CALLS, Shape};
-use rcu_parts::{Kept, OpenOptions};
+use rcu_numbers::{MOST_CALLS, PARTS_PROCESSORS, PartsShape, ProcessorSet};
+use rcu_parts::Kept;
 use std::alloc::Global;
 
-/// How many callbacks a processor accepts at most, where 0 says that nothing ends it: None above the greatest limit.
-fn limit_of(settings: &Settings) -> Option<u64>
-    ensures within { IsSome result ↔ (settings.now.limit ≤ MOST_CALLS) }
-    ensures limit { IfSome result (λ limit.
-        (limit ≡ calls_limit settings.now.limit) × (limit ≤ MOST_CALLS)) }
+/// The offloadable processors of these settings, of at most 1,024.
+fn offloadable_of(settings: &Settings) -> ProcessorSet
+    requires { settings.now.processors ≤ PARTS_PROCESSORS }
+    ensures { result ≡ offloadable_of settings.now }
 {
-    if settings.limit > MOST_CALLS {
-        return None;
+    if settings.all {
+        ProcessorSet::of_first(settings.processors)
+    } else {
+        ProcessorSet::of_words(&settings.offloadable)
     }
-    if settings.limit == 0 {
-        return Some(MOST_CALLS);
-    }
-    Some(settings.limit)
 }
 
-/// Whether records are kept until the runtime closes.
+/// How many callbacks each processor accepts in all.
+fn limit_of(settings: &Settings) -> u64
+    ensures { result ≡ limit_of settings.now }
+{
+    if settings.limit == 0 {
+        MOST_CALLS
+    } else {
+        settings.limit
+    }
+}
+
+/// What is kept of the callbacks that ran: every record until the runtime closes, or none.
 fn kept_by(settings: &Settings) -> Kept
     ensures { result ≡ records_kept settings.now.records }
 {
-    if settings.records == 0 {
-        return Kept::Nothing;
+    if settings.records {
+        Kept::Whole
+    } else {
+        Kept::Nothing
     }
-    Kept::Whole
 }
 
-/// The shape and the options of these settings, or None where one is outside its limits.
-fn opening_of(settings: &Settings) -> Option<(Shape, OpenOptions)>
-    ensures within { IsSome result ↔ IsInside settings.now }
-    ensures shape { IfSome result (λ t. IsShapeOf settings.now t.0) }
-    ensures options { IfSome result (λ t. AreOptionsOf settings.now t.1) }
+/// The shape of these settings; None where one is outside its limits.
+fn shape_of(settings: &Settings) -> Option<PartsShape>
+    ensures some { IfSome result (λ shape. IsShapeOf settings.now shape) }
+    ensures within { IfSome result (λ _. IsInside settings.now) }
+    ensures none { IfNone result (IsOutside settings.now) }
 {
-    let shape = Shape::new(
+    if settings.processors > PARTS_PROCESSORS {
+        return None;
+    }
+    PartsShape::new(
         settings.processors,
-        settings.offloadable,
+        &offloadable_of(settings),
         settings.stride,
         settings.blimit,
         settings.qhimark,
-        DEFAULT_LIMIT,
-    )?;
-    let limit = limit_of(settings)?;
-    let kept = kept_by(settings);
-    Some((shape, OpenOptions { limit, kept }))
+        limit_of(settings),
+    )
 }
 
 /// `rcuo_open`: opens a runtime under a number into empty slots.
@@ -71,10 +81,10 @@ pub extern "C" fn rcuo_slot_open(
     ensures why { result ≢ 0 → RefusesOpenBy settings.now result slots.old }
     ensures sections { StayRead slots.old slots.new }
 {
-    let Some((shape, options)) = opening_of(settings) else {
+    let Some(shape) = shape_of(settings) else {
         return Fault::Shape.number();
     };
-    match open_into(alloc, shape, options, number, slots) {
+    match open_into(alloc, &shape, kept_by(settings), number, slots) {
         Ok(()) => 0,
         Err(fault) => fault.number(),
     }

@@ -5,9 +5,9 @@ ghost use Rattle.rcu_c.specs.Words.{AreCountsOf, AreListWords, AreTurnWords, mod
 
 use rcu_c_slots::ForeignJob;
 use rcu_jobs::{Counts, DriverTurn, Lists, Mode};
-use rcu_numbers::MOST_PROCESSORS;
+use rcu_numbers::PARTS_PROCESSORS;
 
-/// `struct rcuo_settings`.
+/// `struct rcuo_shape`: what the header makes of `struct rcuo_settings`.
 #[repr(C)]
 #[derive(Clone, Copy)]
 pub struct Settings {
@@ -15,9 +15,14 @@ pub struct Settings {
     pub stride: u64,
     pub blimit: u64,
     pub qhimark: u64,
+    /// 0 for none: the processors accept as many as can be counted.
     pub limit: u64,
-    pub offloadable: u32,
-    pub records: u32,
+    /// The offloadable processors: bit `p % 64` of word `p / 64` for processor `p`.
+    pub offloadable: [u64; 16],
+    /// Whether each processor is offloadable, whatever the words say.
+    pub all: bool,
+    /// Whether the record of each callback that ran is kept until the runtime closes.
+    pub records: bool,
 }
 
 /// `struct rcuo_ticket`.
@@ -33,7 +38,7 @@ pub struct TicketWords {
 #[derive(Clone, Copy)]
 pub struct CountWords {
     pub processors: u64,
-    pub counts: [u64; 32],
+    pub counts: [u64; 1024],
 }
 
 /// `struct rcuo_driver_turn`.
@@ -87,9 +92,9 @@ pub(crate) fn words_of_counts(counts: &Counts) -> CountWords
 /// The counts of words; None where there are too many processors.
 pub(crate) fn counts_of_words(words: &CountWords) -> Option<Counts>
     ensures some { IfSome result (λ counts. AreCountsOf words.now counts) }
-    ensures none { IfNone result (MOST_PROCESSORS < words.now.processors) }
+    ensures none { IfNone result (PARTS_PROCESSORS < words.now.processors) }
 {
-    if words.processors > MOST_PROCESSORS {
+    if words.processors > PARTS_PROCESSORS {
         return None;
     }
     let mut counts = Counts::new(words.processors);

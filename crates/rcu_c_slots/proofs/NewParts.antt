@@ -2,7 +2,7 @@
 use Rattle.std.proofs.Common.{ℕ, ◌≤◌, map, Result, Ok, Err, IfOk, sym, subst, arith}
 use Rattle.std.specs.List.{range_with_len}
 use Rattle.rcu_board.specs.Opened.{has_offloadable, is_offloadable, numbers_where}
-use Rattle.rcu_numbers.specs.declared.shape.Shape.{Shape}
+use Rattle.rcu_numbers.specs.declared.parts_shape.PartsShape.{PartsShape}
 use Rattle.rcu_c_slots.specs.Gathers.{ForeignParts}
 use Rattle.rcu_c_slots.specs.Opens.{AreNew, AreRising, BoxesAll, OpensBoxes}
 use Rattle.rcu_c_slots.specs.Processors.{ForeignCpu}
@@ -12,14 +12,13 @@ use Rattle.rcu_c_slots.specs.declared.opening.Boxes.{Boxes}
 use Rattle.rcu_part_group.specs.declared.group.Group.{Group}
 use Rattle.rcu_parts.specs.OneOpen.{groups_in, hands_in, parts_board, processors_in}
 use Rattle.rcu_parts.specs.Openings.{IsFirstGroup, IsFirstHand, IsFirstProcessor, IsOpenedWith}
-use Rattle.rcu_parts.specs.declared.opening.OpenOptions.{OpenOptions}
 use Rattle.rcu_part_order.specs.declared.recorded.Kept.{Kept}
 use Rattle.rcu_c_slots.proofs.Placing.{rising_range, rising_where, zip_numbers}
 
-module _ (limit : ℕ) (kept : Kept) (shape : Shape) (parts : ForeignParts) (o : IsOpenedWith limit kept shape parts) (end : ℕ) (few : shape.processors ≤ end) where
+module _ (kept : Kept) (shape : PartsShape) (parts : ForeignParts) (o : IsOpenedWith kept shape parts) (end : ℕ) (few : shape.processors ≤ end) where
   pub rising_processors : AreRising 0 end (map (λ (p : ForeignCpu). p.state.cpu) (processors_in parts))
   rising_processors = let b = parts_board parts in let many = o.many in
-      subst (AreRising 0 end) (sym (zip_numbers (IsFirstProcessor shape limit kept b) (λ (p : ForeignCpu). p.state.cpu) (λ k p f. f.part.cpu_is) (range_with_len 0 b.processors) (processors_in parts) o.processors))
+      subst (AreRising 0 end) (sym (zip_numbers (IsFirstProcessor shape kept b) (λ (p : ForeignCpu). p.state.cpu) (λ k p f. f.part.cpu_is) (range_with_len 0 b.processors) (processors_in parts) o.processors))
       (rising_range 0 b.processors end (omega (arith, many, few)))
 
   pub rising_groups : AreRising 0 end (map (λ (g : Group ForeignJob ForeignJob). g.state.group) (groups_in parts))
@@ -33,6 +32,6 @@ module _ (limit : ℕ) (kept : Kept) (shape : Shape) (parts : ForeignParts) (o :
       (rising_where test 0 b.processors end (omega (arith, many, few)))
 
 -- what was opened, and boxed
-pub opens_boxes : {E : Type 0} (options : OpenOptions) (shape : Shape) (number : ℕ) (parts : ForeignParts) (r : Result Boxes E) → AreNew options shape parts → IfOk r (λ boxes. BoxesAll number parts boxes) → IfOk r (λ boxes. OpensBoxes options shape number boxes)
-opens_boxes options shape number parts (Ok boxes) new all = record { parts = parts; new = new; boxes_all = all }
-opens_boxes options shape number parts (Err e) new all = tt
+pub opens_boxes : {E : Type 0} (kept : Kept) (shape : PartsShape) (number : ℕ) (parts : ForeignParts) (r : Result Boxes E) → AreNew kept shape parts → IfOk r (λ boxes. BoxesAll number parts boxes) → IfOk r (λ boxes. OpensBoxes kept shape number boxes)
+opens_boxes kept shape number parts (Ok boxes) new all = record { parts = parts; new = new; boxes_all = all }
+opens_boxes kept shape number parts (Err e) new all = tt

@@ -16,7 +16,7 @@ use Rattle.rcu_c_slots.specs.declared.part.Opening.{Opening}
 use Rattle.rcu_c_slots.specs.declared.part.Part.{Part}
 use Rattle.rcu_c_slots.specs.declared.part.Part.TheVariants.{Control, Driver, Group, Hand, Nothing, Processor}
 use Rattle.rcu_c_slots.specs.declared.slot.PartSlots.{PartSlots}
-use Rattle.rcu_numbers.specs.declared.shape.Shape.{Shape}
+use Rattle.rcu_numbers.specs.declared.parts_shape.PartsShape.{PartsShape}
 use Rattle.rcu_part_group.specs.Groups.{group_board, group_view}
 use Rattle.rcu_part_group.specs.declared.group.Group.{Group as TheGroup}
 use Rattle.rcu_part_hand.specs.Hands.{IsSoundHand, hand_board, hand_view}
@@ -26,7 +26,7 @@ use Rattle.rcu_part_processor.specs.InPlace.{resting}
 use Rattle.rcu_part_processor.specs.Processors.{IsSound, view_of}
 use Rattle.rcu_part_processor.specs.declared.in_place.ProcessorInPlaceState.{ProcessorInPlaceState}
 use Rattle.rcu_part_steps.specs.declared.begins.ClaimedCallback.{ClaimedCallback}
-use Rattle.rcu_parts.specs.declared.opening.OpenOptions.{OpenOptions}
+use Rattle.rcu_part_order.specs.declared.recorded.Kept.{Kept}
 use Rattle.rcu_parts.specs.OneOpen.{AreOfOneOpen, AreProcessorsFrom, AreSoundParts, HasHand, HasMember, groups_in, hands_in, members_in, offloadable_in, parts_board, processors_in}
 
 abbrev ForeignGroup : Type 0
@@ -125,8 +125,8 @@ both_held o p parts others slots h k = can_close_same parts others
     (sym (groups_back (groups_in parts)) ∙ (ap (filter_map group_in) (sym h.groups_are ∙ k.groups_are) ∙ groups_back (groups_in others)))
     (sym (hands_back (hands_in parts)) ∙ (ap (filter_map hand_in) (sym h.hands_are ∙ k.hands_are) ∙ hands_back (hands_in others)))
 
-pub opened_of_the_open : (options : OpenOptions) (shape : Shape) (number : ℕ) (slots : PartSlots) → OpensInto options shape number slots → AreOfTheOpen slots
-opened_of_the_open options shape number slots o = record {
+pub opened_of_the_open : (kept : Kept) (shape : PartsShape) (number : ℕ) (slots : PartSlots) → OpensInto kept shape number slots → AreOfTheOpen slots
+opened_of_the_open kept shape number slots o = record {
   first = λ p parts h. both_held p o.opening parts o.parts slots h o.held o.new.can_close;
   again = λ l closing is part.
       let f : true ≡ false = ap (λ (x : Option Lent). is_control (part_in x)) (sym o.held.control_is ∙ is) ∙ ap is_control part in absurd (let g = f in cc);

@@ -2,7 +2,7 @@
 use Rattle.std.specs.Prelude.{◌≡◌, ◌≢◌, ℕ, suc, ◌<◌, ◌≤◌, Option, Some, None, IfSome, List, [], ◌∷◌, length, map, ⊤}
 use Rattle.std.specs.Global.{Box}
 use Rattle.std.proofs.Common.{◌⊎◌}
-use Rattle.rcu_numbers.specs.declared.shape.Shape.{Shape}
+use Rattle.rcu_numbers.specs.declared.parts_shape.PartsShape.{PartsShape}
 use Rattle.rcu_c_slots.specs.Gathers.{AreHeld, CanClose, ForeignParts, lent_of, lents_in}
 use Rattle.rcu_c_slots.specs.Processors.{ForeignCpu, lent_processor}
 use Rattle.rcu_c_slots.specs.Runs.{ForeignHand, lent_hand}
@@ -18,7 +18,7 @@ use Rattle.rcu_c_slots.specs.declared.slot.PartSlots.{PartSlots}
 use Rattle.rcu_part_group.specs.declared.group.Group.{Group as TheGroup}
 use Rattle.rcu_parts.specs.OneOpen.{groups_in, hands_in, processors_in}
 use Rattle.rcu_parts.specs.Openings.{IsOpenedWith}
-use Rattle.rcu_parts.specs.declared.opening.OpenOptions.{OpenOptions}
+use Rattle.rcu_part_order.specs.declared.recorded.Kept.{Kept}
 
 -- No slot has a part.
 pub record AreEmpty (slots : PartSlots) : Type 0 where
@@ -94,15 +94,15 @@ pub record BoxesAll (number : ℕ) (parts : ForeignParts) (boxes : Boxes) : Type
   pub named : opening.number ≡ number
   pub boxed : AreBoxed opening parts boxes
 
--- What is known of new parts: they are those of a new board of this shape, opened with these options, and can be closed.
-pub record AreNew (options : OpenOptions) (shape : Shape) (parts : ForeignParts) : Type 0 where
-  pub opened : IsOpenedWith options.limit options.kept shape parts
+-- What is known of new parts: they are those of a new board of this shape, which keep so much of what runs, and can be closed.
+pub record AreNew (kept : Kept) (shape : PartsShape) (parts : ForeignParts) : Type 0 where
+  pub opened : IsOpenedWith kept shape parts
   pub can_close : CanClose parts
 
 -- A new runtime was opened, and boxed.
-pub record OpensBoxes (options : OpenOptions) (shape : Shape) (number : ℕ) (boxes : Boxes) : Type 0 where
+pub record OpensBoxes (kept : Kept) (shape : PartsShape) (number : ℕ) (boxes : Boxes) : Type 0 where
   pub parts : ForeignParts
-  pub new : AreNew options shape parts
+  pub new : AreNew kept shape parts
   pub boxes_all : BoxesAll number parts boxes
 
 -- Each processor, group and hand is for the place of its own number.
@@ -112,9 +112,9 @@ pub record AreAtHome (o : Opening) (parts : ForeignParts) (slots : PartSlots) : 
   pub hands_are : lents_in slots.hands ≡ lent_hands o (hands_in parts)
 
 -- The slots have all parts of a new runtime under this number, each in the place of its own number.
-pub record OpensInto (options : OpenOptions) (shape : Shape) (number : ℕ) (slots : PartSlots) : Type 0 where
+pub record OpensInto (kept : Kept) (shape : PartsShape) (number : ℕ) (slots : PartSlots) : Type 0 where
   pub parts : ForeignParts
-  pub new : AreNew options shape parts
+  pub new : AreNew kept shape parts
   pub opening : Opening
   pub named : opening.number ≡ number
   pub held : AreHeld opening parts slots

@@ -9,8 +9,8 @@ use crate::job::ForeignJob;
 use crate::lent::{LentHand, LentProcessor};
 use crate::part::{Lent, Opening, Part};
 use crate::slot::{PartSlots, Slot};
-use rcu_numbers::Shape;
-use rcu_parts::{AllParts, Group, Hand, OpenOptions, Parts, Processor, open_with};
+use rcu_numbers::PartsShape;
+use rcu_parts::{AllParts, Group, Hand, Kept, Parts, Processor, open_with};
 use std::alloc::{AllocError, Global};
 use std::collections::VecDeque;
 
@@ -110,13 +110,13 @@ fn box_all(alloc: Global, number: u64, parts: Parts<ForeignJob>) -> Result<Boxes
 /// Opens a runtime, and boxes its parts.
 fn open_boxes(
     alloc: Global,
-    shape: Shape,
-    options: OpenOptions,
+    shape: &PartsShape,
+    kept: Kept,
     number: u64,
 ) -> Result<Boxes, AllocError>
-    ensures { IfOk result (λ boxes. OpensBoxes options shape number boxes) }
+    ensures { IfOk result (λ boxes. OpensBoxes kept shape.now number boxes) }
 {
-    match open_with::<ForeignJob>(alloc, shape, options) {
+    match open_with::<ForeignJob>(alloc, shape, kept) {
         Ok(parts) => box_all(alloc, number, parts),
         Err(_) => Err(AllocError),
     }
@@ -167,12 +167,12 @@ fn are_empty(slots: &[Slot]) -> bool
 /// A slot is full; or want of memory. No slot has changed.
 pub fn open_into(
     alloc: Global,
-    shape: Shape,
-    options: OpenOptions,
+    shape: &PartsShape,
+    kept: Kept,
     number: u64,
     slots: &mut PartSlots,
 ) -> Result<(), Fault>
-    ensures opened { IfOk result (λ _. OpensInto options shape number slots.new) }
+    ensures opened { IfOk result (λ _. OpensInto kept shape.now number slots.new) }
     ensures empty { IfOk result (λ _. AreEmpty slots.old) }
     ensures refused { IfErr result (λ _. StayHeld slots.old slots.new) }
     ensures why { IfErr result (λ fault. RefusesOpen fault slots.old) }
@@ -184,7 +184,7 @@ pub fn open_into(
     if !are_empty(&slots.processors) || !are_empty(&slots.groups) || !are_empty(&slots.hands) {
         return Err(Fault::Full);
     }
-    let Ok(boxes) = open_boxes(alloc, shape, options, number) else {
+    let Ok(boxes) = open_boxes(alloc, shape, kept, number) else {
         return Err(Fault::Memory);
     };
     let Boxes {

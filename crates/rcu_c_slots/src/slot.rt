@@ -140,7 +140,7 @@ impl Slot {
 pub struct PartSlots {
     pub control: Slot,
     pub driver: Slot,
-    pub processors: [Slot; 32],
-    pub groups: [Slot; 32],
-    pub hands: [Slot; 32],
+    pub processors: [Slot; 1024],
+    pub groups: [Slot; 1024],
+    pub hands: [Slot; 1024],
 }

@@ -4,12 +4,12 @@ ghost use Rattle.std.specs.Prelude.{◌≡◌, ◌≢◌, ℕ, ◌<◌, ◌≤�
 ghost use Rattle.rcu_jobs.specs.declared.counts.TheConstants.{MOST};
 
 /// How many processors a runtime has at most.
-const MOST: usize = 32;
+const MOST: usize = 1024;
 
 /// A count for each of `n` processors; the counts from `n` on are 0.
 #[derive(Clone, Copy, Debug, PartialEq, Eq)]
 pub struct Counts {
-    /// How many processors there are, at most 32.
+    /// How many processors there are, at most 1024.
     pub n: u64,
     /// The count of processor `p` at place `p`.
     pub counts: [u64; MOST],

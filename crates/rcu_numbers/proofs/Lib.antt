@@ -1,3 +1,4 @@
 pub mod RootLaw
 pub mod SnapLaw
 pub mod WordLaws
+pub mod SetLaws

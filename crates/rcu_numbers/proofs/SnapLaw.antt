@@ -1,8 +1,8 @@
 -- The number that a callback waits for is the least whose grace period begins after the look.
-use Rattle.std.proofs.Common.{◌≡◌, ℕ, ◌+◌, ◌*◌, ◌/◌, ◌%◌, ◌^◌, ◌<◌, ◌≤◌, ◌∙◌, ap, arith, bit_or}
+use Rattle.std.proofs.Common.{◌≡◌, ℕ, ◌+◌, ◌*◌, ◌/◌, ◌%◌, ◌^◌, ◌∙◌, ap, arith, bit_or}
 use lib.Bits.{or_zero_r}
 use Rattle.std.proofs.lemmas.Nat.{or_block}
-use Rattle.rcu_numbers.specs.Numbers.{HasGracePeriod, IsSnap, snap_of}
+use Rattle.rcu_numbers.specs.Numbers.{IsSnap, snap_of}
 
 -- the grace period that begins after s and ends first has the number 4 * ((s + 3) / 4) + 1
 pub snap-least : (s : ℕ) → IsSnap s (snap_of s)

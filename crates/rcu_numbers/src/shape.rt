@@ -2,11 +2,13 @@
 
 ghost use Rattle.std.specs.Prelude.{◌≡◌, ℕ, ◌/◌, ◌^◌, ◌<◌, ◌≤◌, ◌↔◌, IsSome, IsTrue, IfSome};
 ghost use Rattle.rcu_numbers.specs.Limits.{IsWithin, IsWithinLimits, IsWholeRoot};
+ghost use Rattle.rcu_numbers.specs.declared.set.TheConstants.{PARTS_PROCESSORS};
 
-/// The most processors that a runtime has.
+/// The most processors that a setup, the program `rcuo` and the core have. The running parts have more:
+/// [`PARTS_PROCESSORS`](crate::PARTS_PROCESSORS).
 pub const MOST_PROCESSORS: u64 = 32;
 
-/// The greatest value of `blimit`, `qhimark` and `limit`.
+/// The greatest value of `blimit` and `qhimark`, and of the `limit` of a [`Shape`].
 pub const MOST_CALLBACKS: u64 = 1000000;
 
 /// How many callbacks a processor of the running parts accepts in its life at most, 2^53: those of 1,024 processors together
@@ -22,7 +24,8 @@ pub const DEFAULT_QHIMARK: u64 = 10000;
 /// How many callbacks each processor accepts where nothing else is said.
 pub const DEFAULT_LIMIT: u64 = 1000000;
 
-/// What a runtime is opened with. Each value of it is within the limits of docs/specification/rules.md, "Limits".
+/// What the core is opened with, and a runtime of at most 32 processors ([`Shape::for_parts`]). Each value of it is within the
+/// limits of docs/specification/rules.md, "Limits".
 #[derive(Clone, Copy, Debug, PartialEq, Eq)]
 pub struct Shape {
     /// How many processors there are, 1 to 32.
@@ -80,7 +83,7 @@ impl Shape {
     }
 }
 
-fn is_within(least: u64, greatest: u64, n: u64) -> bool
+pub(crate) fn is_within(least: u64, greatest: u64, n: u64) -> bool
     ensures { IsTrue result ↔ IsWithin least greatest n }
 {
     least <= n && n <= greatest
@@ -89,9 +92,9 @@ fn is_within(least: u64, greatest: u64, n: u64) -> bool
 /// The stride of a runtime of `processors` processors where none is given: their number divided by its whole square
 /// root.
 pub fn default_stride(processors: u64) -> u64
-    requires { IsWithin 1 MOST_PROCESSORS processors }
+    requires { IsWithin 1 PARTS_PROCESSORS processors }
     ensures stride { (r : ℕ) → IsWholeRoot processors r → result ≡ processors / r }
-    ensures within { IsWithin 1 MOST_PROCESSORS result }
+    ensures within { IsWithin 1 processors result }
 {
     processors / processors.isqrt()
 }

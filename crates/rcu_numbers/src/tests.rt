@@ -45,6 +45,7 @@ fn default_strides(rt: HostRuntime) -> Result<(), Fail> {
     ] {
         assert_eq!(rt; default_stride(processors), stride, "of {processors}");
     }
+    assert_eq!(rt; (default_stride(1000), default_stride(1024)), (32, 32));
     Ok(())
 }
 
@@ -56,5 +57,44 @@ fn shapes_within_the_limits(rt: HostRuntime) -> Result<(), Fail> {
     assert!(rt; Shape::new(33, 0, 1, 1, 1, 1).is_none());
     assert!(rt; Shape::new(1, 0, 1, 0, 1, 1).is_none());
     assert!(rt; Shape::new(1, 0, 1, 1, 1, 1000001).is_none());
+    Ok(())
+}
+
+#[test]
+fn sets_of_processors(rt: HostRuntime) -> Result<(), Fail> {
+    let mut set = ProcessorSet::of_mask(0b110);
+    assert!(rt; !set.has(0) && set.has(1) && set.has(2) && !set.has(32));
+    set.add(700);
+    assert!(rt; set.has(700) && !set.has(699) && !set.has(636) && set.has(1));
+    assert!(rt; set.copied().is_below(701) && !set.copied().is_below(700));
+    assert!(rt; !set.has(1024) && !set.has(u64::MAX));
+    assert!(rt; ProcessorSet::of_first(1024).has(1023) && ProcessorSet::new().is_below(0));
+    let set = ProcessorSet::of_words(&[0, 1, 0, 0, 0, 0, 0, 0, 0, 0, 0, 0, 0, 0, 0, 1 << 63]);
+    assert!(rt; set.has(64) && set.has(1023) && !set.has(63) && !set.has(65));
+    assert_eq!(rt; (first_bits(1), first_bits(64)), (1, u64::MAX));
+    Ok(())
+}
+
+#[test]
+fn parts_shapes_within_the_limits(rt: HostRuntime) -> Result<(), Fail> {
+    let none = ProcessorSet::new();
+    let all = ProcessorSet::of_first(1024);
+    assert!(rt; PartsShape::new(1024, &all, 1024, 1000000, 1000000, MOST_CALLS).is_some());
+    assert!(rt;
+        PartsShape::new(1023, &all, 1, 1, 1, 1).is_none(),
+        "processor 1023 isn't there"
+    );
+    assert!(rt; PartsShape::new(1025, &none, 1, 1, 1, 1).is_none());
+    assert!(rt; PartsShape::new(0, &none, 1, 1, 1, 1).is_none());
+    assert!(rt; PartsShape::new(1, &none, 1025, 1, 1, 1).is_none());
+    assert!(rt; PartsShape::new(1, &none, 1, 1000001, 1, 1).is_none());
+    assert!(rt; PartsShape::new(1, &none, 1, 1, 1, 0).is_none());
+    assert!(rt; PartsShape::new(1, &none, 1, 1, 1, MOST_CALLS + 1).is_none());
+    let shape = Shape::new(2, 0b10, 1, 3, 4, 5)
+        .expect(&rt, "within the limits")
+        .for_parts();
+    assert_eq!(rt; (shape.processors, shape.stride, shape.blimit), (2, 1, 3));
+    assert_eq!(rt; (shape.qhimark, shape.limit), (4, 5));
+    assert!(rt; shape.offloadable.has(1) && !shape.offloadable.has(0));
     Ok(())
 }

@@ -94,9 +94,17 @@ pub fn all_processors(n: u64) -> u32
     ((1u64 << n) - 1) as u32
 }
 
-/// What a word is joined with, bit by bit, for the report of processor `p`: every bit but `p`.
+/// The first `n` bits of a word.
+pub fn first_bits(n: u64) -> u64
+    requires { 0 < n × n ≤ 64 }
+    ensures { result ≡ all_of n }
+{
+    u64::MAX >> (64 - n)
+}
+
+/// What a word is joined with, bit by bit, so that bit `p` is cleared: every bit but `p`.
 pub fn all_but(p: u64) -> u64
-    requires { p < MOST_PROCESSORS }
+    requires { p < 64 }
     ensures { result ≡ all_but_of p }
 {
     !(1u64 << p)

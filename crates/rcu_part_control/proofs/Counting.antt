@@ -21,7 +21,7 @@ also_next C p all one q low = dite (ℕ_discrete q p) (λ is. subst C (sym is) o
 pub reads_none : (counts : Counts) (v : View) → ReadsCounts 0 counts v v
 reads_none counts v = record { steps = steps_on_none accepts_word v; halves = λ p low. absurd (omega arith) }
 
-pub reads_next : (k p x : ℕ) (counts after : Counts) (v u : View) → HasWords k u → accepts_word p < k → p < 32 → length counts.counts ≡ 32 → after.counts ≡ slice_set counts.counts p (x / 2)
+pub reads_next : (k p x : ℕ) (counts after : Counts) (v u : View) → HasWords k u → accepts_word p < k → p < 1024 → length counts.counts ≡ 1024 → after.counts ≡ slice_set counts.counts p (x / 2)
     → ReadsCounts p counts v u → ReadsCounts (p + 1) after v (touched (accepts_word p) x u)
 reads_next k p x counts after v u words low few long set e = record {
   steps = steps_on_next accepts_word k p x v u accepts_differ words low e.steps;
@@ -32,7 +32,7 @@ reads_next k p x counts after v u words low few long set e = record {
       ∙ ap (λ (s : ℕ). s / 2) (sym (seen_here k (accepts_word p) x u words low))));
 }
 
-pub own_next : (p x : ℕ) (counts after : Counts) (s : Seat) → p < 32 → length counts.counts ≡ 32 → after.counts ≡ slice_set counts.counts p (x / 2)
+pub own_next : (p x : ℕ) (counts after : Counts) (s : Seat) → p < 1024 → length counts.counts ≡ 1024 → after.counts ≡ slice_set counts.counts p (x / 2)
     → CountsItsOwn p counts s → (s.role ≡ Processor p → x / 2 ≡ count_of_own (view s)) → CountsItsOwn (p + 1) after s
 own_next p x counts after s few long set e one = also_next (λ q. s.role ≡ Processor q → count_at after q ≡ count_of_own (view s)) p
     (λ q lower is. ap (λ xs. Rattle.std.specs.Prelude.slice_index xs q) set ∙ (get_or-set_other counts.counts p q (x / 2) 0 (λ same. absurd (omega (arith, same))) ∙ e q lower is))
@@ -41,7 +41,7 @@ own_next p x counts after s few long set e one = also_next (λ q. s.role ≡ Pro
 pub shuts_none : (counts : Counts) (v : View) → Shuts 0 counts v v
 shuts_none counts v = record { steps = steps_on_none accepts_word v; shut = λ p low. absurd (omega arith) }
 
-pub shuts_next : (k p x : ℕ) (counts after : Counts) (v u : View) → HasWords k u → accepts_word p < k → p < 32 → length counts.counts ≡ 32 → after.counts ≡ slice_set counts.counts p x
+pub shuts_next : (k p x : ℕ) (counts after : Counts) (v u : View) → HasWords k u → accepts_word p < k → p < 1024 → length counts.counts ≡ 1024 → after.counts ≡ slice_set counts.counts p x
     → Shuts p counts v u → Shuts (p + 1) after v (touched (accepts_word p) (2 * x + 1) u)
 shuts_next k p x counts after v u words low few long set e = record {
   steps = steps_on_next accepts_word k p (2 * x + 1) v u accepts_differ words low e.steps;

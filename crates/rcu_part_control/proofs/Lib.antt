@@ -2,3 +2,4 @@ pub mod Counting
 pub mod Tickets
 pub mod Waiting
 pub mod Rounds
+pub mod Urging

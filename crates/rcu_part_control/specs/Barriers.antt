@@ -1,7 +1,6 @@
 -- Barriers: docs/specification/rules.md, "The calls, step by step", `barrier` and `poll`.
-use Rattle.std.specs.Prelude.{◌≡◌, ℕ, ◌+◌, ◌*◌, ◌/◌, ◌<◌, ◌≤◌, nat_le, if◌then◌else◌, Option, Some, None, Result, MatchResult, List, [], ◌∷◌, slice_index, bit_or, All}
-use Rattle.rcu_numbers.specs.Words.{all_of}
-use Rattle.rcu_board.specs.Words.{accepts_word, turns_word, urge_word}
+use Rattle.std.specs.Prelude.{◌≡◌, ℕ, zero, suc, ◌+◌, ◌*◌, ◌/◌, ◌<◌, ◌≤◌, nat_le, if◌then◌else◌, Option, Some, None, Result, MatchResult, List, [], ◌∷◌, slice_index, bit_or, All}
+use Rattle.rcu_board.specs.Words.{accepts_word, turns_word, urges_of, urges_word, urge_bits}
 use Rattle.rcu_board.specs.Views.{seen_at}
 use Rattle.rcu_board.specs.Plays.{urged}
 use Rattle.rcu_board.specs.Seats.{view, count_of_own}
@@ -29,9 +28,18 @@ pub record ReadsCounts (n : ℕ) (counts : Counts) (v w : View) : Type 0 where
 abbrev pub CountsItsOwn : ℕ → Counts → Seat → Type 0
 CountsItsOwn n counts s = (p : ℕ) → p < n → s.role ≡ Processor p → count_at counts p ≡ count_of_own (view s)
 
--- one step on the urge word, which sets the bits of all n processors
+-- one step on the k-th urge word, which sets the bits of the processors that share it
+abbrev pub UrgesOne : ℕ → ℕ → View → View → Type 0
+UrgesOne n k v w = w ≡ urged (urges_word n k) (seen_at w (urges_word n k)) (bit_or (seen_at w (urges_word n k)) (urge_bits n k)) v
+
+-- such a step on each of the first k urge words, in their order
+unfoldable pub UrgesFirst : ℕ → ℕ → View → View → Type 0
+UrgesFirst n zero v w = w ≡ v
+UrgesFirst n (suc k) v w = (u : View) × UrgesFirst n k v u × UrgesOne n k u w
+
+-- all n processors were urged
 abbrev pub Urges : ℕ → View → View → Type 0
-Urges n v w = w ≡ urged (urge_word n) (seen_at w (urge_word n)) (bit_or (seen_at w (urge_word n)) (all_of n)) v
+Urges n v w = UrgesFirst n (urges_of n) v w
 
 -- what is wrong with a ticket
 abbrev pub ticket_fault : Counts → Ticket → Option BarrierFault

@@ -9,9 +9,9 @@ ghost use Rattle.rcu_board.specs.Words.{turns_word};
 ghost use Rattle.rcu_board.specs.declared.board.Board.{Board};
 ghost use Rattle.rcu_board.specs.declared.board.Seat.{Seat};
 ghost use Rattle.rcu_board.specs.Frames.{SamePart};
-ghost use Rattle.rcu_part_control.specs.Barriers.{ReadsCounts, CountsItsOwn, Opens, PollsBy, AreCounted, count_at, first_fault, ticket_fault};
+ghost use Rattle.rcu_part_control.specs.Barriers.{ReadsCounts, CountsItsOwn, Urges, Opens, PollsBy, AreCounted, count_at, first_fault, ticket_fault};
 
-use rcu_board::{Board, Seat, count_of, urge};
+use rcu_board::{Board, Seat, count_of, urge, urge_words};
 use rcu_jobs::{BarrierFault, Counts, Passed, Ticket};
 
 /// A part whose seat may read turn words: a processor or control (docs/specification/tables.md, "Kinds of atomic step").
@@ -66,6 +66,18 @@ pub(crate) fn read_counts(board: &Board, seat: &mut Seat) -> Counts
     counts
 }
 
+/// Urges every processor to release its bypass list.
+pub(crate) fn urge_all(board: &Board, seat: &mut Seat)
+    requires board { AtBoard board.now seat.old }
+    requires who { MayCount seat.old.role }
+    ensures same { SameSeat seat.old seat.new }
+    ensures urges { Urges board.now.processors (view seat.old) (view seat.new) }
+{
+    for k in 0..urge_words(board) {
+        urge(board, seat, k);
+    }
+}
+
 /// Opens a barrier: reads the count of each processor, and then urges them all to release their bypass lists. A
 /// processor's seat counts each callback that it has accepted itself.
 pub fn open_barrier(board: &Board, seat: &mut Seat) -> Barrier
@@ -76,7 +88,7 @@ pub fn open_barrier(board: &Board, seat: &mut Seat) -> Barrier
     ensures own { CountsItsOwn board.now.processors result.counts seat.old }
 {
     let counts = read_counts(board, seat);
-    urge(board, seat);
+    urge_all(board, seat);
     Barrier { counts }
 }
 

@@ -2,13 +2,13 @@
 
 ghost use Rattle.std.specs.Prelude.{◌≡◌, ◌≤◌};
 ghost use Rattle.std.specs.Arc.{arc_value};
-ghost use Rattle.rcu_numbers.specs.declared.shape.TheConstants.{MOST_PROCESSORS};
+ghost use Rattle.rcu_numbers.specs.declared.set.TheConstants.{PARTS_PROCESSORS};
 ghost use Rattle.rcu_board.specs.Seats.{view, AtBoard};
 ghost use Rattle.rcu_board.specs.declared.board.Role.{Role};
 ghost use Rattle.rcu_board.specs.Frames.{IsBare};
 
-use crate::barrier::{Barrier, ReadsTurns, check_tickets, read_counts};
-use rcu_board::{Board, Role, Seat, ask, halt, shut_one, turn_of, urge};
+use crate::barrier::{Barrier, ReadsTurns, check_tickets, read_counts, urge_all};
+use rcu_board::{Board, Role, Seat, ask, halt, shut_one, turn_of};
 use rcu_jobs::{BarrierFault, Counts, SwitchFault, Ticket};
 use std::alloc::Global;
 use std::sync::Arc;
@@ -42,10 +42,10 @@ impl Control {
         Control { board, seat }
     }
 
-    /// How many processors there are, 1 to 32: as many as a barrier counts that this board's parts may poll.
+    /// How many processors there are, 1 to 1024: as many as a barrier counts that this board's parts may poll.
     pub fn processors(&self) -> u64
         ensures board { result ≡ (control_board self.now).processors }
-        ensures few { result ≤ MOST_PROCESSORS }
+        ensures few { result ≤ PARTS_PROCESSORS }
     {
         self.board.processors()
     }
@@ -126,7 +126,7 @@ impl Control {
         if let Err(fault) = check_tickets(&counts, tickets) {
             return Err(fault);
         }
-        urge(&self.board, &mut self.seat);
+        urge_all(&self.board, &mut self.seat);
         Ok(Barrier { counts })
     }
 

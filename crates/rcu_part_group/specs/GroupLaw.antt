@@ -8,7 +8,7 @@ use Rattle.rcu_board.specs.declared.view.View.{View}
 use Rattle.rcu_board.specs.Frames.{IsBare}
 use Rattle.rcu_part_lists.specs.Aims.{AreUpTo}
 use Rattle.rcu_part_lists.specs.MemberLists.{Relay, relay}
-use Rattle.rcu_numbers.specs.declared.shape.TheConstants.{MOST_PROCESSORS}
+use Rattle.rcu_numbers.specs.declared.set.TheConstants.{PARTS_PROCESSORS}
 use Rattle.rcu_part_group.specs.declared.members.GroupMember.{GroupMember}
 use Rattle.rcu_part_group.specs.declared.members.GroupMembers.{GroupMembers}
 
@@ -39,7 +39,7 @@ module _ {J : Type 0} where
 
   -- The members of a group: in rising order of processors, no more than there can be.
   pub record AreMembers (members : List (GroupMember J)) : Type 0 where
-    pub few : length members ≤ MOST_PROCESSORS
+    pub few : length members ≤ PARTS_PROCESSORS
     pub rising : AllPairs (λ p q. p < q) (cpus_of members)
 
   -- The view of a group, its limit, and its members.

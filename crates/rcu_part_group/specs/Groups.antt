@@ -17,7 +17,7 @@ use Rattle.rcu_jobs.specs.declared.turns.GroupTurn.{GroupTurn}
 use Rattle.rcu_jobs.specs.declared.turns.Lists.{Lists}
 use Rattle.rcu_lanes.specs.Ends.{SameFront, SameRear}
 use Rattle.rcu_lists.specs.Labels.{callbacks_of}
-use Rattle.rcu_numbers.specs.declared.shape.Shape.{Shape}
+use Rattle.rcu_numbers.specs.declared.parts_shape.PartsShape.{PartsShape}
 use Rattle.rcu_part_group.specs.Each.{Each, Sums, IsGreatest}
 use Rattle.rcu_part_group.specs.GroupLaw.{group_members_in, relay_of}
 use Rattle.rcu_part_group.specs.declared.members.GroupMember.{GroupMember}
@@ -135,7 +135,7 @@ module _ {J : Type 0} where
     pub held : answer.held ≡ sum_by waiting_of (members_of q)
 
   -- group of a board, with its seat and its members
-  pub record IsNewGroupOf (shape : Shape) (b : Table) (group : ℕ) (s : Seat) (members : List (GroupMember J)) (g : GroupState J) : Type 0 where
+  pub record IsNewGroupOf (shape : PartsShape) (b : Table) (group : ℕ) (s : Seat) (members : List (GroupMember J)) (g : GroupState J) : Type 0 where
     pub board : group_board g ≡ b
     pub seat : g.seat ≡ s
     pub group_is : g.group ≡ group

@@ -9,7 +9,7 @@ ghost use Rattle.rcu_part_group.specs.GroupLaw.{IsLawfulGroup, group_members_in}
 use crate::members::GroupMembers;
 use rcu_board::{Board, Seat};
 use rcu_jobs::{Job, Lists};
-use rcu_numbers::Shape;
+use rcu_numbers::PartsShape;
 use std::alloc::Global;
 use std::sync::Arc;
 
@@ -42,7 +42,7 @@ impl<J: Job> Group<J> {
 
     /// A group of a shape, from its seat and its members, of which nothing has come.
     pub fn new(
-        shape: &Shape,
+        shape: &PartsShape,
         board: Arc<Board, Global>,
         seat: Seat,
         group: u64,

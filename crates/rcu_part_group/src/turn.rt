@@ -8,7 +8,8 @@ ghost use Rattle.rcu_board.specs.Views.{seen_at, sight, tally};
 ghost use Rattle.rcu_board.specs.Words.{board_word, needed_word};
 ghost use Rattle.rcu_board.specs.Frames.{KeepsLists};
 ghost use Rattle.rcu_numbers.specs.declared.sequence.TheConstants.{LAST_NUMBER};
-ghost use Rattle.rcu_numbers.specs.declared.shape.TheConstants.{MOST_CALLS, MOST_PROCESSORS};
+ghost use Rattle.rcu_numbers.specs.declared.shape.TheConstants.{MOST_CALLS};
+ghost use Rattle.rcu_numbers.specs.declared.set.TheConstants.{PARTS_PROCESSORS};
 ghost use Rattle.rcu_part_group.specs.Each.{IsGreatest, Sums};
 ghost use Rattle.rcu_part_group.specs.GroupLaw.{AreAdvancedTo, AreLoadedUpTo, AreWaitingTo, group_members_in, relay_of};
 ghost use Rattle.rcu_part_group.specs.Groups.{AsksFor, GivesTo, GivesToAll, LooksAt, LooksAtAll, LooksOnce, PassesOn, SameGroup, ShownFor, TakesFrom, TakesInAll, TurnsGroup, group_view, members_of, waiting_of};
@@ -69,7 +70,7 @@ fn greatest(first: Option<u64>, second: Option<u64>) -> Option<u64>
 impl<J: Drop> GroupMembers<J> {
     // Draws what came of all members. Answers how many callbacks.
     fn take_in(&mut self) -> u64
-        requires { length (group_members_in self.old) ≤ MOST_PROCESSORS }
+        requires { length (group_members_in self.old) ≤ PARTS_PROCESSORS }
         ensures { Sums TakesFrom result (group_members_in self.old) (group_members_in self.new) }
     {
         let first = self.first.take_in();
@@ -97,7 +98,7 @@ impl<J: Drop> GroupMembers<J> {
 
     // Gives what is done to the hands of all members. Answers how many callbacks.
     fn give(&mut self, blimit: u64) -> u64
-        requires many { length (group_members_in self.old) ≤ MOST_PROCESSORS }
+        requires many { length (group_members_in self.old) ≤ PARTS_PROCESSORS }
         requires loaded { AreLoadedUpTo blimit (group_members_in self.old) }
         ensures { Sums (GivesTo blimit) result (group_members_in self.old)
             (group_members_in self.new) }
@@ -112,7 +113,7 @@ impl<J: Drop> GroupMembers<J> {
 
     // How many callbacks of all members wait in batches.
     fn waiting(&self) -> u64
-        requires { length (group_members_in self.now) ≤ MOST_PROCESSORS }
+        requires { length (group_members_in self.now) ≤ PARTS_PROCESSORS }
         ensures { result ≡ sum_by waiting_of (group_members_in self.now) }
     {
         let first = self.first.waiting();

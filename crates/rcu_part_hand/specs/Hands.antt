@@ -9,7 +9,7 @@ use Rattle.rcu_board.specs.Words.{turns_word}
 use Rattle.rcu_board.specs.declared.board.Board.{Board as Table}
 use Rattle.rcu_board.specs.declared.board.Seat.{Seat}
 use Rattle.rcu_part_lists.specs.declared.hand.Held.{Held}
-use Rattle.rcu_numbers.specs.declared.shape.Shape.{Shape}
+use Rattle.rcu_numbers.specs.declared.parts_shape.PartsShape.{PartsShape}
 use Rattle.rcu_board.specs.declared.view.View.{View}
 use Rattle.rcu_board.specs.Frames.{SamePart}
 use Rattle.rcu_part_lists.specs.Helds.{front_of, drawn_by, held_by}
@@ -134,7 +134,7 @@ module _ {J R : Type 0} where
     pub stop : StopsAt answer.stop answer.ran tried seen q
 
   -- the hand of processor cpu of a board, with its seat and what it holds, which keeps this of what it runs: it ran nothing
-  pub record IsNewHandOf (shape : Shape) (b : Table) (cpu : ℕ) (s : Seat) (held : Held J) (kept : Kept) (h : HandState J R) : Type 0 where
+  pub record IsNewHandOf (shape : PartsShape) (b : Table) (cpu : ℕ) (s : Seat) (held : Held J) (kept : Kept) (h : HandState J R) : Type 0 where
     pub board : hand_board h ≡ b
     pub seat : h.seat ≡ s
     pub held_is : h.held ≡ held

@@ -12,7 +12,7 @@ ghost use Rattle.rcu_part_hand.specs.HandLaw.{IsLawfulHand};
 use crate::running_hand::{RunningHand, RunningHandState};
 use rcu_board::{Board, Role, Seat};
 use rcu_jobs::{Callback, Job, Stop};
-use rcu_numbers::Shape;
+use rcu_numbers::PartsShape;
 use rcu_part_lists::Held;
 use rcu_part_order::{Kept, Records};
 use rcu_part_steps::{Begins, ClaimedCallback, try_claim};
@@ -50,7 +50,7 @@ impl<J: Job> Hand<J> {
     /// that it runs. It has drawn nothing.
     pub fn new(
         alloc: Global,
-        shape: &Shape,
+        shape: &PartsShape,
         board: Arc<Board, Global>,
         seat: Seat,
         cpu: u64,

@@ -87,6 +87,11 @@ module _ {J : Type 0} where
     pub releases : is_due_in_tick moment leaving urged old.outgoing ≡ true → IsReleased (in_tick moment old.outgoing) new.outgoing
     pub others : new ≡ record old { outgoing = new.outgoing }
 
+  -- The bypass list is put, where it isn't empty, whatever the moment: its last moment and its count stay.
+  pub record PutsBypass (old new : Holding J) : Type 0 where
+    pub outgoing : IsReleasedIfAny old.outgoing new.outgoing
+    pub others : new ≡ record old { outgoing = new.outgoing }
+
   -- the own list after a look
   abbrev pub after_look : ℕ → Holding J → Holding J
   after_look seen h = record h { own = looked seen h.own; advanced = seen }

@@ -2,13 +2,13 @@
 
 ghost use Rattle.std.specs.Prelude.{◌≡◌, ◌/◌, ◌&&◌, ◌||◌, true, false};
 ghost use Rattle.rcu_lanes.specs.Ends.{SameRear};
-ghost use Rattle.rcu_part_lists.specs.ProcessorLists.{Holding, holding, rear_of, put_by, passed_on, AskedOn, asked_off, Releases};
+ghost use Rattle.rcu_part_lists.specs.ProcessorLists.{Holding, holding, rear_of, put_by, passed_on, AskedOn, PutsBypass, asked_off, Releases};
 ghost use Rattle.rcu_jobs.specs.Modes.{is_local, is_offloaded, is_offloading};
 ghost use Rattle.rcu_part_lists.specs.Modes.{settled};
 ghost use Rattle.rcu_part_lists.specs.Limits.{AreBelow};
 
 use crate::processor_lists::ProcessorLists;
-use crate::sends::{pour_out, send_in_tick};
+use crate::sends::{pour_out, send_if_any, send_in_tick};
 use rcu_jobs::Mode;
 
 /// The mode once the turn word was read.
@@ -42,6 +42,16 @@ impl<J: Drop> ProcessorLists<J> {
         ensures places { passed_on (holding self.new) ≡ passed_on (holding self.old) }
     {
         send_in_tick(&mut self.outlet, &mut self.bypass, moment, leaving, urged);
+    }
+
+    /// Puts the bypass list on the lane, as one batch, where it isn't empty. The last moment and the count stay.
+    pub fn put_bypass(&mut self)
+        ensures lane { SameRear (rear_of self.old) (rear_of self.new) }
+        ensures advanced { (holding self.new).advanced ≡ (holding self.old).advanced }
+        ensures puts { PutsBypass (holding self.old) (holding self.new) }
+        ensures places { passed_on (holding self.new) ≡ passed_on (holding self.old) }
+    {
+        send_if_any(&mut self.outlet, &mut self.bypass);
     }
 
     /// Heeds what is asked of the processor, which accepted so many callbacks.

@@ -123,7 +123,7 @@ fn is_called(late: bool, leaving: bool, urged: bool) -> bool
 }
 
 /// Puts the list on the lane where it isn't empty.
-fn send_if_any<J: Drop>(outlet: &mut Outlet<J>, bypass: &mut Bypass<J>)
+pub(crate) fn send_if_any<J: Drop>(outlet: &mut Outlet<J>, bypass: &mut Bypass<J>)
     requires safe { AreSafe (bypass_items bypass.old) }
     requires few { AreFew (put_calls outlet.old.rear ++ bypass_items bypass.old) }
     ensures lane { SameRear outlet.old.rear outlet.new.rear }

@@ -5,7 +5,7 @@ use Rattle.std.specs.Prelude.{IsTrue, ◌&&◌, ◌||◌, if◌then◌else◌}
 use Rattle.std.proofs.lemmas.Bool.{cases_Bool}
 use Rattle.std.proofs.lemmas.List.Elements.{All-nil}
 use Rattle.rcu_part_lists.specs.Aims.{AreUpTo, is_up_to}
-use Rattle.rcu_part_lists.specs.ProcessorLists.{Holding, put_by, Releases, AskedOn, Pours, asked_off}
+use Rattle.rcu_part_lists.specs.ProcessorLists.{Holding, put_by, PutsBypass, Releases, AskedOn, Pours, asked_off}
 use Rattle.rcu_jobs.specs.Modes.{is_local, is_offloaded, is_offloading}
 use Rattle.rcu_part_lists.specs.Outgoing.{Outgoing, IsReleased, is_due_in_tick, in_tick, poured}
 use Rattle.rcu_jobs.specs.declared.callback.Callback.{Callback}
@@ -55,6 +55,16 @@ module _ {J : Type 0} where
     puts = elim (cases_Bool (is_due_in_tick moment leaving urges h.outgoing)) [
       | inl e ↦ let p = put_released (in_tick moment h.outgoing) n.outgoing (r.releases e) in (p.0, p.1, ap (λ (x : Holding J). x.advanced) r.others)
       | inr e ↦ puts_none h n (ap (λ (x : Holding J). x.outgoing.put) (r.stays e)) (ap (λ (x : Holding J). x.advanced) r.others)
+    ];
+    own = inl (ap (λ (x : Holding J). x.own) r.others);
+    mode = λ l. ap (λ (x : Holding J). is_local x.mode) r.others ∙ l;
+  }
+
+  pub shifts_put : (h n : Holding J) → PutsBypass h n → Shifts h n
+  shifts_put h n r = record {
+    puts = elim (cases_Bool (is_any h.outgoing.bypass)) [
+      | inl any ↦ let p = put_released h.outgoing n.outgoing (r.outgoing.some any) in (p.0, p.1, ap (λ (x : Holding J). x.advanced) r.others)
+      | inr none ↦ puts_none h n (ap (λ (x : Outgoing J). x.put) (r.outgoing.none none)) (ap (λ (x : Holding J). x.advanced) r.others)
     ];
     own = inl (ap (λ (x : Holding J). x.own) r.others);
     mode = λ l. ap (λ (x : Holding J). is_local x.mode) r.others ∙ l;

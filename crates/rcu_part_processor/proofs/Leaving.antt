@@ -1,6 +1,6 @@
--- What leaving and coming back come to: one step on the processor's own report word, after a release as an urge asks for.
+-- What leaving and coming back come to: one step on the processor's own report word, after the bypass list was put.
 use Rattle.std.proofs.Common.{◌≡◌, ◌≢◌, ℕ, ◌+◌, ◌*◌, ◌≤◌, Bool, true, false, inl, inr, List, [], ◌∷◌, ◌++◌, map, length, append-nil, ap, sym, ◌∙◌, refl, arith, ⊎_elim}
-use Rattle.std.specs.Prelude.{IsTrue, ◌↔◌, ◌==◌, ◌&&◌, ◌||◌}
+use Rattle.std.specs.Prelude.{IsTrue, ◌↔◌, ◌==◌, if◌then◌else◌}
 use Rattle.std.proofs.lemmas.Bool.{cases_Bool, eq-eqb, eqb-true}
 use Rattle.rcu_board.specs.Plays.{leave_own, return_own, stepped_own}
 use Rattle.rcu_board.specs.Seats.{IsAway, accepted_of, first_accepted, first_fresh, first_word, fresh_of, own_word, view}
@@ -14,10 +14,10 @@ use Rattle.rcu_jobs.specs.declared.callback.Callback.{Callback}
 use Rattle.rcu_jobs.specs.declared.turns.Lists.{Lists}
 use Rattle.rcu_jobs.specs.declared.turns.Lists.TheVariants.{Cpu, Folk}
 use Rattle.rcu_lanes.specs.declared.ends.TheConstants.{FIRST_SLOTS}
-use Rattle.rcu_lists.specs.Release.{is_any, is_late}
+use Rattle.rcu_lists.specs.Release.{is_any}
 use Rattle.rcu_numbers.specs.declared.sequence.TheConstants.{LAST_NUMBER}
-use Rattle.rcu_part_lists.specs.Outgoing.{Outgoing, in_tick, sent_back}
-use Rattle.rcu_part_lists.specs.ProcessorLists.{Holding, Releases, put_by}
+use Rattle.rcu_part_lists.specs.Outgoing.{Outgoing, sent, sent_back}
+use Rattle.rcu_part_lists.specs.ProcessorLists.{Holding, PutsBypass, put_by}
 use Rattle.rcu_part_steps.specs.Changes.{Tells}
 use Rattle.rcu_part_processor.specs.Lawful.{IsAwaySince, IsHereSince, StaysLocal}
 
@@ -75,52 +75,50 @@ pub none_shown : {J : Type 0} (many : ℕ) (cs : List (Callback J)) → many ≡
 none_shown many [] e = (λ _. refl, λ _. eq-eqb many 0 e)
 none_shown many (c ∷ cs) e = (λ t. absurd (omega (arith, eqb-true many 0 t, e)), λ none. absurd (omega (arith, ap length none)))
 
--- ---- the release
-
--- it is due where the list holds something, whatever the moment
-due : (a b : Bool) → a ≡ true → (a && (b || true)) ≡ true
-due true true e = refl
-due true false e = refl
-due false b e = e
-
-not_due : (a b : Bool) → a ≡ false → (a && b) ≡ false
-not_due true b e = (let f : true ≡ false = e in cc)
-not_due false b e = refl
+-- ---- the put of the bypass list
 
 module _ {J : Type 0} where
   none_held : (cs : List (Callback J)) → is_any cs ≡ false → cs ≡ []
   none_held [] e = refl
   none_held (c ∷ cs) e = (let f : true ≡ false = e in cc)
 
-  module _ (moment : ℕ) (h n : Holding J) (r : Releases moment false true h n) where
+  module _ (h n : Holding J) (r : PutsBypass h n) where
     -- nothing is held, and nothing happens
     stays : is_any h.outgoing.bypass ≡ false → n ≡ h
-    stays clear = r.stays (not_due (is_any h.outgoing.bypass) (is_late moment h.outgoing.pace || true) clear)
+    stays clear = r.others ∙ ap (λ (o : Outgoing J). record h { outgoing = o }) (r.outgoing.none clear)
 
-    -- where the list is empty then, the lane has what it held
-    pub urged_put : n.outgoing.bypass ≡ [] → put_by n ≡ put_by h ++ h.outgoing.bypass
-    urged_put none = elim (cases_Bool (is_any h.outgoing.bypass)) [
-      | inl any ↦ ⊎_elim (λ s. ap (λ (o : Outgoing J). o.put) s)
-          (λ back. (let f : false ≡ true = sym (ap is_any (sym (ap (λ (o : Outgoing J). o.bypass) back.1) ∙ none)) ∙ any in cc))
-          (r.releases (due (is_any h.outgoing.bypass) (is_late moment h.outgoing.pace) any))
-      | inr clear ↦ let e = stays clear in let held : h.outgoing.bypass ≡ [] = none_held h.outgoing.bypass clear in
-          ap put_by e ∙ (sym (append-nil (put_by h)) ∙ ap (λ (cs : List (Callback J)). put_by h ++ cs) (sym held))
+    -- what came back isn't empty
+    not_back : is_any h.outgoing.bypass ≡ true → n.outgoing.bypass ≡ [] → n.outgoing ≡ sent_back h.outgoing → ⊥
+    not_back any none back = (let f : false ≡ true = sym (ap is_any (sym (ap (λ (o : Outgoing J). o.bypass) back) ∙ none)) ∙ any in cc)
+
+    -- where the list is empty then, it was empty, or all of it is on the lane as one batch
+    pub batch_put : n.outgoing.bypass ≡ [] → n.outgoing ≡ (if is_any h.outgoing.bypass then sent h.outgoing else h.outgoing)
+    batch_put none = elim (cases_Bool (is_any h.outgoing.bypass)) [
+      | inl any ↦ rw any (⊎_elim (λ s. s) (λ back. absurd (not_back any none back.1)) (r.outgoing.some any))
+      | inr clear ↦ rw clear (r.outgoing.none clear)
+    ]
+
+    pub all_put : n.outgoing.bypass ≡ [] → put_by n ≡ put_by h ++ h.outgoing.bypass
+    all_put none = elim (cases_Bool (is_any h.outgoing.bypass)) [
+      | inl any ↦ ⊎_elim (λ s. ap (λ (o : Outgoing J). o.put) s) (λ back. absurd (not_back any none back.1)) (r.outgoing.some any)
+      | inr clear ↦ let held : h.outgoing.bypass ≡ [] = none_held h.outgoing.bypass clear in
+          ap put_by (stays clear) ∙ (sym (append-nil (put_by h)) ∙ ap (λ (cs : List (Callback J)). put_by h ++ cs) (sym held))
     ]
 
     -- else the lane found no room, and the list is as it was, all of it plain
-    pub urged_back : n.outgoing.bypass ≢ [] → (h.outgoing.bypass ≢ []) × (FIRST_SLOTS ≤ h.outgoing.batches) × (n ≡ record h { outgoing = sent_back (in_tick moment h.outgoing) })
-    urged_back some = elim (cases_Bool (is_any h.outgoing.bypass)) [
+    pub put_back : n.outgoing.bypass ≢ [] → (h.outgoing.bypass ≢ []) × (FIRST_SLOTS ≤ h.outgoing.batches) × (n ≡ record h { outgoing = sent_back h.outgoing })
+    put_back some = elim (cases_Bool (is_any h.outgoing.bypass)) [
       | inl any ↦ ⊎_elim (λ s. absurd (some (ap (λ (o : Outgoing J). o.bypass) s)))
           (λ back. (
             λ none. (let f : false ≡ true = sym (ap is_any none) ∙ any in cc),
             back.0,
             r.others ∙ ap (λ (o : Outgoing J). record h { outgoing = o }) back.1,
           ))
-          (r.releases (due (is_any h.outgoing.bypass) (is_late moment h.outgoing.pace) any))
+          (r.outgoing.some any)
       | inr clear ↦ absurd (some (ap (λ (x : Holding J). x.outgoing.bypass) (stays clear) ∙ none_held h.outgoing.bypass clear))
     ]
 
     -- a Local processor's list is empty
-    pub urged_local : (b : Bool) → (is_offloaded h.mode ≡ false → h.outgoing.bypass ≡ []) → StaysLocal b h → StaysLocal b n
-    urged_local b alone local off = let l = local off in let e = stays (ap is_any (alone (ap is_offloaded l.0))) in
+    pub put_local : (b : Bool) → (is_offloaded h.mode ≡ false → h.outgoing.bypass ≡ []) → StaysLocal b h → StaysLocal b n
+    put_local b alone local off = let l = local off in let e = stays (ap is_any (alone (ap is_offloaded l.0))) in
         (ap (λ (x : Holding J). x.mode) e ∙ l.0, ap put_by e ∙ l.1)

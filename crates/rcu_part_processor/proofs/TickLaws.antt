@@ -8,7 +8,7 @@ use Rattle.std.proofs.lemmas.List.Elements.{All-weaker}
 use Rattle.rcu_numbers.specs.Words.{all_but_of}
 use Rattle.rcu_board.specs.Plays.{looked, touched, urged}
 use Rattle.rcu_board.specs.Views.{seen_at, tally}
-use Rattle.rcu_board.specs.Words.{asks_word, board_word, needed_word, turns_word, urge_word, words_of}
+use Rattle.rcu_board.specs.Words.{asks_word, board_word, needed_word, turns_word, urge_word, urge_bit, words_of}
 use Rattle.rcu_board.specs.declared.view.View.{View}
 use Rattle.rcu_board.specs.Frames.{Untouched}
 use Rattle.rcu_board.proofs.Stepping.{HasWords, has_words, untouched, untouched_again}
@@ -64,7 +64,7 @@ module _ {J R : Type 0} where
     pub cpu : q.cpu ≡ p.cpu
     pub board : tally (view_of q) board_word ≡ tally (view_of p) board_word + 1
     pub asks : tally (view_of q) (asks_word p.cpu) ≡ tally (view_of p) (asks_word p.cpu) + (if p.offloadable then 1 else 0)
-    pub urges : tally (view_of q) (urge_word (board_of p).processors) ≡ tally (view_of p) (urge_word (board_of p).processors) + (if p.offloadable then 1 else 0)
+    pub urges : tally (view_of q) (urge_word (board_of p).processors p.cpu) ≡ tally (view_of p) (urge_word (board_of p).processors p.cpu) + (if p.offloadable then 1 else 0)
     pub empty : (lists_of p).own ≡ [] → (lists_of q).own ≡ []
     pub local : is_local (lists_of p).mode ≡ false → is_local (lists_of q).mode ≡ true → AreBelow (seen_at (view_of q) (turns_word p.cpu) / 2) (put_by (lists_of q))
 
@@ -83,11 +83,11 @@ module _ {J R : Type 0} where
   heeded : (moment : ℕ) (p q : ProcessorState J R) → Heeds moment p q → Shifts (lists_of p) (lists_of q)
   heeded moment p q h = heeding moment h.on h.urges p.accepted (lists_of p) h.released (lists_of q) h.releases h.asked_off h.asked_on
 
-  heeds_step : (moment : ℕ) (p q : ProcessorState J R) (h : Heeds moment p q) (a u : ℕ) → asks_word p.cpu ≡ a → urge_word (board_of p).processors ≡ u
-      → view_of q ≡ urged u h.found (bit_and h.found (all_but_of p.cpu)) (touched a (from_bool h.on) (view_of p))
+  heeds_step : (moment : ℕ) (p q : ProcessorState J R) (h : Heeds moment p q) (a u : ℕ) → asks_word p.cpu ≡ a → urge_word (board_of p).processors p.cpu ≡ u
+      → view_of q ≡ urged u h.found (bit_and h.found (all_but_of (urge_bit p.cpu))) (touched a (from_bool h.on) (view_of p))
   heeds_step moment p q h a u ea eu = h.steps
-      ∙ (ap (λ (i : ℕ). urged i h.found (bit_and h.found (all_but_of p.cpu)) (touched (asks_word p.cpu) (from_bool h.on) (view_of p))) eu
-      ∙ ap (λ (i : ℕ). urged u h.found (bit_and h.found (all_but_of p.cpu)) (touched i (from_bool h.on) (view_of p))) ea)
+      ∙ (ap (λ (i : ℕ). urged i h.found (bit_and h.found (all_but_of (urge_bit p.cpu))) (touched (asks_word p.cpu) (from_bool h.on) (view_of p))) eu
+      ∙ ap (λ (i : ℕ). urged u h.found (bit_and h.found (all_but_of (urge_bit p.cpu))) (touched i (from_bool h.on) (view_of p))) ea)
 
   -- the turn word, if it was read
   settles_leave : (p q : ProcessorState J R) → Settles p q → (j : ℕ) → j ≢ turns_word p.cpu → Untouched j (view_of p) (view_of q)
@@ -108,7 +108,7 @@ module _ {J R : Type 0} where
     cpu = same.cpu;
     board = caught_once seen p q c;
     asks = (caught_up seen p q c (asks_word p.cpu) (λ e. absurd (omega (arith, e))) (λ e. absurd (omega (arith, e)))).steps ∙ none (tally (view_of p) (asks_word p.cpu));
-    urges = (caught_up seen p q c (urge_word (board_of p).processors) (λ e. absurd (omega (arith, e))) (λ e. absurd (omega (arith, e)))).steps ∙ none (tally (view_of p) (urge_word (board_of p).processors));
+    urges = (caught_up seen p q c (urge_word (board_of p).processors p.cpu) (λ e. absurd (omega (arith, e))) (λ e. absurd (omega (arith, e)))).steps ∙ none (tally (view_of p) (urge_word (board_of p).processors p.cpu));
     empty = caught_empty seen p q c;
     local = λ was. (let f : true ≡ false = sym (ap is_local (p.local off).0) ∙ was in cc);
   } where
@@ -118,21 +118,21 @@ module _ {J R : Type 0} where
   -- an offloadable one heeds what is asked, and settles
   pub before_offloadable : (seen moment : ℕ) (p q r s : ProcessorState J R) → SameProcessor p q → SameProcessor q r → SameProcessor r s → CatchesUp seen p q → p.offloadable ≡ true → Heeds moment q r → Settles r s → Before p s
   before_offloadable seen moment p q r s pq qr rs c on h t =
-      let a = asks_word p.cpu in let u = urge_word (board_of p).processors in
+      let a = asks_word p.cpu in let u = urge_word (board_of p).processors p.cpu in
       let there = p.there in
       let qcpu = pq.cpu in let rcpu : r.cpu ≡ p.cpu = qr.cpu ∙ pq.cpu in
-      let step = heeds_step moment q r h a u (ap asks_word qcpu) (ap (λ (b : _). urge_word b.processors) pq.part.board) in
+      let step = heeds_step moment q r h a u (ap asks_word qcpu) (ap (λ (b : _). urge_word b.processors q.cpu) pq.part.board ∙ ap (urge_word (board_of p).processors) qcpu) in
       let k = words_of (board_of q).processors in
       let boards : (board_of q).processors ≡ (board_of p).processors = ap (λ (b : _). b.processors) pq.part.board in
       let long = has_words (board_of q) q.seat q.here in
       let differ : a ≢ u = λ e. absurd (omega (arith, e)) in
-      let leaves : (j : ℕ) → j ≢ a → j ≢ u → Untouched j (view_of q) (view_of r) = heeds_leave k a u (from_bool h.on) h.found (bit_and h.found (all_but_of q.cpu)) (view_of q) (view_of r) long step differ in
+      let leaves : (j : ℕ) → j ≢ a → j ≢ u → Untouched j (view_of q) (view_of r) = heeds_leave k a u (from_bool h.on) h.found (bit_and h.found (all_but_of (urge_bit q.cpu))) (view_of q) (view_of r) long step differ in
       let settled : (j : ℕ) → j ≢ turns_word p.cpu → Untouched j (view_of r) (view_of s) = λ j ne. settles_leave r s t j (λ e. ne (e ∙ ap turns_word rcpu)) in record {
         cpu = rs.cpu ∙ rcpu;
         board = (settled board_word (λ e. absurd (omega (arith, e)))).steps ∙ ((leaves board_word (λ e. absurd (omega (arith, e))) (λ e. absurd (omega (arith, e)))).steps ∙ caught_once seen p q c);
-        asks = (settled a (λ e. absurd (omega (arith, e)))).steps ∙ (heeds_asks k a u (from_bool h.on) h.found (bit_and h.found (all_but_of q.cpu)) (view_of q) (view_of r) long step differ (omega (arith, boards, there))
+        asks = (settled a (λ e. absurd (omega (arith, e)))).steps ∙ (heeds_asks k a u (from_bool h.on) h.found (bit_and h.found (all_but_of (urge_bit q.cpu))) (view_of q) (view_of r) long step differ (omega (arith, boards, there))
             ∙ (ap (λ (x : ℕ). x + 1) (caught_up seen p q c a (λ e. absurd (omega (arith, e))) (λ e. absurd (omega (arith, e)))).steps ∙ one (tally (view_of p) a)));
-        urges = (settled u (λ e. absurd (omega (arith, e)))).steps ∙ (heeds_urges k a u (from_bool h.on) h.found (bit_and h.found (all_but_of q.cpu)) (view_of q) (view_of r) long step differ (omega (arith, boards))
+        urges = (settled u (λ e. absurd (omega (arith, e)))).steps ∙ (heeds_urges k a u (from_bool h.on) h.found (bit_and h.found (all_but_of (urge_bit q.cpu))) (view_of q) (view_of r) long step differ (omega (arith, boards, there))
             ∙ (ap (λ (x : ℕ). x + 1) (caught_up seen p q c u (λ e. absurd (omega (arith, e))) (λ e. absurd (omega (arith, e)))).steps ∙ one (tally (view_of p) u)));
         empty = λ none. settles_empty r s t (shifts_empty (lists_of q) (lists_of r) (heeded moment q r h) (caught_empty seen p q c none));
         local = λ was is. subst (λ (i : ℕ). AreBelow (seen_at (view_of s) (turns_word i) / 2) (put_by (lists_of s))) rcpu
@@ -160,7 +160,7 @@ module _ {J R : Type 0} where
     tick_fresh = record {
       board = (other board_word (λ e. absurd (omega (arith, e)))).steps ∙ x.board;
       asks = (other (asks_word p.cpu) (λ e. absurd (omega (arith, e)))).steps ∙ x.asks;
-      urges = (other (urge_word (board_of p).processors) (λ e. absurd (omega (arith, e)))).steps ∙ x.urges;
+      urges = (other (urge_word (board_of p).processors p.cpu) (λ e. absurd (omega (arith, e)))).steps ∙ x.urges;
     }
 
     pub tick_none : RunsNoneOffloaded n p q

@@ -1,6 +1,6 @@
 -- A processor's part before any step.
 use Rattle.std.specs.Prelude.{◌≡◌, ℕ, Bool, []}
-use Rattle.rcu_numbers.specs.declared.shape.Shape.{Shape}
+use Rattle.rcu_numbers.specs.declared.parts_shape.PartsShape.{PartsShape}
 use Rattle.rcu_board.specs.Opened.{is_offloadable}
 use Rattle.rcu_board.specs.declared.board.Board.{Board}
 use Rattle.rcu_board.specs.declared.board.Seat.{Seat}
@@ -20,13 +20,13 @@ pub record IsEmpty {J : Type 0} (offloadable : Bool) (lists : ProcessorLists J) 
   pub looked : (holding lists).advanced ≡ 0
 
 -- processor cpu of a board, with its seat and its lists: it accepted nothing, passed no grace period, and keeps what it runs so
-pub record IsNew {J R : Type 0} (shape : Shape) (most : ℕ) (b : Board) (cpu : ℕ) (s : Seat) (lists : ProcessorLists J) (kept : Kept) (p : ProcessorState J R) : Type 0 where
+pub record IsNew {J R : Type 0} (shape : PartsShape) (b : Board) (cpu : ℕ) (s : Seat) (lists : ProcessorLists J) (kept : Kept) (p : ProcessorState J R) : Type 0 where
   pub board : board_of p ≡ b
   pub seat : seat_of p ≡ s
   pub lists_are : p.lists ≡ lists
   pub cpu_is : p.cpu ≡ cpu
   pub offloadable : p.offloadable ≡ is_offloadable b.offloadable cpu
-  pub limit : p.limit ≡ most
+  pub limit : p.limit ≡ shape.limit
   pub blimit : p.blimit ≡ shape.blimit
   pub accepted : p.accepted ≡ 0
   pub passed : p.passed ≡ 0

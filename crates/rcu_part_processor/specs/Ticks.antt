@@ -4,7 +4,7 @@ use Rattle.std.specs.Int.{from_bool}
 use Rattle.rcu_numbers.specs.Words.{owes_of, all_but_of}
 use Rattle.rcu_board.specs.Plays.{looked, touched, urged}
 use Rattle.rcu_board.specs.Views.{seen_at, tally}
-use Rattle.rcu_board.specs.Words.{asks_word, board_word, needed_word, turns_word, urge_word}
+use Rattle.rcu_board.specs.Words.{asks_word, board_word, needed_word, turns_word, urge_word, urge_bit}
 use Rattle.rcu_board.specs.declared.view.View.{View}
 use Rattle.rcu_part_lists.specs.Aims.{wanted}
 use Rattle.rcu_part_lists.specs.ProcessorLists.{Holding, Releases, AskedOn, after_look, asked_off, put_by}
@@ -38,14 +38,14 @@ module _ {J R : Type 0} where
     pub lists : lists_of q ≡ after_look seen (lists_of p)
     pub records : records_of q ≡ records_of p
 
-  -- What is asked was read, and then the processor's bit of the urge word was taken; the bypass list was released where
+  -- What is asked was read, and then the processor's bit of its urge word was taken; the bypass list was released where
   -- one of a tick's causes holds, and the mode was changed as asked.
   pub record Heeds (moment : ℕ) (p q : ProcessorState J R) : Type 0 where
     pub on : Bool
     pub urges : Bool
     pub found : ℕ
-    pub steps : view_of q ≡ urged (urge_word (board_of p).processors) found (bit_and found (all_but_of p.cpu)) (touched (asks_word p.cpu) (from_bool on) (view_of p))
-    pub heard : IsTrue urges ↔ (owes_of found p.cpu ≡ 1)
+    pub steps : view_of q ≡ urged (urge_word (board_of p).processors p.cpu) found (bit_and found (all_but_of (urge_bit p.cpu))) (touched (asks_word p.cpu) (from_bool on) (view_of p))
+    pub heard : IsTrue urges ↔ (owes_of found (urge_bit p.cpu) ≡ 1)
     pub released : Holding J
     pub releases : Releases moment (not on) urges (lists_of p) released
     pub asked_off : on ≡ false → lists_of q ≡ asked_off p.accepted released
@@ -104,11 +104,11 @@ module _ {J R : Type 0} where
     pub stop : StopsTick answer.stop answer.ran tried q
 
   -- Each step was made as often as the rules say: one on the board word; where the processor is offloadable, one on what
-  -- is asked of it and one on the urge word, else none.
+  -- is asked of it and one on its urge word, else none.
   pub record IsFresh (p q : ProcessorState J R) : Type 0 where
     pub board : tally (view_of q) board_word ≡ tally (view_of p) board_word + 1
     pub asks : tally (view_of q) (asks_word p.cpu) ≡ tally (view_of p) (asks_word p.cpu) + (if p.offloadable then 1 else 0)
-    pub urges : tally (view_of q) (urge_word (board_of p).processors) ≡ tally (view_of p) (urge_word (board_of p).processors) + (if p.offloadable then 1 else 0)
+    pub urges : tally (view_of q) (urge_word (board_of p).processors p.cpu) ≡ tally (view_of p) (urge_word (board_of p).processors p.cpu) + (if p.offloadable then 1 else 0)
 
   -- The mode became Local only where all that was ever put on the lane has run.
   abbrev pub IsLocalOnceRun : ProcessorState J R → ProcessorState J R → Type 0

@@ -3,7 +3,8 @@
 ghost use Rattle.std.specs.Prelude.{◌≡◌, ◌+◌, ◌<◌, ◌≤◌, true, None, Some, is_some};
 ghost use Rattle.std.specs.Arc.{arc_value};
 ghost use Rattle.rcu_numbers.specs.Words.{owes_of};
-ghost use Rattle.rcu_numbers.specs.declared.shape.TheConstants.{MOST_CALLS, MOST_PROCESSORS};
+ghost use Rattle.rcu_numbers.specs.declared.shape.TheConstants.{MOST_CALLS};
+ghost use Rattle.rcu_numbers.specs.declared.set.TheConstants.{PARTS_PROCESSORS};
 ghost use Rattle.rcu_board.specs.Seats.{view, AtBoard};
 ghost use Rattle.rcu_board.specs.declared.board.Role.{Role};
 ghost use Rattle.rcu_part_lists.specs.ProcessorLists.{cpu_lists, holding};
@@ -163,7 +164,7 @@ impl<J: Job> ProcessorInPlace<J> {
     /// How many processors there are, 1 to 32: as many as a barrier counts that it may poll.
     pub fn processors(&self) -> u64
         ensures board { result ≡ (board_in self.now.state).processors }
-        ensures few { result ≤ MOST_PROCESSORS }
+        ensures few { result ≤ PARTS_PROCESSORS }
     {
         self.state.board.processors()
     }

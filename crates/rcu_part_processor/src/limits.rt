@@ -1,7 +1,7 @@
 //! Which processor it is, of how many, and what it still accepts.
 
 ghost use Rattle.std.specs.Prelude.{◌≡◌, ◌+◌, ◌≤◌};
-ghost use Rattle.rcu_numbers.specs.declared.shape.TheConstants.{MOST_PROCESSORS};
+ghost use Rattle.rcu_numbers.specs.declared.set.TheConstants.{PARTS_PROCESSORS};
 ghost use Rattle.rcu_part_processor.specs.Processors.{board_of};
 
 use crate::processor::Processor;
@@ -26,7 +26,7 @@ impl<J: Job> Processor<J> {
     /// How many processors there are, 1 to 32: as many as a barrier counts that it may poll.
     pub fn processors(&self) -> u64
         ensures board { result ≡ (board_of self.now.state).processors }
-        ensures few { result ≤ MOST_PROCESSORS }
+        ensures few { result ≤ PARTS_PROCESSORS }
     {
         self.state.board.processors()
     }

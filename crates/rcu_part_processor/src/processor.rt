@@ -14,7 +14,7 @@ use crate::away::{Away, AwayState};
 use crate::running_processor::{RunningProcessor, RunningProcessorState};
 use rcu_board::{Board, Role, Seat, leave};
 use rcu_jobs::{Callback, Job, Stop};
-use rcu_numbers::Shape;
+use rcu_numbers::PartsShape;
 use rcu_part_lists::ProcessorLists;
 use rcu_part_order::{Kept, Records};
 use rcu_part_steps::{Begins, ClaimedCallback, try_claim};
@@ -64,23 +64,21 @@ impl<J: Job> Processor<J> {
     ghost use Rattle.rcu_part_processor.specs.Opened.{IsNew, IsEmpty};
     ghost use Rattle.rcu_part_processor.specs.Processors.{records_of, view_of};
 
-    /// The part of processor `cpu` of a shape, from its seat and its empty lists, how many callbacks it accepts at most, and
-    /// what it is to keep of what it runs. It has accepted nothing.
+    /// The part of processor `cpu` of a shape, from its seat and its empty lists, and what it is to keep of what it runs. It has
+    /// accepted nothing.
     pub fn new(
         alloc: Global,
-        shape: &Shape,
-        limit: u64,
+        shape: &PartsShape,
         board: Arc<Board, Global>,
         seat: Seat,
         cpu: u64,
         lists: ProcessorLists<J>,
         kept: Kept,
     ) -> Processor<J>
-        requires small { limit ≤ MOST_CALLS }
         requires seat { IsNewProcessor (arc_value board) cpu seat }
         requires there { cpu < (arc_value board).processors }
         requires lists { IsEmpty (is_offloadable (arc_value board).offloadable cpu) lists }
-        ensures new { IsNew shape.now limit (arc_value board) cpu seat lists kept result.state }
+        ensures new { IsNew shape.now (arc_value board) cpu seat lists kept result.state }
     {
         let offloadable = board.is_offloadable(cpu);
         Processor {
@@ -89,7 +87,7 @@ impl<J: Job> Processor<J> {
                 seat,
                 cpu,
                 offloadable,
-                limit,
+                limit: shape.limit,
                 blimit: shape.blimit,
                 accepted: 0,
                 passed: 0,

@@ -4,7 +4,7 @@ use Rattle.rcu_board.specs.Plays.{looked, touched, urged}
 use Rattle.rcu_board.specs.Seats.{accepted_of, fresh_of}
 use Rattle.std.specs.Prelude.{bit_and}
 use Rattle.rcu_board.specs.Views.{seen_at, sight}
-use Rattle.rcu_board.specs.Words.{urge_word}
+use Rattle.rcu_board.specs.Words.{urge_word, urge_bit}
 use Rattle.rcu_board.specs.declared.board.Board.{Board}
 use Rattle.rcu_board.specs.declared.view.View.{View}
 use Rattle.rcu_board.proofs.Facts.{accepted-kept, fresh-looked}
@@ -39,7 +39,7 @@ sight_touched i x v w ne e = ap sight e ∙ (untouched i 0 x v ne).seen
 pub sight_urged : (i x y : ℕ) (v w : View) → 0 ≢ i → w ≡ urged i x y v → sight w ≡ sight v
 sight_urged i x y v w ne e = ap sight e ∙ (untouched i 0 x v ne).seen
 
--- the step on the urge word of a board, however the board is written
-pub urges : (b t : Board) → t ≡ b → (cpu : ℕ) (u w : View) → w ≡ urged (urge_word t.processors) (seen_at w (urge_word t.processors)) (bit_and (seen_at w (urge_word t.processors)) (all_but_of cpu)) u
-    → w ≡ urged (urge_word b.processors) (seen_at w (urge_word b.processors)) (bit_and (seen_at w (urge_word b.processors)) (all_but_of cpu)) u
-urges b t e cpu u w step = subst (λ (x : Board). w ≡ urged (urge_word x.processors) (seen_at w (urge_word x.processors)) (bit_and (seen_at w (urge_word x.processors)) (all_but_of cpu)) u) e step
+-- the step on a processor's urge word of a board, however the board is written
+pub urges : (b t : Board) → t ≡ b → (cpu : ℕ) (u w : View) → w ≡ urged (urge_word t.processors cpu) (seen_at w (urge_word t.processors cpu)) (bit_and (seen_at w (urge_word t.processors cpu)) (all_but_of (urge_bit cpu))) u
+    → w ≡ urged (urge_word b.processors cpu) (seen_at w (urge_word b.processors cpu)) (bit_and (seen_at w (urge_word b.processors cpu)) (all_but_of (urge_bit cpu))) u
+urges b t e cpu u w step = subst (λ (x : Board). w ≡ urged (urge_word x.processors cpu) (seen_at w (urge_word x.processors cpu)) (bit_and (seen_at w (urge_word x.processors cpu)) (all_but_of (urge_bit cpu))) u) e step

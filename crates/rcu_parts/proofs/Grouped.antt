@@ -6,6 +6,7 @@ use Rattle.std.proofs.lemmas.Bool.{eqb-true}
 use Rattle.std.proofs.lemmas.List.{length-map, map-append}
 use Rattle.std.proofs.lemmas.List.Elements.{All-from_recursion, All-tail, All-head}
 use Rattle.std.proofs.lemmas.List.Kept.{AllPairs-cons}
+use Rattle.rcu_numbers.specs.declared.set.TheConstants.{PARTS_PROCESSORS}
 use Rattle.rcu_board.specs.Opened.{is_offloadable, numbers_where}
 use Rattle.rcu_part_group.specs.GroupLaw.{AreMembers, cpus_of}
 use Rattle.rcu_parts.specs.Openings.{BeginsOutside, TakesMembers, is_member}
@@ -67,7 +68,7 @@ module _ {J : Type 0} where
       (sym (h.3 ∙ cut.0), subst (AreGrouped mask stride n gs) cut.1 h.6)
 
   -- they are rising, and no more than there are processors
-  pub are_members : (mask stride n g : ℕ) (ms : List (GroupMember J)) → n ≤ 32 → cpus_of ms ≡ numbers_where (is_member mask stride g) 0 n → AreMembers ms
+  pub are_members : (mask stride n g : ℕ) (ms : List (GroupMember J)) → n ≤ PARTS_PROCESSORS → cpus_of ms ≡ numbers_where (is_member mask stride g) 0 n → AreMembers ms
   are_members mask stride n g ms few e = record {
     few = let long : length (cpus_of ms) ≡ length ms = length-map ms (λ (m : GroupMember J). m.cpu) in let same = ap (λ (l : List ℕ). length l) e in let most = where_few (is_member mask stride g) 0 n in omega (arith, long, same, most, few);
     rising = subst (AllPairs (λ p q. p < q)) (sym e) (increasing (is_member mask stride g) 0 n);

@@ -6,7 +6,7 @@ use Rattle.std.proofs.lemmas.List.Elements.{All-cons, All-head, All-nil, All-tai
 use Rattle.rcu_jobs.specs.declared.answers.Closed.{Closed}
 use Rattle.rcu_jobs.specs.declared.callback.Record.{Record}
 use Rattle.rcu_lemmas.proofs.All.{All-unmap}
-use Rattle.rcu_numbers.specs.declared.shape.Shape.{Shape}
+use Rattle.rcu_numbers.specs.declared.parts_shape.PartsShape.{PartsShape}
 use Rattle.rcu_part_close.specs.Closing.{CpuEnd}
 use Rattle.rcu_part_close.specs.Parts.{IsWholePart}
 use Rattle.rcu_part_hand.specs.Hands.{SameHand}
@@ -32,9 +32,9 @@ module _ {J R : Type 0} where
   HandKeepsAll h = h.state.ran.kept ≡ Whole
 
   -- as they are opened
-  pub opened_whole : (shape : Shape) (parts : Parts J R) → IsOpened shape parts → KeepWhole parts
+  pub opened_whole : (shape : PartsShape) (parts : Parts J R) → IsOpened shape parts → KeepWhole parts
   opened_whole shape parts o = record {
-    processors = zip_all (IsFirstProcessor shape shape.limit Whole _) KeepsAll (λ k p f. ap (λ (r : Recorded R). r.kept) f.part.ran) _ (processors_in parts) o.processors;
+    processors = zip_all (IsFirstProcessor shape Whole _) KeepsAll (λ k p f. ap (λ (r : Recorded R). r.kept) f.part.ran) _ (processors_in parts) o.processors;
     hands = zip_all (IsFirstHand shape Whole _) HandKeepsAll (λ k h f. ap (λ (r : Recorded R). r.kept) f.part.ran) _ (hands_in parts) o.hands;
   }
 

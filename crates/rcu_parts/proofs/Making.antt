@@ -16,7 +16,7 @@ use Rattle.rcu_part_lists.specs.declared.limits.LaneLimits.{LaneLimits}
 use Rattle.rcu_lanes.specs.Ends.{IsNewLane}
 use Rattle.rcu_lanes.specs.declared.ends.Front.{Front}
 use Rattle.rcu_lists.specs.declared.parcel.Parcel.{Parcel}
-use Rattle.rcu_numbers.specs.declared.shape.Shape.{Shape}
+use Rattle.rcu_numbers.specs.declared.parts_shape.PartsShape.{PartsShape}
 use Rattle.rcu_part_group.specs.GroupLaw.{cpus_of}
 use Rattle.rcu_part_group.specs.Groups.{IsEmptyGroupMember, IsNewGroupOf, members_of}
 use Rattle.rcu_part_order.specs.declared.recorded.Kept.{Kept}
@@ -38,13 +38,13 @@ group_of_role Driver = 0
 group_of_role Control = 0
 
 module _ {J R : Type 0} where
-  pub processors_more : (shape : Shape) (limit : ℕ) (kept : Kept) (b : Board) (ps more : List (ProcessorPart J R)) (p : ProcessorPart J R) → AllZip (IsFirstProcessor shape limit kept b) (range_with_len 0 (length ps)) ps → IsFirstProcessor shape limit kept b (length ps) p → more ≡ ps ++ p ∷ []
-      → AllZip (IsFirstProcessor shape limit kept b) (range_with_len 0 (length more)) more
-  processors_more shape limit kept b ps more p all one e =
+  pub processors_more : (shape : PartsShape) (kept : Kept) (b : Board) (ps more : List (ProcessorPart J R)) (p : ProcessorPart J R) → AllZip (IsFirstProcessor shape kept b) (range_with_len 0 (length ps)) ps → IsFirstProcessor shape kept b (length ps) p → more ≡ ps ++ p ∷ []
+      → AllZip (IsFirstProcessor shape kept b) (range_with_len 0 (length more)) more
+  processors_more shape kept b ps more p all one e =
       let long : length (ps ++ p ∷ []) ≡ suc (length ps) = length-append ps (p ∷ []) ∙ (let n : length ps + 1 ≡ suc (length ps) = omega arith in n) in
-      subst (λ (l : List (ProcessorPart J R)). AllZip (IsFirstProcessor shape limit kept b) (range_with_len 0 (length l)) l) (sym e)
-      (subst (λ (ks : List ℕ). AllZip (IsFirstProcessor shape limit kept b) ks (ps ++ p ∷ [])) (sym (ap (range_with_len 0) long ∙ range_more 0 (length ps) (length ps) (omega arith)))
-      (zip_push (IsFirstProcessor shape limit kept b) (range_with_len 0 (length ps)) ps (length ps) p all one))
+      subst (λ (l : List (ProcessorPart J R)). AllZip (IsFirstProcessor shape kept b) (range_with_len 0 (length l)) l) (sym e)
+      (subst (λ (ks : List ℕ). AllZip (IsFirstProcessor shape kept b) ks (ps ++ p ∷ [])) (sym (ap (range_with_len 0) long ∙ range_more 0 (length ps) (length ps) (omega arith)))
+      (zip_push (IsFirstProcessor shape kept b) (range_with_len 0 (length ps)) ps (length ps) p all one))
 
   abbrev LeadsTo : ProcessorPart J R → Front (Parcel J) LaneLimits → Type 0
   LeadsTo p front = IsNewLane front (rear_of p.state.lists)
@@ -65,7 +65,7 @@ module _ {J R : Type 0} where
 
   -- ---- hands
 
-  pub hands_more : (shape : Shape) (kept : Kept) (b : Board) (k : ℕ) (m : GroupMember J) (ms more : List (GroupMember J)) (h : HandPart J R) (hs longer : List (HandPart J R)) → AllZip (IsFirstHand shape kept b) (cpus_of ms) hs → AllZip HasHand ms hs
+  pub hands_more : (shape : PartsShape) (kept : Kept) (b : Board) (k : ℕ) (m : GroupMember J) (ms more : List (GroupMember J)) (h : HandPart J R) (hs longer : List (HandPart J R)) → AllZip (IsFirstHand shape kept b) (cpus_of ms) hs → AllZip HasHand ms hs
       → m.cpu ≡ k → IsFirstHand shape kept b k h → HasHand m h → more ≡ ms ++ m ∷ [] → longer ≡ hs ++ h ∷ [] → AllZip (IsFirstHand shape kept b) (cpus_of more) longer × AllZip HasHand more longer
   hands_more shape kept b k m ms more h hs longer all lanes at first lane e f = (
     subst (λ (l : List (GroupMember J)). AllZip (IsFirstHand shape kept b) (cpus_of l) longer) (sym e) (subst (λ (l : List (HandPart J R)). AllZip (IsFirstHand shape kept b) (cpus_of (ms ++ m ∷ [])) l) (sym f)
@@ -75,7 +75,7 @@ module _ {J R : Type 0} where
 
   -- ---- groups
 
-  pub group_made : (shape : Shape) (own b : Board) (k : ℕ) (s : Seat) (ms : List (GroupMember J)) (g : GroupPart J R) → own ≡ b → IsNewGroup b k s → cpus_of ms ≡ numbers_where (is_member b.offloadable shape.stride k) 0 b.processors → All IsEmptyGroupMember ms
+  pub group_made : (shape : PartsShape) (own b : Board) (k : ℕ) (s : Seat) (ms : List (GroupMember J)) (g : GroupPart J R) → own ≡ b → IsNewGroup b k s → cpus_of ms ≡ numbers_where (is_member b.offloadable shape.stride k) 0 b.processors → All IsEmptyGroupMember ms
       → IsNewGroupOf shape own k s ms g.state → IsFirstGroup shape b k g
   group_made shape own b k s ms g same seat cpus empty new = record {
     seat = subst (IsNewGroup b k) (sym new.seat) seat;
@@ -97,7 +97,7 @@ module _ {J R : Type 0} where
   grouped_more gs more g ms old new all h cut same e = ap (λ (l : List (GroupPart J R)). members_in l ++ new) e ∙ ap (λ (l : List (GroupMember J)). l ++ new) (members_more gs g) ∙ append_assoc (members_in gs) (members_of g.state) new
       ∙ ap (λ (l : List (GroupMember J)). members_in gs ++ (l ++ new)) same ∙ ap (λ (l : List (GroupMember J)). members_in gs ++ l) (sym cut) ∙ h
 
-  pub groups_more : (shape : Shape) (b : Board) (done : List ℕ) (k : ℕ) (gs more : List (GroupPart J R)) (g : GroupPart J R) → AllZip (IsFirstGroup shape b) done gs → IsFirstGroup shape b k g → more ≡ gs ++ g ∷ [] → AllZip (IsFirstGroup shape b) (done ++ k ∷ []) more
+  pub groups_more : (shape : PartsShape) (b : Board) (done : List ℕ) (k : ℕ) (gs more : List (GroupPart J R)) (g : GroupPart J R) → AllZip (IsFirstGroup shape b) done gs → IsFirstGroup shape b k g → more ≡ gs ++ g ∷ [] → AllZip (IsFirstGroup shape b) (done ++ k ∷ []) more
   groups_more shape b done k gs more g all first e = subst (λ (l : List (GroupPart J R)). AllZip (IsFirstGroup shape b) (done ++ k ∷ []) l) (sym e) (zip_push (IsFirstGroup shape b) done gs k g all first)
 
 module _ {J : Type 0} where

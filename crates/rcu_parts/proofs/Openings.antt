@@ -19,7 +19,7 @@ use Rattle.rcu_part_order.specs.declared.recorded.Kept.{Kept}
 use Rattle.rcu_parts.specs.OneOpen.{HasHand}
 use Rattle.rcu_part_lists.specs.declared.processor_lists.ProcessorLists.{ProcessorLists}
 use Rattle.rcu_part_lists.specs.declared.hand.Held.{Held}
-use Rattle.rcu_numbers.specs.declared.shape.Shape.{Shape}
+use Rattle.rcu_numbers.specs.declared.parts_shape.PartsShape.{PartsShape}
 use Rattle.rcu_part_hand.specs.Hands.{IsNewHandOf}
 use Rattle.rcu_part_processor.specs.Opened.{IsEmpty, IsNew}
 use Rattle.rcu_parts.specs.Openings.{BeginsOutside, IsFirstHand, IsFirstProcessor, TakesMember, TakesMembers}
@@ -72,9 +72,9 @@ module _ {J : Type 0} where
   }
 
 module _ {J R : Type 0} where
-  pub first_processor : (shape : Shape) (limit : ℕ) (kept : Kept) (own b : Board) (k : ℕ) (s : Seat) (lists : ProcessorLists J) (p : Processor J R) (r : Bool) → own ≡ b → IsNewProcessor b k s → holding lists ≡ first_holding r shape.qhimark → r ≡ is_offloadable b.offloadable k
-      → IsNew shape limit own k s lists kept p.state → IsFirstProcessor shape limit kept b k p
-  first_processor shape limit kept own b k s lists p r same seat empty kind new = record {
+  pub first_processor : (shape : PartsShape) (kept : Kept) (own b : Board) (k : ℕ) (s : Seat) (lists : ProcessorLists J) (p : Processor J R) (r : Bool) → own ≡ b → IsNewProcessor b k s → holding lists ≡ first_holding r shape.qhimark → r ≡ is_offloadable b.offloadable k
+      → IsNew shape own k s lists kept p.state → IsFirstProcessor shape kept b k p
+  first_processor shape kept own b k s lists p r same seat empty kind new = record {
     seat = subst (IsNewProcessor b k) (sym new.seat) seat;
     lists = ap holding new.lists_are ∙ empty ∙ ap (λ o. first_holding o shape.qhimark) kind;
     part = record {
@@ -91,7 +91,7 @@ module _ {J R : Type 0} where
     };
   }
 
-  pub first_of_hands : (shape : Shape) (kept : Kept) (own b : Board) (k : ℕ) (s : Seat) (held : Held J) (h : Hand J R) → own ≡ b → IsNewHand b k s → (drawn_by held ≡ []) × (held_by held ≡ []) → IsNewHandOf shape own k s held kept h.state → IsFirstHand shape kept b k h
+  pub first_of_hands : (shape : PartsShape) (kept : Kept) (own b : Board) (k : ℕ) (s : Seat) (held : Held J) (h : Hand J R) → own ≡ b → IsNewHand b k s → (drawn_by held ≡ []) × (held_by held ≡ []) → IsNewHandOf shape own k s held kept h.state → IsFirstHand shape kept b k h
   first_of_hands shape kept own b k s held h same seat empty new = record {
     seat = subst (IsNewHand b k) (sym new.seat) seat;
     empty = (ap drawn_by new.held_is ∙ empty.0, ap held_by new.held_is ∙ empty.1);
@@ -106,7 +106,7 @@ module _ {J R : Type 0} where
   }
 
   -- a member's done lane leads to its hand
-  pub has_hand : (shape : Shape) (kept : Kept) (b : Board) (s : Seat) (held : Held J) (m : GroupMember J) (h : Hand J R) (front : Front (Parcel J) LaneLimits) (rear : Rear (Parcel J) LaneLimits) → IsNewHandOf shape b m.cpu s held kept h.state → hands_front held ≡ front → done_rear m.member ≡ rear → IsNewLane front rear → HasHand m h
+  pub has_hand : (shape : PartsShape) (kept : Kept) (b : Board) (s : Seat) (held : Held J) (m : GroupMember J) (h : Hand J R) (front : Front (Parcel J) LaneLimits) (rear : Rear (Parcel J) LaneLimits) → IsNewHandOf shape b m.cpu s held kept h.state → hands_front held ≡ front → done_rear m.member ≡ rear → IsNewLane front rear → HasHand m h
   has_hand shape kept b s held m h front rear new of end lane = record {
     cpu = new.cpu_is;
     lane = subst (λ (f : Front (Parcel J) LaneLimits). SameLane f (done_rear m.member)) (sym (ap hands_front new.held_is ∙ of)) (subst (λ (r : Rear (Parcel J) LaneLimits). SameLane front r) (sym end) lane.one_lane);

@@ -37,10 +37,6 @@ first_passed start now e = omega arith
 pub all_there : (k r n len : ℕ) → k + r ≡ n → len ≡ 0 → len ≡ r → k ≡ n
 all_there k r n len e none same = omega arith
 
--- a place below a bound
-pub below : (a n bound : ℕ) → a < n → n ≤ bound → a < bound
-below a n bound h few = omega arith
-
 -- room that was asked for holds as many
 pub room_of : (n len all cap : ℕ) → n ≡ len → len ≡ all → n ≤ cap → all ≤ cap
 room_of n len all cap e same h = omega arith

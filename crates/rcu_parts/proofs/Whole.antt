@@ -20,7 +20,7 @@ use Rattle.rcu_jobs.specs.declared.callback.Record.{Record}
 use Rattle.rcu_lanes.specs.Ends.{IsNewLane, items_drawn}
 use Rattle.rcu_lanes.specs.declared.ends.Front.{Front}
 use Rattle.rcu_lists.specs.declared.parcel.Parcel.{Parcel}
-use Rattle.rcu_numbers.specs.declared.shape.Shape.{Shape}
+use Rattle.rcu_numbers.specs.declared.parts_shape.PartsShape.{PartsShape}
 use Rattle.rcu_part_group.specs.GroupLaw.{cpus_of}
 use Rattle.rcu_part_group.specs.Groups.{group_board, group_view}
 use Rattle.rcu_part_hand.specs.Hands.{IsSoundHand, hand_board, hand_view}
@@ -36,11 +36,11 @@ use Rattle.rcu_part_hand.specs.declared.hand.Hand.{Hand}
 use Rattle.rcu_part_processor.specs.declared.processor.Processor.{Processor}
 use Rattle.rcu_parts.proofs.Zips.{zip_all, zip_ones}
 
-module _ {J R : Type 0} (shape : Shape) (limit : ℕ) (kept : Kept) (b : Board) where
-  rest_from : (k n : ℕ) (ps : List (Processor J R)) → AllZip (IsFirstProcessor shape limit kept b) (range_with_len (k + 1) n) ps → AllZip (IsFirstProcessor shape limit kept b) (range_with_len (suc k) n) ps
-  rest_from k n ps h = let e : k + 1 ≡ suc k = omega arith in subst (λ (j : ℕ). AllZip (IsFirstProcessor shape limit kept b) (range_with_len j n) ps) e h
+module _ {J R : Type 0} (shape : PartsShape) (kept : Kept) (b : Board) where
+  rest_from : (k n : ℕ) (ps : List (Processor J R)) → AllZip (IsFirstProcessor shape kept b) (range_with_len (k + 1) n) ps → AllZip (IsFirstProcessor shape kept b) (range_with_len (suc k) n) ps
+  rest_from k n ps h = let e : k + 1 ≡ suc k = omega arith in subst (λ (j : ℕ). AllZip (IsFirstProcessor shape kept b) (range_with_len j n) ps) e h
 
-  pub are_in_order : (k n : ℕ) (ps : List (Processor J R)) → AllZip (IsFirstProcessor shape limit kept b) (range_with_len k n) ps → AreProcessorsFrom k b ps
+  pub are_in_order : (k n : ℕ) (ps : List (Processor J R)) → AllZip (IsFirstProcessor shape kept b) (range_with_len k n) ps → AreProcessorsFrom k b ps
   unfolding AreProcessorsFrom
   are_in_order k zero [] h = tt
   are_in_order k zero (p ∷ ps) h = absurd h
@@ -53,7 +53,7 @@ module _ {J R : Type 0} (shape : Shape) (limit : ℕ) (kept : Kept) (b : Board) 
   with_first true false k p ps ks e at h = absurd (let f : true ≡ false = e in cc)
   with_first false true k p ps ks e at h = absurd (let f : true ≡ false = sym e in cc)
 
-  pub offloadable_cpus : (k n : ℕ) (ps : List (Processor J R)) → AllZip (IsFirstProcessor shape limit kept b) (range_with_len k n) ps → map (λ (q : Processor J R). q.state.cpu) (offloadable_in ps) ≡ numbers_where (is_offloadable b.offloadable) k n
+  pub offloadable_cpus : (k n : ℕ) (ps : List (Processor J R)) → AllZip (IsFirstProcessor shape kept b) (range_with_len k n) ps → map (λ (q : Processor J R). q.state.cpu) (offloadable_in ps) ≡ numbers_where (is_offloadable b.offloadable) k n
   unfolding numbers_where
   offloadable_cpus k zero [] h = refl
   offloadable_cpus k zero (p ∷ ps) h = absurd h
@@ -61,12 +61,12 @@ module _ {J R : Type 0} (shape : Shape) (limit : ℕ) (kept : Kept) (b : Board) 
   offloadable_cpus k (suc n) (p ∷ ps) h = with_first p.state.offloadable (is_offloadable b.offloadable k) k p (offloadable_in ps) (numbers_where (is_offloadable b.offloadable) (suc k) n)
       h.0.part.offloadable h.0.part.cpu_is (offloadable_cpus (suc k) n ps (rest_from k n ps h.1))
 
-  pub as_many : (ps : List (Processor J R)) → AreFirstProcessors shape limit kept b ps → length ps ≡ b.processors
-  as_many ps h = AllZip-long (IsFirstProcessor shape limit kept b) (range_with_len 0 b.processors) ps h ∙ length-range_with_len 0 b.processors
+  pub as_many : (ps : List (Processor J R)) → AreFirstProcessors shape kept b ps → length ps ≡ b.processors
+  as_many ps h = AllZip-long (IsFirstProcessor shape kept b) (range_with_len 0 b.processors) ps h ∙ length-range_with_len 0 b.processors
 
   -- each has one part of the weight
-  pub processors_weigh : (ks : List ℕ) (ps : List (Processor J R)) → AllZip (IsFirstProcessor shape limit kept b) ks ps → sum_by (λ (p : Processor J R). (view_of p.state).weight) ps ≡ length ps
-  processors_weigh ks ps h = zip_ones (IsFirstProcessor shape limit kept b) (λ (p : Processor J R). (view_of p.state).weight) (λ k p f. ap (λ (v : View). v.weight) f.seat.first_view) ks ps h ∙ sym (AllZip-long (IsFirstProcessor shape limit kept b) ks ps h)
+  pub processors_weigh : (ks : List ℕ) (ps : List (Processor J R)) → AllZip (IsFirstProcessor shape kept b) ks ps → sum_by (λ (p : Processor J R). (view_of p.state).weight) ps ≡ length ps
+  processors_weigh ks ps h = zip_ones (IsFirstProcessor shape kept b) (λ (p : Processor J R). (view_of p.state).weight) (λ k p f. ap (λ (v : View). v.weight) f.seat.first_view) ks ps h ∙ sym (AllZip-long (IsFirstProcessor shape kept b) ks ps h)
 
   pub hands_weigh : (ks : List ℕ) (hs : List (Hand J R)) → AllZip (IsFirstHand shape kept b) ks hs → sum_by (λ (h : Hand J R). (hand_view h.state).weight) hs ≡ length ks
   hands_weigh ks hs h = zip_ones (IsFirstHand shape kept b) (λ (h : Hand J R). (hand_view h.state).weight) (λ k p f. ap (λ (v : View). v.weight) f.seat.first_view) ks hs h
@@ -75,8 +75,8 @@ module _ {J R : Type 0} (shape : Shape) (limit : ℕ) (kept : Kept) (b : Board) 
   groups_weigh ks gs h = zip_ones (IsFirstGroup shape b) (λ (g : Group J R). (group_view g.state).weight) (λ k p f. ap (λ (v : View). v.weight) f.seat.first_view) ks gs h
 
   -- nothing is known of jobs as long as there are none
-  pub processors_sound : (key_of : J → ℕ) (gives : ℕ → R → Type 0) (ks : List ℕ) (ps : List (Processor J R)) → AllZip (IsFirstProcessor shape limit kept b) ks ps → All (λ (p : Processor J R). IsSound key_of gives p.state) ps
-  processors_sound key_of gives ks ps h = zip_all (IsFirstProcessor shape limit kept b) (λ (p : Processor J R). IsSound key_of gives p.state) (λ k p f. record {
+  pub processors_sound : (key_of : J → ℕ) (gives : ℕ → R → Type 0) (ks : List ℕ) (ps : List (Processor J R)) → AllZip (IsFirstProcessor shape kept b) ks ps → All (λ (p : Processor J R). IsSound key_of gives p.state) ps
+  processors_sound key_of gives ks ps h = zip_all (IsFirstProcessor shape kept b) (λ (p : Processor J R). IsSound key_of gives p.state) (λ k p f. record {
     keyed = subst (λ (l : Holding J). AreKeyed key_of (l.outgoing.put ++ (l.outgoing.bypass ++ map (λ c. c.callback) l.own))) (sym f.lists) (All-nil (λ (c : Callback J). key_of c.job ≡ c.key));
     given = subst (λ (r : Recorded R). Given gives r.all) (sym f.part.ran) (All-nil (λ (r : Record R). gives r.key r.receipt));
   }) ks ps h
@@ -121,10 +121,10 @@ pub is_bare : (n o w : ℕ) (d c : Bool) (v : View) → v ≡ new_view n o w d c
 is_bare n o w d c v e = record { own = ap (λ (x : View). x.own) e; claims = ap (λ (x : View). x.claims) e; running = ap (λ (x : View). x.running) e }
 
 -- the seats of a board that has the shape's processors
-pub hands_of_board : (shape : Shape) (b : Board) (s : Seats) → AreNew shape b s → b.processors ≡ shape.processors → b.offloadable ≡ shape.offloadable → SeatForEach (IsNewHand b) (numbers_where (is_offloadable b.offloadable) 0 b.processors) s.hands.items
+pub hands_of_board : (shape : PartsShape) (b : Board) (s : Seats) → AreNew shape b s → b.processors ≡ shape.processors → b.offloadable ≡ shape.offloadable → SeatForEach (IsNewHand b) (numbers_where (is_offloadable b.offloadable) 0 b.processors) s.hands.items
 hands_of_board shape b s new n o = subst (λ (m : ℕ). SeatForEach (IsNewHand b) (numbers_where (is_offloadable m) 0 b.processors) s.hands.items) (sym o)
     (subst (λ (k : ℕ). SeatForEach (IsNewHand b) (numbers_where (is_offloadable shape.offloadable) 0 k) s.hands.items) (sym n) new.hands)
 
-pub groups_of_board : (shape : Shape) (b : Board) (s : Seats) → AreNew shape b s → b.processors ≡ shape.processors → b.offloadable ≡ shape.offloadable → SeatForEach (IsNewGroup b) (numbers_where (has_offloadable b.offloadable shape.stride b.processors) 0 b.processors) s.groups.items
+pub groups_of_board : (shape : PartsShape) (b : Board) (s : Seats) → AreNew shape b s → b.processors ≡ shape.processors → b.offloadable ≡ shape.offloadable → SeatForEach (IsNewGroup b) (numbers_where (has_offloadable b.offloadable shape.stride b.processors) 0 b.processors) s.groups.items
 groups_of_board shape b s new n o = subst (λ (m : ℕ). SeatForEach (IsNewGroup b) (numbers_where (has_offloadable m shape.stride b.processors) 0 b.processors) s.groups.items) (sym o)
     (subst (λ (k : ℕ). SeatForEach (IsNewGroup b) (numbers_where (has_offloadable shape.offloadable shape.stride k) 0 k) s.groups.items) (sym n) new.groups)

@@ -12,7 +12,7 @@ use Rattle.rcu_part_lists.specs.declared.limits.LaneLimits.{LaneLimits}
 use Rattle.rcu_lanes.specs.Ends.{IsNewLane}
 use Rattle.rcu_lanes.specs.declared.ends.Front.{Front}
 use Rattle.rcu_lists.specs.declared.parcel.Parcel.{Parcel}
-use Rattle.rcu_numbers.specs.declared.shape.Shape.{Shape}
+use Rattle.rcu_numbers.specs.declared.parts_shape.PartsShape.{PartsShape}
 use Rattle.rcu_part_group.specs.GroupLaw.{cpus_of}
 use Rattle.rcu_part_group.specs.Groups.{IsEmptyGroupMember, IsNewGroupOf, members_of}
 use Rattle.rcu_part_hand.specs.Hands.{IsNewHandOf, hand_drawn, hand_held}
@@ -32,19 +32,19 @@ is_member mask stride g p = is_offloadable mask p && (p / stride == g)
 
 module _ {J R : Type 0} where
   -- Processor k of a board: its seat has made no step, its lists are empty, and it has accepted nothing.
-  pub record IsFirstProcessor (shape : Shape) (limit : ℕ) (kept : Kept) (b : Board) (k : ℕ) (p : Processor J R) : Type 0 where
+  pub record IsFirstProcessor (shape : PartsShape) (kept : Kept) (b : Board) (k : ℕ) (p : Processor J R) : Type 0 where
     pub seat : IsNewProcessor b k (seat_of p.state)
     pub lists : lists_of p.state ≡ first_holding (is_offloadable b.offloadable k) shape.qhimark
-    pub part : IsNew shape limit b k (seat_of p.state) p.state.lists kept p.state
+    pub part : IsNew shape b k (seat_of p.state) p.state.lists kept p.state
 
   -- The hand of processor k of a board: its seat has made no step, and it has drawn and run nothing.
-  pub record IsFirstHand (shape : Shape) (kept : Kept) (b : Board) (k : ℕ) (h : Hand J R) : Type 0 where
+  pub record IsFirstHand (shape : PartsShape) (kept : Kept) (b : Board) (k : ℕ) (h : Hand J R) : Type 0 where
     pub seat : IsNewHand b k h.state.seat
     pub empty : (hand_drawn h.state ≡ []) × (hand_held h.state ≡ [])
     pub part : IsNewHandOf shape b k h.state.seat h.state.held kept h.state
 
   -- Group g of a board: its seat has made no step, and its members are its offloadable processors, of which nothing has come.
-  pub record IsFirstGroup (shape : Shape) (b : Board) (g : ℕ) (group : Group J R) : Type 0 where
+  pub record IsFirstGroup (shape : PartsShape) (b : Board) (g : ℕ) (group : Group J R) : Type 0 where
     pub seat : IsNewGroup b g group.state.seat
     pub members : cpus_of (members_of group.state) ≡ numbers_where (is_member b.offloadable shape.stride g) 0 b.processors
     pub empty : All IsEmptyGroupMember (members_of group.state)
@@ -52,29 +52,28 @@ module _ {J R : Type 0} where
 
   -- There is one for each processor from 0 on, each offloadable one has a hand, and each group with an offloadable member is
   -- there, all in rising order.
-  abbrev pub AreFirstProcessors : Shape → ℕ → Kept → Board → List (Processor J R) → Type 0
-  AreFirstProcessors shape limit kept b ps = AllZip (IsFirstProcessor shape limit kept b) (range_with_len 0 b.processors) ps
+  abbrev pub AreFirstProcessors : PartsShape → Kept → Board → List (Processor J R) → Type 0
+  AreFirstProcessors shape kept b ps = AllZip (IsFirstProcessor shape kept b) (range_with_len 0 b.processors) ps
 
-  abbrev pub AreFirstHands : Shape → Kept → Board → List (Hand J R) → Type 0
+  abbrev pub AreFirstHands : PartsShape → Kept → Board → List (Hand J R) → Type 0
   AreFirstHands shape kept b hs = AllZip (IsFirstHand shape kept b) (numbers_where (is_offloadable b.offloadable) 0 b.processors) hs
 
-  abbrev pub AreFirstGroups : Shape → Board → List (Group J R) → Type 0
+  abbrev pub AreFirstGroups : PartsShape → Board → List (Group J R) → Type 0
   AreFirstGroups shape b gs = AllZip (IsFirstGroup shape b) (numbers_where (has_offloadable b.offloadable shape.stride b.processors) 0 b.processors) gs
 
-  -- The parts are those of a new board of this shape, none has made a step, each processor accepts at most so many callbacks,
-  -- and the parts keep so much of what runs.
-  pub record IsOpenedWith (limit : ℕ) (kept : Kept) (shape : Shape) (parts : Parts J R) : Type 0 where
+  -- The parts are those of a new board of this shape, none has made a step, and they keep so much of what runs.
+  pub record IsOpenedWith (kept : Kept) (shape : PartsShape) (parts : Parts J R) : Type 0 where
     pub many : (parts_board parts).processors ≡ shape.processors
     pub mask : (parts_board parts).offloadable ≡ shape.offloadable
-    pub processors : AreFirstProcessors shape limit kept (parts_board parts) (processors_in parts)
+    pub processors : AreFirstProcessors shape kept (parts_board parts) (processors_in parts)
     pub hands : AreFirstHands shape kept (parts_board parts) (hands_in parts)
     pub groups : AreFirstGroups shape (parts_board parts) (groups_in parts)
     pub control : IsNewSeat (parts_board parts) Control 1 false true [] (control_seat parts.control)
     pub driver : IsNewSeat (parts_board parts) Driver (driver_view parts.driver).weight true false [] (driver_seat parts.driver)
 
-  -- With the shape's limit, and every record kept.
-  abbrev pub IsOpened : Shape → Parts J R → Type 0
-  IsOpened shape parts = IsOpenedWith shape.limit Whole shape parts
+  -- With every record kept.
+  abbrev pub IsOpened : PartsShape → Parts J R → Type 0
+  IsOpened shape parts = IsOpenedWith Whole shape parts
 
   -- ---- parts that aren't whole yet
 

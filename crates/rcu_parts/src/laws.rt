@@ -2,7 +2,7 @@
 
 ghost use Rattle.rcu_jobs.specs.declared.Counts.{Counts};
 ghost use Rattle.rcu_jobs.specs.declared.answers.Closed.{Closed};
-ghost use Rattle.rcu_numbers.specs.declared.shape.Shape.{Shape};
+ghost use Rattle.rcu_numbers.specs.declared.parts_shape.PartsShape.{PartsShape};
 ghost use Rattle.rcu_parts.specs.AtClose.{AccountsFor, AnswersAll, ClosesWith, KeepWhole};
 ghost use Rattle.rcu_parts.specs.Drained.{HasNoneBack, IsDrained};
 ghost use Rattle.rcu_parts.specs.OneOpen.{AreOfOneOpen, Parts};
@@ -21,7 +21,7 @@ pub fn same_parts<J: Job>()
 /// Parts that [`crate::open`] gave keep every record as long as each stays the same part, so that [`crate::close`] answers the
 /// records of all that ran.
 pub fn records_of_all<J: Job>()
-    ensures opened { (shape : Shape) (parts : Parts J J.Receipt) → IsOpened shape parts
+    ensures opened { (shape : PartsShape) (parts : Parts J J.Receipt) → IsOpened shape parts
         → KeepWhole parts }
     ensures stays { (old new : Parts J J.Receipt) → AreSameParts old new → KeepWhole old
         → KeepWhole new }

@@ -14,7 +14,7 @@ mod seats;
 
 pub use closing::{AllClosing, Closing, close};
 pub use laws::{drained, records_of_all, same_parts};
-pub use opening::{OpenOptions, open, open_with};
+pub use opening::{open, open_with};
 pub use parts::{AllParts, Parts};
 pub use rcu_part_control::{Barrier, Control, Driver, ReadsTurns};
 pub use rcu_part_group::{Group, GroupMember, GroupMembers};

@@ -6,7 +6,6 @@ ghost use Rattle.std.specs.List.{AllZip};
 ghost use Rattle.rcu_board.specs.Opened.{AreNew, InOrder, IsNewGroup, IsNewHand, IsNewProcessor, SeatForEach, has_offloadable, is_offloadable, numbers_where};
 ghost use Rattle.rcu_part_lists.specs.ProcessorLists.{rear_of};
 ghost use Rattle.rcu_part_lists.specs.MemberLists.{front_of};
-ghost use Rattle.rcu_numbers.specs.declared.shape.TheConstants.{MOST_CALLS};
 ghost use Rattle.rcu_lanes.specs.Ends.{IsNewLane, items_drawn};
 ghost use Rattle.rcu_part_group.specs.GroupLaw.{cpus_of, group_members_in};
 ghost use Rattle.rcu_part_group.specs.Groups.{IsEmptyGroupMember};
@@ -19,7 +18,7 @@ use rcu_board::{Board, Role, Seat, Seats, open_board};
 use rcu_jobs::Job;
 use rcu_lanes::{Front, ruled_lane};
 use rcu_lists::Parcel;
-use rcu_numbers::Shape;
+use rcu_numbers::PartsShape;
 use rcu_part_control::{Control, Driver};
 use rcu_part_group::{Group, GroupMember, GroupMembers};
 use rcu_part_hand::Hand;
@@ -30,60 +29,48 @@ use std::alloc::{AllocError, Global};
 use std::collections::VecDeque;
 use std::sync::Arc;
 
-/// What may be chosen at the open beside the shape.
-#[derive(Clone, Copy, Debug)]
-pub struct OpenOptions {
-    /// How many callbacks each processor accepts in its life, at most [`MOST_CALLS`](rcu_numbers::MOST_CALLS), which no program
-    /// reaches.
-    pub limit: u64,
-    /// What is kept of the callbacks that run.
-    pub kept: Kept,
-    ghost small: { limit ≤ MOST_CALLS },
-}
-
 /// A processor's part, and the other end of its lane.
 fn open_processor<J: Job>(
     alloc: Global,
-    shape: &Shape,
+    shape: &PartsShape,
     board: &Arc<Board, Global>,
     seat: Seat,
     cpu: u64,
-    options: OpenOptions,
+    kept: Kept,
 ) -> Result<(Processor<J>, Front<Parcel<J>, LaneLimits>), AllocError>
     requires seat { IsNewProcessor (arc_value board.now) cpu seat }
     requires there { cpu < (arc_value board.now).processors }
     ensures processor { IfOk result (λ t.
-        IsFirstProcessor shape.now options.limit options.kept (arc_value board.now) cpu t.0) }
+        IsFirstProcessor shape.now kept (arc_value board.now) cpu t.0) }
     ensures lane { IfOk result (λ t. IsNewLane t.1 (rear_of t.0.state.lists)) }
 {
     let (front, rear) = ruled_lane::<Parcel<J>, LaneLimits>(alloc)?;
     let offloadable = board.is_offloadable(cpu);
     let lists = ProcessorLists::new(alloc, rear, offloadable, shape.qhimark)?;
     let own = Arc::try_clone(board)?;
-    let OpenOptions { limit, kept } = options;
-    let processor = Processor::new(alloc, shape, limit, own, seat, cpu, lists, kept);
+    let processor = Processor::new(alloc, shape, own, seat, cpu, lists, kept);
     Ok((processor, front))
 }
 
 /// The processors' parts, and the other ends of the lanes of the offloadable ones.
 fn open_processors<J: Job>(
     alloc: Global,
-    shape: &Shape,
+    shape: &PartsShape,
     board: &Arc<Board, Global>,
     seats: Vec<Seat>,
-    options: OpenOptions,
+    kept: Kept,
 ) -> Result<(Vec<Processor<J>>, VecDeque<Front<Parcel<J>, LaneLimits>>), AllocError>
     requires seats { InOrder (IsNewProcessor (arc_value board.now)) 0 seats.items }
     requires many { length seats.items ≡ (arc_value board.now).processors }
     ensures processors { IfOk result (λ t.
-        AreFirstProcessors shape.now options.limit options.kept (arc_value board.now) t.0.items) }
+        AreFirstProcessors shape.now kept (arc_value board.now) t.0.items) }
     ensures fronts { IfOk result (λ t. AreFronts t.0.items t.1.items) }
 {
     let mut processors = Vec::new(alloc);
     let mut fronts = VecDeque::new(alloc);
     for seat in seats {
         let cpu = processors.len() as u64;
-        let (processor, front) = open_processor(alloc, shape, board, seat, cpu, options)?;
+        let (processor, front) = open_processor(alloc, shape, board, seat, cpu, kept)?;
         processors.push(processor)?;
         if !board.is_offloadable(cpu) {
             continue;
@@ -96,7 +83,7 @@ fn open_processors<J: Job>(
 /// The member that offloadable processor `cpu` is of its group, and its hand. The done lane leads from one to the other.
 fn open_hand<J: Job>(
     alloc: Global,
-    shape: &Shape,
+    shape: &PartsShape,
     board: &Arc<Board, Global>,
     seat: Seat,
     cpu: u64,
@@ -121,7 +108,7 @@ fn open_hand<J: Job>(
 /// The members and the hands of all offloadable processors.
 fn open_hands<J: Job>(
     alloc: Global,
-    shape: &Shape,
+    shape: &PartsShape,
     board: &Arc<Board, Global>,
     seats: Vec<Seat>,
     mut fronts: VecDeque<Front<Parcel<J>, LaneLimits>>,
@@ -199,7 +186,7 @@ fn take_members<J: Drop>(
 /// The groups' parts, each with its members.
 fn open_groups<J: Job>(
     alloc: Global,
-    shape: &Shape,
+    shape: &PartsShape,
     board: &Arc<Board, Global>,
     seats: Vec<Seat>,
     mut group_members: VecDeque<GroupMember<J>>,
@@ -231,12 +218,12 @@ fn open_groups<J: Job>(
 /// A new board for all parts and for the driver's, and its seats.
 fn share_board(
     alloc: Global,
-    shape: Shape,
+    shape: &PartsShape,
 ) -> Result<(Arc<Board, Global>, Arc<Board, Global>, Seats), AllocError>
-    ensures many { IfOk result (λ t. (arc_value t.0).processors ≡ shape.processors) }
-    ensures mask { IfOk result (λ t. (arc_value t.0).offloadable ≡ shape.offloadable) }
+    ensures many { IfOk result (λ t. (arc_value t.0).processors ≡ shape.now.processors) }
+    ensures mask { IfOk result (λ t. (arc_value t.0).offloadable ≡ shape.now.offloadable) }
     ensures same { IfOk result (λ t. arc_value t.1 ≡ arc_value t.0) }
-    ensures seats { IfOk result (λ t. AreNew shape (arc_value t.0) t.2) }
+    ensures seats { IfOk result (λ t. AreNew shape.now (arc_value t.0) t.2) }
 {
     let (board, seats) = open_board(alloc, shape)?;
     let board = Arc::new(alloc, board)?;
@@ -251,19 +238,15 @@ fn share_board(
 /// # Errors
 ///
 /// Want of memory; then nothing was made.
-pub fn open<J: Job>(alloc: Global, shape: Shape) -> Result<Parts<J>, AllocError>
-    ensures opened { IfOk result (λ parts. IsOpened shape parts) }
+pub fn open<J: Job>(alloc: Global, shape: &PartsShape) -> Result<Parts<J>, AllocError>
+    ensures opened { IfOk result (λ parts. IsOpened shape.now parts) }
     ensures one { IfOk result (λ parts. AreOfOneOpen parts) }
     ensures sound { IfOk result (λ parts. AreSoundParts J.key_of J.gives parts) }
 {
-    let options = OpenOptions {
-        limit: shape.limit,
-        kept: Kept::Whole,
-    };
-    open_with(alloc, shape, options)
+    open_with(alloc, shape, Kept::Whole)
 }
 
-/// Opens all parts as [`open`] does, with the options in place of the shape's `limit`: with [`Kept::Rest`] processors and hands
+/// Opens all parts as [`open`] does, and says what is kept of the callbacks that run: with [`Kept::Rest`] processors and hands
 /// hand out their records while they run (`take_records`), and with [`Kept::Nothing`] memory doesn't grow with what ran.
 ///
 /// # Errors
@@ -271,10 +254,10 @@ pub fn open<J: Job>(alloc: Global, shape: Shape) -> Result<Parts<J>, AllocError>
 /// Want of memory; then nothing was made.
 pub fn open_with<J: Job>(
     alloc: Global,
-    shape: Shape,
-    options: OpenOptions,
+    shape: &PartsShape,
+    kept: Kept,
 ) -> Result<Parts<J>, AllocError>
-    ensures opened { IfOk result (λ parts. IsOpenedWith options.limit options.kept shape parts) }
+    ensures opened { IfOk result (λ parts. IsOpenedWith kept shape.now parts) }
     ensures one { IfOk result (λ parts. AreOfOneOpen parts) }
     ensures sound { IfOk result (λ parts. AreSoundParts J.key_of J.gives parts) }
 {
@@ -287,9 +270,9 @@ pub fn open_with<J: Job>(
         control,
     } = seats;
     let driver = Driver::new(drivers, driver);
-    let (processors, fronts) = open_processors(alloc, &shape, &board, processors, options)?;
-    let (group_members, hands) = open_hands(alloc, &shape, &board, hands, fronts, options.kept)?;
-    let groups = open_groups(alloc, &shape, &board, groups, group_members)?;
+    let (processors, fronts) = open_processors(alloc, shape, &board, processors, kept)?;
+    let (group_members, hands) = open_hands(alloc, shape, &board, hands, fronts, kept)?;
+    let groups = open_groups(alloc, shape, &board, groups, group_members)?;
     Ok(AllParts {
         processors,
         driver,

@@ -3,9 +3,9 @@ use Rattle.std.proofs.Common.{◌≡◌, ℕ, ◌/◌, ◌%◌, ◌<◌, ◌∙�
 use Rattle.std.specs.List.{Any}
 use Rattle.rcu_board.specs.Seats.{NeverFalls, SawShut}
 use Rattle.rcu_board.specs.Views.{seen_at}
-use Rattle.rcu_board.specs.Words.{accepts_word, urge_word}
+use Rattle.rcu_board.specs.Words.{accepts_word}
+use Rattle.rcu_part_control.proofs.Urging.{all_urged_leave}
 use Rattle.rcu_board.specs.declared.view.View.{View}
-use Rattle.rcu_board.proofs.Stepping.{untouched}
 use Rattle.rcu_part_control.specs.Parts.{control_view}
 use Rattle.rcu_part_control.specs.declared.barrier.Barrier.{Barrier}
 use Rattle.rcu_jobs.specs.declared.BarrierFault.{BarrierFault}
@@ -53,7 +53,7 @@ module _ {J R : Type 0} where
             let odd = shuts.does.shuts.shut p (omega (arith, below, board)) in
             let saw : SawShut p v = omega (arith, odd) in
             let same = (control_later between new second).shut p below saw in
-            let stays : seen_at w (accepts_word p) ≡ seen_at o.between (accepts_word p) = ap (λ (u : View). seen_at u (accepts_word p)) o.urges ∙ (untouched (urge_word n) (accepts_word p) (seen_at w (urge_word n)) o.between (λ e. omega (arith, e, below))).seen in
+            let stays : seen_at w (accepts_word p) ≡ seen_at o.between (accepts_word p) = (all_urged_leave n (accepts_word p) o.between w (omega (arith, below)) o.urges).seen in
             let half = o.reads.halves p below in
             (ap (λ (x : ℕ). x % 2) same ∙ saw, omega (arith, half, ap (λ (x : ℕ). x / 2) stays));
       }

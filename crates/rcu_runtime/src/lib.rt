@@ -29,7 +29,7 @@ pub use rcu_jobs::{
     BarrierFault, Closed, Counts, DriverTurn, Job, Lists, Mode, Passed, Record, Refused, Stop,
     SwitchFault, Ticked, Ticket,
 };
-pub use rcu_numbers::Shape;
+pub use rcu_numbers::{MOST_CALLS, PARTS_PROCESSORS, PartsShape, ProcessorSet, Shape};
 pub use rcu_parts::{Barrier, Reading};
 pub use runtime::Runtime;
 pub use whole::{Whole, Wholeness};

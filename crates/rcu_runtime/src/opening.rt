@@ -7,7 +7,7 @@ ghost use Rattle.rcu_runtime.specs.Runtimes.{accepted_in};
 use crate::runtime::Runtime;
 use crate::whole::Whole;
 use rcu_jobs::Job;
-use rcu_numbers::Shape;
+use rcu_numbers::PartsShape;
 use std::alloc::{AllocError, Global};
 
 /// Opens a runtime of this shape. All lists and counts are empty; exactly the offloadable processors are Offloaded.
@@ -15,8 +15,8 @@ use std::alloc::{AllocError, Global};
 /// # Errors
 ///
 /// Want of memory; then nothing was made.
-pub fn open<J: Job>(alloc: Global, shape: Shape) -> Result<Runtime<J>, AllocError>
-    ensures opened { IfOk result (λ runtime. IsOpened shape runtime) }
+pub fn open<J: Job>(alloc: Global, shape: &PartsShape) -> Result<Runtime<J>, AllocError>
+    ensures opened { IfOk result (λ runtime. IsOpened shape.now runtime) }
     ensures none { IfOk result (λ runtime. accepted_in runtime ≡ 0) }
 {
     let limit = shape.limit;

@@ -25,8 +25,8 @@ pub use fault::WorkersFault;
 pub use or_drop::run_or_drop;
 pub use rcu_runtime::{
     AnyFault, Barrier, BarrierFault, Closed, Closing, Counts, DriverTurn, Job, Lists, Mode,
-    NoProcessor, NotCalled, OtherBarrier, Passed, Reading, Record, Refused, Runtime, Shape, Stop,
-    SwitchFault, Ticked, Ticket, Whole, Wholeness, open,
+    NoProcessor, NotCalled, OtherBarrier, PartsShape, Passed, ProcessorSet, Reading, Record,
+    Refused, Runtime, Shape, Stop, SwitchFault, Ticked, Ticket, Whole, Wholeness, open,
 };
 pub use run::Ending;
 pub use steering::{NoSteering, Order, Reply, Steering};

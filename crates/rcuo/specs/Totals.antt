@@ -6,6 +6,8 @@ use Rattle.rcu_jobs.specs.declared.answers.Refused.{Refused}
 use Rattle.rcu_jobs.specs.declared.answers.Ticket.{Ticket}
 use Rattle.rcu_parts.specs.Drained.{HasNoneBack}
 use Rattle.rcu_parts.specs.OneOpen.{Parts}
+use Rattle.rcu_numbers.specs.Shapes.{IsShapeOf}
+use Rattle.rcu_numbers.specs.declared.parts_shape.PartsShape.{PartsShape}
 use Rattle.rcu_parts.specs.Openings.{IsOpened}
 use Rattle.rcuo_script.specs.Faults.{IsFaultOfOutput}
 use Rattle.rcuo_script.specs.Lines.{whole_totals}
@@ -20,7 +22,9 @@ use Rattle.rcu_threads.specs.Ends.{ClosesSame, keys_ran}
 -- then the totals of what was closed are printed, without the reports.
 pub record RunsInThreads {J : Type 0} (key_of : J → ℕ) (gives : ℕ → ℕ → Type 0) (setup : Setup) (jobs : List J) (text : List ℕ) : Type 0 where
   pub start : Parts J ℕ
-  pub opened : IsOpened setup.shape start
+  pub shape : PartsShape
+  pub of_setup : IsShapeOf setup.shape shape
+  pub opened : IsOpened shape start
   pub closed : Closed J ℕ
   pub closes : ClosesSame key_of gives start closed
   pub none_back : HasNoneBack closed

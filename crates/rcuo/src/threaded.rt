@@ -40,7 +40,7 @@ pub fn threads<R: Threads + Wait + Clock + Copy + Send + 'static, W: Write>(
         (RunsInThreads (λ job. job.key) (Promised 65536) plan.now.setup jobs.items)) }
     ensures why { IfErr result IsFaultOfThreads }
 {
-    let parts = open(alloc, plan.setup.shape)?;
+    let parts = open(alloc, &plan.setup.shape.for_parts())?;
     match run_in_threads(rt, alloc, parts, jobs) {
         Ok(ended) => print_totals(alloc, &ended.closed, writer),
         Err(fault) => Err(not_run(fault)),

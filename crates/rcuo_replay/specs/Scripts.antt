@@ -3,6 +3,8 @@ use Rattle.std.specs.Prelude.{ℕ, ◌≡◌, List, ◌++◌, true}
 use Rattle.rcu_jobs.specs.declared.answers.Closed.{Closed}
 use Rattle.rcu_parts.specs.AtClose.{ClosesWith}
 use Rattle.rcu_parts.specs.OneOpen.{Parts}
+use Rattle.rcu_numbers.specs.Shapes.{IsShapeOf}
+use Rattle.rcu_numbers.specs.declared.parts_shape.PartsShape.{PartsShape}
 use Rattle.rcu_parts.specs.Openings.{IsOpened}
 use Rattle.rcuo_replay.specs.Printed.{Prints}
 use Rattle.rcuo_replay.specs.ScriptParts.{AllComeBack, AreAllHere, ScriptParts}
@@ -15,7 +17,9 @@ use Rattle.rcu_setup.specs.declared.setup.Setup.{Setup}
 -- of what was closed are printed, with the reports.
 pub record Replays {J : Type 0} (key_of : J → ℕ) (gives : ℕ → ℕ → Type 0) (setup : Setup) (jobs : List J) (text : List ℕ) : Type 0 where
   pub start : Parts J ℕ
-  pub opened : IsOpened setup.shape start
+  pub shape : PartsShape
+  pub of_setup : IsShapeOf setup.shape shape
+  pub opened : IsOpened shape start
   pub first : ScriptParts J ℕ
   pub here : AreAllHere start first
   pub lines : List ℕ

@@ -40,7 +40,7 @@ pub fn replay<W: Write>(
         (Replays (λ job. job.key) (Promised 65536) setup.now jobs.items)) }
     ensures why { IfErr result IsFaultOfOutput }
 {
-    let start = open(alloc, setup.shape)?;
+    let start = open(alloc, &setup.shape.for_parts())?;
     let mut parts = all_here(alloc, start)?;
     perform_all(alloc, &mut parts, setup, jobs, writer)?;
     let back = all_back(alloc, parts)?;

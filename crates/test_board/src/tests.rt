@@ -1,6 +1,6 @@
 //! The steps on a board, by the seats that may make them, in one thread and in several.
 
-ghost use Rattle.std.specs.Prelude.{◌≡◌, ◌+◌, ◌*◌, ◌<◌, ◌≤◌, None, [], ◌∷◌, length, IfSome, IsTrue, true, false};
+ghost use Rattle.std.specs.Prelude.{◌≡◌, ◌+◌, ◌-◌, ◌*◌, ◌<◌, ◌≤◌, None, [], ◌∷◌, length, IfSome, IsTrue, true, false};
 ghost use Rattle.std.specs.Thread.{IsSync};
 ghost use Rattle.rcu_numbers.specs.Words.{owes_of};
 ghost use Rattle.rcu_board.specs.Plays.{all_seats};
@@ -13,9 +13,9 @@ ghost use Rattle.rcu_board.specs.Seats.{view, AtBoard, AllAccounted, accepted_of
 use rcu_board::{
     Board, Claimed, Gathered, Role, Seat, Seats, accept, ask, asked, claim, end, finish, halt,
     halted, heard, last_count_of, last_look, last_report_of, last_turn_of, look, merge, need,
-    needed, open_board, shut_one, sighted, start, turn_of, urge,
+    needed, open_board, shut_one, sighted, start, turn_of, urge, urge_words,
 };
-use rcu_numbers::{LAST_NUMBER, Shape};
+use rcu_numbers::{LAST_NUMBER, MOST_CALLS, PartsShape, ProcessorSet, Shape};
 use rcu_part_steps::report_quiescent_state;
 use std::test::Fail;
 use std::thread;
@@ -24,8 +24,10 @@ use std::thread::Threads;
 #[test]
 fn seats_of_a_shape(rt: HostRuntime) -> Result<(), Fail> {
     // processors 1, 4 and 5 of 6 are offloadable, in groups of two
-    let shape = Shape::new(6, 0b110010, 2, 10, 16, 1000).expect(&rt, "within the limits");
-    let (board, seats) = open_board(rt.alloc(), shape)?;
+    let shape = Shape::new(6, 0b110010, 2, 10, 16, 1000)
+        .expect(&rt, "within the limits")
+        .for_parts();
+    let (board, seats) = open_board(rt.alloc(), &shape)?;
     assert_eq!(rt; board.processors(), 6);
     assert!(rt; board.is_offloadable(1) && !board.is_offloadable(2));
     assert_eq!(rt; seats.processors.len(), 6);
@@ -38,6 +40,21 @@ fn seats_of_a_shape(rt: HostRuntime) -> Result<(), Fail> {
     let mut groups = seats.groups.into_iter();
     assert_eq!(rt; groups.next().map(|seat| seat.role()), Some(Role::Group(0)));
     assert_eq!(rt; groups.next().map(|seat| seat.role()), Some(Role::Group(2)));
+    Ok(())
+}
+
+#[test]
+fn seats_of_the_largest_shape(rt: HostRuntime) -> Result<(), Fail> {
+    let all = ProcessorSet::of_first(1024);
+    let shape = PartsShape::new(1024, &all, 64, 10, 16, MOST_CALLS).expect(
+        &rt,
+        "within the limits",
+    );
+    let (board, seats) = open_board(rt.alloc(), &shape)?;
+    assert_eq!(rt; (board.processors(), urge_words(&board)), (1024, 16));
+    assert!(rt; board.is_offloadable(1023) && !board.is_offloadable(1024));
+    assert_eq!(rt; (seats.processors.len(), seats.hands.len()), (1024, 1024));
+    assert_eq!(rt; seats.groups.len(), 16);
     Ok(())
 }
 
@@ -228,7 +245,7 @@ fn be_control(board: &Board, mut seat: Seat) -> (Seat, u64)
 {
     for round in 0..CALLS / 10 {
         ask(board, &mut seat, 0, round % 2 == 0);
-        urge(board, &mut seat);
+        urge(board, &mut seat, 0);
         turn_of(board, &mut seat, 0);
     }
     let count = shut_one(board, &mut seat, 0);
@@ -368,8 +385,8 @@ pub(crate) struct OneOfEach {
     pub(crate) control: Seat,
 }
 
-pub(crate) fn take_apart(shape: Shape, board: &Board, seats: Seats) -> Option<OneOfEach>
-    requires { AreNew shape board.now seats }
+pub(crate) fn take_apart(shape: &PartsShape, board: &Board, seats: Seats) -> Option<OneOfEach>
+    requires { AreNew shape.now board.now seats }
     ensures processor { IfSome result (λ parts. IsNewProcessor board.now 0 parts.processor) }
     ensures hand { IfSome result (λ parts.
         AtBoard board.now parts.hand × MayClaim parts.hand.role × ((view parts.hand).running ≡ [])
@@ -378,7 +395,7 @@ pub(crate) fn take_apart(shape: Shape, board: &Board, seats: Seats) -> Option<On
         AtBoard board.now parts.group × ((view parts.group).running ≡ [])
         × ((view parts.group).weight ≡ 1)) }
     ensures driver { IfSome result (λ parts.
-        IsNew board.now Role.Driver 124 true false [] parts.driver) }
+        IsNew board.now Role.Driver (all_seats - 4) true false [] parts.driver) }
     ensures control { IfSome result (λ parts.
         IsNew board.now Role.Control 1 false true [] parts.control) }
 {
@@ -421,8 +438,8 @@ fn both(mut seats: Vec<Seat>) -> Option<(Seat, Seat)>
     Some((first, second))
 }
 
-pub(crate) fn take_two_apart(shape: Shape, board: &Board, seats: Seats) -> Option<TwoOfEach>
-    requires { AreNew shape board.now seats }
+pub(crate) fn take_two_apart(shape: &PartsShape, board: &Board, seats: Seats) -> Option<TwoOfEach>
+    requires { AreNew shape.now board.now seats }
     ensures first { IfSome result (λ two. IsNewProcessor board.now 0 two.first) }
     ensures second { IfSome result (λ two. IsNewProcessor board.now 1 two.second) }
     ensures first_hand { IfSome result (λ two.
@@ -463,7 +480,7 @@ fn run_parts<R: Threads + Sync>(rt: &R, board: &Board, parts: OneOfEach) -> Outc
         × ((view parts.hand).running ≡ []) × ((view parts.hand).weight ≡ 1) }
     requires group { AtBoard board.now parts.group × ((view parts.group).running ≡ [])
         × ((view parts.group).weight ≡ 1) }
-    requires driver { IsNew board.now Role.Driver 124 true false [] parts.driver }
+    requires driver { IsNew board.now Role.Driver (all_seats - 4) true false [] parts.driver }
     requires control { IsNew board.now Role.Control 1 false true [] parts.control }
 {
     let OneOfEach {
@@ -515,9 +532,11 @@ fn run_parts<R: Threads + Sync>(rt: &R, board: &Board, parts: OneOfEach) -> Outc
 
 #[test]
 fn four_threads_on_one_board(rt: HostRuntime) -> Result<(), Fail> {
-    let shape = Shape::new(1, 1, 1, 10, 16, 1000).expect(&rt, "within the limits");
-    let (board, seats) = open_board(rt.alloc(), shape)?;
-    let parts = take_apart(shape, &board, seats).expect(&rt, "one seat of each kind");
+    let shape = Shape::new(1, 1, 1, 10, 16, 1000)
+        .expect(&rt, "within the limits")
+        .for_parts();
+    let (board, seats) = open_board(rt.alloc(), &shape)?;
+    let parts = take_apart(&shape, &board, seats).expect(&rt, "one seat of each kind");
     let outcome = run_parts(&rt, &board, parts);
     assert_eq!(rt; outcome.shut, outcome.accepted);
     assert_eq!(rt;
@@ -566,7 +585,7 @@ fn make_each_step(board: &Board, parts: OneOfEach) -> Answers
     let first = asked(board, &mut processor);
     ask(board, &mut control, 0, false);
     let asked = (first, asked(board, &mut processor));
-    urge(board, &mut control);
+    urge(board, &mut control, 0);
     let first = heard(board, &mut processor);
     let heard = (first, heard(board, &mut processor));
     let first = halted(board, &mut driver);
@@ -585,9 +604,11 @@ fn make_each_step(board: &Board, parts: OneOfEach) -> Answers
 
 #[test]
 fn told_and_heard(rt: HostRuntime) -> Result<(), Fail> {
-    let shape = Shape::new(1, 1, 1, 10, 16, 1000).expect(&rt, "within the limits");
-    let (board, seats) = open_board(rt.alloc(), shape)?;
-    let parts = take_apart(shape, &board, seats).expect(&rt, "one seat of each kind");
+    let shape = Shape::new(1, 1, 1, 10, 16, 1000)
+        .expect(&rt, "within the limits")
+        .for_parts();
+    let (board, seats) = open_board(rt.alloc(), &shape)?;
+    let parts = take_apart(&shape, &board, seats).expect(&rt, "one seat of each kind");
     assert!(rt; board.is_offloadable(0));
     let answers = make_each_step(&board, parts);
     assert_eq!(rt; answers.asked, (true, false));

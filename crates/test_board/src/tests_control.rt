@@ -19,7 +19,7 @@ fn two_parts(alloc: Global) -> Result<(Driver, Control), AllocError>
     let Some(shape) = Shape::new(2, 0b01, 1, 10, 16, 1000) else {
         unreachable!()
     };
-    let (board, seats) = open_board(alloc, shape)?;
+    let (board, seats) = open_board(alloc, &shape.for_parts())?;
     let Seats {
         processors: _,
         hands: _,

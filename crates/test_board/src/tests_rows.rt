@@ -56,9 +56,11 @@ fn one_grace_period(board: &Board, two: TwoOfEach) -> GracePeriod
 
 #[test]
 fn three_seats(rt: HostRuntime) -> Result<(), Fail> {
-    let shape = Shape::new(2, 0b11, 1, 10, 16, 1000).expect(&rt, "within the limits");
-    let (board, seats) = open_board(rt.alloc(), shape)?;
-    let two = take_two_apart(shape, &board, seats).expect(&rt, "two seats of each kind");
+    let shape = Shape::new(2, 0b11, 1, 10, 16, 1000)
+        .expect(&rt, "within the limits")
+        .for_parts();
+    let (board, seats) = open_board(rt.alloc(), &shape)?;
+    let two = take_two_apart(&shape, &board, seats).expect(&rt, "two seats of each kind");
     let seen = one_grace_period(&board, two);
     assert!(rt; seen.started);
     assert!(rt; !seen.ended_early);
@@ -106,13 +108,15 @@ fn meet_one(board: &Board, mut processor: Seat, mut driver: Seat) -> Option<Meet
 
 #[test]
 fn away_is_met(rt: HostRuntime) -> Result<(), Fail> {
-    let shape = Shape::new(1, 1, 1, 10, 16, 1000).expect(&rt, "within the limits");
-    let (board, seats) = open_board(rt.alloc(), shape)?;
+    let shape = Shape::new(1, 1, 1, 10, 16, 1000)
+        .expect(&rt, "within the limits")
+        .for_parts();
+    let (board, seats) = open_board(rt.alloc(), &shape)?;
     let OneOfEach {
         processor,
         driver,
         ..
-    } = take_apart(shape, &board, seats).expect(&rt, "one seat of each kind");
+    } = take_apart(&shape, &board, seats).expect(&rt, "one seat of each kind");
     let meeting = meet_one(&board, processor, driver).expect(&rt, "three grace periods begin");
     assert_eq!(rt; meeting.seen, 1);
     assert_eq!(rt; (meeting.met, meeting.met_again), (true, false));
@@ -154,13 +158,15 @@ fn turns_of_two(board: &Board, processor: Seat, mut hand: Seat) -> Option<(u64, 
 
 #[test]
 fn turn_word_claims(rt: HostRuntime) -> Result<(), Fail> {
-    let shape = Shape::new(1, 1, 1, 10, 16, 1000).expect(&rt, "within the limits");
-    let (board, seats) = open_board(rt.alloc(), shape)?;
+    let shape = Shape::new(1, 1, 1, 10, 16, 1000)
+        .expect(&rt, "within the limits")
+        .for_parts();
+    let (board, seats) = open_board(rt.alloc(), &shape)?;
     let OneOfEach {
         processor,
         hand,
         ..
-    } = take_apart(shape, &board, seats).expect(&rt, "one seat of each kind");
+    } = take_apart(&shape, &board, seats).expect(&rt, "one seat of each kind");
     let (before, other, between, running, last) = turns_of_two(&board, processor, hand).expect(
         &rt,
         "each claim in its turn alone",
@@ -190,13 +196,15 @@ fn accept_around_shut(
 
 #[test]
 fn accept_after_shut(rt: HostRuntime) -> Result<(), Fail> {
-    let shape = Shape::new(1, 1, 1, 10, 16, 1000).expect(&rt, "within the limits");
-    let (board, seats) = open_board(rt.alloc(), shape)?;
+    let shape = Shape::new(1, 1, 1, 10, 16, 1000)
+        .expect(&rt, "within the limits")
+        .for_parts();
+    let (board, seats) = open_board(rt.alloc(), &shape)?;
     let OneOfEach {
         processor,
         control,
         ..
-    } = take_apart(shape, &board, seats).expect(&rt, "one seat of each kind");
+    } = take_apart(&shape, &board, seats).expect(&rt, "one seat of each kind");
     let (count, refused) = accept_around_shut(&board, processor, control).expect(
         &rt,
         "accepted before the shut",

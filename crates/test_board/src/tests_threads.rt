@@ -36,9 +36,11 @@ fn accept_all(board: &Board, mut seat: Seat, p: u64, count: u64) -> u64
 
 #[test]
 fn two_accepting_threads(rt: HostRuntime) -> Result<(), Fail> {
-    let shape = Shape::new(2, 0b11, 1, 10, 16, 1000).expect(&rt, "within the limits");
-    let (board, seats) = open_board(rt.alloc(), shape)?;
-    let TwoOfEach { first, second, .. } = take_two_apart(shape, &board, seats).expect(
+    let shape = Shape::new(2, 0b11, 1, 10, 16, 1000)
+        .expect(&rt, "within the limits")
+        .for_parts();
+    let (board, seats) = open_board(rt.alloc(), &shape)?;
+    let TwoOfEach { first, second, .. } = take_two_apart(&shape, &board, seats).expect(
         &rt,
         "two seats of each kind",
     );
@@ -158,9 +160,11 @@ fn share_both<R: Threads + Wait + Sync>(rt: &R, board: &Board, two: TwoOfEach) -
 // Only a processor and its hand may claim its turns, so four threads claim the turns of two processors.
 #[test]
 fn each_turn_once_in_four_threads(rt: HostRuntime) -> Result<(), Fail> {
-    let shape = Shape::new(2, 0b11, 1, 10, 16, 1000).expect(&rt, "within the limits");
-    let (board, seats) = open_board(rt.alloc(), shape)?;
-    let two = take_two_apart(shape, &board, seats).expect(&rt, "two seats of each kind");
+    let shape = Shape::new(2, 0b11, 1, 10, 16, 1000)
+        .expect(&rt, "within the limits")
+        .for_parts();
+    let (board, seats) = open_board(rt.alloc(), &shape)?;
+    let two = take_two_apart(&shape, &board, seats).expect(&rt, "two seats of each kind");
     let (first, second, mut control) = share_both(&rt, &board, two);
     let sum = TURNS * (TURNS - 1) / 2;
     assert_eq!(rt; (first.count, first.sum), (TURNS, sum));
@@ -191,6 +195,7 @@ fn urge_across<R: Threads + Wait + Sync>(rt: &R, board: &Board, first: Seat, con
     requires first { AtBoard board.now first × (first.role ≡ Role.Processor 0) }
     requires control { AtBoard board.now control × (control.role ≡ Role.Control) }
     requires offloadable { owes_of board.now.offloadable 0 ≡ 1 }
+    requires some { 0 < board.now.processors }
     ensures same { StaysSeat first result }
 {
     let (first, ()) = thread::join(
@@ -201,10 +206,11 @@ fn urge_across<R: Threads + Wait + Sync>(rt: &R, board: &Board, first: Seat, con
             ensures { StaysSeat first result }
         { wait_for_urge(rt, board, first) },
         move || -> ()
-            requires { AtBoard board.now control × (control.role ≡ Role.Control) }
+            requires { AtBoard board.now control × (control.role ≡ Role.Control)
+                × (0 < board.now.processors) }
         {
             let mut control = control;
-            urge(board, &mut control);
+            urge(board, &mut control, 0);
         },
     );
     first
@@ -212,9 +218,11 @@ fn urge_across<R: Threads + Wait + Sync>(rt: &R, board: &Board, first: Seat, con
 
 #[test]
 fn urged_in_one_thread_and_heard_in_another(rt: HostRuntime) -> Result<(), Fail> {
-    let shape = Shape::new(2, 0b11, 1, 10, 16, 1000).expect(&rt, "within the limits");
-    let (board, seats) = open_board(rt.alloc(), shape)?;
-    let two = take_two_apart(shape, &board, seats).expect(&rt, "two seats of each kind");
+    let shape = Shape::new(2, 0b11, 1, 10, 16, 1000)
+        .expect(&rt, "within the limits")
+        .for_parts();
+    let (board, seats) = open_board(rt.alloc(), &shape)?;
+    let two = take_two_apart(&shape, &board, seats).expect(&rt, "two seats of each kind");
     assert!(rt; board.is_offloadable(0) && board.is_offloadable(1));
     let TwoOfEach {
         first,

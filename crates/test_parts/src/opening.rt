@@ -37,7 +37,7 @@ pub fn open_one(
         mut groups,
         mut hands,
         control,
-    } = open(alloc, shape).ok()?;
+    } = open(alloc, &shape.for_parts()).ok()?;
     let processor = processors.pop()?;
     Some(AllOfOne {
         processor,

@@ -14,7 +14,7 @@ use rcu_board::{Board, Role, Seat, Seats, need, open_board};
 use rcu_jobs::{BoxedJob, HandTurn, Lists, Mode, Refused, Stop, Ticked, Ticket};
 use rcu_lanes::{Rear, ruled_lane};
 use rcu_lists::Parcel;
-use rcu_numbers::Shape;
+use rcu_numbers::{PartsShape, Shape};
 use rcu_part_control::{Control, Driver};
 use rcu_part_lists::{Held, LaneLimits, ProcessorLists};
 use rcu_parts::{Hand, Kept, Processor};
@@ -41,8 +41,8 @@ struct OneOfEach {
     driver: Seat,
 }
 
-fn take_apart(shape: Shape, board: &Board, seats: Seats) -> Option<OneOfEach>
-    requires { AreNew shape board.now seats }
+fn take_apart(shape: &PartsShape, board: &Board, seats: Seats) -> Option<OneOfEach>
+    requires { AreNew shape.now board.now seats }
     ensures processor { IfSome result (λ parts. IsNewProcessor board.now 0 parts.processor) }
     ensures hand { IfSome result (λ parts.
         IsNewHand board.now (cpu_of_role parts.hand.role) parts.hand) }
@@ -128,11 +128,11 @@ fn offloaded_processor_holds_a_lazy_call_back(rt: HostRuntime) -> Result<(), Fai
 /// A grace period of one processor, whose hand draws from the processor's own lane: what its turns answered, before a
 /// call, after it, and after the grace period.
 fn run_by_hand(alloc: Global) -> Option<[HandTurn; 3]> {
-    let shape = Shape::new(1, 1, 1, 10, 16, 2)?;
-    let Ok((board, seats)) = open_board(alloc, shape) else {
+    let shape = Shape::new(1, 1, 1, 10, 16, 2)?.for_parts();
+    let Ok((board, seats)) = open_board(alloc, &shape) else {
         return None;
     };
-    let parts = take_apart(shape, &board, seats)?;
+    let parts = take_apart(&shape, &board, seats)?;
     let OneOfEach {
         processor,
         hand,
@@ -163,16 +163,8 @@ fn run_by_hand(alloc: Global) -> Option<[HandTurn; 3]> {
         held,
         Kept::Whole,
     );
-    let mut processor = Processor::new(
-        alloc,
-        &shape,
-        shape.limit,
-        board,
-        processor,
-        0,
-        lists,
-        Kept::Whole,
-    );
+    let mut processor =
+        Processor::new(alloc, &shape, board, processor, 0, lists, Kept::Whole);
     let before = hand.turn();
     processor.call_rcu(1, job(alloc, 7).ok()?).ok()?;
     let early = hand.turn();

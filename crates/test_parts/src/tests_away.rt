@@ -12,7 +12,7 @@ fn two_processors(
     alloc: Global,
 ) -> Option<(Processor<BoxedJob<0>>, Processor<BoxedJob<0>>, Driver)> {
     let shape = Shape::new(2, 0, 1, 10, 16, 10)?;
-    let Ok(parts) = open(alloc, shape) else {
+    let Ok(parts) = open(alloc, &shape.for_parts()) else {
         return None;
     };
     let Parts {

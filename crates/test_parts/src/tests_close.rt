@@ -11,7 +11,7 @@ type Work = BoxedJob<0>;
 fn an_empty_runtime_closes(rt: HostRuntime) -> Result<(), Fail> {
     let alloc = rt.alloc();
     let shape = Shape::new(4, 0b1010, 2, 10, 16, 20).ok_or("no shape")?;
-    let parts = open::<Work>(alloc, shape)?;
+    let parts = open::<Work>(alloc, &shape.for_parts())?;
     let Ok(closed) = close(alloc, parts) else {
         return Err(Fail::from("no room"));
     };

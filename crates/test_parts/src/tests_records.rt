@@ -2,19 +2,15 @@
 
 use crate::tests::job;
 use rcu_jobs::BoxedJob;
-use rcu_numbers::{MOST_CALLS, Shape};
-use rcu_parts::{AllParts, Driver, Kept, OpenOptions, Parts, Processor, open_with};
+use rcu_numbers::{MOST_CALLS, PartsShape, ProcessorSet};
+use rcu_parts::{AllParts, Driver, Kept, Parts, Processor, open_with};
 use std::alloc::Global;
 use std::test::Fail;
 
 /// The parts of a runtime with one Local processor, which accepts callbacks without end.
 fn open_one(alloc: Global, kept: Kept) -> Option<Parts<BoxedJob<0>>> {
-    let shape = Shape::new(1, 0, 1, 10, 16, 2)?;
-    let options = OpenOptions {
-        limit: MOST_CALLS,
-        kept,
-    };
-    open_with(alloc, shape, options).ok()
+    let shape = PartsShape::new(1, &ProcessorSet::new(), 1, 10, 16, MOST_CALLS)?;
+    open_with(alloc, &shape, kept).ok()
 }
 
 /// Calls once, and runs the callback, whose grace period passes meanwhile. Answers how many ran.
@@ -94,9 +90,9 @@ fn no_record_is_kept(rt: HostRuntime) -> Result<(), Fail> {
     Ok(())
 }
 
-/// More callbacks run than a shape's limit lets a processor accept.
+/// Callbacks run one after another, and no record of them is left.
 #[test]
-fn calls_go_on_beyond_the_limit_of_a_shape(rt: HostRuntime) -> Result<(), Fail> {
+fn calls_go_on_without_records(rt: HostRuntime) -> Result<(), Fail> {
     let alloc = rt.alloc();
     let AllParts {
         mut processors,
@@ -108,6 +104,6 @@ fn calls_go_on_beyond_the_limit_of_a_shape(rt: HostRuntime) -> Result<(), Fail> 
         let ran = call_and_run(alloc, &mut processor, &mut driver, moment);
         assert!(rt; ran == Some(1));
     }
-    assert_eq!(rt; processor.accepted(), 99);
+    assert_eq!(rt; (processor.accepted(), processor.ran(), processor.records_left()), (99, 99, 0));
     Ok(())
 }

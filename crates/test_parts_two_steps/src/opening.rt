@@ -30,7 +30,7 @@ pub fn open_one(alloc: Global, offloadable: bool) -> Option<AllOfOne> {
         mut groups,
         mut hands,
         control,
-    } = open(alloc, shape).ok()?;
+    } = open(alloc, &shape.for_parts()).ok()?;
     let processor = processors.pop()?;
     Some(AllOfOne {
         processor,

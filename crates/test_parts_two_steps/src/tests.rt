@@ -223,7 +223,7 @@ fn tick_waits_for_a_hands_claim(rt: HostRuntime) -> Result<(), Fail> {
 fn close_has_the_record(rt: HostRuntime) -> Result<(), Fail> {
     let alloc = rt.alloc();
     let shape = Shape::new(1, 0, 1, 10, 16, 8).ok_or("no shape")?;
-    let parts = open::<Echo>(alloc, shape)?;
+    let parts = open::<Echo>(alloc, &shape.for_parts())?;
     let Ok(closed) = work_and_close(alloc, parts, Echo { key: 7 }) else {
         return Err(Fail::from("no room"));
     };

@@ -121,7 +121,7 @@ fn play_one<R: Threads + Sync>(
     phases: Vec<Phase<Work>>,
 ) -> Result<Played<Work>, Fail> {
     let shape = Shape::new(1, u32::from(offloadable), 1, 10, 10000, 100).ok_or("no shape")?;
-    let parts = open(alloc, shape)?;
+    let parts = open(alloc, &shape.for_parts())?;
     Ok(play(rt, alloc, parts, phases)?)
 }
 

@@ -89,7 +89,7 @@ fn is_whole_after<R: Threads + Sync>(
     many: u64,
 ) -> Result<bool, Fail> {
     let phases = vec![in alloc; turns(alloc, processors, many, many)?]?;
-    let played = play(rt, alloc, open(alloc, shape)?, phases)?;
+    let played = play(rt, alloc, open(alloc, &shape.for_parts())?, phases)?;
     for cpu in 0..processors {
         if !is_whole(&played.closed, cpu, many) {
             return Ok(false);
@@ -188,7 +188,7 @@ fn passed_tickets(rt: HostRuntime) -> Result<(), Fail> {
     let alloc = rt.alloc();
     let shape = Shape::new(4, 0b1110, 2, 10, 10000, 100).ok_or("no shape")?;
     let phases = ticket_phases(alloc)?;
-    let played = play(&rt, alloc, open(alloc, shape)?, phases)?;
+    let played = play(&rt, alloc, open(alloc, &shape.for_parts())?, phases)?;
     assert!(rt; has_passed(played.replies.as_slice()));
     for ticket in first_tickets(alloc)?.iter() {
         let ran = played

@@ -35,7 +35,7 @@ fn run<R: Threads + Wait + Clock + Copy + Send + 'static>(
     shape: Option<Shape>,
     jobs: Vec<Work>,
 ) -> Result<ThreadsEnd<Work>, Fail> {
-    let parts = open(alloc, shape.ok_or("no shape")?)?;
+    let parts = open(alloc, &shape.ok_or("no shape")?.for_parts())?;
     match run_in_threads(rt, alloc, parts, jobs) {
         Ok(ended) => Ok(ended),
         Err(_) => Err("not run".into()),

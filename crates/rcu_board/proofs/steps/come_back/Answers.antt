@@ -38,3 +38,9 @@ returns-clause-later c = let s = c.args.seat.now.of_role in let a = alone c.args
 
 pub returns-clause-small : goal.returns-clause-small
 returns-clause-small c = let s = c.fetch_sub-found.ensures.2.small in omega arith
+
+pub overflow_mul-p : goal.overflow_mul-p
+overflow_mul-p c = let b = c.args.board.now in let w = b.sized in let few = b.few in let near = c.args.seat.now.of_role.processor c.in-Processor.p c.in-Processor.is in let fit = ap (λ z. z.words) c.requires.board in omega arith
+
+pub overflow_add-p : goal.overflow_add-p
+overflow_add-p c = let b = c.args.board.now in let w = b.sized in let few = b.few in let near = c.args.seat.now.of_role.processor c.in-Processor.p c.in-Processor.is in let fit = ap (λ z. z.words) c.requires.board in omega arith

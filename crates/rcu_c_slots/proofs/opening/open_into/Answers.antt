@@ -13,19 +13,19 @@ use Rattle.rcu_c_slots.proofs.Placing.{for_places, put_parts, put_places}
 use Rattle.rcu_c_slots.proofs.opening.open_into.Goals as goal
 
 pub put_each-requires-clause-rising : goal.put_each-requires-clause-rising
-put_each-requires-clause-rising c = let e = c.in-Ok.ensures in let b = e.boxes_all in let end = length c.args.slots.now.processors in let w = c.args.shape.within.some_processors in let few : c.args.shape.processors ≤ end = omega (arith, w) in
+put_each-requires-clause-rising c = let e = c.in-Ok.ensures in let b = e.boxes_all in let end = length c.args.slots.now.processors in let w = c.args.shape.now.within.some_processors in let few : c.args.shape.now.processors ≤ end = omega (arith, w) in
     for_places b.opening (λ (p : ForeignCpu). p.state.cpu) (λ p. part.Processor (lent_processor p)) (processors_in e.parts) (boxed c.in-Ok.boxes.processors.items) end b.boxed.processors_are
-    (rising_processors c.args.options.limit c.args.options.kept c.args.shape e.parts e.new.opened end few)
+    (rising_processors c.args.kept c.args.shape.now e.parts e.new.opened end few)
 
 pub put_each-requires-2-clause-rising : goal.put_each-requires-2-clause-rising
-put_each-requires-2-clause-rising c = let e = c.in-Ok.ensures in let b = e.boxes_all in let end = length c.args.slots.now.groups in let w = c.args.shape.within.some_processors in let few : c.args.shape.processors ≤ end = omega (arith, w) in
+put_each-requires-2-clause-rising c = let e = c.in-Ok.ensures in let b = e.boxes_all in let end = length c.args.slots.now.groups in let w = c.args.shape.now.within.some_processors in let few : c.args.shape.now.processors ≤ end = omega (arith, w) in
     for_places b.opening (λ (g : Group ForeignJob ForeignJob). g.state.group) (λ g. part.Group g) (groups_in e.parts) (boxed c.in-Ok.boxes.groups.items) end b.boxed.groups_are
-    (rising_groups c.args.options.limit c.args.options.kept c.args.shape e.parts e.new.opened end few)
+    (rising_groups c.args.kept c.args.shape.now e.parts e.new.opened end few)
 
 pub put_each-requires-3-clause-rising : goal.put_each-requires-3-clause-rising
-put_each-requires-3-clause-rising c = let e = c.in-Ok.ensures in let b = e.boxes_all in let end = length c.args.slots.now.hands in let w = c.args.shape.within.some_processors in let few : c.args.shape.processors ≤ end = omega (arith, w) in
+put_each-requires-3-clause-rising c = let e = c.in-Ok.ensures in let b = e.boxes_all in let end = length c.args.slots.now.hands in let w = c.args.shape.now.within.some_processors in let few : c.args.shape.now.processors ≤ end = omega (arith, w) in
     for_places b.opening (λ (h : ForeignHand). h.state.cpu) (λ h. part.Hand (lent_hand h)) (hands_in e.parts) (boxed c.in-Ok.boxes.hands.items) end b.boxed.hands_are
-    (rising_hands c.args.options.limit c.args.options.kept c.args.shape e.parts e.new.opened end few)
+    (rising_hands c.args.kept c.args.shape.now e.parts e.new.opened end few)
 
 pub returns-clause-opened : goal.returns-clause-opened
 returns-clause-opened c =

@@ -1,4 +1,3 @@
-use Rattle.std.proofs.Common.{arith}
 use Rattle.rcu_numbers.proofs.SnapLaw.{snap-least}
 use Rattle.rcu_numbers.proofs.sequence.snap.Goals as goal
 

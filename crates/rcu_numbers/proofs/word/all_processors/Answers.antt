@@ -1,4 +1,4 @@
-use Rattle.std.proofs.Common.{◌≡◌, ℕ, ◌-◌, ◌*◌, ◌%◌, ◌^◌, ◌≤◌, ◌∙◌, ap, arith, pow_mono}
+use Rattle.std.proofs.Common.{◌≡◌, ◌-◌, ◌*◌, ◌%◌, ◌^◌, ◌≤◌, ◌∙◌, ap, arith, pow_mono}
 use Rattle.rcu_numbers.specs.Words.{all_of, owes_of}
 use Rattle.rcu_numbers.proofs.WordLaws.{owes-all_of}
 use Rattle.rcu_numbers.proofs.word.all_processors.Goals as goal

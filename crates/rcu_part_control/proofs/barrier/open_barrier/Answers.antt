@@ -2,4 +2,4 @@ use Rattle.rcu_board.proofs.Facts.{same_seat_again}
 use Rattle.rcu_part_control.proofs.barrier.open_barrier.Goals as goal
 
 pub returns-clause-same : goal.returns-clause-same
-returns-clause-same c = same_seat_again _ _ _ c.read_counts-counts.ensures.same c.urge.ensures.same
+returns-clause-same c = same_seat_again _ _ _ c.read_counts-counts.ensures.same c.urge_all.ensures.same

@@ -25,20 +25,17 @@ new-processor-requires-after_bounds g c κs within =
       (
         h,
         (
-          c.args.options.small,
+          subst (λ (b : Board). IsNewProcessor b c.args.cpu c.args.seat) (sym same) c.requires.seat,
           (
-            subst (λ (b : Board). IsNewProcessor b c.args.cpu c.args.seat) (sym same) c.requires.seat,
-            (
-              subst (λ (b : Board). c.args.cpu < b.processors) (sym same) c.requires.there,
-              first_empty c.is_offloadable-offloadable.result _ c.args.shape.now.qhimark c.in_ok-lists.lists c.in_ok-lists.ensures.empty (offloads_at (arc_value c.args.board.now) c.deref.result.now c.deref.ensures c.is_offloadable-offloadable.result c.args.cpu c.is_offloadable-offloadable.ensures ∙ ap (λ (b : Board). is_offloadable b.offloadable c.args.cpu) (sym same)),
-            ),
+            subst (λ (b : Board). c.args.cpu < b.processors) (sym same) c.requires.there,
+            first_empty c.is_offloadable-offloadable.result _ c.args.shape.now.qhimark c.in_ok-lists.lists c.in_ok-lists.ensures.empty (offloads_at (arc_value c.args.board.now) c.deref.result.now c.deref.ensures c.is_offloadable-offloadable.result c.args.cpu c.is_offloadable-offloadable.ensures ∙ ap (λ (b : Board). is_offloadable b.offloadable c.args.cpu) (sym same)),
           ),
         ),
       ),
     )
 
 pub returns-clause-processor : goal.returns-clause-processor
-returns-clause-processor g c = first_processor c.args.shape.now c.args.options.limit c.args.options.kept (arc_value c.in_ok-own.own) (arc_value c.args.board.now) c.args.cpu c.args.seat c.in_ok-lists.lists c.new-processor.result c.is_offloadable-offloadable.result c.in_ok-own.ensures c.requires.seat c.in_ok-lists.ensures.empty (offloads_at (arc_value c.args.board.now) c.deref.result.now c.deref.ensures c.is_offloadable-offloadable.result c.args.cpu c.is_offloadable-offloadable.ensures) c.new-processor.ensures.new
+returns-clause-processor g c = first_processor c.args.shape.now c.args.kept (arc_value c.in_ok-own.own) (arc_value c.args.board.now) c.args.cpu c.args.seat c.in_ok-lists.lists c.new-processor.result c.is_offloadable-offloadable.result c.in_ok-own.ensures c.requires.seat c.in_ok-lists.ensures.empty (offloads_at (arc_value c.args.board.now) c.deref.result.now c.deref.ensures c.is_offloadable-offloadable.result c.args.cpu c.is_offloadable-offloadable.ensures) c.new-processor.ensures.new
 
 pub returns-clause-lane : goal.returns-clause-lane
 returns-clause-lane g c = subst (IsNewLane c.in_ok-front.front) (sym (ap (λ (l : ProcessorLists g.row.J.Denot). rear_of l) c.new-processor.ensures.new.lists_are ∙ c.in_ok-lists.ensures.rear)) c.in_ok-front.ensures

@@ -10,7 +10,7 @@ use Rattle.rcu_parts.proofs.Making.{fronts_more, fronts_same, processors_more}
 use Rattle.rcu_parts.proofs.Zips.{seat_taken}
 use Rattle.rcu_parts.proofs.opening.open_processors.Given.{Over}
 use Rattle.rcu_lists.proofs.Outcomes.{if_ok_never}
-use Rattle.rcu_parts.proofs.Passing.{all_there, below}
+use Rattle.rcu_parts.proofs.Passing.{all_there}
 use Rattle.std.specs.List.{AllZip, range_with_len}
 use Rattle.rcu_parts.proofs.opening.open_processors.Goals as goal
 
@@ -37,7 +37,7 @@ loop-seat-preserved-then-not-is_offloadable g c =
     let first = c.in_ok-processor.ensures.processor in record {
       seats = subst (λ (k : ℕ). InOrder (IsNewProcessor b) k c.next.new.self.rest.items) (sym long) t.2;
       many = ap (λ k. k + length c.next.new.self.rest.items) long ∙ t.3;
-      processors = processors_more c.args.shape.now c.args.options.limit c.args.options.kept b ps c.push.new.self.items c.in_ok-processor.processor i.processors (subst (λ (k : ℕ). IsFirstProcessor c.args.shape.now c.args.options.limit c.args.options.kept b k c.in_ok-processor.processor) same first) new;
+      processors = processors_more c.args.shape.now c.args.kept b ps c.push.new.self.items c.in_ok-processor.processor i.processors (subst (λ (k : ℕ). IsFirstProcessor c.args.shape.now c.args.kept b k c.in_ok-processor.processor) same first) new;
       fronts = fronts_same ps c.push.new.self.items c.in_ok-processor.processor c.loop-seat.fronts.items i.fronts
           (first.part.offloadable ∙ sym (offloads_at b c.deref.result.now c.deref.ensures c.is_offloadable.result c.len-cpu.result c.is_offloadable.ensures) ∙ c.if-not-is_offloadable.true) new;
     }
@@ -51,7 +51,7 @@ loop-seat-preserved g c =
     let first = c.in_ok-processor.ensures.processor in record {
       seats = subst (λ (k : ℕ). InOrder (IsNewProcessor b) k c.next.new.self.rest.items) (sym long) t.2;
       many = ap (λ k. k + length c.next.new.self.rest.items) long ∙ t.3;
-      processors = processors_more c.args.shape.now c.args.options.limit c.args.options.kept b ps c.push.new.self.items c.in_ok-processor.processor i.processors (subst (λ (k : ℕ). IsFirstProcessor c.args.shape.now c.args.options.limit c.args.options.kept b k c.in_ok-processor.processor) same first) new;
+      processors = processors_more c.args.shape.now c.args.kept b ps c.push.new.self.items c.in_ok-processor.processor i.processors (subst (λ (k : ℕ). IsFirstProcessor c.args.shape.now c.args.kept b k c.in_ok-processor.processor) same first) new;
       fronts = fronts_more ps c.push.new.self.items c.in_ok-processor.processor c.loop-seat.fronts.items c.push_back.new.self.items c.in_ok-processor.front i.fronts
           (first.part.offloadable ∙ sym (offloads_at b c.deref.result.now c.deref.ensures c.is_offloadable.result c.len-cpu.result c.is_offloadable.ensures) ∙ c.if-not-is_offloadable.false) c.in_ok-processor.ensures.lane new c.in_ok-push_back.ensures.items;
     }
@@ -80,17 +80,12 @@ from_residual-requires-in_err-push-room-F-From g c κs within = assumption
 pub drop-processors-requires-in_err-push-room-T-Destruct : goal.drop-processors-requires-in_err-push-room-T-Destruct
 drop-processors-requires-in_err-push-room-T-Destruct g c κs within = assumption
 
-pub is_offloadable-requires : goal.is_offloadable-requires
-is_offloadable-requires g c = let i = c.loop-seat.invariant in let b = arc_value c.args.board.now in let ok = c.loop-seat.processors.ok.0 in let r = c.len-cpu.ensures in let ps = c.loop-seat.processors.items in
-    let same : c.len-cpu.result ≡ length ps = omega (arith, ok, r) in
-    below _ _ _ (seat_taken (IsNewProcessor b) (length ps) b.processors c.len-cpu.result c.loop-seat.seat-iterator.rest.items c.in-Some.seat c.next.new.self.rest.items i.seats i.many same c.in-Some.ensures.steps.0).1 b.few
-
 pub drop-processors-requires-in_err-push_back-room-T-Destruct : goal.drop-processors-requires-in_err-push_back-room-T-Destruct
 drop-processors-requires-in_err-push_back-room-T-Destruct g c κs within = assumption
 
 pub returns-clause-processors : goal.returns-clause-processors
 returns-clause-processors g c = let i = c.loop-seat.invariant in let b = arc_value c.args.board.now in let ps = c.loop-seat.processors.items in
-    subst (λ (n : ℕ). AllZip (IsFirstProcessor c.args.shape.now c.args.options.limit c.args.options.kept b) (range_with_len 0 n) ps) (all_there _ _ _ _ i.many c.in-None.ensures.steps.0 c.loop-seat.seat-iterator.rest.ok.0) i.processors
+    subst (λ (n : ℕ). AllZip (IsFirstProcessor c.args.shape.now c.args.kept b) (range_with_len 0 n) ps) (all_there _ _ _ _ i.many c.in-None.ensures.steps.0 c.loop-seat.seat-iterator.rest.ok.0) i.processors
 
 pub returns-clause-fronts : goal.returns-clause-fronts
 returns-clause-fronts g c = c.loop-seat.invariant.fronts

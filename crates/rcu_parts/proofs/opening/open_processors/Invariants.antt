@@ -9,6 +9,6 @@ abbrev pub invariant-loop-seat : goal.invariant-loop-seat
 invariant-loop-seat g l = record {
   seats : InOrder (IsNewProcessor (arc_value l.board)) (length l.processors.items) l.seat-iterator.rest.items;
   many : length l.processors.items + length l.seat-iterator.rest.items ≡ (arc_value l.board).processors;
-  processors : AllZip (IsFirstProcessor l.shape l.options.limit l.options.kept (arc_value l.board)) (range_with_len 0 (length l.processors.items)) l.processors.items;
+  processors : AllZip (IsFirstProcessor l.shape l.kept (arc_value l.board)) (range_with_len 0 (length l.processors.items)) l.processors.items;
   fronts : AreFronts l.processors.items l.fronts.items;
 }

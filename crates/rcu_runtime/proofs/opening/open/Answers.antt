@@ -8,12 +8,12 @@ use Rattle.rcu_runtime.proofs.opening.open.Goals as goal
 
 pub invariant_of-result : goal.invariant_of-result
 invariant_of-result g c = let e = c.in_ok-parts.ensures in record {
-  close = record { one = e.one; sound = e.sound; keep = opened_whole c.args.shape c.in_ok-parts.parts e.opened };
-  limits = first_limits c.args.shape Whole (parts_board c.in_ok-parts.parts) (range_with_len 0 (parts_board c.in_ok-parts.parts).processors) c.in_ok-parts.parts.processors.items e.opened.processors;
+  close = record { one = e.one; sound = e.sound; keep = opened_whole c.args.shape.now c.in_ok-parts.parts e.opened };
+  limits = first_limits c.args.shape.now Whole (parts_board c.in_ok-parts.parts) (range_with_len 0 (parts_board c.in_ok-parts.parts).processors) c.in_ok-parts.parts.processors.items e.opened.processors;
 }
 
 pub returns-clause-none : goal.returns-clause-none
-returns-clause-none g c = first_none c.args.shape Whole (parts_board c.in_ok-parts.parts) (range_with_len 0 (parts_board c.in_ok-parts.parts).processors) c.in_ok-parts.parts.processors.items c.in_ok-parts.ensures.opened.processors
+returns-clause-none g c = first_none c.args.shape.now Whole (parts_board c.in_ok-parts.parts) (range_with_len 0 (parts_board c.in_ok-parts.parts).processors) c.in_ok-parts.parts.processors.items c.in_ok-parts.ensures.opened.processors
 
 pub open-requires-send-J : goal.open-requires-send-J
 open-requires-send-J g c κs within = c.type_bounds.send-J

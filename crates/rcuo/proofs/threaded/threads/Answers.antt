@@ -21,17 +21,19 @@ returns-in-Ok g c =
     let opened = c.in_ok-parts.ensures.opened in
     -- parts that were just opened have accepted nothing
     let unused : AreUnused start =
-    zip_all (IsFirstProcessor setup.shape setup.shape.limit _ (parts_board start)) (λ p. p.state.accepted ≡ 0) (λ k p first. first.part.accepted)
+    zip_all (IsFirstProcessor c.for_parts.result _ (parts_board start)) (λ p. p.state.accepted ≡ 0) (λ k p first. first.part.accepted)
     (range_with_len 0 (parts_board start).processors) (processors_in start) opened.processors in
     let runs : RunsInThreads (λ job. job.key) (Promised 65536) setup c.args.jobs.items (whole_totals false closed) =
     record {
       start = start;
+      shape = c.for_parts.result;
+      of_setup = c.for_parts.ensures;
       opened = opened;
       closed = closed;
       closes = c.in-Ok.ensures.closes;
       none_back = c.in-Ok.ensures.ran unused;
       answers = map (λ own. own.items) c.in-Ok.ended.answers.items;
-      all = c.in-Ok.ensures.all unused (opened_whole setup.shape start opened);
+      all = c.in-Ok.ensures.all unused (opened_whole c.for_parts.result start opened);
       whole = refl;
     } in
     record {

@@ -9,11 +9,11 @@ pub returns-clause-processor : goal.returns-clause-processor
 returns-clause-processor c = let b = c.args.board.now in in_order_one (IsNewProcessor b) 0 c.in_ok-only.field-0 (subst (λ (l : List Seat). InOrder (IsNewProcessor b) 0 l) c.in_ok-only.ensures c.requires.processors)
 
 pub returns-clause-hand : goal.returns-clause-hand
-returns-clause-hand c = let b = c.args.board.now in let s = c.args.shape in
+returns-clause-hand c = let b = c.args.board.now in let s = c.args.shape.now in
     let t = for_each_one (IsNewHand b) (numbers_where (is_offloadable s.offloadable) 0 s.processors) _ c.in_ok-only-2.field-0 c.in_ok-only-2.ensures c.requires.hands in
     subst (λ (k : ℕ). IsNewHand b k c.in_ok-only-2.field-0) (sym (ap cpu_of_role t.1.who)) t.1
 
 pub returns-clause-group : goal.returns-clause-group
-returns-clause-group c = let b = c.args.board.now in let s = c.args.shape in
+returns-clause-group c = let b = c.args.board.now in let s = c.args.shape.now in
     let t = for_each_one (IsNewGroup b) (numbers_where (has_offloadable s.offloadable s.stride s.processors) 0 s.processors) _ c.in_ok-only-3.field-0 c.in_ok-only-3.ensures c.requires.groups in
     (t.1.board, subst MayNeed (sym t.1.who) tt)

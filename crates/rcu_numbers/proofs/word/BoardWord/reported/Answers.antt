@@ -1,6 +1,6 @@
-use Rattle.std.proofs.Common.{◌≡◌, ℕ, ◌∙◌, ◌<◌, sym, ap, arith}
+use Rattle.std.proofs.Common.{◌≡◌, ◌∙◌, sym, ap, arith}
 use Rattle.std.specs.Prelude.{bit_and}
-use Rattle.rcu_numbers.specs.Words.{Board, all_but_of, mask_of, number_of, owes_of}
+use Rattle.rcu_numbers.specs.Words.{mask_of, number_of, owes_of}
 use Rattle.rcu_numbers.proofs.WordLaws.{clear_same, clear_other, clear_number, owes-mask}
 use Rattle.rcu_numbers.proofs.word.BoardWord.reported.Goals as goal
 

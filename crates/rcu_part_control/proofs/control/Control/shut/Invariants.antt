@@ -7,7 +7,7 @@ abbrev pub invariant-loop-p : goal.invariant-loop-p
 invariant-loop-p l = record {
   all : l.n ≡ (control_board l.self).processors;
   same : SameControl l.fn.self l.self;
-  long : length l.counts.counts ≡ 32;
+  long : length l.counts.counts ≡ 1024;
   many : l.counts.n ≡ (control_board l.self).processors;
   shuts : Shuts l.p l.counts (control_view l.fn.self) (control_view l.self);
 }

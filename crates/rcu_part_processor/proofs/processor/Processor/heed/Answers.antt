@@ -10,7 +10,7 @@ use Rattle.rcu_board.specs.Roles.{IsProcessor, cpu_of_role}
 use Rattle.rcu_board.specs.Seats.{NeverFalls, own_word, view}
 use Rattle.rcu_board.specs.declared.board.Board.{Board}
 use Rattle.rcu_board.specs.Views.{seen_at}
-use Rattle.rcu_board.specs.Words.{asks_word, urge_word}
+use Rattle.rcu_board.specs.Words.{asks_word, urge_word, urge_bit}
 use Rattle.rcu_board.specs.declared.board.Role.{Role}
 use Rattle.rcu_board.specs.declared.view.View.{View}
 use Rattle.rcu_board.proofs.Facts.{never_falls_again, same_seat_again}
@@ -44,7 +44,7 @@ pub invariant_of-state : goal.invariant_of-state
 invariant_of-state g c = let s = c.args.self.now.state in let a = c.asked-on.ensures in let b = c.heard-urged.ensures in let r = c.release.ensures in let k = c.switch.ensures in
     let v = view s.seat in let u = view c.asked-on.new.seat in let w = view c.heard-urged.new.seat in
     let h = holding s.lists in let i = holding c.release.new.self in let j = holding c.switch.new.self in
-    let n = (arc_value s.board).processors in let found = seen_at w (urge_word n) in
+    let n = (arc_value s.board).processors in let own = cpu_of_role c.asked-on.new.seat.role in let found = seen_at w (urge_word n own) in
     let first : NeverFalls n v u = a.same.later (arc_value s.board) s.here in
     let second : NeverFalls n u w = b.same.later (arc_value s.board) (a.same.table ∙ s.here) in
     let step = urges (arc_value s.board) c.deref-2.result.now c.deref-2.ensures (cpu_of_role c.asked-on.new.seat.role) u w b.view in record {
@@ -56,23 +56,23 @@ invariant_of-state g c = let s = c.args.self.now.state in let a = c.asked-on.ens
       small = s.small;
       since = since_kept _ _ _ (ap own_word b.view ∙ ap own_word a.view) s.since;
       lawful = shifts_law s.cpu s.accepted n v w (ran_of s.ran) h j
-          (tells_again v u w (tells_touched (asks_word (cpu_of_role s.seat.role)) (from_bool c.asked-on.result) v u a.view) (tells_urged (urge_word n) found (bit_and found (all_but_of (cpu_of_role c.asked-on.new.seat.role))) u w step))
+          (tells_again v u w (tells_touched (asks_word (cpu_of_role s.seat.role)) (from_bool c.asked-on.result) v u a.view) (tells_urged (urge_word n own) found (bit_and found (all_but_of (urge_bit own))) u w step))
           (never_falls_again n v u w first second)
           (heeding c.args.moment c.asked-on.result c.heard-urged.result s.accepted h i j r.releases k.off k.on) (k.places ∙ r.places) s.lawful;
     }
 
 pub returns-clause-heeds : goal.returns-clause-heeds
 returns-clause-heeds g c = let s = c.args.self.now.state in let a = c.asked-on.ensures in let b = c.heard-urged.ensures in
-    let n = (arc_value s.board).processors in let i = urge_word n in let found = seen_at (view c.heard-urged.new.seat) i in
+    let n = (arc_value s.board).processors in let own = cpu_of_role c.asked-on.new.seat.role in let i = urge_word n own in let found = seen_at (view c.heard-urged.new.seat) i in
     let u = view c.asked-on.new.seat in let w = view c.heard-urged.new.seat in
     let step = urges (arc_value s.board) c.deref-2.result.now c.deref-2.ensures (cpu_of_role c.asked-on.new.seat.role) u w b.view in
     let later : cpu_of_role c.asked-on.new.seat.role ≡ s.cpu = ap cpu_of_role (a.same.role ∙ s.role) in record {
       on = c.asked-on.result;
       urges = c.heard-urged.result;
       found = found;
-      steps = step ∙ (ap (λ (p : ℕ). urged i found (bit_and found (all_but_of p)) (view c.asked-on.new.seat)) later
-          ∙ ap (λ (x : View). urged i found (bit_and found (all_but_of s.cpu)) x) (a.view ∙ ap (λ (p : ℕ). touched (asks_word p) (from_bool c.asked-on.result) (view s.seat)) (ap cpu_of_role s.role)));
-      heard = subst (λ (p : ℕ). IsTrue c.heard-urged.result ↔ (owes_of found p ≡ 1)) later (subst (λ (t : Board). IsTrue c.heard-urged.result ↔ (owes_of (seen_at w (urge_word t.processors)) (cpu_of_role c.asked-on.new.seat.role) ≡ 1)) c.deref-2.ensures b.heard);
+      steps = step ∙ (ap (λ (p : ℕ). urged (urge_word n p) found (bit_and found (all_but_of (urge_bit p))) (view c.asked-on.new.seat)) later
+          ∙ ap (λ (x : View). urged (urge_word n s.cpu) found (bit_and found (all_but_of (urge_bit s.cpu))) x) (a.view ∙ ap (λ (p : ℕ). touched (asks_word p) (from_bool c.asked-on.result) (view s.seat)) (ap cpu_of_role s.role)));
+      heard = subst (λ (p : ℕ). IsTrue c.heard-urged.result ↔ (owes_of found (urge_bit p) ≡ 1)) later (subst (λ (t : Board). IsTrue c.heard-urged.result ↔ (owes_of (seen_at w (urge_word t.processors own)) (urge_bit own) ≡ 1)) c.deref-2.ensures b.heard);
       released = holding c.release.new.self;
       releases = c.release.ensures.releases;
       asked_off = c.switch.ensures.off;
@@ -82,10 +82,10 @@ returns-clause-heeds g c = let s = c.args.self.now.state in let a = c.asked-on.e
 
 pub returns-clause-sight : goal.returns-clause-sight
 returns-clause-sight g c = let s = c.args.self.now.state in let a = c.asked-on.ensures in let b = c.heard-urged.ensures in
-    let n = (arc_value s.board).processors in let i = urge_word n in let found = seen_at (view c.heard-urged.new.seat) i in
+    let n = (arc_value s.board).processors in let own = cpu_of_role c.asked-on.new.seat.role in let i = urge_word n own in let found = seen_at (view c.heard-urged.new.seat) i in
     let u = view c.asked-on.new.seat in let w = view c.heard-urged.new.seat in
     let step = urges (arc_value s.board) c.deref-2.result.now c.deref-2.ensures (cpu_of_role c.asked-on.new.seat.role) u w b.view in (
-      sight_urged i found (bit_and found (all_but_of (cpu_of_role c.asked-on.new.seat.role))) u w (λ z. absurd (omega (arith, z))) step
+      sight_urged i found (bit_and found (all_but_of (urge_bit own))) u w (λ z. absurd (omega (arith, z))) step
           ∙ sight_touched (asks_word (cpu_of_role s.seat.role)) (from_bool c.asked-on.result) (view s.seat) (view c.asked-on.new.seat) (λ z. absurd (omega (arith, z))) a.view,
       c.switch.ensures.advanced ∙ c.release.ensures.advanced,
     )

@@ -6,7 +6,7 @@ use Rattle.rcu_part_order.specs.Recorded.{Recorded}
 use Rattle.rcu_part_steps.specs.Places.{AreKeyed}
 use Rattle.rcu_part_processor.specs.Processors.{lists_of}
 use Rattle.rcu_part_processor.proofs.LeavingAfter.{left_after, same_left_after}
-use Rattle.rcu_part_processor.proofs.Leaving.{urged_back, urged_put}
+use Rattle.rcu_part_processor.proofs.Leaving.{all_put, batch_put, put_back}
 use Rattle.rcu_part_processor.proofs.processor.Processor.leave.Goals as goal
 
 pub empty_bypass-requires : goal.empty_bypass-requires
@@ -14,7 +14,7 @@ empty_bypass-requires g c = assumption
 
 pub returns-then-not-empty_bypass-clause-stays : goal.returns-then-not-empty_bypass-clause-stays
 returns-then-not-empty_bypass-clause-stays g c = let p = c.args.self.state in let q = c.empty_bypass.new.self.state in let e = c.if-not-empty_bypass.ensures in
-    let back = urged_back 0 (lists_of p) (lists_of q) e.releases (λ none. (let f : false ≡ true = e.empty.1 none in cc)) in record {
+    let back = put_back (lists_of p) (lists_of q) e.puts (λ none. (let f : false ≡ true = e.empty.1 none in cc)) in record {
       same = e.same;
       view = e.view;
       count = e.count.0;
@@ -46,8 +46,9 @@ returns-clause-keeps g c = let p = c.args.self.state in let q = c.empty_bypass.n
       count = a.count.0 ∙ e.count.0;
       passed = a.count.1 ∙ e.count.1;
       records = a.records ∙ e.records;
-      put = ap put_by lists ∙ urged_put 0 (lists_of p) (lists_of q) e.releases (e.empty.0 refl);
-      others = lists ∙ (e.releases.others ∙ ap (λ (o : Outgoing g.row.J.Denot). record (lists_of p) { outgoing = o }) (sym (ap (λ (h : Holding g.row.J.Denot). h.outgoing) lists)));
+      put = ap put_by lists ∙ all_put (lists_of p) (lists_of q) e.puts (e.empty.0 refl);
+      batch = ap (λ (h : Holding g.row.J.Denot). h.outgoing) lists ∙ batch_put (lists_of p) (lists_of q) e.puts (e.empty.0 refl);
+      others = lists ∙ (e.puts.others ∙ ap (λ (o : Outgoing g.row.J.Denot). record (lists_of p) { outgoing = o }) (sym (ap (λ (h : Holding g.row.J.Denot). h.outgoing) lists)));
     }
 
 pub returns-clause-sound : goal.returns-clause-sound

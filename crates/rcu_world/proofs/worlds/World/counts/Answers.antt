@@ -1,4 +1,4 @@
-use Rattle.std.proofs.Common.{ℕ, ◌∙◌, ◌<◌, ap, arith, length, subst}
+use Rattle.std.proofs.Common.{ℕ, ◌∙◌, ◌<◌, ◌≤◌, ap, arith, length, subst}
 use Rattle.std.proofs.lemmas.List.{length-map, length-set, length-replicate}
 use denote.Param.{param}
 use Rattle.rcu_world_law.specs.States.{cpu_at}
@@ -13,7 +13,7 @@ use Rattle.rcu_world.proofs.worlds.World.counts.Goals as goal
 pub loop-cpu-init : goal.loop-cpu-init
 loop-cpu-init g c = record {
   all = omega (arith, c.new-counts.ensures.processors, length-map c.args.self.now.core.processors.items (seen g.J.Job.key_of));
-  len = ap length c.new-counts.ensures.zero ∙ length-replicate {A = ℕ} 32 0;
+  len = ap length c.new-counts.ensures.zero ∙ length-replicate {A = ℕ} 1024 0;
   each = λ p l. absurd (omega (arith, l));
 }
 
@@ -47,7 +47,7 @@ loop-cpu-preserved g c =
     }
 
 pub new-counts-requires : goal.new-counts-requires
-new-counts-requires g c = few_in_vec _ _ _ _ _ c.len-n.ensures c.args.self.now.core.processors.ok.0 (length-map c.args.self.now.core.processors.items (seen g.J.Job.key_of)) c.requires
+new-counts-requires g c = let few : c.len-n.result ≤ 32 = few_in_vec _ _ _ _ _ c.len-n.ensures c.args.self.now.core.processors.ok.0 (length-map c.args.self.now.core.processors.items (seen g.J.Job.key_of)) c.requires in omega (arith, few)
 
 pub index-requires : goal.index-requires
 index-requires g c = subst (λ n. c.loop-cpu.cpu < n) c.len-n.ensures c.loop-cpu-test.true

@@ -1,4 +1,4 @@
-use Rattle.std.proofs.Common.{◌∙◌, ap, arith, length, refl, ℕ}
+use Rattle.std.proofs.Common.{◌∙◌, ◌≤◌, ap, arith, length, refl, ℕ}
 use Rattle.std.proofs.lemmas.List.{length-map, length-set, length-replicate}
 use Rattle.rcu_world_law.specs.Lists.{value_or}
 use Rattle.rcu_world_law.specs.States.{barrier_at, count_at}
@@ -25,7 +25,7 @@ loop-cpu-preserved g c =
 pub loop-cpu-init : goal.loop-cpu-init
 loop-cpu-init g c = record {
   all = omega (arith, c.new-counts.ensures.processors, length-map c.args.self.now.core.processors.items (seen g.J.Job.key_of));
-  len = ap length c.new-counts.ensures.zero ∙ length-replicate {A = ℕ} 32 0;
+  len = ap length c.new-counts.ensures.zero ∙ length-replicate {A = ℕ} 1024 0;
   each = λ p l. absurd (omega (arith, l));
 }
 
@@ -39,7 +39,7 @@ pub index-kept-requires : goal.index-kept-requires
 index-kept-requires g c = in_vec _ _ _ _ c.requires.there (length-map c.args.self.now.core.barriers.items barrier) c.args.self.now.core.barriers.ok.0
 
 pub new-counts-requires : goal.new-counts-requires
-new-counts-requires g c = few_in_vec _ _ _ _ _ c.len-n.ensures c.args.self.now.core.processors.ok.0 (length-map c.args.self.now.core.processors.items (seen g.J.Job.key_of)) c.requires.few
+new-counts-requires g c = let few : c.len-n.result ≤ 32 = few_in_vec _ _ _ _ _ c.len-n.ensures c.args.self.now.core.processors.ok.0 (length-map c.args.self.now.core.processors.items (seen g.J.Job.key_of)) c.requires.few in omega (arith, few)
 
 pub loop-cpu-smaller : goal.loop-cpu-smaller
 loop-cpu-smaller g c = steps_on _ _ c.loop-cpu-test.true
