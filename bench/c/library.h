@@ -113,7 +113,7 @@ static void library_help(void *(*run)(void *), void *part) {
 static void library_open(unsigned threads, bool each) {
     struct rcuo_settings settings = RCUO_SETTINGS_DEFAULT;
     settings.processors = threads;
-    settings.offloadable = (uint32_t)((UINT64_C(1) << threads) - 1);
+    settings.offloadable = NULL;
     settings.stride = 1;
     settings.blimit = 1000;
     library_check("open", rcuo_open(&settings, &library_parts));
@@ -167,7 +167,6 @@ static void library_barrier(void) {
 static void library_open_bare(unsigned threads) {
     struct rcuo_settings settings = RCUO_SETTINGS_DEFAULT;
     settings.processors = threads;
-    settings.offloadable = 0;
     library_check("open", rcuo_open(&settings, &library_parts));
 }
 

@@ -59,10 +59,11 @@ int main(int count, char **words) {
     uint64_t callbacks = count > 1 ? strtoull(words[1], NULL, 10) : 10000000;
     uint64_t batches = callbacks / BATCH;
     long early = 0;
+    const uint64_t offloadable[] = {UINT64_C(1) << OFFLOADED};
     struct rcuo_settings settings = RCUO_SETTINGS_DEFAULT;
     settings.processors = 2;
     settings.stride = 2;
-    settings.offloadable = 1u << OFFLOADED;
+    settings.offloadable = offloadable;
     settings.blimit = BATCH;
     is("open", rcuo_open(&settings, &parts), RCUO_OK);
     for (uint64_t batch = 1; batch <= batches; batch++) {

@@ -42,7 +42,9 @@ void __wrap_free(void *at) {
 enum { CALLS = 40, PROCESSORS = 3 };
 
 static struct rcuo_parts parts;
-static const struct rcuo_settings settings = {.processors = PROCESSORS, .stride = 2, .blimit = 4, .qhimark = 4, .limit = 1000, .offloadable = 6, .records = 1};
+static const uint64_t offloadable[] = {6};
+static const struct rcuo_settings settings = {
+    .processors = PROCESSORS, .stride = 2, .blimit = 4, .qhimark = 4, .limit = 1000, .offloadable = offloadable, .records = 1};
 static int ran[PROCESSORS * CALLS];
 static long failed;
 

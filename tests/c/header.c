@@ -26,12 +26,38 @@ static void defaults(void) {
     is("open with the defaults", rcuo_open(&settings, &parts), RCUO_OK);
     holds("that there is one local processor", parts.processors[0].full && !parts.processors[1].full && !parts.hands[0].full);
     is("left", rcuo_left(&parts.processors[0], &left), RCUO_OK);
-    holds("that the limit is the highest", settings.limit == 0 && left == UINT64_C(1) << 53);
+    holds("that there is no limit", !settings.limit && left == UINT64_C(1) << 53);
     end();
     settings.processors = RCUO_PROCESSORS;
-    settings.offloadable = UINT32_MAX;
+    settings.offloadable = NULL;
     is("open with as many processors as there can be", rcuo_open(&settings, &parts), RCUO_OK);
     holds("that each has a hand", parts.hands[0].full && parts.hands[RCUO_PROCESSORS - 1].full);
+    end();
+}
+
+/* ---- who is away at first ---- */
+
+/* A callback of processor 64 runs once that one has reported: processors 0 and 65 are here and report, no other holds it back. */
+static void away_at_first(void) {
+    uint64_t away[RCUO_PROCESSORS / 64], ran = 0;
+    struct rcuo_settings settings = RCUO_SETTINGS_DEFAULT;
+    settings.processors = 66;
+    settings.away = away;
+    away[0] = ~UINT64_C(1);
+    away[1] = 0;
+    is("open", rcuo_open(&settings, &parts), RCUO_OK);
+    is("a report of one that is away", rcuo_quiescent(&parts.processors[63], NULL), RCUO_AWAY);
+    is("a call", rcuo_call(&parts.processors[64], 0, nothing, NULL, NULL), RCUO_OK);
+    is("a begin", rcuo_run(&parts.processors[64], 0, 1, NULL), RCUO_NONE_LEFT);
+    is("the start", rcuo_driver_turn(&parts.driver, NULL), RCUO_OK);
+    for (int here = 0; here < 66; here += here ? 1 : 64) {
+        is("a begin before all have reported", rcuo_run(&parts.processors[64], 0, 1, NULL), RCUO_NONE_LEFT);
+        is("a report", rcuo_quiescent(&parts.processors[here], NULL), RCUO_OK);
+        is("a turn", rcuo_driver_turn(&parts.driver, NULL), RCUO_OK);
+    }
+    is("a begin after the grace period", rcuo_run(&parts.processors[64], 0, 1, &ran), RCUO_OK);
+    holds("that the callback ran", ran == 1);
+    for (int gone = 1; gone < 64; gone++) is("back", rcuo_return(&parts.processors[gone]), RCUO_OK);
     end();
 }
 
@@ -111,9 +137,10 @@ static void barrier_and_switch(void) {
 }
 
 static void moments(void) {
+    static const uint64_t first[] = {1};
     struct rcuo_settings settings = RCUO_SETTINGS_DEFAULT;
     settings.processors = 2;
-    settings.offloadable = 1;
+    settings.offloadable = first;
     settings.qhimark = HIGH_MARK;
     is("open", rcuo_open(&settings, &parts), RCUO_OK);
     call(1, 100, 0);
@@ -128,6 +155,7 @@ static void moments(void) {
 int main(void) {
     versions();
     defaults();
+    away_at_first();
     moments();
     return tell();
 }

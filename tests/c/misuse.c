@@ -11,7 +11,9 @@ static void count(void *argument) {
 }
 
 static struct rcuo_parts parts, others;
-static const struct rcuo_settings good = {.processors = 2, .stride = 1, .blimit = 8, .qhimark = 8, .limit = 4, .offloadable = 2, .records = 1};
+static const uint64_t second[] = {2}, third[] = {4}, above[17] = {[16] = 1};
+static const struct rcuo_settings good = {
+    .processors = 2, .stride = 1, .blimit = 8, .qhimark = 8, .limit = 4, .offloadable = second, .records = 1};
 
 static void null_pointers(void) {
     struct rcuo_slot empty = {0};
@@ -98,13 +100,19 @@ static void settings_outside(void) {
     struct rcuo_settings bad = good;
     bad.processors = 0;
     is("no processor", rcuo_open(&bad, &parts), RCUO_SHAPE);
-    bad.processors = 33;
-    is("33 processors", rcuo_open(&bad, &parts), RCUO_SHAPE);
-    bad = good, bad.offloadable = 4;
-    is("a bit too high", rcuo_open(&bad, &parts), RCUO_SHAPE);
+    bad.processors = 1025, bad.offloadable = above;
+    is("1025 processors", rcuo_open(&bad, &parts), RCUO_SHAPE);
+    bad.offloadable = NULL;
+    is("1025 processors, all offloadable", rcuo_open(&bad, &parts), RCUO_SHAPE);
+    bad.processors = UINT64_MAX;
+    is("as many processors as can be said", rcuo_open(&bad, &parts), RCUO_SHAPE);
+    bad = good, bad.offloadable = third;
+    is("a processor that isn't there", rcuo_open(&bad, &parts), RCUO_SHAPE);
+    bad = good, bad.away = third;
+    is("a processor that isn't there, away", rcuo_open(&bad, &parts), RCUO_SHAPE);
     bad = good, bad.stride = 0;
     is("no stride", rcuo_open(&bad, &parts), RCUO_SHAPE);
-    bad = good, bad.stride = 33;
+    bad = good, bad.stride = 1025;
     is("a stride too long", rcuo_open(&bad, &parts), RCUO_SHAPE);
     bad = good, bad.blimit = 0;
     is("no blimit", rcuo_open(&bad, &parts), RCUO_SHAPE);
@@ -164,7 +172,7 @@ static void wrong_kinds(void) {
     is("a barrier of one by a processor", rcuo_poll(&parts.processors[0], &counts, &over), RCUO_FOREIGN);
     counts.processors = UINT64_MAX;
     is("a barrier of too many", rcuo_poll(&parts.control, &counts, &over), RCUO_FOREIGN);
-    is("a ticket of none", rcuo_counts_ticket(&counts, (struct rcuo_ticket){40, 0}), RCUO_NO_PROCESSOR);
+    is("a ticket of none", rcuo_counts_ticket(&counts, (struct rcuo_ticket){RCUO_PROCESSORS, 0}), RCUO_NO_PROCESSOR);
 }
 
 static void read_sections(void) {

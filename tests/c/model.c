@@ -38,6 +38,7 @@ struct cpu {
 
 static struct rcuo_parts parts;
 static struct rcuo_settings settings;
+static uint64_t offloadable; /* what the settings point to */
 static struct cpu cpus[MOST];
 static bool is_shut, halted;
 static struct rcuo_counts barrier;
@@ -387,9 +388,10 @@ static void run(uint64_t number) {
     settings.blimit = 1 + any(5);
     settings.qhimark = 1 + any(8);
     settings.limit = 1 + any(MOST_CALLS);
-    settings.offloadable = (uint32_t)any(1u << settings.processors);
+    offloadable = any(UINT64_C(1) << settings.processors);
+    settings.offloadable = &offloadable;
     settings.records = (uint32_t)any(2);
-    for (uint64_t p = 0; p < settings.processors; p++) cpus[p].offloadable = settings.offloadable >> p & 1;
+    for (uint64_t p = 0; p < settings.processors; p++) cpus[p].offloadable = offloadable >> p & 1;
     same("open", rcuo_open(&settings, &parts), RCUO_OK);
     for (uint64_t left = 50 + any(2000); left && !differences; left--) step();
     if (!differences) end();

@@ -14,9 +14,13 @@ import unittest
 ROOT = pathlib.Path(__file__).resolve().parent.parent.parent
 EXAMPLE = ROOT / "examples/c/first.c"
 SAYS = "freed the old version\nclosed: done\n"
+RUNTIME_EXAMPLE = ROOT / "examples/c/runtime.c"
+RUNTIME_SAYS = "published 1000, freed 999, faults 0\n"
 VERSION = re.search(r'^#define RCUO_VERSION "(.*)"$', (ROOT / "include/rcuo.h").read_text(encoding="utf-8"), re.MULTILINE).group(1)
 SONAME = "librcuo.so." + VERSION.partition(".")[0]
 LIBRARIES = {"librcuo.a", f"librcuo.so.{VERSION}", SONAME, "librcuo.so", "pkgconfig/rcuo.pc"}
+LIBRARIES |= {"librcuo-runtime.a", "pkgconfig/rcuo-runtime.pc"}
+HEADERS = {"rcuo.h", "rcuo/runtime.h"}
 
 
 def run(*words, **variables):
@@ -36,6 +40,10 @@ def path_without_rt(folder):
 
 
 class Install(unittest.TestCase):
+    @classmethod
+    def setUpClass(cls):
+        run("make", "-s", "-C", ROOT / "lib")
+
     def setUp(self):
         folder = tempfile.TemporaryDirectory()
         self.addCleanup(folder.cleanup)
@@ -61,17 +69,17 @@ class Install(unittest.TestCase):
     def files(self, folder):
         return {str(it.relative_to(folder)) for it in folder.rglob("*") if it.is_symlink() or it.is_file()}
 
-    def built(self, name, how):
-        """The first example, linked in this way with what pkg-config says of the staged library."""
+    def built(self, name, how, package="rcuo", example=EXAMPLE):
+        """An example, linked in this way with what pkg-config says of a staged library."""
         variables = {"PKG_CONFIG_LIBDIR": str(self.stage / "usr/lib/pkgconfig"), "PKG_CONFIG_SYSROOT_DIR": str(self.stage)}
-        said = run("pkg-config", "--cflags", "--libs", "rcuo", **variables).split()
-        run("cc", "-std=c99", "-Wall", "-Wextra", "-Werror", "-o", self.work / name, EXAMPLE, how, *said, "-Wl,-Bdynamic")
+        said = run("pkg-config", "--cflags", "--libs", package, **variables).split()
+        run("cc", "-std=gnu11", "-Wall", "-Wextra", "-Werror", "-o", self.work / name, example, how, *said, "-Wl,-Bdynamic")
         return self.work / name
 
     def test_staged_used_and_removed(self):
         self.installs("PREFIX=/usr", f"DESTDIR={self.stage}")
         libraries = {f"usr/lib/{it}" for it in LIBRARIES}
-        self.assertEqual(self.files(self.stage), {"usr/include/rcuo.h", *libraries})
+        self.assertEqual(self.files(self.stage), {*(f"usr/include/{it}" for it in HEADERS), *libraries})
         with self.subTest("the archive"):
             archived = self.built("archived", "-Wl,-Bstatic")
             self.assertEqual(run(archived), SAYS)
@@ -80,8 +88,20 @@ class Install(unittest.TestCase):
             shared = self.built("shared", "-Wl,-Bdynamic")
             self.assertIn(f"[{SONAME}]", run("readelf", "-d", shared))
             self.assertEqual(run(shared, LD_LIBRARY_PATH=str(self.stage / "usr/lib")), SAYS)
+        with self.subTest("the managed runtime, over the archive and over the shared library"):
+            for how in ("-Wl,-Bstatic", "-Wl,-Bdynamic"):
+                program = self.built("runtime", how, "rcuo-runtime", RUNTIME_EXAMPLE)
+                self.assertEqual(run(program, "1000", LD_LIBRARY_PATH=str(self.stage / "usr/lib")), RUNTIME_SAYS)
         self.installs("--uninstall", "PREFIX=/usr", f"DESTDIR={self.stage}")
         self.assertEqual(self.files(self.stage), set())
+
+    def test_the_managed_runtime_offers_what_its_header_declares(self):
+        self.installs("PREFIX=/usr", f"DESTDIR={self.stage}")
+        said = run("nm", "-g", "--defined-only", self.stage / "usr/lib/librcuo-runtime.a").splitlines()
+        offered = {line.split()[-1] for line in said if len(line.split()) == 3}
+        header = (ROOT / "include/rcuo/runtime.h").read_text(encoding="utf-8")
+        declared = re.findall(r"^(?:enum rcuo_answer|void|bool|pthread_t) (rcuo_\w+)\(|^extern __thread .* (rcuo_\w+);", header, re.MULTILINE)
+        self.assertEqual(offered, {one or other for one, other in declared})
 
     def test_the_shared_library_offers_what_the_header_declares(self):
         self.installs("PREFIX=/usr", f"DESTDIR={self.stage}")
@@ -96,7 +116,8 @@ class Install(unittest.TestCase):
 
     def test_the_environment_and_a_folder_for_libraries(self):
         self.installs(PREFIX="/opt/rcuo/", LIBDIR="/usr/lib/some-system", DESTDIR="stage")
-        self.assertEqual(self.files(self.stage), {"opt/rcuo/include/rcuo.h", *(f"usr/lib/some-system/{it}" for it in LIBRARIES)})
+        headers, libraries = (f"opt/rcuo/include/{it}" for it in HEADERS), (f"usr/lib/some-system/{it}" for it in LIBRARIES)
+        self.assertEqual(self.files(self.stage), {*headers, *libraries})
         described = (self.stage / "usr/lib/some-system/pkgconfig/rcuo.pc").read_text(encoding="utf-8")
         self.assertIn("prefix=/opt/rcuo\n", described)
         self.assertIn("libdir=/usr/lib/some-system\n", described)

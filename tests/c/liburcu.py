@@ -1,0 +1,80 @@
+#!/usr/bin/env python3
+"""Programs of liburcu over liburcu and over rcuo: each of liburcu's examples, as liburcu-dev installs them, and
+tests/c/liburcu.c. Both print the same and end with the same status.
+
+    tests/c/liburcu.py [--library FILE]     FILE: librcuo.a (out/librcuo.a)
+
+tests/c/liburcu.c is built with its one include changed too, and with _LGPL_SOURCE. The examples are of several flavours, whose
+names are here those of the QSBR flavour. Lines of a hash table, which say that their order is random, are compared as sets of
+words."""
+import argparse
+import concurrent.futures
+import pathlib
+import subprocess
+import sys
+import tempfile
+
+ROOT = pathlib.Path(__file__).resolve().parents[2]
+EXAMPLES = pathlib.Path("/usr/share/doc/liburcu-dev/examples")
+FLAVOURS = ("memb", "mb", "signal", "bp")
+NAMES = "read_lock read_unlock register_thread unregister_thread call_rcu synchronize_rcu barrier flavor".split()
+THEIRS = [f"-lurcu-{flavour}" for flavour in (*FLAVOURS, "qsbr")]
+RANDOM = ("hash table content", "removing all nodes")
+
+
+def write_flavours(folder):
+    """Headers of the other flavours, whose names are those of the QSBR flavour."""
+    (folder / "urcu").mkdir()
+    for flavour in FLAVOURS:
+        names = [f"#define urcu_{flavour}_{name} urcu_qsbr_{name}" for name in NAMES]
+        text = ["#define URCU_API_MAP", "#include <urcu/urcu-qsbr.h>", *names, ""]
+        (folder / f"urcu/urcu-{flavour}.h").write_text("\n".join(text), encoding="utf-8")
+
+
+def build(source, program, flags):
+    subprocess.run(["cc", "-std=gnu11", "-O1", "-w", *map(str, flags[0]), source, "-o", program, *map(str, flags[1])], check=True)
+
+
+def output(program):
+    """The lines that a program prints, those in random order as sorted words, and how it ends."""
+    ended = subprocess.run([program], capture_output=True, text=True, timeout=30)
+    lines = (ended.stdout + ended.stderr).splitlines()
+    return [" ".join(sorted(line.split())) if line.startswith(RANDOM) else line for line in lines], ended.returncode
+
+
+def compare(source, folder, ours):
+    programs = [folder / f"{source.stem}.{which}" for which in ("liburcu", "rcuo")]
+    build(source, programs[0], ([], [*THEIRS, "-lurcu-cds", "-lurcu-common", "-pthread"]))
+    build(source, programs[1], ours)
+    return [output(program) for program in programs]
+
+
+def main():
+    parser = argparse.ArgumentParser()
+    parser.add_argument("--library", default=ROOT / "out/librcuo.a")
+    library = parser.parse_args().library
+    sources = [*sorted(EXAMPLES.rglob("*.c")), ROOT / "tests/c/liburcu.c"]
+    same = 0
+    with tempfile.TemporaryDirectory() as name, concurrent.futures.ThreadPoolExecutor() as threads:
+        folder = pathlib.Path(name)
+        write_flavours(folder)
+        subprocess.run(["make", "-s", "-C", ROOT / "lib", f"OUT={folder}", "all"], check=True)
+        front = [f"-I{it}" for it in (folder, ROOT / "include/rcuo/liburcu", ROOT / "include")]
+        archives = [folder / "librcuo-urcu-qsbr.a", folder / "librcuo-runtime.a", library, "-lurcu-cds", "-lurcu-common", "-pthread"]
+        runs = [threads.submit(compare, source, folder, (front, archives)) for source in sources]
+        changed = folder / "changed.c"
+        changed.write_text(sources[-1].read_text(encoding="utf-8").replace("<urcu-qsbr.h>", "<rcuo/urcu-qsbr.h>"), encoding="utf-8")
+        build(changed, folder / "changed", (["-D_LGPL_SOURCE", f"-I{ROOT}/include"], archives))
+        if output(folder / "changed") != runs[-1].result()[1]:
+            print("the program with its include changed differs", file=sys.stderr)
+            same -= 1
+        for source, run in zip(sources, runs):
+            theirs, ours = run.result()
+            same += theirs == ours
+            if theirs != ours:
+                print(f"{source.name}: over liburcu {theirs}, over rcuo {ours}", file=sys.stderr)
+    print(f"{same} programs the same, {len(sources) - same} not")
+    return same != len(sources) or len(sources) < 2
+
+
+sys.exit(main())

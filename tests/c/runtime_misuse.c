@@ -1,0 +1,112 @@
+/*
+ * What a runtime answers to bad input, each by its name; and that a call for which no answer is left says so and aborts.
+ */
+#define RCUO_DEBUG
+#include "threads.h"
+
+#include <signal.h>
+#include <string.h>
+#include <sys/wait.h>
+
+static void none_ran(struct rcuo_head *head) {
+    (void)head;
+    abort();
+}
+
+/* The line that a child says before it aborts, if it does. */
+static bool aborts_saying(const char *line) {
+    int ends[2], status = 0;
+    char said[200] = "";
+    fflush(stdout);
+    if (pipe(ends)) abort();
+    pid_t child = fork();
+    if (child == 0) {
+        static struct rcuo_head head;
+        dup2(ends[1], 2);
+        rcuo_call_rcu(&head, none_ran);
+        _exit(0);
+    }
+    close(ends[1]);
+    if (read(ends[0], said, sizeof said - 1) < 0) abort();
+    close(ends[0]);
+    if (waitpid(child, &status, 0) != child) abort();
+    return WIFSIGNALED(status) && WTERMSIG(status) == SIGABRT && !strcmp(said, line);
+}
+
+static void test_without_runtime(void) {
+    uint64_t cookie;
+    bool elapsed;
+    holds("a call without a runtime says so", aborts_saying("rcuo: rcuo_call_rcu: no runtime was started\n"));
+    is("register", rcuo_register(), RCUO_NO_PROCESSOR);
+    is("unregister", rcuo_unregister(), RCUO_NO_PROCESSOR);
+    is("a report", rcuo_quiescent_state(), RCUO_NO_PROCESSOR);
+    is("offline", rcuo_thread_offline(), RCUO_NO_PROCESSOR);
+    is("online", rcuo_thread_online(), RCUO_NO_PROCESSOR);
+    is("synchronize", rcuo_synchronize(), RCUO_NO_PROCESSOR);
+    is("a barrier", rcuo_runtime_barrier(), RCUO_NO_PROCESSOR);
+    is("start a poll", rcuo_start_poll_synchronize(&cookie), RCUO_NO_PROCESSOR);
+    is("poll", rcuo_poll_state_synchronize(0, &elapsed), RCUO_NO_PROCESSOR);
+    is("defer", rcuo_defer(free, NULL), RCUO_NO_PROCESSOR);
+    is("stop nothing", rcuo_stop(NULL, NULL), RCUO_NULL);
+}
+
+static void test_options(void) {
+    struct rcuo_runtime *runtime = NULL;
+    struct rcuo_options options = {RCUO_THREADS + 1, NULL, NULL};
+    pthread_attr_t attributes;
+    is("start without a place for the runtime", rcuo_start(NULL, NULL), RCUO_NULL);
+    is("start for too many threads", rcuo_start(&runtime, &options), RCUO_SHAPE);
+    options.threads = 1;
+    pthread_attr_init(&attributes);
+    pthread_attr_setstacksize(&attributes, SIZE_MAX / 4096 * 4096 / 2);
+    options.attributes = &attributes;
+    is("start where no thread can be had", rcuo_start(&runtime, &options), RCUO_MEMORY);
+    pthread_attr_destroy(&attributes);
+    pthread_attr_init(&attributes);
+    pthread_attr_setdetachstate(&attributes, PTHREAD_CREATE_DETACHED);
+    is("start with a helper that can't be joined", rcuo_start(&runtime, &options), RCUO_SHAPE);
+    pthread_attr_destroy(&attributes);
+    holds("the place stays as it was", runtime == NULL);
+    options.attributes = NULL;
+    options.name = "a name of more than fifteen bytes";
+    is("start for one thread", rcuo_start(&runtime, &options), RCUO_OK);
+    is("stop", rcuo_stop(runtime, NULL), RCUO_OK);
+}
+
+/* Within a read section that is counted nothing is answered that would end it. */
+static void test_sections(void) {
+    rcuo_thread_read_lock();
+    rcuo_thread_read_lock();
+    rcuo_thread_read_unlock();
+    is("a report in a read section", rcuo_quiescent_state(), RCUO_READING);
+    is("offline in a read section", rcuo_thread_offline(), RCUO_READING);
+    is("synchronize in a read section", rcuo_synchronize(), RCUO_READING);
+    is("a barrier in a read section", rcuo_runtime_barrier(), RCUO_READING);
+    is("unregister in a read section", rcuo_unregister(), RCUO_READING);
+    rcuo_thread_read_unlock();
+    is("a report after it", rcuo_quiescent_state(), RCUO_OK);
+}
+
+static void test_threads(void) {
+    is("unregister who isn't registered", rcuo_unregister(), RCUO_NO_PROCESSOR);
+    is("a report of who isn't registered", rcuo_quiescent_state(), RCUO_NO_PROCESSOR);
+    is("offline of who isn't registered", rcuo_thread_offline(), RCUO_NO_PROCESSOR);
+    is("register", rcuo_register(), RCUO_OK);
+    is("register twice", rcuo_register(), RCUO_FULL);
+    test_sections();
+    is("defer nothing", rcuo_defer(NULL, NULL), RCUO_NULL);
+    is("start a poll without a place for the cookie", rcuo_start_poll_synchronize(NULL), RCUO_NULL);
+    is("poll without a place for the answer", rcuo_poll_state_synchronize(0, NULL), RCUO_NULL);
+    is("unregister", rcuo_unregister(), RCUO_OK);
+    is("unregister twice", rcuo_unregister(), RCUO_NO_PROCESSOR);
+}
+
+int main(void) {
+    struct rcuo_runtime *runtime;
+    test_without_runtime();
+    test_options();
+    is("start", rcuo_start(&runtime, NULL), RCUO_OK);
+    test_threads();
+    is("stop", rcuo_stop(runtime, NULL), RCUO_OK);
+    return tell();
+}
