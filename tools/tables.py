@@ -2,6 +2,7 @@
 
 tools/documents writes them, and sees that those which stand are the same.
 """
+import collections
 import re
 
 import crates
@@ -19,6 +20,16 @@ IMPL = re.compile(r"^(?:unsafe )?impl\b")
 
 class Unmade(Exception):
     """Why a table can't be made."""
+
+
+def anchors(headings):
+    """The names that headings of one page have in links, in order: of two that are alike the second is numbered."""
+    found, times = [], collections.Counter()
+    for heading in headings:
+        name = re.sub(r"[^\w\- ]", "", heading.replace("`", "").strip().lower()).replace(" ", "-")
+        found.append(f"{name}-{times[name]}" if times[name] else name)
+        times[name] += 1
+    return found
 
 
 # ---- crates/README.md

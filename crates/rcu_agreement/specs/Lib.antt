@@ -1,0 +1,4 @@
+pub mod Accounts
+pub mod Agreement
+pub mod Plain
+pub mod ReadSections

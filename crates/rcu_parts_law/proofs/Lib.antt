@@ -1,0 +1,3 @@
+pub mod Accounting
+pub mod Lawful
+pub mod Sights
