@@ -163,8 +163,7 @@ fn run_by_hand(alloc: Global) -> Option<[HandTurn; 3]> {
         held,
         Kept::Whole,
     );
-    let mut processor =
-        Processor::new(alloc, &shape, board, processor, 0, lists, Kept::Whole);
+    let mut processor = Processor::new(alloc, &shape, board, processor, 0, lists, Kept::Whole);
     let before = hand.turn();
     processor.call_rcu(1, job(alloc, 7).ok()?).ok()?;
     let early = hand.turn();

@@ -104,6 +104,13 @@ fn calls_go_on_without_records(rt: HostRuntime) -> Result<(), Fail> {
         let ran = call_and_run(alloc, &mut processor, &mut driver, moment);
         assert!(rt; ran == Some(1));
     }
-    assert_eq!(rt; (processor.accepted(), processor.ran(), processor.records_left()), (99, 99, 0));
+    assert_eq!(rt;
+        (
+            processor.accepted(),
+            processor.ran(),
+            processor.records_left()
+        ),
+        (99, 99, 0)
+    );
     Ok(())
 }
