@@ -1,4 +1,4 @@
-"""The pages and tables that are made from the code: crates/README.md, docs/edits.md, and the answers in docs/c.md.
+"""The pages and tables that are made from the code: crates/README.md, docs/contracts.md, docs/edits.md, the answers in docs/c.md.
 
 tools/documents writes them, and sees that those which stand are the same.
 """
@@ -16,6 +16,8 @@ IN_WORDS = re.compile(r'case (RCUO_\w+): return "(.*)";')
 ITEM = re.compile(r"^\s*(?:pub(?:\(\w+\))? )?(?:const |unsafe |ghost |extern \S+ )*(?:fn|struct|enum|trait|const|static|type|macro_rules!) (\w+)")
 DEFINITION = re.compile(r"^(?:(?:pub|abbrev|unfoldable|opaque|data|record) )*([^\s(){}:]+)(?: [^:]*)?:(?= |$)")
 IMPL = re.compile(r"^(?:unsafe )?impl\b")
+# The words that an edit may begin with, beside those that the toolchain reads.
+SAYS = ("promise", "clause", "wrong body")
 
 
 class Unmade(Exception):
@@ -32,17 +34,27 @@ def anchors(headings):
     return found
 
 
+# ---- the root file of a crate
+
+
+def root_of(crate):
+    return crate.folder / "src" / ("main.rt" if crate.is_program else "lib.rt")
+
+
+def head_of(crate):
+    """The comment that a crate's root file begins with."""
+    return re.match(r"(?://!.*\n)*", root_of(crate).read_text(encoding="utf-8"))[0]
+
+
 # ---- crates/README.md
 
 
 def first_sentence(crate):
     """What a crate is, as the first sentence of its root file says it."""
-    root = crate.folder / "src" / ("main.rt" if crate.is_program else "lib.rt")
-    lines = re.match(r"(?://!.*\n)*", root.read_text(encoding="utf-8"))[0].splitlines()
-    paragraph = " ".join(it.removeprefix("//!").strip() for it in lines).partition("  ")[0]
+    paragraph = " ".join(it.removeprefix("//!").strip() for it in head_of(crate).splitlines()).partition("  ")[0]
     found = re.match(r".*?\.(?= |$)", paragraph)
     if not found or len(found[0]) > MOST_LETTERS:
-        raise Unmade(f"{root.relative_to(ROOT)} begins with no sentence of at most {MOST_LETTERS} letters that says what the crate is")
+        raise Unmade(f"{root_of(crate).relative_to(ROOT)} begins with no sentence of at most {MOST_LETTERS} letters that says what the crate is")
     return found[0]
 
 
@@ -109,25 +121,86 @@ def turned_by(edit):
     return found
 
 
+def said_by(edit):
+    """What an edit says of itself: its promise, the clauses that carry it, and the wrong bodies of the specification that it is."""
+    lines = edit.read_text(encoding="utf-8").splitlines()
+    said = {word: [it.removeprefix(f"{word}: ") for it in lines if it.startswith(f"{word}: ")] for word in SAYS}
+    if len(said["promise"]) != 1:
+        raise Unmade(f"{edit.relative_to(ROOT)} has no line, or several, that begins with 'promise: '")
+    return said
+
+
+def edits():
+    """All edits, crate by crate, those of the gate first."""
+    for crate in crates.read().values():
+        for kind in ("must-fail", "more-edits"):
+            yield from ((crate, it) for it in sorted((crate.folder / kind).glob("*.edit")))
+
+
+def row_of(crate, edit, clauses):
+    """The row of an edit: its name, its crate with what it turns, the clauses, and who tries it."""
+    names = ", ".join(dict.fromkeys(f"`{name}`" for names in turned_by(edit).values() for name in names if name))
+    tried = "the gate" if edit.parent.name == "must-fail" else "`tools/edits`"
+    return f"| `{edit.stem}` | `{crate.name}`: {names} | {'; '.join(clauses)} | {tried} |"
+
+
+def wrong_bodies(all_edits):
+    """Of each wrong body of the specification that a contract refuses, the edits that are it."""
+    found = collections.defaultdict(list)
+    for crate, edit, said in all_edits:
+        for wrong in said["wrong body"]:
+            found[wrong].append(f"`{edit.stem}` of `{crate.name}`")
+    lines = ["## Wrong bodies of the specification", "", "Those of [wrong-bodies.md](specification/wrong-bodies.md) that a contract refuses.", ""]
+    return lines + [f"- `{wrong}`: {', '.join(names)}" for wrong, names in sorted(found.items())]
+
+
 def edits_page():
-    """The edits, crate by crate: what each turns, and who tries it."""
+    """The edits, promise by promise: what each turns, the clauses that carry the promise, and who tries it."""
+    all_edits = [(crate, it, said_by(it)) for crate, it in edits()]
     lines = [
-        "# Edits",
+        "# Promises and their edits",
         "",
+        "For those who ask whether a contract says what it seems to.",
         "Each edit turns what a function or a definition means, and the prover must refuse it: its name says what it makes wrong.",
         "The gate tries those of `must-fail/`, and `tools/edits` those of `more-edits/`.",
-        "This page is made by `make docs`, from the edit files, whose texts say where each stands.",
+        "This page is made by `make docs` from the edit files: their lines `promise:`, `clause:` and `wrong body:`.",
+        "",
+        *wrong_bodies(all_edits),
+    ]
+    promises = collections.defaultdict(list)
+    for crate, edit, said in all_edits:
+        promises[said["promise"][0]].append(row_of(crate, edit, said["clause"]))
+    for promise, rows in promises.items():
+        lines += ["", f"## {promise}", "", "| Edit | Turns | Clauses | Tried by |", "|---|---|---|---|", *rows]
+    return "\n".join(lines) + "\n"
+
+
+# ---- docs/contracts.md
+
+PROVED = "//! # What is proved"
+
+
+def proved_of(crate):
+    """The sentences of a crate's root file that say what is proved, each as one line; none where it has no such part."""
+    lines = head_of(crate).splitlines()
+    part = lines[lines.index(PROVED) + 1 :] if PROVED in lines else []
+    text = "\n".join(it.removeprefix("//!").removeprefix(" ") for it in part)
+    return [" ".join(it.split()) for it in re.split(r"^- ", text, flags=re.MULTILINE)[1:]]
+
+
+def contracts_page():
+    """What is proved of each crate, by its own root file."""
+    lines = [
+        "# What is proved, crate by crate",
+        "",
+        "For those who look for the contract of a promise. The main sentences stand in the [README](../README.md), \"What is proved\".",
+        "How a contract is read: [reading-contracts.md](reading-contracts.md). The edits of each promise: [edits.md](edits.md).",
+        "This page is made by `make docs`, from the part \"What is proved\" of each crate's root file.",
     ]
     for crate in crates.read().values():
-        edits = sorted(it for kind in ("must-fail", "more-edits") for it in (crate.folder / kind).glob("*.edit"))
-        if edits:
-            lines += ["", f"## {crate.name}", "", "| Edit | Turns | In | Tried by |", "|---|---|---|---|"]
-        for it in sorted(edits, key=lambda it: (it.parent.name != "must-fail", it.name)):
-            turned = turned_by(it)
-            names = ", ".join(dict.fromkeys(f"`{name}`" for names in turned.values() for name in names if name))
-            files = ", ".join(f"`{file}`" for file in turned)
-            tried = "the gate" if it.parent.name == "must-fail" else "`tools/edits`"
-            lines.append(f"| `{it.stem}` | {names} | {files} | {tried} |")
+        proved = proved_of(crate)
+        if proved:
+            lines += ["", f"## {crate.name}", "", *(f"- {it}" for it in proved)]
     return "\n".join(lines) + "\n"
 
 
@@ -163,6 +236,6 @@ def page_of_c():
 
 
 # What is made: each file, and what makes it.
-PAGES = {"crates/README.md": crates_page, "docs/edits.md": edits_page, "docs/c.md": page_of_c}
+PAGES = {"crates/README.md": crates_page, "docs/contracts.md": contracts_page, "docs/edits.md": edits_page, "docs/c.md": page_of_c}
 # Those of which no word is written by hand.
-WHOLE = ("crates/README.md", "docs/edits.md")
+WHOLE = ("crates/README.md", "docs/contracts.md", "docs/edits.md")

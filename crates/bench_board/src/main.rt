@@ -2,6 +2,16 @@
 //!
 //! With the argument `time` the program prints nanoseconds. Without it, each row makes a fixed number of steps, and the
 //! program says how many rows made all of them.
+//!
+//! # What is proved
+//!
+//! - A program for measuring alone.
+//! - Where it answers that all rounds were made, the seat made so many steps on the word that the row measures,
+//!   one in each round, of a claim and its end two; and so many grace periods were ended, of each of which the
+//!   processor made a step on the board word.
+//! - What that took is measured.
+//! - By `Kind::step` (`made`), `repeat` (`made`), `repeat_grace_periods` (`ended`, `reported`), over
+//!   `HasStepped` in `specs/Stays.antt`.
 #![tactic(auto)]
 
 mod kinds;

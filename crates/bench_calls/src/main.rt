@@ -5,6 +5,19 @@
 //!
 //! With `--times` it prints the times, in nanoseconds: of calls one line, of waiting a line for each callback. Without it
 //! it says how many callbacks ran, of how many calls, which is the same in each run.
+//!
+//! # What is proved
+//!
+//! - A program for measuring alone.
+//! - That it is safe and returns, and that the runtime that it opens is there where the words are within the
+//!   limits, has as many processors and the limits that they say, all of them offloadable or none, and groups
+//!   of as many as they say or as are usual.
+//! - That a processor ticks after as many calls, and its moment rises after as many ticks, as the words say.
+//! - That a boxed job is no plain one.
+//! - And that each call has a place among the times.
+//! - By `Plan::shape` (`some`, `threads`, `stride`, `usual`, `limits`, `local`, `offloaded`), `Pace::call`
+//!   (`due`, `again`, `counted`, `stays`), `Pace::tick` (`rises`, `counted`, `stays`), `Work::new` (`plain`,
+//!   `boxed`), `wait_times`.
 #![tactic(auto)]
 
 ghost use Rattle.std.specs.Prelude.{◌≡◌};

@@ -4,6 +4,20 @@
 //! specification says stood after it (docs/specification/surface.md, "After want of memory").
 //! `tests/program/test_growth.py` runs each scenario with each of its allocations refused in turn. With `--flaws` it
 //! makes no call: each check is handed steps that it must refuse, and what it says of them is written.
+//!
+//! # What is proved
+//!
+//! - A program for checking alone: scenarios of calls that may want memory.
+//! - That it is safe and returns.
+//! - That a check passes just where what it asks for holds, and else says so, with the growth after which it
+//!   didn't stand.
+//! - That one growth at most is noted as refused, and the first one is.
+//! - What is read of the lists that are shown.
+//! - That at the end, where nothing is said to be at fault, each callback that a processor accepted ran or was
+//!   handed back, once and in its place.
+//! - What it finds is tested, and so is that each check refuses what it must (`--flaws`).
+//! - By `stands` (`ok`, `broken`, `named`), `Refusals::note` (`once`, `noted`, `first`, `stays`), the checks of
+//!   `checks` (`broken`), `check_closed` (`local`, `offloadable`, by `EndsWhole` in `specs/Ends.antt`).
 #![tactic(auto)]
 
 mod checks;

@@ -4,6 +4,24 @@
 //!
 //! It ends with status 0 where no error was met, 1 where one was or where it could not run, and 2 where the words of the
 //! command line were refused.
+//!
+//! # What is proved
+//!
+//! - A program for checking: all parts of one open in threads, driven by random steps.
+//! - Each processor's thread gives back the same processor, which accepted as many callbacks as there are keys;
+//!   what is closed are the parts that were opened, and the answer is what `close` promises of them.
+//! - The checks of the records' numbers, waits and receipts, and of a barrier's count, say just what they name,
+//!   and where the keys pass they are those of the records and then those of the jobs.
+//! - A read section is counted by what it saw, a call by its kind, a report and a barrier by what they
+//!   answered, a drain where it was one, a run ends in the way that is its turn, the processors' shares are
+//!   equal but for what is left over, the counters add up, and the line has their bytes.
+//! - Of words that are refused, want of memory is said as that, and every other error as it is.
+//! - That each check notes its flaw is tested.
+//! - By `drive` (`Keeps`), `run_to_end` (`ClosesSame`), `are_numbered`, `are_ready`, `are_given`, `are_keyed`,
+//!   `counts_own`, `saw`, `Actor::call` (`accepted`, `once`), `report` (`reports`, `place`), `open_barrier`
+//!   (`counted`, `place`), `drain` (`told`, `stays`, `many`), `Plan::ending`, `Plan::share` (`first`,
+//!   `others`), `Plan::shape`, `Counters::add`, `line`, the conversion of clap's error into a `Refusal`
+//!   (`from_gives`: `Refuses` in specs/Words.antt).
 #![tactic(auto)]
 
 ghost use Rattle.std.specs.Prelude.{◌≡◌};

@@ -1,6 +1,15 @@
 //! An example in one thread: a read-mostly table whose old versions are retired by `call_rcu`.
 //!
 //! Readers may still look at these. docs/embedding.md, "In one thread", walks through it.
+//!
+//! # What is proved
+//!
+//! - A table whose old versions are retired: one made of another has one row more.
+//! - By `Version::with`, `Version::generation`.
+//! - Its runtime accepted as many as the table went through; as many were let go or handed back.
+//! - By `Table` (`pace`), `run_once` (`none_lost`).
+//! - Each receipt is of the version that its record names.
+//! - By `Retired`'s `run` under `Job` (`gives`), `run_once` (`receipts`).
 #![tactic(auto)]
 
 ghost use Rattle.std.specs.Prelude.{◌≡◌, ◌+◌, IfOk, vec_len};

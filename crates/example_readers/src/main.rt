@@ -2,6 +2,13 @@
 //!
 //! A processor publishes its versions, which is offloaded, local for a while, and offloaded again. docs/embedding.md walks
 //! through it.
+//!
+//! # What is proved
+//!
+//! - A cache in threads: as many versions were let go or come back as were accepted.
+//! - By `close` (`none_lost`).
+//! - None comes back of a drained runtime, and each receipt is of its record's place.
+//! - By `Retired`'s `run` under `Job` (`gives`), `close` (`none_back`, `receipts`).
 #![tactic(auto)]
 
 mod cache;

@@ -1,6 +1,14 @@
 //! An example: a program that makes more calls than one processor accepts in its life. When the processor accepts no more, the
 //! program closes the runtime, opens the next, and first calls the jobs that came back there, in order. Each runtime runs in
 //! threads. docs/embedding.md, "Limits", speaks of it.
+//!
+//! # What is proved
+//!
+//! - Runtimes one after another, in threads; each first calls the jobs that came back.
+//! - Its worker never gives up.
+//! - By `Caller`'s `step` under `Worker` (`ends_as`), `Number`'s `run` under `Job` (`gives`).
+//! - Of each as many ran or come back as it accepted; of the last, which is drained, none comes back.
+//! - By `close` (`none_lost`, `none_back`).
 #![tactic(auto)]
 
 ghost use Rattle.std.specs.Prelude.{◌≡◌, ◌≢◌, IfOk, IsTrue};

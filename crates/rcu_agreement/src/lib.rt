@@ -1,6 +1,15 @@
 //! Which histories agree with what is known of a runtime at its end; each is closed under the law of the core.
 //!
 //! Read `specs/Agreement.antt` for what agreeing is. There is no code here: each contract is a law over plain data.
+//!
+//! # What is proved
+//!
+//! - Every history that agrees with what is known at the end is closed under the law of the core.
+//! - By `agreeing_is_closed` (`closed`), over `Agrees` in `specs/Agreement.antt`.
+//! - There is a history that agrees, also one whose barriers open and pass.
+//! - By `one_agrees`.
+//! - A read section that was open at an acceptance has ended before the callback runs.
+//! - By `readers_are_waited_for` (`waits`, `runs_before`).
 #![tactic(auto)]
 
 ghost use Rattle.std.specs.Prelude.{ℕ, List, length};

@@ -4,6 +4,25 @@
 //! law and the ask law hold (docs/specification/definitions.md, "The running parts: laws"; `BoardRule` in specs/Laws). The
 //! words and the kinds of step stand in docs/specification/tables.md. No step waits, none is tried twice, and none but
 //! [`open_board`] takes memory.
+//!
+//! # What is proved
+//!
+//! - The words that all threads share change only by the named steps, and between any two steps of any threads
+//!   the number law, the report law, the accept law, the turn law and the ask law hold, and each word on which
+//!   no seat has made a step is 0, but what is asked of a processor.
+//! - A seat changes its own view alone, by a named function for each step, no sight falls, and one that saw a
+//!   processor shut stays as it is.
+//! - Where in memory a word stands is no matter of these: each stands in cache lines of its own.
+//! - The seats are made all or none, and the seat that took in all others learns from one load of each word
+//!   that each number below the turn was claimed once, that each processor passed each grace period that ended,
+//!   by a report or by being away, that no stamp and no claim is later, and that each accept word is twice the
+//!   length of the accepted list, plus 1 once shut.
+//! - By the rule `Rule`, which holds between any two steps (`BoardRule` in its specs, one law for each word,
+//!   and `begins`); `view` and `same` of `look`, `report` (`counted`), `leave`, `come_back` (`later`), `start`,
+//!   `end`, `sighted` (`law`), `meet` (`won`, `lost`, `other`), `need`, `needed`, `accept` (`won`, `shut`),
+//!   `shut_one`, `count_of` (`own`), `claim` (`won`, `lost`), `finish`, `turn_of`, `ask`, `asked`, `halt`,
+//!   `halted`, `urge`, `heard`; `open_board` (`seats`), `merge` (`view`), `last_look` (`stands`),
+//!   `last_turn_of`, `last_report_of` (`settled`), `last_count_of` (`counted`).
 #![tactic(auto)]
 
 mod board;

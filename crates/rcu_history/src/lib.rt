@@ -2,6 +2,11 @@
 //!
 //! It takes no memory, and its methods do nothing at run time. A part has one beside what it keeps, so that its law can speak
 //! of all that it ever did.
+//!
+//! # What is proved
+//!
+//! - A history grows by what is noted, behind all that was.
+//! - By `History::new` (`none`), `and` (`longer`).
 #![tactic(auto)]
 
 ghost use Rattle.std.specs.Prelude.{◌≡◌, List, [], ◌∷◌, ◌++◌};

@@ -1,6 +1,14 @@
 //! Jobs and what they promise, callbacks and the records of those that ran, and the plain types in which calls answer.
 //!
 //! The surface stands in docs/specification/surface.md, "rcu_jobs".
+//!
+//! # What is proved
+//!
+//! - A record keeps its callback's number and stamp, and the key of the job that ran; its receipt is as the
+//!   job's relation wants it for that key.
+//! - A boxed job's receipt is its key's rest by the modulus.
+//! - (That it makes its call is tested.)
+//! - By `run_callback` (`number`, `stamp`, `ready`, `key`, `given`), `Job::run`, `BoxedJob::new`.
 #![tactic(auto)]
 
 mod answers;

@@ -3,6 +3,14 @@
 //!
 //! The surface stands in docs/specification/surface.md, "rcu_lanes", and the lane law in
 //! docs/specification/definitions.md, "The running parts: laws".
+//!
+//! # What is proved
+//!
+//! - The ordered hand-over between two threads with no lock: what was put is what was drawn, then what is left,
+//!   in order.
+//! - A refused put hands its item back.
+//! - By `Rear::put`, `Front::draw`, `rest`, `Rest::take`, and the rule `KeepsLaneLaw`, which holds between any
+//!   two steps.
 #![tactic(auto)]
 
 mod ends;

@@ -4,6 +4,18 @@
 //!
 //! The rules stand in docs/specification/rules.md, "Callback lists" and "Bypass lists", the definitions in
 //! docs/specification/definitions.md, "Lists".
+//!
+//! # What is proved
+//!
+//! - `Segments` is the labelled list under every call: `advance` and `accelerate` relabel as the definitions
+//!   say; no callback is done whose `snap(stamp)` is above the greatest number advanced by.
+//! - `Bypass` is a list with the release rules.
+//! - A refused growth leaves everything as it was; none is wanted where there is room, as there is for sixteen
+//!   in a batch and in an empty bypass list.
+//! - By `Segments::advance`, `accelerate`, `enqueue` (`list`), `take_done`, `take_batch` (`taken`, `inline`),
+//!   `pour` (`moved`, `had`, `none`), `numbers`; `Bypass::place`, `late`, `flush`, `flush_single` (`single`),
+//!   `refill`, `refill_single`, `reserve`; `Batch::take_single` (`taken`), `pack` (`packed`, `heap`),
+//!   `pack_into`, `load` (`items`).
 #![tactic(auto)]
 
 mod batch;

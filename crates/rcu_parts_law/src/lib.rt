@@ -1,6 +1,17 @@
 //! The running parts under the law of the core: each history that agrees with what `close` answers is closed.
 //!
 //! Read `specs/Accounts.antt` for what a history agrees with, and `rcu_agreement` for what agreeing is. There is no code here.
+//!
+//! # What is proved
+//!
+//! - Every history that agrees with what `close` answers is closed; and there is one.
+//! - By `every_history` (`closed`, `sound`, `one`, `barriers`).
+//! - The accounts are what `close` answers.
+//! - By `accounts_are_answered` (`row`, `reports`, `ran`, `back`), over `accounts_of` in `specs/Accounts.antt`.
+//! - What a poll and a shut saw is among them.
+//! - By `sights_are_accounted` (`polled`, `shut`).
+//! - Such a history waits for readers.
+//! - By `readers_are_waited_for` (`waits`, `runs_before`).
 #![tactic(auto)]
 
 ghost use Rattle.std.specs.Prelude.{◌≡◌, ◌<◌, ◌≤◌, ℕ, List, map};

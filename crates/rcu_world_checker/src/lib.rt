@@ -6,6 +6,13 @@
 //!
 //! It is written to be read, and not to be fast: where barriers are many, its time is of the fourth power of the history's
 //! length.
+//!
+//! # What is proved
+//!
+//! - A list of marks is lawful, or closed, exactly where the checker says so: both ways, for each list of marks
+//!   and any number of processors.
+//! - So the definitions in which the headline of the core is proved can be run on a history.
+//! - By `is_lawful`, `is_closed`, each by a clause of its own.
 #![tactic(auto)]
 
 mod closed;

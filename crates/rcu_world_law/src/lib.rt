@@ -2,6 +2,17 @@
 //!
 //! Read `specs/Law.antt` for what is proved of a history, `specs/Events.antt` for the machine, and the contracts below for
 //! what holds of it. Grace-period numbers are those of rcu_numbers.
+//!
+//! # What is proved
+//!
+//! - Whatever events come to a core of up to 32 processors, switches, lazy calls, barriers and shuts among
+//!   them: its history is lawful (ordered, graced, barred, opened, shut, in every prefix), and what `close`
+//!   adds closes it (settled: accepted = ran, then handed back).
+//! - While a processor is Offloaded it has nothing to claim itself; a Local one has nothing left with its group
+//!   or hand.
+//! - Nothing is accepted after the first callback is handed back.
+//! - By `every_schedule` (`lawful`, `closed`, `recorded`), `offloaded_runs_nothing`,
+//!   `local_has_nothing_offloaded`, `lists_stay_labelled`, `nothing_accepted_after_back`.
 #![tactic(auto)]
 
 pub mod labels;

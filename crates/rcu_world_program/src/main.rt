@@ -2,6 +2,13 @@
 //!
 //! It is for checking alone: it reads a setup from standard input, and prints, word for word, what `rcuo replay` prints
 //! over the running parts (docs/specification/program.md). It looks at no words of the command line.
+//!
+//! # What is proved
+//!
+//! - A program for checking alone: it reads a setup from standard input and replays its script over the core,
+//!   with a job for each call line as in `rcuo`.
+//! - That both programs write the same is tested, and not proved.
+//! - By `setup_of`, `versions_by_script` and `replay` of the crates below it.
 #![tactic(auto)]
 
 ghost use Rattle.std.specs.Prelude.{◌≡◌};

@@ -1,6 +1,13 @@
 //! The program `rcuo`: it replays a script of calls, turns and reports over a runtime, or runs one in threads.
 //!
 //! Of a replay it prints what each call answers. docs/specification/program.md has its surface.
+//!
+//! # What is proved
+//!
+//! - Each job answers the number of routes that its version held, as its key promises.
+//! - What `threads` prints is the totals of what was closed, of the parts that were opened, with no job handed
+//!   back.
+//! - By `threads` (`prints`).
 #![tactic(auto)]
 
 ghost use Rattle.std.specs.Prelude.{◌≡◌};

@@ -3,6 +3,16 @@
 //!
 //! Time goes to the right, a column for each command. Each part has a row, and each callback one from its acceptance to its run,
 //! in the colour of the list that holds it; grace periods are bands.
+//!
+//! # What is proved
+//!
+//! - A program for looking alone.
+//! - That it is safe and returns, that each call has the job of its key, that each step has the answer of its
+//!   command and that answer's text, and that a callback which waits is shown in the list that has it: the
+//!   newest are in the own list, then come those of the bypass list, and then those with the group or the hand.
+//! - What it draws is tested.
+//! - By `place_of` (`later`, `ran`, `own`, `bypass`, `group`), `job_of` (`call`, `key`), `perform` (`show`,
+//!   `line`, `text`; `HasAnswer` in `specs/Steps.antt`), `play` (`commands`).
 #![tactic(auto)]
 
 mod callbacks;
