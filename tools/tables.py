@@ -1,8 +1,10 @@
-"""The pages and tables that are made from the code: crates/README.md, docs/contracts.md, docs/edits.md, the answers in docs/c.md.
+"""The pages and tables that are made from the code and from the tree: crates/README.md, docs/contracts.md, docs/edits.md, and a table
+each in docs/c.md, docs/testing.md and docs/speed.md.
 
 tools/documents writes them, and sees that those which stand are the same.
 """
 import collections
+import functools
 import re
 
 import crates
@@ -221,21 +223,68 @@ def answers_table():
     return "\n".join(lines) + "\n"
 
 
-# A table within a page: the line before it, and the line behind it.
-BEGIN, END = "<!-- made by `make docs` from include/rcuo.h -->\n", "<!-- to here -->\n"
+# ---- the totals in docs/testing.md
+
+TEST = re.compile(r"^\s*#\[test\]$", re.MULTILINE)
+CASE = re.compile(r"^    def test_\w+", re.MULTILINE)
 
 
-def page_of_c():
-    """docs/c.md with the table of answers anew."""
-    text = (ROOT / "docs/c.md").read_text(encoding="utf-8")
-    before, begin, rest = text.partition(BEGIN)
-    _, end, after = rest.partition(END)
-    if not begin or not end:
-        raise Unmade("docs/c.md has no place for the table of answers")
-    return f"{before}{BEGIN}\n{answers_table()}\n{END}{after}"
+def count(pattern, files):
+    """How often a pattern stands in files."""
+    return sum(len(pattern.findall(it.read_text(encoding="utf-8"))) for it in files)
+
+
+def totals_table():
+    """What there is to run, by the tree."""
+    sources = [it for crate in crates.read().values() for it in (crate.folder / "src").rglob("*.rt")]
+    there = lambda pattern: len(list(ROOT.glob(pattern)))
+    rows = {
+        "crates, each proved from nothing": len(crates.read()),
+        "edits that the gate has the prover refuse": there("crates/*/must-fail/*.edit"),
+        "edits that `tools/edits` has beside these": there("crates/*/more-edits/*.edit"),
+        "tests in Rattle, each proved and run": count(TEST, sources),
+        "replays, each over the parts and over the core": there("tests/replays/*/"),
+        "examples of scripts, each with a picture": there("examples/*.toml"),
+        "kinds of cases in Python, of the built programs": count(CASE, ROOT.glob("tests/program/test_*.py")),
+        "programs in C that test, and examples": there("tests/c/*.c") + there("examples/c/*.c"),
+    }
+    return "\n".join(["| What | How many |", "|---|---|", *(f"| {name} | {many} |" for name, many in rows.items())]) + "\n"
+
+
+# ---- the ratios in docs/speed.md
+
+RATIOS = "Cost of a call / callbacks a second / processor time of a callback / most memory"
+
+
+def ratios_table():
+    """The ratios of the C program in the last results that are kept."""
+    results = ROOT / "bench/results/last.md"
+    text = results.read_text(encoding="utf-8") if results.is_file() else ""
+    found = re.search(re.escape(RATIOS) + r".*\n\n((?:\|.*\n)+)", text)
+    if not found:
+        raise Unmade("bench/results/last.md has no ratios of the C program: tools/bench makes it")
+    return found[1]
+
+
+# ---- tables within pages: the line before one, and the line behind it
+
+BEGIN, END = re.compile(r"^<!-- made by `make docs` from .* -->\n", re.MULTILINE), "<!-- to here -->\n"
+
+
+def page_with(place, table):
+    """A page with its table anew."""
+    text = (ROOT / place).read_text(encoding="utf-8")
+    begin = BEGIN.search(text)
+    if not begin or END not in text[begin.end() :]:
+        raise Unmade(f"{place} has no place for its table")
+    after = text[begin.end() :].partition(END)[2]
+    return f"{text[: begin.end()]}\n{table()}\n{END}{after}"
 
 
 # What is made: each file, and what makes it.
-PAGES = {"crates/README.md": crates_page, "docs/contracts.md": contracts_page, "docs/edits.md": edits_page, "docs/c.md": page_of_c}
+TABLES = {"docs/c.md": answers_table, "docs/testing.md": totals_table, "docs/speed.md": ratios_table}
+PAGES = {"crates/README.md": crates_page, "docs/contracts.md": contracts_page, "docs/edits.md": edits_page} | {
+    place: functools.partial(page_with, place, table) for place, table in TABLES.items()
+}
 # Those of which no word is written by hand.
 WHOLE = ("crates/README.md", "docs/contracts.md", "docs/edits.md")

@@ -4,6 +4,12 @@ ghost use Rattle.std.specs.Prelude.{◌≡◌};
 ghost use Rattle.rcu_jobs.specs.Modes.{first_mode, is_deoffloading, is_offloaded};
 
 /// Where a processor's new callbacks go (docs/specification/rules.md, "Modes").
+///
+/// ```text
+/// Offloaded ──── asked off, its bypass list is empty ───► Deoffloading ──── all that was offloaded has run ───► Local
+/// Local, Deoffloading ──── asked on ───► Offloading ──── its own list is poured ───► Offloaded
+/// Offloading ──── asked off ───► Deoffloading
+/// ```
 #[derive(Clone, Copy, Debug, PartialEq, Eq)]
 pub enum Mode {
     /// To its own list. Its tick runs them.

@@ -18,6 +18,14 @@ use std::collections::VecDeque;
 /// Callbacks in order, in four segments: done, wait, next-ready and next. Those in done may run as far as this list
 /// knows, those in wait and in next-ready wait for a number each, and those in next have none yet.
 ///
+/// ```text
+/// done ────────► wait ────────► next-ready ────► next
+/// may run        waits for      waits for        no number
+///                wait_number    ready_number     yet
+/// ```
+///
+/// `advance` moves what waits for a number that is reached to done, and `accelerate` gives those in next a number.
+///
 /// Contracts see it as a list of callbacks with a label each (docs/specification/definitions.md, "Lists").
 #[derive(Drop)]
 pub struct Segments<J> {
