@@ -5,7 +5,10 @@ tools/documents writes them, and sees that those which stand are the same.
 """
 import collections
 import functools
+import itertools
+import json
 import re
+import tomllib
 
 import crates
 from crates import ROOT
@@ -266,6 +269,43 @@ def ratios_table():
     return found[1]
 
 
+# ---- the setups, scripts and outputs in docs/specification/rows.md
+
+ROW = re.compile(r"^\*\*(?P<name>[a-z0-9-]+)\.?\*\*.*\n(?P<run>(?:- (?:Setup|Script|No script|Output)\b.*\n)+)", re.MULTILINE)
+# So many lines that are the same are said by their number.
+MANY = 10
+
+
+def script_of(lines):
+    """A script, whose first lines may be the same many times."""
+    same = len(list(itertools.takewhile(lambda it: it == lines[0], lines)))
+    rest = " / ".join(lines[same if same >= MANY else 0 :])
+    return f"- Script: {same} lines `{lines[0]}`, then `{rest}`." if same >= MANY else f"- Script: `{rest}`."
+
+
+def run_of(name, said):
+    """The setup, the script and the output of a row, by the replay of its name; where there is none, as it is said."""
+    folder = ROOT / "tests/replays" / name
+    if not (folder / "setup.toml").is_file():
+        return said
+    setup = tomllib.loads((folder / "setup.toml").read_text(encoding="utf-8"))
+    script = setup.pop("script", [])
+    keys = [f"`{key} = {json.dumps(value)}`" for key, value in setup.items() if (key, value) != ("processors", 1)]
+    output = " / ".join((folder / "stdout").read_text(encoding="utf-8").splitlines())
+    lines = [f"- Setup: {', '.join(keys)}."] if keys else []
+    if script:
+        lines.append(script_of(script))
+    elif "calls" not in setup:
+        lines.append("- No script.")
+    return "\n".join([*lines, f"- Output: `{output}`."]) + "\n"
+
+
+def rows_page():
+    """The rows, with the runs of those that are replays."""
+    text = (ROOT / "docs/specification/rows.md").read_text(encoding="utf-8")
+    return ROW.sub(lambda it: it[0].removesuffix(it["run"]) + run_of(it["name"], it["run"]), text)
+
+
 # ---- tables within pages: the line before one, and the line behind it
 
 BEGIN, END = re.compile(r"^<!-- made by `make docs` from .* -->\n", re.MULTILINE), "<!-- to here -->\n"
@@ -283,7 +323,8 @@ def page_with(place, table):
 
 # What is made: each file, and what makes it.
 TABLES = {"docs/c.md": answers_table, "docs/testing.md": totals_table, "docs/speed.md": ratios_table}
-PAGES = {"crates/README.md": crates_page, "docs/contracts.md": contracts_page, "docs/edits.md": edits_page} | {
+MADE = {"crates/README.md": crates_page, "docs/contracts.md": contracts_page, "docs/edits.md": edits_page, "docs/specification/rows.md": rows_page}
+PAGES = MADE | {
     place: functools.partial(page_with, place, table) for place, table in TABLES.items()
 }
 # Those of which no word is written by hand.
