@@ -14,6 +14,7 @@ import os
 import shutil
 import subprocess
 import sys
+import tempfile
 
 # The checker's status where it knows the words otherwise.
 CALLED_WRONGLY = 2
@@ -35,6 +36,17 @@ def stamps(root, names):
     """The sums by which the toolchain knows the built libraries of these crates again; none where it has no such sums."""
     made = rtlib()
     return {it.name: it.stamp() for it in made.crates_below(str(root)) if it.name in names} if made else {}
+
+
+def not_laid_out(folder):
+    """What `rt fmt` would change in a crate's folder, in the words of the toolchain; nothing where it has no such look."""
+    made, said = rtlib(), tempfile.TemporaryFile("w+", errors="replace")
+    if not hasattr(made, "fmt"):
+        return ""
+    with said:
+        is_fine = made.fmt(str(folder), "--check", said) == 0
+        said.seek(0)
+        return "" if is_fine else said.read()
 
 
 def build_from_nothing(made, jobs):
