@@ -1,6 +1,6 @@
 //! An example: a program that makes more calls than one processor accepts in its life. When the processor accepts no more, the
 //! program closes the runtime, opens the next, and first calls the jobs that came back there, in order. Each runtime runs in
-//! threads. docs/embedding.md, "Limits", speaks of it.
+//! threads. docs/embedding.md, "Limits, errors, want of memory", speaks of it.
 //!
 //! # What is proved
 //!

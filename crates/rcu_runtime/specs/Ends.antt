@@ -1,4 +1,4 @@
--- What is left of a runtime that was closed: docs/embedding.md, "The end".
+-- What is left of a runtime that was closed: docs/embedding.md, "In one thread".
 use Rattle.std.specs.Prelude.{◌≡◌, ℕ, ◌+◌, true, false, length, sum_by, All}
 use Rattle.rcu_jobs.specs.Records.{Given}
 use Rattle.rcu_jobs.specs.declared.answers.Closed.{Closed}

@@ -1,4 +1,4 @@
--- That what was accepted has run: docs/embedding.md, "Barrier".
+-- That what was accepted has run: docs/embedding.md, "In one thread".
 use Rattle.std.specs.Prelude.{◌≡◌, ◌≢◌, ◌≤◌, ℕ, All}
 use Rattle.rcu_part_control.specs.Barriers.{IsOver, count_at}
 use Rattle.rcu_part_control.specs.Parts.{control_view}

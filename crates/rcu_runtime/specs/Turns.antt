@@ -1,4 +1,4 @@
--- What turns of a runtime's parts do, in the words of each part's own turn: docs/embedding.md, "Turns".
+-- What turns of a runtime's parts do, in the words of each part's own turn: docs/embedding.md, "In one thread".
 use Rattle.std.specs.Prelude.{◌≡◌, ℕ, ◌+◌, ◌*◌, ◌≤◌, Option, [], length}
 use Rattle.std.specs.List.{AllZip}
 use Rattle.rcu_board.specs.Views.{tally}

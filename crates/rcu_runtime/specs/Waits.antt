@@ -1,5 +1,5 @@
--- Waiting by turns: how many are made, at which moment, and what control does meanwhile: docs/embedding.md, "Barrier" and "The
--- end".
+-- Waiting by turns: how many are made, at which moment, and what control does meanwhile: docs/embedding.md, "In one
+-- thread".
 use Rattle.std.specs.Prelude.{◌≡◌, ℕ, zero, suc, ◌≤◌, Bool, true, false, Option, Some, None, Result, []}
 use Rattle.std.specs.declared.result.Result.TheVariants.{Ok, Err}
 use Rattle.rcu_part_control.specs.declared.barrier.Barrier.{Barrier}
