@@ -22,6 +22,17 @@ pub struct Frame {
 /// The words that all parts share (docs/specification/tables.md, "Words of the board"). Each changes only by the steps
 /// of this crate, and between any two steps of any threads they and the views of all seats keep the board's rule,
 /// `BoardRule` in specs/Laws. To share a board among threads, put it into an `Arc`.
+///
+/// ```text
+/// number                 the driver: start, end
+/// needed                 processors and groups: need
+/// halt                   control: halt
+/// A_p  calls accepted    processor p: accept; control: shut_one
+/// T_p  turns             processor p and its hand: claim, finish
+/// S_p  asked             control: ask
+/// Q_p  passed, away      processor p: report, leave, come_back; the driver, while p is away: meet
+/// urges                  control, and who opens a barrier: urge; processor p its own bit: heard
+/// ```
 #[derive(Drop)]
 pub struct Board {
     pub(crate) words: Words,
