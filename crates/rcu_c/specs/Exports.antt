@@ -78,7 +78,7 @@ RefusesOpenBy settings answer slots = ((answer ≡ fault_number OfShape) × IsOu
 
 -- Why nothing was let go: the slot is empty, or what it has isn't what is left of a runtime.
 abbrev pub RefusesEndBy : ℕ → Slot → Type 0
-RefusesEndBy answer slot = (fault : Fault) × (answer ≡ fault_number fault) × RefusesEnd fault slot.held.value
+RefusesEndBy answer slot = (fault : Fault) × (answer ≡ fault_number fault) × RefusesEnd fault slot.held.part.value
 
 -- A close was made, and its answer is told.
 pub record TellsClose (answer : ℕ) (old new : PartSlots) : Type 0 where

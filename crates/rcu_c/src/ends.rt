@@ -92,9 +92,9 @@ pub extern "C" fn rcuo_slot_reports(
 /// `rcuo_end`: lets go what is left.
 #[unsafe(no_mangle)]
 pub extern "C" fn rcuo_slot_end(alloc: Global, slot: &mut Slot) -> u32
-    ensures ended { result ≡ 0 → slot.new.held.value ≡ None }
-    ensures refused { result ≢ 0 → slot.new.held.value ≡ slot.old.held.value }
-    ensures was_closed { result ≡ 0 → HasEnds slot.old.held.value }
+    ensures ended { result ≡ 0 → slot.new.held.part.value ≡ None }
+    ensures refused { result ≢ 0 → slot.new.held.part.value ≡ slot.old.held.part.value }
+    ensures was_closed { result ≡ 0 → HasEnds slot.old.held.part.value }
     ensures why { result ≢ 0 → RefusesEndBy result slot.old }
     ensures reading { slot.new.reading ≡ slot.old.reading }
 {

@@ -45,12 +45,12 @@ module _ {old new : PartSlots} (s : StayHeld old new) where
     },
   )
 
-pub closes_again_from : {old new last : Slot} {result : Result (Unit {0}) Fault} → new.held.value ≡ old.held.value → ClosesAgain result new last → ClosesAgain result old last
+pub closes_again_from : {old new last : Slot} {result : Result (Unit {0}) Fault} → new.held.part.value ≡ old.held.part.value → ClosesAgain result new last → ClosesAgain result old last
 closes_again_from stays c = record { closing = c.closing; had = (c.had.0, sym stays ∙ c.had.1, c.had.2); comes_to = c.comes_to }
 
 -- ---- why a close isn't made, by what was seen once control's slot was looked at
 
-refuses_own_from : {o : Opening} {kind : PartKind} {fault : Fault} (old new : Slot) → new.held.value ≡ old.held.value → new.reading ≡ old.reading → RefusesOwn o kind fault new → RefusesOwn o kind fault old
+refuses_own_from : {o : Opening} {kind : PartKind} {fault : Fault} (old new : Slot) → new.held.part.value ≡ old.held.part.value → new.reading ≡ old.reading → RefusesOwn o kind fault new → RefusesOwn o kind fault old
 refuses_own_from old new stays reads (inl (inl r)) = inl (inl (r.0, λ e. r.1 (reads ∙ e)))
 refuses_own_from old new stays reads (inl (inr r)) = inl (inr (r.0, sym stays ∙ r.1, r.2))
 refuses_own_from old new stays reads (inr e) = inr (e.0, sym stays ∙ e.1)
@@ -58,7 +58,7 @@ refuses_own_from old new stays reads (inr e) = inr (e.0, sym stays ∙ e.1)
 abbrev pub seen : PartSlots → Slot → PartSlots
 seen slots control = record { control = control; driver = slots.driver; processors = slots.processors; groups = slots.groups; hands = slots.hands }
 
-module _ (o : Opening) (slots : PartSlots) (control : Slot) (stays : control.held.value ≡ slots.control.held.value) (reads : control.reading ≡ slots.control.reading) where
+module _ (o : Opening) (slots : PartSlots) (control : Slot) (stays : control.held.part.value ≡ slots.control.held.part.value) (reads : control.reading ≡ slots.control.reading) where
   there_from : IsAllThere o (seen slots control) → IsAllThere o slots
   there_from t = record {
     ready = record {
@@ -79,19 +79,19 @@ module _ (o : Opening) (slots : PartSlots) (control : Slot) (stays : control.hel
   can_try_from (Ok done) t = inl (o, there_from t)
   can_try_from (Err fault) t = tt
 
-  why_first : (fault : Fault) → IsOfOpen o kind.Control slots.control.held.value → RefusesFirst o fault (seen slots control) → IsWhyNotClosed fault slots
+  why_first : (fault : Fault) → IsOfOpen o kind.Control slots.control.held.part.value → RefusesFirst o fault (seen slots control) → IsWhyNotClosed fault slots
   why_first fault of (inl (inl own)) = inr (inl (o, of, inl (refuses_own_from slots.control control stays reads own)))
   why_first fault of (inl (inr rest)) = inr (inl (o, of, inr rest))
   why_first fault of (inr m) = inr (inr (m.0, inl (o, there_from m.1)))
 
-  pub why_from : (result : Result (Unit {0}) Fault) → IsOfOpen o kind.Control slots.control.held.value → IfErr result (λ fault. RefusesFirst o fault (seen slots control)) → IfErr result (λ fault. IsWhyNotClosed fault slots)
+  pub why_from : (result : Result (Unit {0}) Fault) → IsOfOpen o kind.Control slots.control.held.part.value → IfErr result (λ fault. RefusesFirst o fault (seen slots control)) → IfErr result (λ fault. IsWhyNotClosed fault slots)
   why_from (Ok done) of r = tt
   why_from (Err fault) of r = why_first fault of r
 
-pub can_try_again : (slots : PartSlots) (result : Result (Unit {0}) Fault) → HasKind kind.Closing slots.control.held.value → IfOk result (λ _. CanTryClose slots)
+pub can_try_again : (slots : PartSlots) (result : Result (Unit {0}) Fault) → HasKind kind.Closing slots.control.held.part.value → IfOk result (λ _. CanTryClose slots)
 can_try_again slots (Ok done) had = inr had
 can_try_again slots (Err fault) had = tt
 
-pub why_again : (slots : PartSlots) {old new : Slot} (result : Result (Unit {0}) Fault) → HasKind kind.Closing slots.control.held.value → ClosesAgain result old new → IfErr result (λ fault. IsWhyNotClosed fault slots)
+pub why_again : (slots : PartSlots) {old new : Slot} (result : Result (Unit {0}) Fault) → HasKind kind.Closing slots.control.held.part.value → ClosesAgain result old new → IfErr result (λ fault. IsWhyNotClosed fault slots)
 why_again slots (Ok done) had c = tt
 why_again slots (Err fault) had c = inr (inr (c.comes_to.0, inr had))

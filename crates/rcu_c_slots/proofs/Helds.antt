@@ -85,13 +85,13 @@ few_more found i None few = omega (arith, few)
 few_more found i (Some l) few = omega (arith, few)
 
 -- a slot, whose value stays
-pub checked_more : (o : Opening) (kind : PartKind) (i found : ℕ) (held : Helds) (slots : List Slot) (d after : Slot) → i < length slots → after.held.value ≡ (get_or slots i d).held.value
-    → IsCheckedTo o kind i found held (held_in slots) → IsInPlace o i (get_or slots i d).held.value → IfSome (get_or slots i d).held.value (λ l. kind_of l.part ≡ kind)
-    → IsCheckedTo o kind (i + 1) (found + count_one (get_or slots i d).held.value) held (held_in (set slots i after))
+pub checked_more : (o : Opening) (kind : PartKind) (i found : ℕ) (held : Helds) (slots : List Slot) (d after : Slot) → i < length slots → after.held.part.value ≡ (get_or slots i d).held.part.value
+    → IsCheckedTo o kind i found held (held_in slots) → IsInPlace o i (get_or slots i d).held.part.value → IfSome (get_or slots i d).held.part.value (λ l. kind_of l.part ≡ kind)
+    → IsCheckedTo o kind (i + 1) (found + count_one (get_or slots i d).held.part.value) held (held_in (set slots i after))
 checked_more o kind i found held slots d after low stays c place is =
-    let x = (get_or slots i d).held.value in let low' : i < length held = subst (λ n. i < n) (sym (length-map slots (λ s. s.held.value)) ∙ ap length c.same) low in
-    let here : get_or held i x ≡ x = sym (ap (λ hs. get_or hs i x) c.same) ∙ get_or-map (λ (s : Slot). s.held.value) slots i d x low in record {
-      same = map-set_same (λ (s : Slot). s.held.value) slots i after d stays ∙ c.same;
+    let x = (get_or slots i d).held.part.value in let low' : i < length held = subst (λ n. i < n) (sym (length-map slots (λ s. s.held.part.value)) ∙ ap length c.same) low in
+    let here : get_or held i x ≡ x = sym (ap (λ hs. get_or hs i x) c.same) ∙ get_or-map (λ (s : Slot). s.held.part.value) slots i d x low in record {
+      same = map-set_same (λ (s : Slot). s.held.part.value) slots i after d stays ∙ c.same;
       checked = subst (λ hs. AreChecked o kind (found + count_one x) hs) (sym (take-next held i x low' ∙ ap (λ y. take i held ++ y ∷ []) here)) (checked_by o kind found i (take i held) x (length-take-le i held (omega (arith, low'))) c.checked place is);
       few = few_more found i x c.few;
     }
@@ -123,9 +123,9 @@ pub belongs_at : (o : Opening) (kind : PartKind) (many k : ℕ) (held : Helds) �
 belongs_at o kind many k held a = belongs_by o k kind (get_or held k None) (subst (λ n. IsInPlace o n (get_or held k None)) (omega arith) (in_place_at o 0 k held a.places)) (kind_at (λ (l : Lent). kind_of l.part ≡ kind) held k a.kinds)
 
 pub belongs_here : (o : Opening) (kind : PartKind) (many i found : ℕ) (held : Helds) (slots : List Slot) (d : Slot) → i < length slots → IsCheckedTo o kind i found held (held_in slots) → AreChecked o kind many held
-    → IfSome (get_or slots i d).held.value (BelongsAt o i kind)
+    → IfSome (get_or slots i d).held.part.value (BelongsAt o i kind)
 belongs_here o kind many i found held slots d low c a =
-    subst (λ (x : Option Lent). IfSome x (BelongsAt o i kind)) (ap (λ hs. get_or hs i None) (sym c.same) ∙ get_or-map (λ (s : Slot). s.held.value) slots i d None low) (belongs_at o kind many i held a)
+    subst (λ (x : Option Lent). IfSome x (BelongsAt o i kind)) (ap (λ hs. get_or hs i None) (sym c.same) ∙ get_or-map (λ (s : Slot). s.held.part.value) slots i d None low) (belongs_at o kind many i held a)
 
 -- so many were found as are wanted
 pub found_all : (o : Opening) (kind : PartKind) (many i found : ℕ) (held now : Helds) → length held ≤ i → IsCheckedTo o kind i found held now → AreChecked o kind many held → found ≡ many
@@ -159,36 +159,36 @@ module _ {X : Type 0} (wrap : X → Part) where
   taken_none held = record { took = refl; rest = λ k low. refl; emptied = refl; long = refl }
 
   -- what a slot had
-  here : (i : ℕ) (held : Helds) (slots : List Slot) (d : Slot) (out : List X) → i < length slots → IsTakenTo wrap i held (held_in slots) out → get_or held i None ≡ (get_or slots i d).held.value
-  here i held slots d out low t = sym (t.rest i (omega arith)) ∙ get_or-map (λ (s : Slot). s.held.value) slots i d None low
+  here : (i : ℕ) (held : Helds) (slots : List Slot) (d : Slot) (out : List X) → i < length slots → IsTakenTo wrap i held (held_in slots) out → get_or held i None ≡ (get_or slots i d).held.part.value
+  here i held slots d out low t = sym (t.rest i (omega arith)) ∙ get_or-map (λ (s : Slot). s.held.part.value) slots i d None low
 
   pub here_is : (P : Lent → Type 0) (i : ℕ) (held : Helds) (slots : List Slot) (d : Slot) (out : List X) → i < length slots → IsTakenTo wrap i held (held_in slots) out
-      → All P (lents held) → IfSome (get_or slots i d).held.value P
+      → All P (lents held) → IfSome (get_or slots i d).held.part.value P
   here_is P i held slots d out low t all = subst (λ h. IfSome h P) (here i held slots d out low t) (kind_at P held i all)
 
   -- there is room for it
   pub room_here : (i most : ℕ) (held : Helds) (slots : List Slot) (d : Slot) (out : List X) (x : X) → i < length slots → IsTakenTo wrap i held (held_in slots) out
-      → TakesOut wrap (Some x) (get_or slots i d).held.value → length (lents held) ≤ most → length out < most
+      → TakesOut wrap (Some x) (get_or slots i d).held.part.value → length (lents held) ≤ most → length out < most
   room_here i cap held slots d out x low t takes room =
       let more = one_more held i takes.0 (here i held slots d out low t ∙ takes.1) in
       let many : length out ≡ length (lents (take i held)) = sym (length-map out wrap) ∙ (ap length t.took ∙ length-map (lents (take i held)) (λ (l : Lent). l.part)) in omega (arith, more, many, room)
 
   step_rest : (i : ℕ) (held : Helds) (slots : List Slot) (after : Slot) (out : List X) → IsTakenTo wrap i held (held_in slots) out → (k : ℕ) → i + 1 ≤ k → get_or (held_in (set slots i after)) k None ≡ get_or held k None
-  step_rest i held slots after out t k low = ap (λ hs. get_or hs k None) (map-set (λ (s : Slot). s.held.value) slots i after) ∙ (get_or-set_other (held_in slots) i k after.held.value None (λ e. omega (arith, low, e)) ∙ t.rest k (omega (arith, low)))
+  step_rest i held slots after out t k low = ap (λ hs. get_or hs k None) (map-set (λ (s : Slot). s.held.part.value) slots i after) ∙ (get_or-set_other (held_in slots) i k after.held.part.value None (λ e. omega (arith, low, e)) ∙ t.rest k (omega (arith, low)))
 
-  step_emptied : (i : ℕ) (held : Helds) (slots : List Slot) (after : Slot) (out : List X) → i < length slots → after.held.value ≡ None → IsTakenTo wrap i held (held_in slots) out → lents (take (i + 1) (held_in (set slots i after))) ≡ []
+  step_emptied : (i : ℕ) (held : Helds) (slots : List Slot) (after : Slot) (out : List X) → i < length slots → after.held.part.value ≡ None → IsTakenTo wrap i held (held_in slots) out → lents (take (i + 1) (held_in (set slots i after))) ≡ []
   step_emptied i held slots after out low empty t =
-      ap (λ n. lents (take n (held_in (set slots i after)))) (next_is i) ∙ (ap (λ hs. lents (take (suc i) hs)) (map-set (λ (s : Slot). s.held.value) slots i after ∙ ap (λ h. set (held_in slots) i h) empty)
-      ∙ (ap lents (take-suc-set (held_in slots) i None (subst (λ n. i < n) (sym (length-map slots (λ s. s.held.value))) low)) ∙ (lents_none (take i (held_in slots)) ∙ t.emptied)))
+      ap (λ n. lents (take n (held_in (set slots i after)))) (next_is i) ∙ (ap (λ hs. lents (take (suc i) hs)) (map-set (λ (s : Slot). s.held.part.value) slots i after ∙ ap (λ h. set (held_in slots) i h) empty)
+      ∙ (ap lents (take-suc-set (held_in slots) i None (subst (λ n. i < n) (sym (length-map slots (λ s. s.held.part.value))) low)) ∙ (lents_none (take i (held_in slots)) ∙ t.emptied)))
 
   step_long : (i : ℕ) (held : Helds) (slots : List Slot) (after : Slot) (out : List X) → IsTakenTo wrap i held (held_in slots) out → length (held_in (set slots i after)) ≡ length held
-  step_long i held slots after out t = length-map (set slots i after) (λ s. s.held.value) ∙ (length-set slots i after ∙ (sym (length-map slots (λ s. s.held.value)) ∙ t.long))
+  step_long i held slots after out t = length-map (set slots i after) (λ s. s.held.part.value) ∙ (length-set slots i after ∙ (sym (length-map slots (λ s. s.held.part.value)) ∙ t.long))
 
-  take_here : (i : ℕ) (held : Helds) (slots : List Slot) (d : Slot) (out : List X) → i < length slots → IsTakenTo wrap i held (held_in slots) out → take (i + 1) held ≡ take i held ++ (get_or slots i d).held.value ∷ []
-  take_here i held slots d out low t = take-next held i None (subst (λ n. i < n) (sym (length-map slots (λ s. s.held.value)) ∙ t.long) low) ∙ ap (λ h. take i held ++ h ∷ []) (here i held slots d out low t)
+  take_here : (i : ℕ) (held : Helds) (slots : List Slot) (d : Slot) (out : List X) → i < length slots → IsTakenTo wrap i held (held_in slots) out → take (i + 1) held ≡ take i held ++ (get_or slots i d).held.part.value ∷ []
+  take_here i held slots d out low t = take-next held i None (subst (λ n. i < n) (sym (length-map slots (λ s. s.held.part.value)) ∙ t.long) low) ∙ ap (λ h. take i held ++ h ∷ []) (here i held slots d out low t)
 
   -- a slot that was empty
-  pub taken_nothing : (i : ℕ) (held : Helds) (slots : List Slot) (d after : Slot) (out : List X) → i < length slots → after.held.value ≡ None → (get_or slots i d).held.value ≡ None
+  pub taken_nothing : (i : ℕ) (held : Helds) (slots : List Slot) (d after : Slot) (out : List X) → i < length slots → after.held.part.value ≡ None → (get_or slots i d).held.part.value ≡ None
       → IsTakenTo wrap i held (held_in slots) out → IsTakenTo wrap (i + 1) held (held_in (set slots i after)) out
   taken_nothing i held slots d after out low empty none t = record {
     took = t.took ∙ sym (ap parts_of (take_here i held slots d out low t ∙ ap (λ h. take i held ++ h ∷ []) none) ∙ parts_none (take i held));
@@ -198,7 +198,7 @@ module _ {X : Type 0} (wrap : X → Part) where
   }
 
   -- one whose part came out
-  pub taken_more : (i : ℕ) (held : Helds) (slots : List Slot) (d after : Slot) (out more : List X) (x : X) → i < length slots → after.held.value ≡ None → TakesOut wrap (Some x) (get_or slots i d).held.value
+  pub taken_more : (i : ℕ) (held : Helds) (slots : List Slot) (d after : Slot) (out more : List X) (x : X) → i < length slots → after.held.part.value ≡ None → TakesOut wrap (Some x) (get_or slots i d).held.part.value
       → more ≡ out ++ x ∷ [] → IsTakenTo wrap i held (held_in slots) out → IsTakenTo wrap (i + 1) held (held_in (set slots i after)) more
   taken_more i held slots d after out more x low empty takes is t = record {
     took = ap (map wrap) is ∙ (map-append wrap out (x ∷ []) ∙ (ap (λ ps. ps ++ wrap x ∷ []) t.took ∙ (ap (λ p. parts_of (take i held) ++ p ∷ []) (sym takes.2)

@@ -83,8 +83,8 @@ none_at (None ∷ hs) e (suc k) = none_at hs e k
 none_at (Some l ∷ hs) e k = absurd (omega (arith, ap length e))
 
 -- so none is in any of them
-pub none_in : (slots : List Slot) (k : ℕ) (d : Slot) → k < length slots → lents (held_in slots) ≡ [] → (get_or slots k d).held.value ≡ None
-none_in slots k d low none = sym (get_or-map (λ (s : Slot). s.held.value) slots k d None low) ∙ none_at (held_in slots) none k
+pub none_in : (slots : List Slot) (k : ℕ) (d : Slot) → k < length slots → lents (held_in slots) ≡ [] → (get_or slots k d).held.part.value ≡ None
+none_in slots k d low none = sym (get_or-map (λ (s : Slot). s.held.part.value) slots k d None low) ∙ none_at (held_in slots) none k
 
 at_more : (k : ℕ) (xs : Helds) (x : Option Lent) → AreAt k xs → IfSome x (λ l. l.at ≡ k + length xs) → AreAt k (xs ++ x ∷ [])
 at_more k [] x a is = (subst (λ n. IfSome x (λ l. l.at ≡ n)) (omega arith) is, tt)
@@ -99,7 +99,7 @@ pub record IsPutTo (i end : ℕ) (all rest : List Lent) (now : Helds) : Type 0 w
   pub long : length now ≡ end
 
 pub put_none : (all : List Lent) (slots : List Slot) → lents (held_in slots) ≡ [] → AreRising 0 (length slots) (places_of all) → IsPutTo 0 (length slots) all all (held_in slots)
-put_none all slots none rising = record { order = refl; places = tt; rising = rising; empty = λ k low. none_at (held_in slots) none k; long = length-map slots (λ s. s.held.value) }
+put_none all slots none rising = record { order = refl; places = tt; rising = rising; empty = λ k low. none_at (held_in slots) none k; long = length-map slots (λ s. s.held.part.value) }
 
 rising_past : (i end : ℕ) (rest : List Lent) → AreRising i end (places_of rest) → BeginsElsewhere i rest → AreRising (i + 1) end (places_of rest)
 rising_past i end [] r other = tt
@@ -111,7 +111,7 @@ rising_next i end l ls at r = subst (λ n. AreRising n end (places_of ls)) (omeg
 -- one that stays empty
 pub put_skip : (i end : ℕ) (all old rest : List Lent) (slots : List Slot) → i < length slots → rest ≡ old → BeginsElsewhere i old → IsPutTo i end all old (held_in slots) → IsPutTo (i + 1) end all rest (held_in slots)
 put_skip i end all old rest slots low same other p =
-    let now = held_in slots in let low' : i < length now = subst (λ n. i < n) (sym (length-map slots (λ s. s.held.value))) low in
+    let now = held_in slots in let low' : i < length now = subst (λ n. i < n) (sym (length-map slots (λ s. s.held.part.value))) low in
     let next : take (i + 1) now ≡ take i now ++ None ∷ [] = take-next now i None low' ∙ ap (λ h. take i now ++ h ∷ []) (p.empty i (omega arith)) in record {
       order = ap (λ ls. ls ++ rest) (ap lents next ∙ lents_none (take i now)) ∙ (ap (λ ls. lents (take i now) ++ ls) same ∙ p.order);
       places = subst (λ hs. AreAt 0 hs) (sym next) (at_more 0 (take i now) None p.places tt);
@@ -121,11 +121,11 @@ put_skip i end all old rest slots low same other p =
     }
 
 -- one whose part came in
-pub put_more : (i end : ℕ) (all old rest : List Lent) (l : Lent) (slots : List Slot) (after : Slot) → i < length slots → after.held.value ≡ Some l → l.at ≡ i → old ≡ l ∷ rest
+pub put_more : (i end : ℕ) (all old rest : List Lent) (l : Lent) (slots : List Slot) (after : Slot) → i < length slots → after.held.part.value ≡ Some l → l.at ≡ i → old ≡ l ∷ rest
     → IsPutTo i end all old (held_in slots) → IsPutTo (i + 1) end all rest (held_in (set slots i after))
 put_more i end all old rest l slots after low has at is p =
-    let now = held_in slots in let then = held_in (set slots i after) in let low' : i < length now = subst (λ n. i < n) (sym (length-map slots (λ s. s.held.value))) low in
-    let changed : then ≡ set now i (Some l) = map-set (λ (s : Slot). s.held.value) slots i after ∙ ap (λ h. set now i h) has in
+    let now = held_in slots in let then = held_in (set slots i after) in let low' : i < length now = subst (λ n. i < n) (sym (length-map slots (λ s. s.held.part.value))) low in
+    let changed : then ≡ set now i (Some l) = map-set (λ (s : Slot). s.held.part.value) slots i after ∙ ap (λ h. set now i h) has in
     let next : take (i + 1) then ≡ take i now ++ Some l ∷ [] = ap (λ n. take n then) (next_is i) ∙ (ap (take (suc i)) changed ∙ take-suc-set now i (Some l) low') in record {
       order = ap (λ ls. ls ++ rest) (ap lents next ∙ lents_some (take i now) l) ∙ (append_assoc (lents (take i now)) (l ∷ []) rest ∙ (ap (λ ls. lents (take i now) ++ ls) (sym is) ∙ p.order));
       places = subst (λ hs. AreAt 0 hs) (sym next) (at_more 0 (take i now) (Some l) p.places (let long = length-take-le i now (omega (arith, low')) in omega (arith, at, long)));
@@ -147,7 +147,7 @@ module _ (i end : ℕ) (all rest : List Lent) (now : Helds) (past : length now �
 
 -- ---- whether all are empty
 
-pub empty_more : (i : ℕ) (slots : List Slot) (d : Slot) → i < length slots → (get_or slots i d).held.value ≡ None → lents (take i (held_in slots)) ≡ [] → lents (take (i + 1) (held_in slots)) ≡ []
+pub empty_more : (i : ℕ) (slots : List Slot) (d : Slot) → i < length slots → (get_or slots i d).held.part.value ≡ None → lents (take i (held_in slots)) ≡ [] → lents (take (i + 1) (held_in slots)) ≡ []
 empty_more i slots d low none before =
-    let now = held_in slots in let low' : i < length now = subst (λ n. i < n) (sym (length-map slots (λ s. s.held.value))) low in
-    ap lents (take-next now i None low' ∙ ap (λ h. take i now ++ h ∷ []) (get_or-map (λ (s : Slot). s.held.value) slots i d None low ∙ none)) ∙ (lents_none (take i now) ∙ before)
+    let now = held_in slots in let low' : i < length now = subst (λ n. i < n) (sym (length-map slots (λ s. s.held.part.value))) low in
+    ap lents (take-next now i None low' ∙ ap (λ h. take i now ++ h ∷ []) (get_or-map (λ (s : Slot). s.held.part.value) slots i d None low ∙ none)) ∙ (lents_none (take i now) ∙ before)

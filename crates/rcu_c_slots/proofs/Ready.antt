@@ -15,7 +15,7 @@ Answer = Result (Unit {0}) Fault
 
 module _ (o : Opening) (old : PartSlots) where
   -- they are ready, and stay so where each has what it had
-  pub ready_by : (new : PartSlots) (r : Answer) → StayHeld old new → IsThere o kind.Control old.control.held.value → IsThere o kind.Driver old.driver.held.value → AreChecked o kind.Processor o.processors (held_in old.processors)
+  pub ready_by : (new : PartSlots) (r : Answer) → StayHeld old new → IsThere o kind.Control old.control.held.part.value → IsThere o kind.Driver old.driver.held.part.value → AreChecked o kind.Processor o.processors (held_in old.processors)
       → AreChecked o kind.Group o.groups (held_in old.groups) → IfOk r (λ _. AreChecked o kind.Hand o.hands (held_in old.hands)) → IfOk r (λ _. AreReady o new)
   ready_by new (Ok done) s control driver processors groups hands = record {
     control_is = subst (λ h. IsThere o kind.Control h) (sym s.control_stays) control;

@@ -25,7 +25,7 @@ use Rattle.rcu_part_hand.specs.declared.hand.Hand.{Hand as TheHand}
 
 -- what each slot has
 abbrev pub held_in : List Slot → List (Option Lent)
-held_in slots = map (λ s. s.held.value) slots
+held_in slots = map (λ s. s.held.part.value) slots
 
 -- those that there are, in order
 abbrev pub lents : List (Option Lent) → List Lent
@@ -83,8 +83,8 @@ Keeps part old new = (l : Lent) × (old ≡ Some l) × (new ≡ Some (lent_of l.
 
 -- These slots have exactly these parts, as many of each kind as the open made, each in its place.
 pub record AreHeld (o : Opening) (parts : ForeignParts) (slots : PartSlots) : Type 0 where
-  pub control_is : slots.control.held.value ≡ Some (lent_of o 0 (Control parts.control))
-  pub driver_is : slots.driver.held.value ≡ Some (lent_of o 0 (Driver parts.driver))
+  pub control_is : slots.control.held.part.value ≡ Some (lent_of o 0 (Control parts.control))
+  pub driver_is : slots.driver.held.part.value ≡ Some (lent_of o 0 (Driver parts.driver))
   pub processors_are : parts_in slots.processors ≡ map (λ p. Processor (lent_processor p)) (processors_in parts)
   pub groups_are : parts_in slots.groups ≡ map (λ g. Group g) (groups_in parts)
   pub hands_are : parts_in slots.hands ≡ map (λ h. Hand (lent_hand h)) (hands_in parts)
@@ -111,7 +111,7 @@ CanClose parts = AreOfOneOpen parts × AreSoundParts foreign_key HasKey parts
 
 -- What control's slot has after a close for which there was no memory can be closed.
 abbrev pub OwesAgain : Slot → Type 0
-OwesAgain control = (l : Lent) (closing : ForeignClosing) → control.held.value ≡ Some l → l.part ≡ Closing closing → CanClose closing.parts
+OwesAgain control = (l : Lent) (closing : ForeignClosing) → control.held.part.value ≡ Some l → l.part ≡ Closing closing → CanClose closing.parts
 
 -- Slots that have all parts of an open, by its number and their places, have the parts that this open made, as its calls left
 -- them; and so has control's slot after a close for which there was no memory.
@@ -129,8 +129,8 @@ pub record IsThere (o : Opening) (kind : PartKind) (held : Option Lent) : Type 0
   pub of_kind : kind_of lent.part ≡ kind
 
 pub record AreReady (o : Opening) (slots : PartSlots) : Type 0 where
-  pub control_is : IsThere o kind.Control slots.control.held.value
-  pub driver_is : IsThere o kind.Driver slots.driver.held.value
+  pub control_is : IsThere o kind.Control slots.control.held.part.value
+  pub driver_is : IsThere o kind.Driver slots.driver.held.part.value
   pub processors_are : AreChecked o kind.Processor o.processors (held_in slots.processors)
   pub groups_are : AreChecked o kind.Group o.groups (held_in slots.groups)
   pub hands_are : AreChecked o kind.Hand o.hands (held_in slots.hands)
@@ -166,12 +166,12 @@ pub record IsAllThere (o : Opening) (slots : PartSlots) : Type 0 where
 
 -- Then a close is refused for want of memory alone; and so where control's slot has the parts after a close for which there was none.
 abbrev pub CanTryClose : PartSlots → Type 0
-CanTryClose slots = ((o : Opening) × IsAllThere o slots) ⊎ HasKind kind.Closing slots.control.held.value
+CanTryClose slots = ((o : Opening) × IsAllThere o slots) ⊎ HasKind kind.Closing slots.control.held.part.value
 
 -- What the slots have is what they had.
 pub record StayHeld (old new : PartSlots) : Type 0 where
-  pub control_stays : new.control.held.value ≡ old.control.held.value
-  pub driver_stays : new.driver.held.value ≡ old.driver.held.value
+  pub control_stays : new.control.held.part.value ≡ old.control.held.part.value
+  pub driver_stays : new.driver.held.part.value ≡ old.driver.held.part.value
   pub processors_stay : held_in new.processors ≡ held_in old.processors
   pub groups_stay : held_in new.groups ≡ held_in old.groups
   pub hands_stay : held_in new.hands ≡ held_in old.hands
@@ -180,7 +180,7 @@ pub record StayHeld (old new : PartSlots) : Type 0 where
 
 -- All slots are empty but control's.
 pub record AreEmptied (slots : PartSlots) : Type 0 where
-  pub driver_is : slots.driver.held.value ≡ None
+  pub driver_is : slots.driver.held.part.value ≡ None
   pub processors_are : lents_in slots.processors ≡ []
   pub groups_are : lents_in slots.groups ≡ []
   pub hands_are : lents_in slots.hands ≡ []
@@ -188,13 +188,13 @@ pub record AreEmptied (slots : PartSlots) : Type 0 where
 -- Parts were closed: control's slot has what is left of them, of which all is true that `close` promises.
 pub record HasClosed (parts : ForeignParts) (control : Slot) : Type 0 where
   pub closed : Ends ForeignJob ForeignJob
-  pub control_is : HasPart (Closed closed) control.held.value
+  pub control_is : HasPart (Closed closed) control.held.part.value
   pub closes : ClosesWith foreign_key HasKey parts closed
 
 -- There was no memory to close parts: control's slot has them all.
 pub record HasNotClosed (parts : ForeignParts) (control : Slot) : Type 0 where
   pub closing : ForeignClosing
-  pub control_is : HasPart (Closing closing) control.held.value
+  pub control_is : HasPart (Closing closing) control.held.part.value
   pub left : closing.parts ≡ parts
 
 -- Parts were closed, or for want of memory are all with control.
@@ -212,7 +212,7 @@ pub record Closes (result : Result (Unit {0}) Fault) (old new : PartSlots) : Typ
 -- The same of the parts that control's slot has after a close for which there was no memory.
 pub record ClosesAgain (result : Result (Unit {0}) Fault) (old new : Slot) : Type 0 where
   pub closing : ForeignClosing
-  pub had : HasPart (Closing closing) old.held.value
+  pub had : HasPart (Closing closing) old.held.part.value
   pub comes_to : ComesTo closing.parts result new
 
 -- A close that isn't made changes no slot.

@@ -22,8 +22,8 @@ use Rattle.rcu_part_order.specs.declared.recorded.Kept.{Kept}
 
 -- No slot has a part.
 pub record AreEmpty (slots : PartSlots) : Type 0 where
-  pub control_is : slots.control.held.value ≡ None
-  pub driver_is : slots.driver.held.value ≡ None
+  pub control_is : slots.control.held.part.value ≡ None
+  pub driver_is : slots.driver.held.part.value ≡ None
   pub processors_are : lents_in slots.processors ≡ []
   pub groups_are : lents_in slots.groups ≡ []
   pub hands_are : lents_in slots.hands ≡ []

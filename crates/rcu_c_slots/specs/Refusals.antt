@@ -20,11 +20,11 @@ IsMisplaced o k kind fault l = ((fault ≡ not_resting l.part) × (kind_of l.par
 -- Why a slot is refused: a read section is open, or its part doesn't belong at this place.
 abbrev pub RefusesSlot : Opening → ℕ → PartKind → Fault → Slot → Type 0
 RefusesSlot o k kind fault s = ((fault ≡ Reading) × (s.reading ≢ 0))
-    ⊎ ((l : Lent) × (s.held.value ≡ Some l) × IsMisplaced o k kind fault l)
+    ⊎ ((l : Lent) × (s.held.part.value ≡ Some l) × IsMisplaced o k kind fault l)
 
 -- The same of a slot for one part alone, which may be empty too.
 abbrev pub RefusesOwn : Opening → PartKind → Fault → Slot → Type 0
-RefusesOwn o kind fault s = RefusesSlot o 0 kind fault s ⊎ ((fault ≡ Empty) × (s.held.value ≡ None))
+RefusesOwn o kind fault s = RefusesSlot o 0 kind fault s ⊎ ((fault ≡ Empty) × (s.held.part.value ≡ None))
 
 -- One of these slots is refused.
 pub record RefusesOne (o : Opening) (kind : PartKind) (fault : Fault) (slots : List Slot) : Type 0 where
@@ -48,13 +48,13 @@ RefusesAll o fault slots = RefusesOwn o kind.Control fault slots.control
 
 -- Control's slot is empty, or has a part with which nothing can be closed.
 abbrev pub RefusesControl : Fault → Slot → Type 0
-RefusesControl fault s = ((fault ≡ Empty) × (s.held.value ≡ None))
-    ⊎ ((fault ≡ Other) × ((l : Lent) × (s.held.value ≡ Some l) × (kind_of l.part ≢ kind.Control) × (kind_of l.part ≢ kind.Closing)))
+RefusesControl fault s = ((fault ≡ Empty) × (s.held.part.value ≡ None))
+    ⊎ ((fault ≡ Other) × ((l : Lent) × (s.held.part.value ≡ Some l) × (kind_of l.part ≢ kind.Control) × (kind_of l.part ≢ kind.Closing)))
 
 -- Why a close isn't made: by control's slot alone; by the parts of the open that control is of; or all is there, and memory was refused.
 abbrev pub IsWhyNotClosed : Fault → PartSlots → Type 0
 IsWhyNotClosed fault slots = RefusesControl fault slots.control
-    ⊎ (((o : Opening) × IsOfOpen o kind.Control slots.control.held.value × RefusesAll o fault slots)
+    ⊎ (((o : Opening) × IsOfOpen o kind.Control slots.control.held.part.value × RefusesAll o fault slots)
     ⊎ ((fault ≡ Memory) × CanTryClose slots))
 
 -- The same where control is there.

@@ -13,8 +13,8 @@ use Rattle.rcu_c_slots.specs.declared.slot.Slot.{Slot}
 pub record Reaches (Does : Part → Part → Type 0) (old new : Slot) : Type 0 where
   pub before : Lent
   pub after : Lent
-  pub old_is : old.held.value ≡ Some before
-  pub new_is : new.held.value ≡ Some after
+  pub old_is : old.held.part.value ≡ Some before
+  pub new_is : new.held.part.value ≡ Some after
   pub opening : after.opening ≡ before.opening
   pub place : after.at ≡ before.at
   pub does : Does before.part after.part
@@ -23,8 +23,8 @@ pub record Reaches (Does : Part → Part → Type 0) (old new : Slot) : Type 0 w
 module _ {A : Type 0} where
   -- The slot was empty and is.
   pub record FindsNone (result : Result A Fault) (old new : Slot) : Type 0 where
-    pub none : old.held.value ≡ None
-    pub stays : new.held.value ≡ None
+    pub none : old.held.part.value ≡ None
+    pub stays : new.held.part.value ≡ None
     pub named : result ≡ Err Empty
     pub reading : new.reading ≡ old.reading
 

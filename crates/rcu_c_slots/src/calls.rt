@@ -390,10 +390,10 @@ impl Slot {
     ///
     /// The slot is empty, or its part is of another kind. Nothing has changed.
     pub fn end(&mut self, alloc: Global) -> Result<(), Fault>
-        ensures err { IfErr result (λ _. self.new.held.value ≡ self.old.held.value) }
-        ensures ok { IfOk result (λ _. self.new.held.value ≡ None) }
-        ensures ends { IfOk result (λ _. HasEnds self.old.held.value) }
-        ensures why { IfErr result (λ fault. RefusesEnd fault self.old.held.value) }
+        ensures err { IfErr result (λ _. self.new.held.part.value ≡ self.old.held.part.value) }
+        ensures ok { IfOk result (λ _. self.new.held.part.value ≡ None) }
+        ensures ends { IfOk result (λ _. HasEnds self.old.held.part.value) }
+        ensures why { IfErr result (λ fault. RefusesEnd fault self.old.held.part.value) }
         ensures reading { self.new.reading ≡ self.old.reading }
     {
         let Some(boxed) = self.take(alloc) else {

@@ -44,13 +44,13 @@ pub(crate) fn check_one(
     at: u64,
     kind: PartKind,
 ) -> Result<bool, Fault>
-    ensures stays { slot.new.held.value ≡ slot.old.held.value }
-    ensures full { IfOk result (λ full. full ≡ is_some slot.old.held.value) }
-    ensures kind { IfOk result (λ _. IfSome slot.old.held.value (λ l. kind_of l.part ≡ kind)) }
-    ensures place { IfOk result (λ _. IsInPlace opening at slot.old.held.value) }
+    ensures stays { slot.new.held.part.value ≡ slot.old.held.part.value }
+    ensures full { IfOk result (λ full. full ≡ is_some slot.old.held.part.value) }
+    ensures kind { IfOk result (λ _. IfSome slot.old.held.part.value (λ l. kind_of l.part ≡ kind)) }
+    ensures place { IfOk result (λ _. IsInPlace opening at slot.old.held.part.value) }
     ensures reading { slot.new.reading ≡ slot.old.reading }
     ensures err { IfErr result (λ _.
-        slot.old.reading ≡ 0 → IfSome slot.old.held.value (BelongsAt opening at kind) → ⊥) }
+        slot.old.reading ≡ 0 → IfSome slot.old.held.part.value (BelongsAt opening at kind) → ⊥) }
     ensures unread { IfOk result (λ _. slot.old.reading ≡ 0) }
     ensures why { IfErr result (λ fault. RefusesSlot opening at kind fault slot.old) }
 {
@@ -107,10 +107,10 @@ pub(crate) fn check_each(
 impl Slot {
     /// The open and the kind of the slot's part, if there is one.
     pub(crate) fn peek(&mut self, alloc: Global) -> Option<(Opening, PartKind)>
-        ensures stays { self.new.held.value ≡ self.old.held.value }
+        ensures stays { self.new.held.part.value ≡ self.old.held.part.value }
         ensures reading { self.new.reading ≡ self.old.reading }
-        ensures none { IfNone result (self.old.held.value ≡ None) }
-        ensures some { IfSome result (λ t. IsOfOpen t.0 t.1 self.old.held.value) }
+        ensures none { IfNone result (self.old.held.part.value ≡ None) }
+        ensures some { IfSome result (λ t. IsOfOpen t.0 t.1 self.old.held.part.value) }
     {
         let Some(boxed) = self.take(alloc) else {
             return None;

@@ -54,10 +54,10 @@ fn check_there(
     opening: Opening,
     kind: PartKind,
 ) -> Result<(), Fault>
-    ensures stays { slot.new.held.value ≡ slot.old.held.value }
-    ensures there { IfOk result (λ _. IsThere opening kind slot.old.held.value) }
+    ensures stays { slot.new.held.part.value ≡ slot.old.held.part.value }
+    ensures there { IfOk result (λ _. IsThere opening kind slot.old.held.part.value) }
     ensures err { IfErr result (λ _.
-        slot.old.reading ≡ 0 → IsThere opening kind slot.old.held.value → ⊥) }
+        slot.old.reading ≡ 0 → IsThere opening kind slot.old.held.part.value → ⊥) }
     ensures unread { IfOk result (λ _. slot.old.reading ≡ 0) }
     ensures why { IfErr result (λ fault. RefusesOwn opening kind fault slot.old) }
     ensures reading { slot.new.reading ≡ slot.old.reading }
@@ -118,9 +118,9 @@ fn check_all(alloc: Global, slots: &mut PartSlots, opening: Opening) -> Result<(
 
 /// Takes control out of its slot, and leaves the box there.
 fn take_control(alloc: Global, slot: &mut Slot) -> Control
-    requires there { HasKind kind.Control slot.old.held.value }
-    ensures takes { HasPart (part.Control result) slot.old.held.value }
-    ensures keeps { Keeps part.Nothing slot.old.held.value slot.new.held.value }
+    requires there { HasKind kind.Control slot.old.held.part.value }
+    ensures takes { HasPart (part.Control result) slot.old.held.part.value }
+    ensures keeps { Keeps part.Nothing slot.old.held.part.value slot.new.held.part.value }
     ensures reading { slot.new.reading ≡ slot.old.reading }
 {
     match take_part(alloc, slot) {
@@ -144,7 +144,7 @@ fn take_all(
     requires hands { vec_capacity room.hands ≡ opening.hands }
     ensures held { AreHeld opening result slots.old }
     ensures emptied { AreEmptied slots.new }
-    ensures keeps { Keeps part.Nothing slots.old.control.held.value slots.new.control.held.value }
+    ensures keeps { Keeps part.Nothing slots.old.control.held.part.value slots.new.control.held.part.value }
     ensures sections { StayRead slots.old slots.new }
 {
     let Reserved {
@@ -169,7 +169,7 @@ fn take_all(
 /// Closes parts, and puts what is left of them, or for want of memory all of them, into the box of control's slot.
 fn close_parts(alloc: Global, slot: &mut Slot, parts: Parts<ForeignJob>) -> Result<(), Fault>
     requires owed { CanClose parts }
-    requires there { HasPart part.Nothing slot.old.held.value }
+    requires there { HasPart part.Nothing slot.old.held.part.value }
     ensures closes { ComesTo parts result slot.new }
     ensures reading { slot.new.reading ≡ slot.old.reading }
 {
@@ -188,7 +188,7 @@ fn close_parts(alloc: Global, slot: &mut Slot, parts: Parts<ForeignJob>) -> Resu
 /// Tries again to close the parts that control's slot has after a close for which there was no memory.
 fn close_again(alloc: Global, slot: &mut Slot, closing: Closing<ForeignJob>) -> Result<(), Fault>
     requires owed { CanClose closing.parts }
-    requires there { HasPart part.Nothing slot.old.held.value }
+    requires there { HasPart part.Nothing slot.old.held.part.value }
     ensures closes { ComesTo closing.parts result slot.new }
     ensures reading { slot.new.reading ≡ slot.old.reading }
 {
@@ -225,7 +225,7 @@ fn close_first(alloc: Global, slots: &mut PartSlots, opening: Opening) -> Result
 
 /// As [`close_from`] where control's slot has the parts already.
 fn close_kept(alloc: Global, slot: &mut Slot) -> Result<(), Fault>
-    requires kind { HasKind kind.Closing slot.old.held.value }
+    requires kind { HasKind kind.Closing slot.old.held.part.value }
     requires owed { OwesAgain slot.old }
     ensures closes { ClosesAgain result slot.old slot.new }
     ensures reading { slot.new.reading ≡ slot.old.reading }

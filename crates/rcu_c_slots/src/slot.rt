@@ -73,64 +73,62 @@ pub fn may_change_threads(lent: &Box<Lent, Global>, slots: &PartSlots) {
     is_send(slots);
 }
 
+/// A boxed part by its pointer, or nothing, and which of the two.
+#[repr(C)]
+#[derive(Drop)]
+pub struct HeldPart {
+    full: bool,
+    pub part: LoosePart,
+    ghost fits: { full ≡ is_some part.value },
+}
+
 /// A place for a part, which the program keeps. All zero it is empty.
 #[repr(C)]
 #[derive(Drop)]
 pub struct Slot {
-    full: bool,
-    pub held: LoosePart,
+    pub held: HeldPart,
     /// How many read sections are open, where the program counts them.
     pub reading: u64,
     /// So that two slots share no line of a cache.
     filling: [u64; 5],
-    ghost fits: { full ≡ is_some held.value },
 }
 
 impl Slot {
     /// Takes the part out.
     pub fn take(&mut self, alloc: Global) -> Option<Box<Lent, Global>>
-        ensures taken { IfSome result (λ boxed. self.old.held.value ≡ Some boxed.value) }
-        ensures none { IfNone result (self.old.held.value ≡ None) }
-        ensures empty { self.new.held.value ≡ None }
+        ensures taken { IfSome result (λ boxed. self.old.held.part.value ≡ Some boxed.value) }
+        ensures none { IfNone result (self.old.held.part.value ≡ None) }
+        ensures empty { self.new.held.part.value ≡ None }
         ensures reading { self.new.reading ≡ self.old.reading }
     {
-        let reading = self.reading;
-        let whole = replace(
-            self,
-            Slot {
-                full: false,
-                held: LoosePart::empty(alloc),
-                reading,
-                filling: [0; 5],
-            },
-        );
-        if !whole.full {
+        let empty = HeldPart {
+            full: false,
+            part: LoosePart::empty(alloc),
+        };
+        let HeldPart { full, part } = replace(&mut self.held, empty);
+        if !full {
             return None;
         }
-        let Slot { held, .. } = whole;
-        Some(held.into_loose().into_box())
+        Some(part.into_loose().into_box())
     }
 
     /// Puts a part in.
     pub fn put(&mut self, lent: Box<Lent, Global>)
-        ensures full { self.new.held.value ≡ Some lent.value }
+        ensures full { self.new.held.part.value ≡ Some lent.value }
         ensures reading { self.new.reading ≡ self.old.reading }
     {
-        let reading = self.reading;
-        *self = Slot {
+        self.held = HeldPart {
             full: true,
-            held: LoosePart::of(Loose::of(lent)),
-            reading,
-            filling: [0; 5],
+            part: LoosePart::of(Loose::of(lent)),
         };
     }
 
     /// Whether there is a part.
     pub fn is_full(&self) -> bool
-        ensures full { result ≡ true → self.now.held.value ≢ None }
-        ensures empty { result ≡ false → self.now.held.value ≡ None }
+        ensures full { result ≡ true → self.now.held.part.value ≢ None }
+        ensures empty { result ≡ false → self.now.held.part.value ≡ None }
     {
-        self.full
+        self.held.full
     }
 }
 

@@ -18,9 +18,9 @@ use std::mem::replace;
 
 /// Takes a processor out of its slot, if there is one.
 fn take_processor(alloc: Global, slot: &mut Slot) -> Option<Processor<ForeignJob>>
-    requires kind { IfSome slot.old.held.value (λ l. kind_of l.part ≡ kind.Processor) }
-    ensures takes { TakesOut (λ x. part.Processor (lent_processor x)) result slot.old.held.value }
-    ensures empty { slot.new.held.value ≡ None }
+    requires kind { IfSome slot.old.held.part.value (λ l. kind_of l.part ≡ kind.Processor) }
+    ensures takes { TakesOut (λ x. part.Processor (lent_processor x)) result slot.old.held.part.value }
+    ensures empty { slot.new.held.part.value ≡ None }
     ensures reading { slot.new.reading ≡ slot.old.reading }
 {
     let Some(boxed) = slot.take(alloc) else {
@@ -54,9 +54,9 @@ pub(crate) fn take_processors(
 
 /// Takes a group out of its slot, if there is one.
 fn take_group(alloc: Global, slot: &mut Slot) -> Option<Group<ForeignJob>>
-    requires kind { IfSome slot.old.held.value (λ l. kind_of l.part ≡ kind.Group) }
-    ensures takes { TakesOut (λ x. part.Group x) result slot.old.held.value }
-    ensures empty { slot.new.held.value ≡ None }
+    requires kind { IfSome slot.old.held.part.value (λ l. kind_of l.part ≡ kind.Group) }
+    ensures takes { TakesOut (λ x. part.Group x) result slot.old.held.part.value }
+    ensures empty { slot.new.held.part.value ≡ None }
     ensures reading { slot.new.reading ≡ slot.old.reading }
 {
     let Some(boxed) = slot.take(alloc) else {
@@ -86,9 +86,9 @@ pub(crate) fn take_groups(alloc: Global, slots: &mut [Slot], out: &mut Vec<Group
 
 /// Takes a hand out of its slot, if there is one.
 fn take_hand(alloc: Global, slot: &mut Slot) -> Option<Hand<ForeignJob>>
-    requires kind { IfSome slot.old.held.value (λ l. kind_of l.part ≡ kind.Hand) }
-    ensures takes { TakesOut (λ x. part.Hand (lent_hand x)) result slot.old.held.value }
-    ensures empty { slot.new.held.value ≡ None }
+    requires kind { IfSome slot.old.held.part.value (λ l. kind_of l.part ≡ kind.Hand) }
+    ensures takes { TakesOut (λ x. part.Hand (lent_hand x)) result slot.old.held.part.value }
+    ensures empty { slot.new.held.part.value ≡ None }
     ensures reading { slot.new.reading ≡ slot.old.reading }
 {
     let Some(boxed) = slot.take(alloc) else {
@@ -118,9 +118,9 @@ pub(crate) fn take_hands(alloc: Global, slots: &mut [Slot], out: &mut Vec<Hand<F
 
 /// Takes the driver out of its slot.
 pub(crate) fn take_driver(alloc: Global, slot: &mut Slot) -> Driver
-    requires there { HasKind kind.Driver slot.old.held.value }
-    ensures takes { HasPart (part.Driver result) slot.old.held.value }
-    ensures empty { slot.new.held.value ≡ None }
+    requires there { HasKind kind.Driver slot.old.held.part.value }
+    ensures takes { HasPart (part.Driver result) slot.old.held.part.value }
+    ensures empty { slot.new.held.part.value ≡ None }
     ensures reading { slot.new.reading ≡ slot.old.reading }
 {
     let Some(boxed) = slot.take(alloc) else {
@@ -134,9 +134,9 @@ pub(crate) fn take_driver(alloc: Global, slot: &mut Slot) -> Driver
 
 /// Takes the part out of control's slot, and leaves the box there.
 pub(crate) fn take_part(alloc: Global, slot: &mut Slot) -> Part
-    requires there { slot.old.held.value ≢ None }
-    ensures takes { HasPart result slot.old.held.value }
-    ensures keeps { Keeps part.Nothing slot.old.held.value slot.new.held.value }
+    requires there { slot.old.held.part.value ≢ None }
+    ensures takes { HasPart result slot.old.held.part.value }
+    ensures keeps { Keeps part.Nothing slot.old.held.part.value slot.new.held.part.value }
     ensures reading { slot.new.reading ≡ slot.old.reading }
 {
     let Some(mut boxed) = slot.take(alloc) else {
@@ -149,8 +149,8 @@ pub(crate) fn take_part(alloc: Global, slot: &mut Slot) -> Part
 
 /// Puts a part into the box of control's slot.
 pub(crate) fn put_part(alloc: Global, slot: &mut Slot, whole: Part)
-    requires there { HasPart part.Nothing slot.old.held.value }
-    ensures keeps { Keeps whole slot.old.held.value slot.new.held.value }
+    requires there { HasPart part.Nothing slot.old.held.part.value }
+    ensures keeps { Keeps whole slot.old.held.part.value slot.new.held.part.value }
     ensures reading { slot.new.reading ≡ slot.old.reading }
 {
     let Some(mut boxed) = slot.take(alloc) else {

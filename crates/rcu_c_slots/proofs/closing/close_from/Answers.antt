@@ -7,7 +7,7 @@ use Rattle.rcu_c_slots.proofs.Closings.{can_try_again, can_try_from, closes_agai
 use Rattle.rcu_c_slots.proofs.closing.close_from.Goals as goal
 
 -- control's slot was looked at
-looked_at : (slots : PartSlots) (control : Slot) → control.held.value ≡ slots.control.held.value
+looked_at : (slots : PartSlots) (control : Slot) → control.held.part.value ≡ slots.control.held.part.value
     → StayHeld slots (record { control = control; driver = slots.driver; processors = slots.processors; groups = slots.groups; hands = slots.hands })
 looked_at slots control stays = record { control_stays = stays; driver_stays = refl; processors_stay = refl; groups_stay = refl; hands_stay = refl }
 

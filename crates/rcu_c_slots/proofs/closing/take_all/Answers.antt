@@ -41,8 +41,8 @@ take_control-control-requires c = record { there = there_kind c.requires.ready.c
 
 pub returns-clause-held : goal.returns-clause-held
 returns-clause-held c = let ready = c.requires.ready in let slots = c.args.slots.now in let o = c.args.opening in record {
-  control_is = there_whole o kind.Control (part.Control c.take_control-control.result) slots.control.held.value ready.control_is c.take_control-control.ensures.takes;
-  driver_is = there_whole o kind.Driver (part.Driver c.take_driver-driver.result) slots.driver.held.value ready.driver_is c.take_driver-driver.ensures.takes;
+  control_is = there_whole o kind.Control (part.Control c.take_control-control.result) slots.control.held.part.value ready.control_is c.take_control-control.ensures.takes;
+  driver_is = there_whole o kind.Driver (part.Driver c.take_driver-driver.result) slots.driver.held.part.value ready.driver_is c.take_driver-driver.ensures.takes;
   processors_are = sym c.take_processors.ensures.took;
   groups_are = sym c.take_groups.ensures.took;
   hands_are = sym c.take_hands.ensures.took;

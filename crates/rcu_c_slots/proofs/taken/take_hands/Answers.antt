@@ -40,11 +40,11 @@ pub loop-place-init : goal.loop-place-init
 loop-place-init c = (subst (λ out. IsTakenTo (λ x. part.Hand (lent_hand x)) 0 (held_in c.args.slots.now) (held_in c.args.slots.now) out) (sym c.requires.none) (taken_none (λ x. part.Hand (lent_hand x)) (held_in c.args.slots.now)), refl, refl)
 
 pub returns-clause-took : goal.returns-clause-took
-returns-clause-took c = let l = c.loop-place in let long = length-map l.slots (λ (s : Slot). s.held.value) in
+returns-clause-took c = let l = c.loop-place in let long = length-map l.slots (λ (s : Slot). s.held.part.value) in
     taken_all (λ x. part.Hand (lent_hand x)) l.place (held_in c.args.slots.now) (held_in l.slots) l.out.items (omega (arith, long, l.auto.slots, c.loop-place-test.false)) l.invariant.0
 
 pub returns-clause-empty : goal.returns-clause-empty
-returns-clause-empty c = let l = c.loop-place in let long = length-map l.slots (λ (s : Slot). s.held.value) in
+returns-clause-empty c = let l = c.loop-place in let long = length-map l.slots (λ (s : Slot). s.held.part.value) in
     empty_all (λ x. part.Hand (lent_hand x)) l.place (held_in c.args.slots.now) (held_in l.slots) l.out.items (omega (arith, long, l.auto.slots, c.loop-place-test.false)) l.invariant.0
 
 pub returns-clause-sections : goal.returns-clause-sections
