@@ -23,6 +23,7 @@ STATEMENTS = [
     Statement("poll", "rcu_part_control/src/barrier.rt", "poll", "when a barrier passes"),
     Statement("rcuo_call", "rcu_c/src/calls.rt", "rcuo_slot_call", "a call of the library for C"),
     Statement("rcuo_close", "rcu_c/src/open.rt", "rcuo_slot_close", "the close of the library for C"),
+    Statement("every_history_of_slots", "rcu_c_law/src/lib.rt", "every_history_of_slots", "each history that agrees with what a close of slots has left is closed"),
 ]
 
 
