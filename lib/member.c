@@ -55,7 +55,7 @@ static void announce(struct member *member) {
     uint64_t bit = rcuo_bit_of(member);
     if (load(&pending->bits) & bit) return;
     __atomic_fetch_or(&pending->bits, bit, __ATOMIC_SEQ_CST);
-    rcuo_wake_idle(member->runtime);
+    rcuo_wake_helper(member->helper);
 }
 
 /* Whether a plain call in this moment releases the bypass list. */
@@ -86,7 +86,7 @@ static void run_head(void *argument) {
 /* The moment of a call: that of the call or the tick before it, for some calls. So most calls don't read the clock. A report
  * does, and ticks in a new moment. The helper's moments are the rounds that it makes: each has a tick. */
 static uint64_t moment_of(struct member *member) {
-    if (member->number == HELPER || ++member->calls < CALLS_A_MOMENT) return member->moment;
+    if (member->is_helpers || ++member->calls < CALLS_A_MOMENT) return member->moment;
     member->calls = 0;
     return moment_now();
 }
@@ -140,7 +140,7 @@ static void tick(struct member *member, uint64_t moment) {
     member->moment = moment;
     member->calls = 0;
     member->direct = 0;
-    member->kept = lists.bypass;
+    member->kept = (uint32_t)lists.bypass; /* (at most HIGH_MARK) */
     member->owes = lists.bypass != 0 || member->waiting.first;
     announce(member);
 }
@@ -159,7 +159,7 @@ void rcuo_member_report(struct member *member) {
  * sees the rise is urged in the tick. */
 void rcuo_member_settle(struct member *member) {
     if (member->waiting.first) (void)flush(member);
-    uint64_t moment = member->number == HELPER ? member->moment + 1 : moment_now();
+    uint64_t moment = member->is_helpers ? member->moment + 1 : moment_now();
     uint64_t urges = load(&member->runtime->urges);
     if (moment == member->moment && urges == member->urged) return;
     member->urged = urges;
@@ -225,7 +225,7 @@ bool rcuo_member_tend(struct member *member) {
         member->reported = 0; /* (no period's number) */
         rcuo_member_report(member);
         tick(member, member->moment + 1);
-        store(&member->state, LEAVING);
+        rcuo_member_go(member);
         return false;
     }
     pthread_mutex_lock(&runtime->registry);

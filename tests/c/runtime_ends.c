@@ -17,11 +17,10 @@ static void call_many(struct counted *of, unsigned long *ran) {
     }
 }
 
-static void test_stop_runs_all(void) {
-    struct rcuo_runtime *runtime;
+static void test_stop_runs_all(uint32_t helpers) {
+    struct rcuo_runtime *runtime = start_runtime(helpers);
     unsigned long ran = 0;
     struct rcuo_head *back = &nodes[0][0].head;
-    is("start", rcuo_start(&runtime, NULL), RCUO_OK);
     is("register", rcuo_register(), RCUO_OK);
     call_many(nodes[0], &ran);
     is("stop while this thread is registered", rcuo_stop(runtime, &back), RCUO_FULL);
@@ -44,14 +43,13 @@ static void call_next(struct rcuo_head *head) {
     if (chain->left && chain->left--) rcuo_call_rcu(head, call_next);
 }
 
-static void test_stop_with_chains(void) {
-    struct rcuo_runtime *runtime;
+static void test_stop_with_chains(uint32_t helpers) {
+    struct rcuo_runtime *runtime = start_runtime(helpers);
     struct chain finite, endless[2];
     struct rcuo_head *back = NULL;
     finite.left = 5;
     endless[0].left = endless[1].left = UINT64_MAX;
     finite.ran = endless[0].ran = endless[1].ran = 0;
-    is("start", rcuo_start(&runtime, NULL), RCUO_OK);
     rcuo_call_rcu(&finite.head, call_next);
     rcuo_call_rcu(&endless[0].head, call_next);
     rcuo_call_rcu(&endless[1].head, call_next);
@@ -128,13 +126,13 @@ static void wait_in_callback(struct rcuo_head *head) {
     count_run(head);
 }
 
-static void test_fork(void) {
-    struct rcuo_runtime *runtime;
+static void test_fork(uint32_t helpers) {
+    struct rcuo_runtime *runtime = start_runtime(helpers);
     unsigned long ran = 0, waited = 0;
     struct counted waiting;
     pthread_barrier_t gate;
     pthread_barrier_init(&gate, NULL, 2);
-    is("start", rcuo_start(&runtime, NULL), RCUO_OK);
+    STORE(&entered, 0);
     pthread_t thread = start_thread(stay_offline, &gate);
     pthread_barrier_wait(&gate);
     is("register", rcuo_register(), RCUO_OK);
@@ -174,13 +172,15 @@ static void test_exit(void) {
 
 int main(void) {
     test_exit();
-    test_stop_runs_all();
-    test_stop_with_chains();
     test_several();
+    for (uint32_t helpers = 1; helpers <= SEVERAL; helpers += SEVERAL - 1) {
+        test_stop_runs_all(helpers);
+        test_stop_with_chains(helpers);
 #ifndef __SANITIZE_THREAD__ /* (which knows no threads that a child starts) */
-    test_fork();
+        test_fork(helpers);
 #else
-    (void)test_fork;
+        (void)test_fork;
 #endif
+    }
     return tell();
 }

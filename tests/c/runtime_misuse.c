@@ -52,11 +52,18 @@ static void test_without_runtime(void) {
 
 static void test_options(void) {
     struct rcuo_runtime *runtime = NULL;
-    struct rcuo_options options = {RCUO_THREADS + 1, NULL, NULL};
+    struct rcuo_options options = {.threads = RCUO_THREADS + 1};
+    struct rcuo_helper each[2] = {{NULL, NULL}, {NULL, NULL}};
     pthread_attr_t attributes;
     is("start without a place for the runtime", rcuo_start(NULL, NULL), RCUO_NULL);
     is("start for too many threads", rcuo_start(&runtime, &options), RCUO_SHAPE);
+    options.threads = RCUO_THREADS;
+    options.helpers = 2;
+    is("start with too many helpers beside so many threads", rcuo_start(&runtime, &options), RCUO_SHAPE);
+    options.helpers = UINT32_MAX;
+    is("start with far too many helpers", rcuo_start(&runtime, &options), RCUO_SHAPE);
     options.threads = 1;
+    options.helpers = 0;
     pthread_attr_init(&attributes);
     pthread_attr_setstacksize(&attributes, SIZE_MAX / 4096 * 4096 / 2);
     options.attributes = &attributes;
@@ -65,9 +72,18 @@ static void test_options(void) {
     pthread_attr_init(&attributes);
     pthread_attr_setdetachstate(&attributes, PTHREAD_CREATE_DETACHED);
     is("start with a helper that can't be joined", rcuo_start(&runtime, &options), RCUO_SHAPE);
+    options.attributes = NULL;
+    options.helpers = 2;
+    options.each = each;
+    each[1].attributes = &attributes;
+    is("start with a second helper that can't be joined", rcuo_start(&runtime, &options), RCUO_SHAPE);
+    options.helpers = 1;
+    is("start with the first alone", rcuo_start(&runtime, &options), RCUO_OK);
+    is("stop", rcuo_stop(runtime, NULL), RCUO_OK);
+    options.each = NULL;
+    runtime = NULL;
     pthread_attr_destroy(&attributes);
     holds("the place stays as it was", runtime == NULL);
-    options.attributes = NULL;
     options.name = "a name of more than fifteen bytes";
     is("start for one thread", rcuo_start(&runtime, &options), RCUO_OK);
     is("stop", rcuo_stop(runtime, NULL), RCUO_OK);
