@@ -58,7 +58,7 @@ struct queue {
 
 /* Whose the processor of a member is. */
 enum state {
-    AWAY,    /* its owner's, or nobody's where the member is free; the processor is away */
+    AWAY,    /* its owner's, or nobody's where no thread has the member; the processor is away */
     HERE,    /* its owner's, who is online */
     LEAVING, /* nobody's: its owner went without leaving, so the processor is still here; whoever wants it takes it */
     HELD     /* that of a thread that leaves for it */
@@ -75,7 +75,6 @@ struct member {
     uint32_t state;  /* an enum state */
     bool is_helpers; /* it is a helper's own */
     bool registered; /* a thread has it; under the registry mutex */
-    bool over;       /* that thread gave it back while it was LEAVING; under the registry mutex */
 
     /* These are for whoever has the slot. */
     bool owes;              /* callbacks may wait in the bypass list, or heads in the queue */
@@ -192,7 +191,7 @@ void rcuo_member_report(struct member *member);
 void rcuo_member_settle(struct member *member);
 void rcuo_member_online(struct member *member);
 void rcuo_member_offline(struct member *member);
-/* The owner goes, and lets others leave for it. */
+/* The owner goes, and lets its helper leave for it. */
 void rcuo_member_go(struct member *member);
 /* Leaves for an owner who went, by any thread. Answers whether there is nothing left to do. */
 bool rcuo_member_tend(struct member *member);

@@ -180,28 +180,39 @@ static bool leave(struct member *member) {
     return true;
 }
 
-/* The slot is anybody's from this store on, who takes it by a compare-exchange. A grace period may wait for it: then who
- * sleeps for that is woken, and tends it. The helper, which is told, tends it else. */
-void rcuo_member_go(struct member *member) {
+/* The slot is anybody's from this store on, who takes it by a compare-exchange: its owner, who comes back, or who waits for a grace
+ * period that waits for it, and tends it. Who sleeps for that is woken. */
+static void let_go(struct member *member) {
     store(&member->state, LEAVING);
-    announce(member);
     rcuo_wake_reported(member);
 }
 
+void rcuo_member_go(struct member *member) {
+    let_go(member);
+    announce(member);
+}
+
+/* A leave costs more than all else here. Where nothing is owed nobody needs it until a grace period does. */
 void rcuo_member_offline(struct member *member) {
-    if (UNLIKELY(!leave(member))) {
+    if (LIKELY(!member->owes)) {
+        let_go(member);
+    } else if (LIKELY(leave(member))) {
+        store(&member->state, AWAY);
+        rcuo_wake_reported(member);
+    } else {
         rcuo_member_go(member);
-        return;
     }
-    store(&member->state, AWAY);
-    rcuo_wake_reported(member);
 }
 
 void rcuo_member_online(struct member *member) {
     for (;;) {
         uint32_t state = load(&member->state);
         if (LIKELY(state == AWAY)) break;
-        if (state == LEAVING && compare_exchange(&member->state, LEAVING, HERE)) return;
+        if (state == LEAVING && compare_exchange(&member->state, LEAVING, HERE)) {
+            /* It has read nothing yet. A thread that is offline often, and never long enough to be tended, isn't waited for either. */
+            rcuo_member_report(member);
+            return;
+        }
         sched_yield(); /* (another has it, for some calls) */
     }
     enum rcuo_answer answer = rcuo_return(member->slot);
@@ -210,7 +221,6 @@ void rcuo_member_online(struct member *member) {
 }
 
 void rcuo_free_member(struct member *member) {
-    member->over = false;
     member->next = member->runtime->free;
     member->runtime->free = member;
 }
@@ -218,7 +228,6 @@ void rcuo_free_member(struct member *member) {
 /* Where memory is refused it reports and ticks at least, which wants none: so grace periods go on, after which there is memory
  * again, if there is any. */
 bool rcuo_member_tend(struct member *member) {
-    struct rcuo_runtime *runtime = member->runtime;
     if (load(&member->state) != LEAVING) return true;
     if (!compare_exchange(&member->state, LEAVING, HELD)) return true; /* (its owner is back, or another tends it) */
     if (!leave(member)) {
@@ -228,10 +237,7 @@ bool rcuo_member_tend(struct member *member) {
         rcuo_member_go(member);
         return false;
     }
-    pthread_mutex_lock(&runtime->registry);
     store(&member->state, AWAY);
-    if (member->over) rcuo_free_member(member);
-    pthread_mutex_unlock(&runtime->registry);
     rcuo_wake_reported(member);
     return true;
 }

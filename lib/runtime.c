@@ -218,7 +218,14 @@ static bool are_same(const struct rcuo_counts *one, const struct rcuo_counts *ot
     return !memcmp(one->counts, other->counts, one->processors * sizeof *one->counts);
 }
 
-/* Waits until no callback is left, whether or not callbacks call others. */
+/* Nobody owns it, and a helper may still tend it. */
+static void wait_for_leave(struct member *member) {
+    while (load(&member->state) != AWAY) {
+        if (!rcuo_member_tend(member)) rcuo_sleep_millisecond();
+    }
+}
+
+/* Waits until no callback is left, whether or not callbacks call others. (A helper's own member is here while it is awake.) */
 static void run_all(struct rcuo_runtime *runtime) {
     struct rcuo_counts counts, before;
     rcuo_wait_for_callbacks(runtime, &counts);
@@ -232,10 +239,7 @@ static void run_all(struct rcuo_runtime *runtime) {
     pthread_mutex_unlock(&runtime->control);
     if (answer != RCUO_OK) rcuo_die("rcuo_stop", rcuo_strerror(answer));
     rcuo_wait_for_callbacks(runtime, &counts);
-    /* (a helper's own member is here as long as it is awake) */
-    for (uint32_t n = runtime->helpers_many; n < runtime->members_many; n++) {
-        while (load(&runtime->members[n].state) != AWAY) rcuo_sleep_millisecond();
-    }
+    for (uint32_t n = runtime->helpers_many; n < runtime->members_many; n++) wait_for_leave(&runtime->members[n]);
 }
 
 enum rcuo_answer rcuo_stop(struct rcuo_runtime *runtime, struct rcuo_head **back) {
@@ -303,8 +307,7 @@ static void forget_others(struct rcuo_runtime *runtime) {
         }
         member->registered = false;
         runtime->registered--;
-        if (load(&member->state) == AWAY) rcuo_free_member(member);
-        else member->over = true;
+        rcuo_free_member(member);
     }
 }
 

@@ -46,15 +46,14 @@ static void forget_self(void) {
     rcuo_report_more();
 }
 
-/* Gives a member back, which is this thread's and in no list. Where the helper still has to leave for it, the helper frees it. */
+/* Gives a member back, which is this thread's and in no list. Whoever has it next may find it as this thread left it. */
 static void give_member(struct member *member) {
     struct rcuo_runtime *runtime = member->runtime;
     if (rcuo_is_here(member)) rcuo_member_offline(member);
     pthread_mutex_lock(&runtime->registry);
     member->registered = false;
     runtime->registered--;
-    if (load(&member->state) == AWAY) rcuo_free_member(member);
-    else member->over = true;
+    rcuo_free_member(member);
     pthread_mutex_unlock(&runtime->registry);
 }
 

@@ -140,6 +140,33 @@ static void test_blocked(void) {
     is("stop", rcuo_stop(runtime, NULL), RCUO_OK);
 }
 
+/* A thread that is offline often and briefly, and never reports, holds nobody back. */
+static void *go_and_come(void *none) {
+    if (rcuo_register() != RCUO_OK) abort();
+    while (!LOAD(&stop)) {
+        if (rcuo_thread_offline() != RCUO_OK || rcuo_thread_online() != RCUO_OK) abort();
+        ADD(&reads, 1);
+    }
+    return none;
+}
+
+static void test_brief(unsigned long rounds) {
+    struct rcuo_runtime *runtime = start_runtime(1);
+    unsigned long before = ran;
+    stop = reads = 0;
+    pthread_t thread = start_thread(go_and_come, NULL);
+    while (!LOAD(&reads)) sched_yield();
+    for (unsigned long i = 0; i < rounds; i++) {
+        if (rcuo_synchronize() != RCUO_OK) abort();
+    }
+    rcuo_call_rcu(&new_counted(&ran)->head, count_and_free);
+    is("a barrier beside it", rcuo_runtime_barrier(), RCUO_OK);
+    holds("a callback ran beside it", LOAD(&ran) == before + 1);
+    STORE(&stop, 1);
+    pthread_join(thread, NULL);
+    is("stop", rcuo_stop(runtime, NULL), RCUO_OK);
+}
+
 int main(int count, char **words) {
     unsigned long many = words_of(count, words, 5000);
     test_many_threads(many, PLACES, AT_ONCE, 1);
@@ -151,5 +178,6 @@ int main(int count, char **words) {
     }
     test_registers(many);
     test_blocked();
+    test_brief(many);
     return tell();
 }
