@@ -12,6 +12,7 @@ import argparse
 import concurrent.futures
 import os
 import pathlib
+import signal
 import subprocess
 import sys
 import tempfile
@@ -22,6 +23,17 @@ FLAVOURS = ("memb", "mb", "signal", "bp")
 NAMES = "read_lock read_unlock register_thread unregister_thread call_rcu synchronize_rcu barrier flavor".split()
 THEIRS = [f"-lurcu-{flavour}" for flavour in (*FLAVOURS, "qsbr")]
 RANDOM = ("hash table content", "removing all nodes")
+# Words of tests/c/liburcu_misuse.c, and what is said of each before the process aborts.
+NOT_REGISTERED = "there is no such processor"
+SAID = {
+    "unregister": f"rcu_unregister_thread: {NOT_REGISTERED}",
+    "report": f"rcu_quiescent_state: {NOT_REGISTERED}",
+    "offline": f"rcu_thread_offline: {NOT_REGISTERED}",
+    "online": f"rcu_thread_online: {NOT_REGISTERED}",
+    "twice": "rcu_register_thread: a slot has a part already",
+    "callback": "rcu_register_thread: a slot has a part already",
+    "barrier": "rcu_barrier: a callback was begun and isn't finished",
+}
 OURS = "librcuo-urcu-qsbr.so.0"
 # Words of tests/c/liburcu.c: 3,000 threads, a thousand of them at once, and a callback that waits for 60,000 grace periods.
 STRESS = ["3000", "10", "1000", "60000"]
@@ -72,6 +84,12 @@ def shared_differ(source, folder, library, expected):
             if output(folder / way, **variables) != expected or not bindings(folder / way, **variables)]
 
 
+def misuse_differs(folder, ours):
+    """Of which words something else is said than is meant to be."""
+    build(ROOT / "tests/c/liburcu_misuse.c", folder / "misuse", ours)
+    return [word for word, said in SAID.items() if output(folder / "misuse", word) != ([f"rcuo: {said}"], -signal.SIGABRT)]
+
+
 def main():
     parser = argparse.ArgumentParser()
     parser.add_argument("--library", default=ROOT / "out/librcuo.a")
@@ -95,6 +113,9 @@ def main():
         stressed = [output(folder / f"liburcu.{which}", *STRESS) for which in ("liburcu", "rcuo")]
         if stressed[0] != stressed[1]:
             print(f"the same with many threads: over liburcu {stressed[0]}, over rcuo {stressed[1]}", file=sys.stderr)
+            same -= 1
+        for word in misuse_differs(folder, (front, archives)):
+            print(f"misuse isn't answered: {word}", file=sys.stderr)
             same -= 1
         for way in shared_differ(sources[-1], folder, library, runs[-1].result()[0]):
             print(f"the program over the shared library differs: {way}", file=sys.stderr)
