@@ -103,7 +103,8 @@ bool rcuo_thread_is_online(void);
 
 /* How many read sections of this thread are open, where every file counts them: where each file that includes this header
  * defines RCUO_DEBUG before, or is compiled with -DRCUO_DEBUG. A file that doesn't leaves its mark in the program, and then
- * nothing is refused for a section, since it may end in another file than it began in. */
+ * nothing is refused for a section, since it may end in another file than it began in. (The mark of a library that is loaded by
+ * dlopen comes too late to be seen.) */
 extern __thread unsigned long rcuo_open_sections;
 
 /* Begins and ends a read section. Sections may nest. The names without `thread` are those of rcuo.h, which take a slot. */

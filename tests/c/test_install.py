@@ -131,6 +131,8 @@ class Install(unittest.TestCase):
         for name, below in zip(NAMES, (None, *NAMES)):
             library = self.stage / f"usr/lib/lib{name}.so"
             self.assertIn(f"Library soname: [lib{name}.so.{MAJOR}]", run("readelf", "-d", library))
+            # (a thread's end calls into the managed runtime)
+            self.assertEqual("NODELETE" in run("readelf", "-d", library), name != "rcuo")
             self.assertEqual({it for it in self.needed(library) if "rcuo" in it}, {f"lib{below}.so.{MAJOR}"} if below else set())
 
     def test_what_loads_it_at_run_time_finds_room_for_its_threads_words(self):
