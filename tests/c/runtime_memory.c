@@ -170,6 +170,28 @@ static void stop_refused(uint32_t helpers) {
     }
 }
 
+/* A helper that is refused, and added again. */
+static void add_refused(void) {
+    struct rcuo_options options = {.threads = 4, .helpers_most = 2};
+    struct rcuo_runtime *runtime;
+    pthread_t thread;
+    uint32_t number = 0;
+    long at_first = LOAD(&live);
+    STORE(&refuse_at, 0);
+    is("start", rcuo_start(&runtime, &options), RCUO_OK);
+    is_starting = true;
+    STORE(&made, 0);
+    STORE(&refuse_at, 1);
+    is("add a helper that is refused", rcuo_add_helper(NULL, &number), RCUO_MEMORY);
+    is("it isn't there", rcuo_get_helper_thread(1, &thread), RCUO_NO_PROCESSOR);
+    is("add it again", rcuo_add_helper(NULL, &number), RCUO_OK);
+    is_starting = false;
+    STORE(&refuse_at, 0);
+    holds("it has its number", number == 1);
+    is("stop", rcuo_stop(runtime, NULL), RCUO_OK);
+    holds("nothing is left on the heap", LOAD(&live) == at_first);
+}
+
 /* Lives of which the n-th allocation is refused, for n from 1 until none was, with the later ones or without them. */
 static long refuse_each(uint32_t helpers, long on, long step) {
     long runs = 0, before = -1;
@@ -193,6 +215,7 @@ int main(int count, char **words) {
         STORE(&refuse_on, 0);
         stop_refused(helpers);
     }
+    add_refused();
     holds("each thread's ran in order", out_of_order == 0);
     printf("runs %ld, refused %ld, of these threads %lu\n", runs, LOAD(&refused), refused_threads);
     return tell();

@@ -222,7 +222,7 @@ static void *wait_for_both(void *done) {
 static void test_interrupted(void) {
     struct sigaction action;
     unsigned long done = 0, ran = 0;
-    memset(&action, 0, sizeof action);
+    memset(&action, 0, sizeof action); /* (without SA_RESTART) */
     action.sa_handler = interrupt;
     sigaction(SIGUSR1, &action, NULL);
     is("register", rcuo_register(), RCUO_OK);
