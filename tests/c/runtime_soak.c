@@ -11,7 +11,7 @@
 #include <malloc.h>
 
 /* Of the threads these many aren't registered. Each makes so many calls in its life, of which a window hasn't run. */
-enum { THREADS = 64, OUTSIDE = 4, CALLS = 2000, WINDOW = 128, LIVES = 3 };
+enum { THREADS = 64, OUTSIDE = 4, CALLS = 10000, WINDOW = 256, LIVES = 3 };
 
 /* (the peak is that of the tools there) */
 #if defined(__SANITIZE_ADDRESS__) || defined(__SANITIZE_THREAD__)
@@ -19,7 +19,8 @@ enum { THREADS = 64, OUTSIDE = 4, CALLS = 2000, WINDOW = 128, LIVES = 3 };
 #else
 #define MEASURES true
 #endif
-static const long slack_kilobytes = 512;
+/* (a tenth of a byte for each of ten million callbacks) */
+static const long slack_kilobytes = 1024;
 
 /* What a thread called, from its register to its end. */
 struct life {
@@ -55,18 +56,13 @@ static void count_node(struct rcuo_head *head) {
     STORE(&node->waits, 0); /* (from here on the thread may call with it again) */
 }
 
-/* While callbacks are waited for the thread reports, or is offline. */
+/* While callbacks are waited for every other thread reports, and the others are offline. */
 static void rest(const struct place *place) {
-    if (!place->registers) {
-        nap(1);
-    } else if (place->index % 2) {
-        if (rcuo_quiescent_state() != RCUO_OK) abort();
-        sched_yield();
-    } else {
-        if (rcuo_thread_offline() != RCUO_OK) abort();
-        nap(1);
-        if (rcuo_thread_online() != RCUO_OK) abort();
-    }
+    bool leaves = place->registers && place->index % 2;
+    if (leaves && rcuo_thread_offline() != RCUO_OK) abort();
+    nap(1);
+    if (leaves && rcuo_thread_online() != RCUO_OK) abort();
+    if (place->registers && rcuo_quiescent_state() != RCUO_OK) abort();
 }
 
 static void call_next(struct place *place, struct life *life) {
