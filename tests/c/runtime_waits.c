@@ -219,6 +219,16 @@ static void *wait_for_both(void *done) {
     return NULL;
 }
 
+/* Sends signals until so many were handled. */
+static bool interrupt_often(pthread_t thread, unsigned long often) {
+    STORE(&interrupted, 0);
+    for (double began = seconds(); LOAD(&interrupted) < often && seconds() - began < 60;) {
+        pthread_kill(thread, SIGUSR1);
+        nap(1);
+    }
+    return LOAD(&interrupted) >= often;
+}
+
 static void test_interrupted(void) {
     struct sigaction action;
     unsigned long done = 0, ran = 0;
@@ -228,11 +238,8 @@ static void test_interrupted(void) {
     is("register", rcuo_register(), RCUO_OK);
     rcuo_call_rcu(&new_counted(&ran)->head, count_and_free);
     pthread_t thread = start_thread(wait_for_both, &done);
-    for (int i = 0; i < 50; i++) {
-        pthread_kill(thread, SIGUSR1);
-        nap(1);
-    }
-    holds("signals were handled, and the wait is not over", LOAD(&interrupted) > 0 && !LOAD(&done));
+    holds("signals are handled while a thread waits", interrupt_often(thread, 20));
+    holds("its wait is not over, since this thread hasn't reported", !LOAD(&done) && !LOAD(&ran));
     is("offline", rcuo_thread_offline(), RCUO_OK);
     pthread_join(thread, NULL);
     holds("the wait is over when this thread is offline", LOAD(&done) && LOAD(&ran) == 1);
