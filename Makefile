@@ -31,7 +31,7 @@ check: ## prove the crate CRATE=NAME and what it stands on, run its tests, try i
 bench: ## measure calls, callbacks, memory and waiting beside liburcu
 	tools/bench
 
-install: ## install the library for C, its header and what pkg-config reads; heeds PREFIX, DESTDIR and LIBDIR
+install: ## install the libraries for C, their headers and what pkg-config reads; heeds PREFIX, DESTDIR and LIBDIR
 	tools/install-librcuo
 
 uninstall: ## remove what install put there, with the same PREFIX, DESTDIR and LIBDIR

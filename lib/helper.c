@@ -1,6 +1,6 @@
 /*
- * The helper thread, which runs the callbacks, and who makes the driver's turns: the helper, or a thread that waits for a grace
- * period, by turns. And how both sleep.
+ * The helper threads, which run the callbacks, each those of its own members; and who makes the driver's turns: a helper, or a
+ * thread that waits for a grace period, by turns. And how both sleep.
  */
 #define _GNU_SOURCE
 #include "internal.h"
@@ -14,9 +14,9 @@
 #include <time.h>
 #include <unistd.h>
 
-__thread struct rcuo_runtime *rcuo_helping;
+__thread struct helper *rcuo_helping;
 
-/* For how many rounds the helper, and who waits for a grace period, look again for a report before they sleep; and for how many the
+/* For how many rounds a helper, and who waits for a grace period, look again for a report before they sleep; and for how many a
  * helper does where no grace period is needed. */
 enum { ROUNDS = 100, IDLE_ROUNDS = 16 };
 
@@ -46,10 +46,10 @@ void rcuo_pause(unsigned round) {
     if (round % 16 == 15) sched_yield();
 }
 
-/* Wakes the helper where it sleeps since nothing is to be done. The caller's step was made before. The exchange lets one of many
+/* Wakes a helper where it sleeps since nothing is to be done. The caller's step was made before. The exchange lets one of many
  * wakers make the system call. */
-void rcuo_wake_idle(struct rcuo_runtime *runtime) {
-    if (UNLIKELY(load(&runtime->idle)) && exchange(&runtime->idle, 0)) rcuo_futex_wake(&runtime->idle);
+void rcuo_wake_helper(struct helper *helper) {
+    if (UNLIKELY(load(&helper->idle)) && exchange(&helper->idle, 0)) rcuo_futex_wake(&helper->idle);
 }
 
 /* Wakes all who sleep for a report. */
@@ -57,11 +57,16 @@ void rcuo_wake_waiting(struct rcuo_runtime *runtime) {
     if (exchange(&runtime->waits, 0)) rcuo_futex_wake(&runtime->waits);
 }
 
-/* Asks something of the helper, and wakes it from whichever sleep. It looks at `asks` after it said that it sleeps. */
-void rcuo_ask_helper(struct rcuo_runtime *runtime, enum ask ask) {
+/* Asks something of the helpers, and wakes them from whichever sleep. They look at `asks` after they said that they sleep. */
+void rcuo_ask_helpers(struct rcuo_runtime *runtime, enum ask ask) {
     __atomic_fetch_or(&runtime->asks, (uint32_t)ask, __ATOMIC_SEQ_CST);
-    rcuo_wake_idle(runtime);
+    for (uint32_t n = 0; n < runtime->helpers_many; n++) rcuo_wake_helper(&runtime->helpers[n]);
     rcuo_wake_waiting(runtime);
+}
+
+void rcuo_release_helpers(struct rcuo_runtime *runtime) {
+    __atomic_fetch_and(&runtime->asks, ~(uint32_t)PARK, __ATOMIC_SEQ_CST);
+    rcuo_futex_wake(&runtime->asks);
 }
 
 /* ---- the driver ---- */
@@ -133,11 +138,15 @@ void rcuo_wait_for_number(struct rcuo_runtime *runtime, uint64_t cookie, struct 
 
 /* ---- callbacks ---- */
 
+static struct member *own_of(struct helper *helper) {
+    return &helper->runtime->members[helper->number];
+}
+
 /* While callbacks run the helper's member is here, so that a callback may read. It reports before each, and forgets what the one
  * before it chose. */
-static void be_here(struct rcuo_runtime *runtime) {
-    struct member *self = &runtime->members[HELPER];
-    rcuo_chosen = runtime;
+static void be_here(struct helper *helper) {
+    struct member *self = own_of(helper);
+    rcuo_chosen = helper->runtime;
     rcuo_self = self;
     rcuo_open_sections = 0;
     rcuo_report_more();
@@ -146,42 +155,43 @@ static void be_here(struct rcuo_runtime *runtime) {
 }
 
 /* Runs what a hand has and may run. Answers how many ran. */
-static uint64_t run_hand(struct rcuo_runtime *runtime, uint32_t number) {
+static uint64_t run_hand(struct helper *helper, struct rcuo_slot *hand) {
     struct rcuo_job job;
     uint64_t ran = 0;
     for (;; ran++) {
-        enum rcuo_answer answer = rcuo_begin(&runtime->parts.hands[number], 0, &job);
-        if (answer == RCUO_MEMORY) runtime->refused = true;
+        enum rcuo_answer answer = rcuo_begin(hand, 0, &job);
+        if (answer == RCUO_MEMORY) helper->refused = true;
         if (answer != RCUO_OK) return ran;
-        be_here(runtime);
+        be_here(helper);
         job.function(job.argument);
-        (void)rcuo_finish(&runtime->parts.hands[number]); /* (one was begun) */
+        (void)rcuo_finish(hand); /* (one was begun) */
     }
 }
 
 /* Leaves for a member whose owner went, and makes a turn of its group and of its hand. Answers whether anything moved. */
-static bool serve(struct rcuo_runtime *runtime, uint32_t number) {
+static bool serve(struct helper *helper, uint32_t number) {
+    struct rcuo_parts *parts = &helper->runtime->parts;
+    struct member *member = &helper->runtime->members[number];
     struct rcuo_group_turn turn;
-    bool tended = rcuo_member_tend(&runtime->members[number]);
-    enum rcuo_answer answer = rcuo_group_turn(&runtime->parts.groups[number], &turn);
+    bool tended = rcuo_member_tend(member);
+    enum rcuo_answer answer = rcuo_group_turn(&parts->groups[number], &turn);
     if (answer != RCUO_OK) rcuo_die("a group", rcuo_strerror(answer));
-    uint64_t ran = run_hand(runtime, number);
-    uint64_t bit = UINT64_C(1) << number / WORDS;
-    runtime->drawn[number] += turn.took - ran;
-    if (turn.held || !tended) runtime->refused = true;
-    if (runtime->drawn[number] || turn.took || !tended) runtime->active[number % WORDS] |= bit;
-    else runtime->active[number % WORDS] &= ~bit;
+    uint64_t ran = run_hand(helper, &parts->hands[number]);
+    member->drawn += turn.took - ran;
+    if (turn.held || !tended) helper->refused = true;
+    if (member->drawn || turn.took || !tended) helper->active[number % WORDS] |= rcuo_bit_of(member);
+    else helper->active[number % WORDS] &= ~rcuo_bit_of(member);
     return turn.took || turn.gave || ran;
 }
 
 /* Takes the bits of the members that have something new, each before the look at what it has (`announce` of member.c), and serves
  * these and those that had something before. */
-static bool serve_all(struct rcuo_runtime *runtime) {
+static bool serve_all(struct helper *helper) {
     bool moved = false;
     for (uint32_t w = 0; w < WORDS; w++) {
-        if (load(&runtime->pending[w].bits)) runtime->active[w] |= exchange(&runtime->pending[w].bits, 0);
-        for (uint64_t left = runtime->active[w]; left; left &= left - 1) {
-            moved |= serve(runtime, (uint32_t)__builtin_ctzll(left) * WORDS + w);
+        if (load(&helper->pending[w].bits)) helper->active[w] |= exchange(&helper->pending[w].bits, 0);
+        for (uint64_t left = helper->active[w]; left; left &= left - 1) {
+            moved |= serve(helper, (uint32_t)__builtin_ctzll(left) * WORDS + w);
         }
     }
     return moved;
@@ -195,97 +205,133 @@ static void tell_barriers(struct rcuo_runtime *runtime) {
 }
 
 /* Between callbacks the helper's member reports, and hands over what callbacks called. */
-static void rest(struct rcuo_runtime *runtime) {
-    struct member *self = &runtime->members[HELPER];
+static void rest(struct helper *helper) {
+    struct member *self = own_of(helper);
     if (!rcuo_is_here(self)) return;
     rcuo_member_report(self);
     if (self->owes) rcuo_member_settle(self);
 }
 
-/* ---- the helper ---- */
+/* ---- a helper ---- */
 
-static bool has_pending(struct rcuo_runtime *runtime) {
+static bool has_pending(struct helper *helper) {
     for (uint32_t w = 0; w < WORDS; w++) {
-        if (load(&runtime->pending[w].bits)) return true;
+        if (load(&helper->pending[w].bits)) return true;
     }
     return false;
 }
 
+/* Whether the helper sees to it that grace periods end: where callbacks of its members wait; and the first for those who ask for
+ * one without a callback. Who waits for one otherwise makes the driver's turns. */
+static bool needs_driver(const struct helper *helper) {
+    uint64_t any = helper->number == 0;
+    for (uint32_t w = 0; w < WORDS; w++) any |= helper->active[w];
+    return any != 0;
+}
+
 /* Whether a last look, made after the helper said that it sleeps, found nothing new: the caller has had the driver. Another
  * thread may have ended a grace period since callbacks were looked at; then those that waited for it may run. */
-static bool has_nothing_new(struct rcuo_runtime *runtime) {
-    return load(&runtime->number) == runtime->served && !load(&runtime->asks);
+static bool has_nothing_new(struct helper *helper) {
+    return load(&helper->runtime->number) == helper->served && !load(&helper->runtime->asks);
 }
 
 /* Sleeps where a last look finds nothing: until the report that the driver waits for, or, where no grace period is needed,
  * until a call; or for a millisecond where memory was refused. While the driver waits calls wake nobody: they can't run before
  * this grace period ends, and the helper draws them then. */
-static void sleep_helper(struct rcuo_runtime *runtime) {
-    struct rcuo_driver_turn turn;
-    long most = runtime->refused ? 1 : 0;
-    store(&runtime->idle, 1);
-    if (!drive(runtime, true, &turn)) {
+static void sleep_helper(struct helper *helper) {
+    struct rcuo_runtime *runtime = helper->runtime;
+    struct rcuo_driver_turn turn = {RCUO_IDLE, 0};
+    long most = helper->refused ? 1 : 0;
+    store(&helper->idle, 1);
+    if (needs_driver(helper) && !drive(runtime, true, &turn)) {
         rcuo_pause(0);
-    } else if (has_nothing_new(runtime)) {
+    } else if (has_nothing_new(helper)) {
         if (turn.step == RCUO_WAITS) {
-            store(&runtime->idle, 0);
+            store(&helper->idle, 0);
             rcuo_futex_wait(&runtime->waits, (uint32_t)turn.number + 1, most);
-        } else if (turn.step == RCUO_IDLE && !has_pending(runtime)) {
-            rcuo_futex_wait(&runtime->idle, 1, most);
+        } else if (turn.step == RCUO_IDLE && !has_pending(helper)) {
+            rcuo_futex_wait(&helper->idle, 1, most);
         }
     }
-    store(&runtime->idle, 0);
+    store(&helper->idle, 0);
 }
 
 /* Looks a last time, or leaves first: then what that released is looked at before. */
-static void leave_or_sleep(struct rcuo_runtime *runtime) {
-    struct member *self = &runtime->members[HELPER];
+static void leave_or_sleep(struct helper *helper) {
+    struct member *self = own_of(helper);
     if (rcuo_is_here(self)) rcuo_member_offline(self);
-    else sleep_helper(runtime);
+    else sleep_helper(helper);
 }
 
-/* Stands still while a fork is made. */
-static void park(struct rcuo_runtime *runtime) {
-    store(&runtime->parked, 1);
+/* Stands still while a fork is made, or while no part is there yet. Other helpers may be in a callback that waits for a grace period,
+ * so it leaves before. */
+static void park(struct helper *helper) {
+    struct rcuo_runtime *runtime = helper->runtime;
+    struct member *self = own_of(helper);
+    if (rcuo_is_here(self)) rcuo_member_offline(self);
+    add(&runtime->parked, 1);
     rcuo_futex_wake(&runtime->parked);
     for (uint32_t asks = load(&runtime->asks); asks & PARK; asks = load(&runtime->asks)) rcuo_futex_wait(&runtime->asks, asks, 0);
-    store(&runtime->parked, 0);
+    subtract(&runtime->parked, 1);
 }
 
 /* One round. Answers after how many rounds like it the helper sleeps: 0 where anything moved. */
-static unsigned help_once(struct rcuo_runtime *runtime) {
-    struct rcuo_driver_turn turn;
-    runtime->refused = false;
-    runtime->served = load(&runtime->number);
-    bool moved = serve_all(runtime);
+static unsigned help_once(struct helper *helper) {
+    struct rcuo_runtime *runtime = helper->runtime;
+    struct rcuo_driver_turn turn = {RCUO_IDLE, 0};
+    helper->refused = false;
+    helper->served = load(&runtime->number);
+    bool moved = serve_all(helper);
     if (moved) tell_barriers(runtime);
-    rest(runtime);
-    bool drove = drive(runtime, false, &turn);
+    rest(helper);
+    bool drove = !needs_driver(helper) || drive(runtime, false, &turn);
     if (moved || !drove || turn.step == RCUO_STARTED || turn.step == RCUO_ENDED) return 0;
     return turn.step == RCUO_IDLE ? IDLE_ROUNDS : ROUNDS;
 }
 
 static void *help(void *argument) {
-    struct rcuo_runtime *runtime = argument;
-    prctl(PR_SET_NAME, runtime->name);
-    rcuo_helping = rcuo_chosen = runtime;
+    struct helper *helper = argument;
+    prctl(PR_SET_NAME, helper->name);
+    rcuo_helping = helper;
+    rcuo_chosen = helper->runtime;
     for (unsigned round = 0;;) {
-        uint32_t asks = load(&runtime->asks);
-        if (asks & PARK) park(runtime);
-        else if (asks & STOP) return NULL;
-        unsigned most = help_once(runtime);
+        uint32_t asks = load(&helper->runtime->asks);
+        if (asks & PARK) {
+            park(helper);
+            continue;
+        }
+        if (asks & STOP) return NULL;
+        unsigned most = help_once(helper);
         if (most == 0) round = 0;
         else if (round < most) rcuo_pause(round++);
-        else leave_or_sleep(runtime);
+        else leave_or_sleep(helper);
     }
 }
 
-/* Starts the helper, which takes no signals. */
-enum rcuo_answer rcuo_start_helper(struct rcuo_runtime *runtime) {
+/* A helper takes no signals. */
+enum rcuo_answer rcuo_start_helper(struct helper *helper) {
     sigset_t all, before;
     sigfillset(&all);
     pthread_sigmask(SIG_SETMASK, &all, &before);
-    int error = pthread_create(&runtime->helper, runtime->options.attributes, help, runtime);
+    int error = pthread_create(&helper->thread, helper->attributes, help, helper);
     pthread_sigmask(SIG_SETMASK, &before, NULL);
     return error ? RCUO_MEMORY : RCUO_OK;
+}
+
+enum rcuo_answer rcuo_start_helpers(struct rcuo_runtime *runtime, uint32_t many) {
+    for (uint32_t n = 0; n < many; n++) {
+        enum rcuo_answer answer = rcuo_start_helper(&runtime->helpers[n]);
+        if (answer != RCUO_OK) {
+            rcuo_end_helpers(runtime, n);
+            return answer;
+        }
+    }
+    store(&runtime->running, many);
+    return RCUO_OK;
+}
+
+void rcuo_end_helpers(struct rcuo_runtime *runtime, uint32_t many) {
+    rcuo_ask_helpers(runtime, STOP);
+    rcuo_release_helpers(runtime);
+    for (uint32_t n = 0; n < many; n++) pthread_join(runtime->helpers[n].thread, NULL);
 }

@@ -55,7 +55,7 @@ static void announce(struct member *member) {
     uint64_t bit = rcuo_bit_of(member);
     if (load(&pending->bits) & bit) return;
     __atomic_fetch_or(&pending->bits, bit, __ATOMIC_SEQ_CST);
-    rcuo_wake_idle(member->runtime);
+    rcuo_wake_helper(member->helper);
 }
 
 /* Whether a plain call in this moment releases the bypass list. */
@@ -86,7 +86,7 @@ static void run_head(void *argument) {
 /* The moment of a call: that of the call or the tick before it, for some calls. So most calls don't read the clock. A report
  * does, and ticks in a new moment. The helper's moments are the rounds that it makes: each has a tick. */
 static uint64_t moment_of(struct member *member) {
-    if (member->number == HELPER || ++member->calls < CALLS_A_MOMENT) return member->moment;
+    if (member->is_helpers || ++member->calls < CALLS_A_MOMENT) return member->moment;
     member->calls = 0;
     return moment_now();
 }
@@ -140,7 +140,7 @@ static void tick(struct member *member, uint64_t moment) {
     member->moment = moment;
     member->calls = 0;
     member->direct = 0;
-    member->kept = lists.bypass;
+    member->kept = (uint32_t)lists.bypass; /* (at most HIGH_MARK) */
     member->owes = lists.bypass != 0 || member->waiting.first;
     announce(member);
 }
@@ -159,7 +159,7 @@ void rcuo_member_report(struct member *member) {
  * sees the rise is urged in the tick. */
 void rcuo_member_settle(struct member *member) {
     if (member->waiting.first) (void)flush(member);
-    uint64_t moment = member->number == HELPER ? member->moment + 1 : moment_now();
+    uint64_t moment = member->is_helpers ? member->moment + 1 : moment_now();
     uint64_t urges = load(&member->runtime->urges);
     if (moment == member->moment && urges == member->urged) return;
     member->urged = urges;
@@ -180,28 +180,39 @@ static bool leave(struct member *member) {
     return true;
 }
 
-/* The slot is anybody's from this store on, who takes it by a compare-exchange. A grace period may wait for it: then who
- * sleeps for that is woken, and tends it. The helper, which is told, tends it else. */
-void rcuo_member_go(struct member *member) {
+/* The slot is anybody's from this store on, who takes it by a compare-exchange: its owner, who comes back, or who waits for a grace
+ * period that waits for it, and tends it. Who sleeps for that is woken. */
+static void let_go(struct member *member) {
     store(&member->state, LEAVING);
-    announce(member);
     rcuo_wake_reported(member);
 }
 
+void rcuo_member_go(struct member *member) {
+    let_go(member);
+    announce(member);
+}
+
+/* A leave costs more than all else here. Where nothing is owed nobody needs it until a grace period does. */
 void rcuo_member_offline(struct member *member) {
-    if (UNLIKELY(!leave(member))) {
+    if (LIKELY(!member->owes)) {
+        let_go(member);
+    } else if (LIKELY(leave(member))) {
+        store(&member->state, AWAY);
+        rcuo_wake_reported(member);
+    } else {
         rcuo_member_go(member);
-        return;
     }
-    store(&member->state, AWAY);
-    rcuo_wake_reported(member);
 }
 
 void rcuo_member_online(struct member *member) {
     for (;;) {
         uint32_t state = load(&member->state);
         if (LIKELY(state == AWAY)) break;
-        if (state == LEAVING && compare_exchange(&member->state, LEAVING, HERE)) return;
+        if (state == LEAVING && compare_exchange(&member->state, LEAVING, HERE)) {
+            /* It has read nothing yet. A thread that is offline often, and never long enough to be tended, isn't waited for either. */
+            rcuo_member_report(member);
+            return;
+        }
         sched_yield(); /* (another has it, for some calls) */
     }
     enum rcuo_answer answer = rcuo_return(member->slot);
@@ -210,7 +221,6 @@ void rcuo_member_online(struct member *member) {
 }
 
 void rcuo_free_member(struct member *member) {
-    member->over = false;
     member->next = member->runtime->free;
     member->runtime->free = member;
 }
@@ -218,20 +228,16 @@ void rcuo_free_member(struct member *member) {
 /* Where memory is refused it reports and ticks at least, which wants none: so grace periods go on, after which there is memory
  * again, if there is any. */
 bool rcuo_member_tend(struct member *member) {
-    struct rcuo_runtime *runtime = member->runtime;
     if (load(&member->state) != LEAVING) return true;
     if (!compare_exchange(&member->state, LEAVING, HELD)) return true; /* (its owner is back, or another tends it) */
     if (!leave(member)) {
         member->reported = 0; /* (no period's number) */
         rcuo_member_report(member);
         tick(member, member->moment + 1);
-        store(&member->state, LEAVING);
+        rcuo_member_go(member);
         return false;
     }
-    pthread_mutex_lock(&runtime->registry);
     store(&member->state, AWAY);
-    if (member->over) rcuo_free_member(member);
-    pthread_mutex_unlock(&runtime->registry);
     rcuo_wake_reported(member);
     return true;
 }

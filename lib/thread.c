@@ -25,12 +25,12 @@ static bool is_reading(void) {
     return UNLIKELY(rcuo_open_sections) && !&rcuo_sections_uncounted;
 }
 
-static struct rcuo_runtime *chosen_runtime(void) {
+struct rcuo_runtime *rcuo_chosen_runtime(void) {
     return rcuo_chosen ? rcuo_chosen : load(&rcuo_first);
 }
 
 struct member *rcuo_member_here(struct rcuo_runtime *runtime) {
-    if (runtime && rcuo_helping == runtime) return &runtime->members[HELPER];
+    if (runtime && rcuo_is_helper_of(runtime)) return &runtime->members[rcuo_helping->number];
     for (struct member *member = members_here; member; member = member->next) {
         if (member->runtime == runtime) return member;
     }
@@ -46,15 +46,14 @@ static void forget_self(void) {
     rcuo_report_more();
 }
 
-/* Gives a member back, which is this thread's and in no list. Where the helper still has to leave for it, the helper frees it. */
+/* Gives a member back, which is this thread's and in no list. Whoever has it next may find it as this thread left it. */
 static void give_member(struct member *member) {
     struct rcuo_runtime *runtime = member->runtime;
     if (rcuo_is_here(member)) rcuo_member_offline(member);
     pthread_mutex_lock(&runtime->registry);
     member->registered = false;
     runtime->registered--;
-    if (load(&member->state) == AWAY) rcuo_free_member(member);
-    else member->over = true;
+    rcuo_free_member(member);
     pthread_mutex_unlock(&runtime->registry);
 }
 
@@ -89,7 +88,7 @@ static enum rcuo_answer take_member(struct rcuo_runtime *runtime, struct member 
 }
 
 enum rcuo_answer rcuo_register(void) {
-    struct rcuo_runtime *runtime = chosen_runtime();
+    struct rcuo_runtime *runtime = rcuo_chosen_runtime();
     struct member *member;
     if (!runtime) return RCUO_NO_PROCESSOR;
     if (rcuo_member_here(runtime)) return RCUO_FULL;
@@ -108,7 +107,7 @@ enum rcuo_answer rcuo_register(void) {
 enum rcuo_answer rcuo_unregister(void) {
     struct member *member = rcuo_self;
     if (!member) return RCUO_NO_PROCESSOR;
-    if (rcuo_helping == member->runtime) return RCUO_RUNNING;
+    if (rcuo_is_helper_of(member->runtime)) return RCUO_RUNNING;
     if (is_reading()) return RCUO_READING;
     struct member **at = &members_here;
     while (*at != member) at = &(*at)->next;
@@ -121,7 +120,7 @@ enum rcuo_answer rcuo_unregister(void) {
 enum rcuo_answer rcuo_use(struct rcuo_runtime *runtime) {
     forget_self();
     rcuo_chosen = runtime;
-    rcuo_self = rcuo_member_here(chosen_runtime());
+    rcuo_self = rcuo_member_here(rcuo_chosen_runtime());
     return RCUO_OK;
 }
 
@@ -167,9 +166,17 @@ bool rcuo_thread_is_online(void) {
 }
 
 pthread_t rcuo_helper_thread(void) {
-    struct rcuo_runtime *runtime = chosen_runtime();
+    struct rcuo_runtime *runtime = rcuo_chosen_runtime();
     if (!runtime) rcuo_die("rcuo_helper_thread", "no runtime was started");
-    return runtime->helper;
+    return rcuo_self ? rcuo_self->helper->thread : runtime->helpers[0].thread;
+}
+
+enum rcuo_answer rcuo_get_helper_thread(uint32_t number, pthread_t *thread) {
+    struct rcuo_runtime *runtime = rcuo_chosen_runtime();
+    if (!thread) return RCUO_NULL;
+    if (!runtime || number >= load(&runtime->running)) return RCUO_NO_PROCESSOR;
+    *thread = runtime->helpers[number].thread;
+    return RCUO_OK;
 }
 
 /* ---- calls ---- */
@@ -181,15 +188,17 @@ static void call_offline(struct member *member, struct rcuo_head *head) {
 }
 
 /* The mutex hands the member on. It doesn't leave after each call: the helper, which is told of the call, does that. */
-static void call_from_outside(struct rcuo_head *head) {
-    struct rcuo_runtime *runtime = chosen_runtime();
+static void call_from_outside(uint32_t number, struct rcuo_head *head) {
+    struct rcuo_runtime *runtime = rcuo_chosen_runtime();
     if (!runtime) rcuo_die("rcuo_call_rcu", "no runtime was started");
-    struct member *member = &runtime->members[OUTSIDE];
-    pthread_mutex_lock(&runtime->outside);
+    if (number >= load(&runtime->running)) rcuo_die("rcuo_call_rcu_in", "there is no such helper");
+    struct helper *helper = &runtime->helpers[number];
+    struct member *member = rcuo_outside_of(helper);
+    pthread_mutex_lock(&helper->outside);
     rcuo_member_online(member);
     rcuo_member_call(member, head);
     rcuo_member_go(member);
-    pthread_mutex_unlock(&runtime->outside);
+    pthread_mutex_unlock(&helper->outside);
 }
 
 void rcuo_call_rcu(struct rcuo_head *head, void (*function)(struct rcuo_head *head)) {
@@ -198,7 +207,12 @@ void rcuo_call_rcu(struct rcuo_head *head, void (*function)(struct rcuo_head *he
     rcuo_report_more(); /* (a tick is owed) */
     if (LIKELY(rcuo_is_here(self))) rcuo_member_call(self, head);
     else if (self) call_offline(self, head);
-    else call_from_outside(head);
+    else call_from_outside(0, head);
+}
+
+void rcuo_call_rcu_in(uint32_t helper, struct rcuo_head *head, void (*function)(struct rcuo_head *head)) {
+    head->function = function;
+    call_from_outside(helper, head);
 }
 
 struct deferred {
@@ -215,7 +229,7 @@ static void run_deferred(struct rcuo_head *head) {
 
 enum rcuo_answer rcuo_defer(void (*function)(void *argument), void *argument) {
     if (!function) return RCUO_NULL;
-    if (!chosen_runtime()) return RCUO_NO_PROCESSOR;
+    if (!rcuo_chosen_runtime()) return RCUO_NO_PROCESSOR;
     struct deferred *deferred = malloc(sizeof *deferred);
     if (!deferred) {
         enum rcuo_answer answer = rcuo_synchronize();
@@ -248,7 +262,7 @@ static void refuse_lost(struct rcuo_runtime *runtime) {
 }
 
 enum rcuo_answer rcuo_synchronize(void) {
-    struct rcuo_runtime *runtime = chosen_runtime();
+    struct rcuo_runtime *runtime = rcuo_chosen_runtime();
     struct member *self = rcuo_self;
     uint64_t cookie;
     if (!runtime) return RCUO_NO_PROCESSOR;
@@ -262,16 +276,16 @@ enum rcuo_answer rcuo_synchronize(void) {
 }
 
 enum rcuo_answer rcuo_start_poll_synchronize(uint64_t *cookie) {
-    struct rcuo_runtime *runtime = chosen_runtime();
+    struct rcuo_runtime *runtime = rcuo_chosen_runtime();
     if (!cookie) return RCUO_NULL;
     if (!runtime) return RCUO_NO_PROCESSOR;
     ask_for_period(runtime, cookie);
-    rcuo_wake_idle(runtime); /* (whose last look before it sleeps is a turn of the driver) */
+    rcuo_wake_helper(&runtime->helpers[0]); /* (whose last look before it sleeps is a turn of the driver) */
     return RCUO_OK;
 }
 
 enum rcuo_answer rcuo_poll_state_synchronize(uint64_t cookie, bool *elapsed) {
-    struct rcuo_runtime *runtime = chosen_runtime();
+    struct rcuo_runtime *runtime = rcuo_chosen_runtime();
     if (!elapsed) return RCUO_NULL;
     if (!runtime) return RCUO_NO_PROCESSOR;
     *elapsed = load(&runtime->number) >= cookie;
@@ -316,11 +330,11 @@ void rcuo_wait_for_callbacks(struct rcuo_runtime *runtime, struct rcuo_counts *c
 }
 
 enum rcuo_answer rcuo_runtime_barrier(void) {
-    struct rcuo_runtime *runtime = chosen_runtime();
+    struct rcuo_runtime *runtime = rcuo_chosen_runtime();
     struct member *self = rcuo_self;
     struct rcuo_counts counts;
     if (!runtime) return RCUO_NO_PROCESSOR;
-    if (rcuo_helping == runtime) return RCUO_RUNNING;
+    if (rcuo_is_helper_of(runtime)) return RCUO_RUNNING;
     if (is_reading()) return RCUO_READING;
     bool here = rcuo_is_here(self);
     if (here) rcuo_member_offline(self);

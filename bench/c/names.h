@@ -16,7 +16,7 @@ static struct rcuo_runtime *bench_runtime;
 /* The environment says for how many threads, so that the cost of places that nobody uses can be measured. */
 static void bench_start(void) {
     const char *threads = getenv("BENCH_THREADS");
-    struct rcuo_options options = {threads ? (uint32_t)strtoul(threads, NULL, 10) : 0, NULL, NULL};
+    struct rcuo_options options = {.threads = threads ? (uint32_t)strtoul(threads, NULL, 10) : 0};
     if (rcuo_start(&bench_runtime, &options) != RCUO_OK) abort();
 }
 

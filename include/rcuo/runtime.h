@@ -1,6 +1,6 @@
 /*
- * rcuo/runtime.h: a runtime that a program lives in. Threads come and go, a helper thread runs the callbacks and sleeps where
- * nothing is to be done, and a program needs no slots, no turns and no moments of its own.
+ * rcuo/runtime.h: a runtime that a program lives in. Threads come and go, helper threads run the callbacks and sleep where nothing
+ * is to be done, and a program needs no slots, no turns and no moments of its own.
  *
  *     struct rcuo_runtime *runtime;
  *     rcuo_start(&runtime, NULL);             once, before the first thread reads
@@ -38,9 +38,10 @@ extern "C" {
 #endif
 #pragma GCC visibility push(default)
 
-/* How many threads may be registered at once: the slots of an open, but one for callbacks' calls, and one for those of threads
- * that aren't registered. */
+/* How many threads may be registered at once, with one helper: the slots of an open, but one for the calls of callbacks, and one for
+ * those of threads that aren't registered. Each helper more takes two more. And how many helpers there may be. */
 #define RCUO_THREADS (RCUO_PROCESSORS - 2)
+#define RCUO_HELPERS (RCUO_PROCESSORS / 2 - 1)
 
 struct rcuo_runtime;
 
@@ -50,12 +51,21 @@ struct rcuo_head {
     void (*function)(struct rcuo_head *head);
 };
 
-/* How a runtime is started. All zero it is as by default. `attributes` are of a thread that can be joined, and stay where they
- * are until the stop: the child of a fork starts its helper by them. */
+/* What a helper has of its own, where there are several. */
+struct rcuo_helper {
+    const char *name;                 /* of which 15 bytes are kept; null: that of the options, with its number */
+    const pthread_attr_t *attributes; /* null: those of the options */
+};
+
+/* How a runtime is started. All zero it is as by default. Attributes are of a thread that can be joined, and stay where they
+ * are until the stop: the child of a fork starts its helpers by them. */
 struct rcuo_options {
     uint32_t threads;                 /* how many may be registered at once, up to RCUO_THREADS; 0: RCUO_THREADS_DEFAULT */
-    const char *name;                 /* the helper's, of which 15 bytes are kept; null: "rcuo" */
-    const pthread_attr_t *attributes; /* the helper's processors, scheduling class and stack; null: as the starting thread */
+    const char *name;                 /* the helper's, of which 15 bytes are kept; null: "rcuo"; of several "rcuo/0" and so on */
+    const pthread_attr_t *attributes; /* the helpers' processors, scheduling class and stack; null: as the starting thread */
+    uint32_t helpers;                 /* how many there are at first, among which the threads are shared out; 0: one */
+    const struct rcuo_helper *each;   /* what each of so many has of its own; null: nothing */
+    uint32_t helpers_most;            /* how many there may be with those that are added; 0: `helpers` */
 };
 
 /* Each of `threads` costs memory, some 60 KB, and a look in each grace period, whether or not a thread is registered. */
@@ -63,11 +73,11 @@ struct rcuo_options {
 
 /* ---- the runtime ---- */
 
-/* Starts a runtime with its helper thread. The first of a process is what all threads use that chose none. Answers RCUO_SHAPE
+/* Starts a runtime with its helper threads. The first of a process is what all threads use that chose none. Answers RCUO_SHAPE
  * where an option is outside its limits, RCUO_MEMORY where memory or a thread was refused; then nothing is left of it. */
 enum rcuo_answer rcuo_start(struct rcuo_runtime **runtime, const struct rcuo_options *options);
 
-/* Waits until all callbacks have run, ends the helper, and lets the runtime go. Callbacks that callbacks call meanwhile run
+/* Waits until all callbacks have run, ends the helpers, and lets the runtime go. Callbacks that callbacks call meanwhile run
  * too, for sixteen rounds; those that are called then come back: `back`, which may be null, gets them by their `next`, and the
  * answer is RCUO_CLOSED. Answers RCUO_FULL where a thread is registered, RCUO_RUNNING in a callback, RCUO_MEMORY: the runtime
  * is as it was, and may be stopped again. */
@@ -93,7 +103,8 @@ bool rcuo_thread_is_online(void);
 
 /* How many read sections of this thread are open, where every file counts them: where each file that includes this header
  * defines RCUO_DEBUG before, or is compiled with -DRCUO_DEBUG. A file that doesn't leaves its mark in the program, and then
- * nothing is refused for a section, since it may end in another file than it began in. */
+ * nothing is refused for a section, since it may end in another file than it began in. (The mark of a library that is loaded by
+ * dlopen comes too late to be seen.) */
 extern __thread unsigned long rcuo_open_sections;
 
 /* Begins and ends a read section. Sections may nest. The names without `thread` are those of rcuo.h, which take a slot. */
@@ -146,9 +157,10 @@ enum rcuo_answer rcuo_poll_state_synchronize(uint64_t cookie, bool *elapsed);
 
 /* ---- callbacks ---- */
 
-/* Calls `function(head)` after a grace period, in the helper. Those of one thread run in the order of their calls. By any
- * thread, registered or not, in a read section and in a callback, with its own head again. It never fails, and takes no memory
- * that it can't do without. */
+/* Calls `function(head)` after a grace period, in a helper. All calls of a thread, from its register to its unregister, run in one
+ * helper, in the order of the calls; so do those of all threads that aren't registered, and those of callbacks run in the helper
+ * of the callback. By any thread, registered or not, in a read section and in a callback, with its own head again. It never fails,
+ * and takes no memory that it can't do without. */
 void rcuo_call_rcu(struct rcuo_head *head, void (*function)(struct rcuo_head *head));
 
 /* As `rcuo_call_rcu`, for what has no head: it allocates one. Where memory is refused it waits for a grace period and calls at
@@ -158,14 +170,28 @@ enum rcuo_answer rcuo_defer(void (*function)(void *argument), void *argument);
 /* Waits until all callbacks have run that any thread called before. Not in a callback: RCUO_RUNNING. */
 enum rcuo_answer rcuo_runtime_barrier(void);
 
-/* The thread that runs the callbacks of the runtime that this thread uses, which has to be there. */
+/* The thread that runs the callbacks which this thread calls, in the runtime that it uses, which has to be there. */
 pthread_t rcuo_helper_thread(void);
+
+/* ---- helpers of one's own ---- */
+
+/* Adds a helper to the runtime that this thread uses, and tells its number: it has no threads, and runs what is called in it. What
+ * it has of its own may be null. Answers RCUO_FEW where there are as many as the options allow, RCUO_RUNNING in a callback,
+ * RCUO_SHAPE, RCUO_MEMORY. */
+enum rcuo_answer rcuo_add_helper(const struct rcuo_helper *own, uint32_t *number);
+
+/* As `rcuo_call_rcu`, in the helper of this number, from 0 on, which has to be there. All calls in one helper by this run in the
+ * order in which they were made. It takes a lock of that helper's. */
+void rcuo_call_rcu_in(uint32_t helper, struct rcuo_head *head, void (*function)(struct rcuo_head *head));
+
+/* The helper of this number. Answers RCUO_NO_PROCESSOR where there is none. */
+enum rcuo_answer rcuo_get_helper_thread(uint32_t number, pthread_t *thread);
 
 /* ---- fork ---- */
 
-/* Before a fork, and after it in the parent and in the child, which has a helper of its own then: to be called around fork, or
+/* Before a fork, and after it in the parent and in the child, which has helpers of its own then: to be called around fork, or
  * given to pthread_atfork. In the child the forking thread alone is registered, and others that were must have been offline. Not
- * in a callback. */
+ * in a callback. The child aborts where it is refused a helper. */
 void rcuo_before_fork(void);
 void rcuo_after_fork_parent(void);
 void rcuo_after_fork_child(void);

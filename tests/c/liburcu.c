@@ -1,9 +1,10 @@
 /*
  * A program of liburcu's QSBR flavour, which liburcu.py builds over liburcu and over rcuo: threads that come and go fill and
  * empty a hash table of liburcu's, which grows and shrinks meanwhile, and free its nodes by call_rcu; a callback calls again with
- * its own head and waits for grace periods; and functions are deferred. It prints how many of each there were.
+ * its own head and waits for grace periods, for many the first time; and functions are deferred. It prints how many of each there
+ * were.
  *
- *     liburcu [THREADS] [ROUNDS]
+ *     liburcu [THREADS] [ROUNDS] [AT_ONCE] [WAITS]
  */
 #include <urcu-qsbr.h>
 
@@ -13,7 +14,7 @@
 #include <stdio.h>
 #include <stdlib.h>
 
-enum { AT_ONCE = 4, KEYS = 256, POISON = 0xdead };
+enum { MOST_AT_ONCE = 1000, KEYS = 256, POISON = 0xdead };
 
 struct entry {
     struct cds_lfht_node node;
@@ -90,10 +91,11 @@ static void *come_and_go(void *argument) {
     return NULL;
 }
 
-static unsigned long again, many_again = 20;
+static unsigned long again, many_again = 20, waits;
 
 static void call_again(struct rcu_head *head) {
-    synchronize_rcu();
+    for (unsigned long i = 0; i < waits; i++) synchronize_rcu();
+    waits = 1;
     if (one_more(&again) < many_again) call_rcu(head, call_again);
 }
 
@@ -112,18 +114,25 @@ static unsigned long empty_table(void) {
     return left;
 }
 
+static unsigned long word_of(int count, char **words, int word, unsigned long otherwise) {
+    return count > word ? strtoul(words[word], NULL, 10) : otherwise;
+}
+
 int main(int count, char **words) {
-    unsigned long many = count > 1 ? strtoul(words[1], NULL, 10) : 40, numbers[AT_ONCE];
+    static unsigned long numbers[MOST_AT_ONCE];
     static struct rcu_head head;
-    pthread_t threads[AT_ONCE];
-    rounds = count > 2 ? strtoul(words[2], NULL, 10) : 2000;
+    static pthread_t threads[MOST_AT_ONCE];
+    unsigned long many = word_of(count, words, 1, 40), at_once = word_of(count, words, 3, 4);
+    rounds = word_of(count, words, 2, 2000);
+    waits = word_of(count, words, 4, 1);
+    if (at_once == 0 || at_once > MOST_AT_ONCE) return 1;
     table = cds_lfht_new(1, 1, 0, CDS_LFHT_AUTO_RESIZE | CDS_LFHT_ACCOUNTING, NULL);
     if (!table) return 1;
     call_rcu(&head, call_again);
-    for (unsigned long i = 0; i < many + AT_ONCE; i++) {
-        if (i >= AT_ONCE) pthread_join(threads[i % AT_ONCE], NULL);
-        numbers[i % AT_ONCE] = i;
-        if (i < many && pthread_create(&threads[i % AT_ONCE], NULL, come_and_go, &numbers[i % AT_ONCE])) return 1;
+    for (unsigned long i = 0; i < many + at_once; i++) {
+        if (i >= at_once) pthread_join(threads[i % at_once], NULL);
+        numbers[i % at_once] = i;
+        if (i < many && pthread_create(&threads[i % at_once], NULL, come_and_go, &numbers[i % at_once])) return 1;
     }
     while (__atomic_load_n(&again, __ATOMIC_SEQ_CST) < many_again) synchronize_rcu();
     rcu_register_thread();

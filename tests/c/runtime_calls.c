@@ -17,7 +17,7 @@ struct node {
 struct caller {
     unsigned index;
     unsigned long calls;
-    unsigned long ran; /* by callbacks alone, which run one at a time */
+    unsigned long ran; /* by its callbacks alone, which run one at a time */
 };
 
 static struct node *shared[CALLERS * PLACES];
@@ -72,10 +72,12 @@ static void *call_all(void *argument) {
 static void test_stress(unsigned long calls) {
     pthread_t readers[READERS], threads[CALLERS];
     unsigned long ran = 0;
+    stop = reads = called = 0;
     for (int t = 0; t < READERS; t++) readers[t] = start_thread(read_all, NULL);
     for (unsigned t = 0; t < CALLERS; t++) {
         callers[t].index = t;
         callers[t].calls = calls;
+        callers[t].ran = 0;
         threads[t] = start_thread(call_all, &callers[t]);
     }
     for (int t = 0; t < CALLERS; t++) pthread_join(threads[t], NULL);
@@ -87,7 +89,10 @@ static void test_stress(unsigned long calls) {
     holds("there were reads", reads > 0);
     holds("no reader saw what was freed", dead_reads == 0);
     holds("each thread's run in order", out_of_order == 0);
-    for (int i = 0; i < CALLERS * PLACES; i++) free(shared[i]);
+    for (int i = 0; i < CALLERS * PLACES; i++) {
+        free(shared[i]);
+        shared[i] = NULL;
+    }
 }
 
 /* A callback that calls again with its own head, so often. */
@@ -168,14 +173,15 @@ static void test_defer(void) {
 }
 
 int main(int count, char **words) {
-    unsigned long calls = words_of(count, words, 200000);
-    struct rcuo_runtime *runtime;
-    is("start", rcuo_start(&runtime, NULL), RCUO_OK);
-    test_waits_for_reader();
-    test_many_in_a_moment();
-    test_again(calls / 100);
-    test_defer();
-    test_stress(calls);
-    is("stop", rcuo_stop(runtime, NULL), RCUO_OK);
+    unsigned long calls = words_of(count, words, 100000);
+    for (uint32_t helpers = 1; helpers <= SEVERAL; helpers += SEVERAL - 1) {
+        struct rcuo_runtime *runtime = start_runtime(helpers);
+        test_waits_for_reader();
+        test_many_in_a_moment();
+        test_again(calls / 100);
+        test_defer();
+        test_stress(calls);
+        is("stop", rcuo_stop(runtime, NULL), RCUO_OK);
+    }
     return tell();
 }

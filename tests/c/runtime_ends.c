@@ -17,11 +17,10 @@ static void call_many(struct counted *of, unsigned long *ran) {
     }
 }
 
-static void test_stop_runs_all(void) {
-    struct rcuo_runtime *runtime;
+static void test_stop_runs_all(uint32_t helpers) {
+    struct rcuo_runtime *runtime = start_runtime(helpers);
     unsigned long ran = 0;
     struct rcuo_head *back = &nodes[0][0].head;
-    is("start", rcuo_start(&runtime, NULL), RCUO_OK);
     is("register", rcuo_register(), RCUO_OK);
     call_many(nodes[0], &ran);
     is("stop while this thread is registered", rcuo_stop(runtime, &back), RCUO_FULL);
@@ -44,14 +43,13 @@ static void call_next(struct rcuo_head *head) {
     if (chain->left && chain->left--) rcuo_call_rcu(head, call_next);
 }
 
-static void test_stop_with_chains(void) {
-    struct rcuo_runtime *runtime;
+static void test_stop_with_chains(uint32_t helpers) {
+    struct rcuo_runtime *runtime = start_runtime(helpers);
     struct chain finite, endless[2];
     struct rcuo_head *back = NULL;
     finite.left = 5;
     endless[0].left = endless[1].left = UINT64_MAX;
     finite.ran = endless[0].ran = endless[1].ran = 0;
-    is("start", rcuo_start(&runtime, NULL), RCUO_OK);
     rcuo_call_rcu(&finite.head, call_next);
     rcuo_call_rcu(&endless[0].head, call_next);
     rcuo_call_rcu(&endless[1].head, call_next);
@@ -106,14 +104,17 @@ static void *stay_offline(void *gate) {
     return NULL;
 }
 
-/* What parent and child do after the fork: what was called before runs in both, and so does what is called after. */
-static bool goes_on(struct rcuo_runtime *runtime, unsigned long *ran) {
-    bool good = rcuo_runtime_barrier() == RCUO_OK && LOAD(ran) == MANY;
+/* What parent and child do after the fork: what was called before runs in both, and so does what is called after, by this thread and
+ * in the helper of that number. */
+static bool goes_on(uint32_t helper, unsigned long *ran) {
+    static struct counted in_helper;
+    in_helper.ran = ran;
+    bool good = rcuo_runtime_barrier() == RCUO_OK && LOAD(ran) == MANY + 1;
     call_many(nodes[1], ran);
+    rcuo_call_rcu_in(helper, &in_helper.head, count_run);
     good &= rcuo_synchronize() == RCUO_OK;
     good &= rcuo_unregister() == RCUO_OK;
-    (void)runtime;
-    good &= rcuo_runtime_barrier() == RCUO_OK && LOAD(ran) == 2 * MANY;
+    good &= rcuo_runtime_barrier() == RCUO_OK && LOAD(ran) == 2 * MANY + 2;
     return good;
 }
 
@@ -128,13 +129,17 @@ static void wait_in_callback(struct rcuo_head *head) {
     count_run(head);
 }
 
-static void test_fork(void) {
+static void test_fork(uint32_t helpers) {
+    struct rcuo_options options = {.helpers = helpers, .helpers_most = helpers + 1};
     struct rcuo_runtime *runtime;
     unsigned long ran = 0, waited = 0;
-    struct counted waiting;
+    struct counted waiting, in_added;
+    uint32_t added = 0;
     pthread_barrier_t gate;
     pthread_barrier_init(&gate, NULL, 2);
-    is("start", rcuo_start(&runtime, NULL), RCUO_OK);
+    STORE(&entered, 0);
+    is("start", rcuo_start(&runtime, &options), RCUO_OK);
+    is("add a helper", rcuo_add_helper(NULL, &added), RCUO_OK);
     pthread_t thread = start_thread(stay_offline, &gate);
     pthread_barrier_wait(&gate);
     is("register", rcuo_register(), RCUO_OK);
@@ -142,15 +147,17 @@ static void test_fork(void) {
     rcuo_call_rcu(&waiting.head, wait_in_callback);
     holds("a callback is entered", report_until(&entered, 1));
     call_many(nodes[0], &ran);
+    in_added.ran = &ran;
+    rcuo_call_rcu_in(added, &in_added.head, count_run);
     rcuo_before_fork();
     pid_t child = fork();
     if (child == 0) {
         rcuo_after_fork_child();
-        bool good = goes_on(runtime, &ran);
+        bool good = goes_on(added, &ran);
         _exit(good && rcuo_stop(runtime, NULL) == RCUO_OK ? 0 : 1);
     }
     rcuo_after_fork_parent();
-    holds("the parent's runtime works on", goes_on(runtime, &ran));
+    holds("the parent's runtime works on", goes_on(added, &ran));
     holds("the child's works, and ends", status_of(child) == 0);
     pthread_barrier_wait(&gate);
     pthread_join(thread, NULL);
@@ -174,13 +181,15 @@ static void test_exit(void) {
 
 int main(void) {
     test_exit();
-    test_stop_runs_all();
-    test_stop_with_chains();
     test_several();
+    for (uint32_t helpers = 1; helpers <= SEVERAL; helpers += SEVERAL - 1) {
+        test_stop_runs_all(helpers);
+        test_stop_with_chains(helpers);
 #ifndef __SANITIZE_THREAD__ /* (which knows no threads that a child starts) */
-    test_fork();
+        test_fork(helpers);
 #else
-    (void)test_fork;
+        (void)test_fork;
 #endif
+    }
     return tell();
 }

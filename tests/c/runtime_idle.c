@@ -45,11 +45,11 @@ static void test_wakes(void) {
     holds("a call wakes the helper", spent[TRIES / 2] < 1);
 }
 
-int main(void) {
-    struct rcuo_runtime *runtime;
+static void test_idle(uint32_t helpers) {
+    struct rcuo_runtime *runtime = start_runtime(helpers);
     struct counted counted;
     counted.ran = &ran;
-    is("start", rcuo_start(&runtime, NULL), RCUO_OK);
+    STORE(&ran, 0);
     test_wakes();
     is("a barrier", rcuo_runtime_barrier(), RCUO_OK);
     nap(10);
@@ -66,5 +66,10 @@ int main(void) {
     holds("one report wakes the helper", LOAD(&ran) == 1);
     is("unregister", rcuo_unregister(), RCUO_OK);
     is("stop", rcuo_stop(runtime, NULL), RCUO_OK);
+}
+
+int main(void) {
+    test_idle(1);
+    test_idle(SEVERAL);
     return tell();
 }

@@ -1,7 +1,8 @@
 /*
- * Each allocation of a runtime and of the library is refused in turn, once and from then on until the program waits: a start is
- * refused with nothing left of it, and else no call fails, all callbacks run once and in order, and at the end nothing is left on
- * the heap. Linked with -Wl,--wrap=malloc,--wrap=realloc,--wrap=free,--wrap=posix_memalign.
+ * Each allocation of a runtime and of the library, and each thread that a start makes, is refused in turn, once and from then on
+ * until the program waits: a start is refused with nothing left of it, and else no call fails, all callbacks run once and in order,
+ * and at the end nothing is left on the heap. Linked with
+ * -Wl,--wrap=malloc,--wrap=realloc,--wrap=free,--wrap=posix_memalign,--wrap=pthread_create.
  */
 #include "threads.h"
 
@@ -11,6 +12,7 @@ void *__real_malloc(size_t size);
 void *__real_realloc(void *at, size_t size);
 void __real_free(void *at);
 int __real_posix_memalign(void **at, size_t align, size_t size);
+int __real_pthread_create(pthread_t *thread, const pthread_attr_t *attributes, void *(*run)(void *), void *argument);
 
 /* (several threads allocate, so which one it is that is refused may differ from run to run) */
 static long made, refuse_at, refuse_on, live, refused;
@@ -46,6 +48,16 @@ int __wrap_posix_memalign(void **at, size_t align, size_t size) {
     int error = __real_posix_memalign(at, align, size);
     if (!error) ADD(&live, 1);
     return error;
+}
+
+/* (the test's own threads are made) */
+static bool is_starting;
+static unsigned long refused_threads;
+
+int __wrap_pthread_create(pthread_t *thread, const pthread_attr_t *attributes, void *(*run)(void *), void *argument) {
+    if (!is_starting || !is_refused()) return __real_pthread_create(thread, attributes, run, argument);
+    refused_threads++;
+    return EAGAIN;
 }
 
 enum { CALLS = 60, OUTSIDE_CALLS = 20, AGAIN = 3 };
@@ -111,18 +123,25 @@ static void use_once(void) {
     holds("all of the other has run after it", ran_outside == OUTSIDE_CALLS);
 }
 
+static enum rcuo_answer start_once(struct rcuo_runtime **runtime, uint32_t helpers) {
+    struct rcuo_options options = {.threads = 4, .helpers = helpers};
+    is_starting = true;
+    enum rcuo_answer answer = rcuo_start(runtime, &options);
+    is_starting = false;
+    return answer;
+}
+
 /* A whole life of a runtime. */
-static void live_once(void) {
-    static const struct rcuo_options options = {4, NULL, NULL};
+static void live_once(uint32_t helpers) {
     struct rcuo_runtime *runtime;
     long at_first = LOAD(&live);
     ran_mine = ran_outside = ran_again = ran_deferred = 0;
-    enum rcuo_answer answer = rcuo_start(&runtime, &options);
+    enum rcuo_answer answer = start_once(&runtime, helpers);
     if (answer == RCUO_MEMORY) {
         holds("nothing is left of a start that was refused", LOAD(&live) == at_first);
         STORE(&refuse_on, 0);
         STORE(&refuse_at, 0);
-        answer = rcuo_start(&runtime, &options);
+        answer = start_once(&runtime, helpers);
     }
     is("start", answer, RCUO_OK);
     use_once();
@@ -134,13 +153,12 @@ static void live_once(void) {
 }
 
 /* A stop whose every allocation is refused in turn, and which is made again. */
-static void stop_refused(void) {
+static void stop_refused(uint32_t helpers) {
     for (long n = 1, before = -1; before != LOAD(&refused); n++) {
-        static const struct rcuo_options options = {4, NULL, NULL};
         struct rcuo_runtime *runtime;
         long at_first = LOAD(&live);
         STORE(&refuse_at, 0);
-        is("start", rcuo_start(&runtime, &options), RCUO_OK);
+        is("start", start_once(&runtime, helpers), RCUO_OK);
         before = LOAD(&refused);
         STORE(&made, 0);
         STORE(&refuse_at, n);
@@ -152,21 +170,53 @@ static void stop_refused(void) {
     }
 }
 
+/* A helper that is refused, and added again. */
+static void add_refused(void) {
+    struct rcuo_options options = {.threads = 4, .helpers_most = 2};
+    struct rcuo_runtime *runtime;
+    pthread_t thread;
+    uint32_t number = 0;
+    long at_first = LOAD(&live);
+    STORE(&refuse_at, 0);
+    is("start", rcuo_start(&runtime, &options), RCUO_OK);
+    is_starting = true;
+    STORE(&made, 0);
+    STORE(&refuse_at, 1);
+    is("add a helper that is refused", rcuo_add_helper(NULL, &number), RCUO_MEMORY);
+    is("it isn't there", rcuo_get_helper_thread(1, &thread), RCUO_NO_PROCESSOR);
+    is("add it again", rcuo_add_helper(NULL, &number), RCUO_OK);
+    is_starting = false;
+    STORE(&refuse_at, 0);
+    holds("it has its number", number == 1);
+    is("stop", rcuo_stop(runtime, NULL), RCUO_OK);
+    holds("nothing is left on the heap", LOAD(&live) == at_first);
+}
+
+/* Lives of which the n-th allocation is refused, for n from 1 until none was, with the later ones or without them. */
+static long refuse_each(uint32_t helpers, long on, long step) {
+    long runs = 0, before = -1;
+    for (long n = 1; before != LOAD(&refused) && !failed; n += step) {
+        before = LOAD(&refused);
+        STORE(&made, 0);
+        STORE(&refuse_on, on);
+        STORE(&refuse_at, n);
+        live_once(helpers);
+        runs++;
+    }
+    return runs;
+}
+
 int main(int count, char **words) {
     long step = (long)words_of(count, words, 1), runs = 0;
-    for (long on = 0; on < 2; on++) {
-        long before = -1;
-        for (long n = 1; before != LOAD(&refused) && !failed; n += step) {
-            before = LOAD(&refused);
-            STORE(&made, 0);
-            STORE(&refuse_on, on);
-            STORE(&refuse_at, n);
-            live_once();
-            runs++;
-        }
+    for (uint32_t helpers = 1; helpers <= SEVERAL; helpers += SEVERAL - 1) {
+        unsigned long before = refused_threads;
+        for (long on = 0; on < 2; on++) runs += refuse_each(helpers, on, step);
+        holds("each helper was refused", step > 1 || refused_threads - before >= 2 * helpers);
+        STORE(&refuse_on, 0);
+        stop_refused(helpers);
     }
-    stop_refused();
+    add_refused();
     holds("each thread's ran in order", out_of_order == 0);
-    printf("runs %ld, refused %ld\n", runs, LOAD(&refused));
+    printf("runs %ld, refused %ld, of these threads %lu\n", runs, LOAD(&refused), refused_threads);
     return tell();
 }

@@ -4,7 +4,8 @@
  */
 #include "threads.h"
 
-enum { PLACES = 40, AT_ONCE = 48 };
+/* How many places a runtime has, and how many threads there are at once: some of these find no place. */
+enum { PLACES = 40, AT_ONCE = 48, MANY_PLACES = 1000, MANY_AT_ONCE = 1008 };
 
 static unsigned long ran, called, refused, stop, reads;
 
@@ -33,19 +34,20 @@ static void *read_on(void *none) {
     return none;
 }
 
-static void test_many_threads(unsigned long many) {
-    struct rcuo_options options = {PLACES, "forty", NULL};
+static void test_many_threads(unsigned long many, unsigned places, unsigned long at_once, unsigned helpers) {
+    struct rcuo_options options = {.threads = places, .name = "many", .helpers = helpers};
     struct rcuo_runtime *runtime;
-    pthread_t reader, threads[AT_ONCE];
-    unsigned long numbers[AT_ONCE];
+    static pthread_t threads[MANY_AT_ONCE];
+    static unsigned long numbers[MANY_AT_ONCE];
+    ran = called = reads = stop = 0;
     is("start", rcuo_start(&runtime, &options), RCUO_OK);
-    reader = start_thread(read_on, NULL);
+    pthread_t reader = start_thread(read_on, NULL);
     for (unsigned long i = 0; i < many; i++) {
-        if (i >= AT_ONCE) pthread_join(threads[i % AT_ONCE], NULL);
-        numbers[i % AT_ONCE] = i;
-        threads[i % AT_ONCE] = start_thread(come_and_go, &numbers[i % AT_ONCE]);
+        if (i >= at_once) pthread_join(threads[i % at_once], NULL);
+        numbers[i % at_once] = i;
+        threads[i % at_once] = start_thread(come_and_go, &numbers[i % at_once]);
     }
-    for (unsigned long i = 0; i < AT_ONCE; i++) pthread_join(threads[i], NULL);
+    for (unsigned long i = 0; i < at_once; i++) pthread_join(threads[i], NULL);
     is("a barrier", rcuo_runtime_barrier(), RCUO_OK);
     holds("all callbacks of threads that are gone have run", LOAD(&ran) == LOAD(&called) && LOAD(&called) > 0);
     holds("the reader read", LOAD(&reads) > 0);
@@ -68,7 +70,7 @@ static void *hold_place(void *answer) {
 static void test_places(unsigned places) {
     static pthread_t threads[RCUO_THREADS + 1];
     static enum rcuo_answer answers[RCUO_THREADS + 1];
-    struct rcuo_options options = {places, NULL, NULL};
+    struct rcuo_options options = {.threads = places};
     struct rcuo_runtime *runtime;
     unsigned registered = 0, few = 0;
     is("start", rcuo_start(&runtime, &options), RCUO_OK);
@@ -138,12 +140,44 @@ static void test_blocked(void) {
     is("stop", rcuo_stop(runtime, NULL), RCUO_OK);
 }
 
+/* A thread that is offline often and briefly, and never reports, holds nobody back. */
+static void *go_and_come(void *none) {
+    if (rcuo_register() != RCUO_OK) abort();
+    while (!LOAD(&stop)) {
+        if (rcuo_thread_offline() != RCUO_OK || rcuo_thread_online() != RCUO_OK) abort();
+        ADD(&reads, 1);
+    }
+    return none;
+}
+
+static void test_brief(unsigned long rounds) {
+    struct rcuo_runtime *runtime = start_runtime(1);
+    unsigned long before = ran;
+    stop = reads = 0;
+    pthread_t thread = start_thread(go_and_come, NULL);
+    while (!LOAD(&reads)) sched_yield();
+    for (unsigned long i = 0; i < rounds; i++) {
+        if (rcuo_synchronize() != RCUO_OK) abort();
+    }
+    rcuo_call_rcu(&new_counted(&ran)->head, count_and_free);
+    is("a barrier beside it", rcuo_runtime_barrier(), RCUO_OK);
+    holds("a callback ran beside it", LOAD(&ran) == before + 1);
+    STORE(&stop, 1);
+    pthread_join(thread, NULL);
+    is("stop", rcuo_stop(runtime, NULL), RCUO_OK);
+}
+
 int main(int count, char **words) {
     unsigned long many = words_of(count, words, 5000);
-    test_many_threads(many);
+    test_many_threads(many, PLACES, AT_ONCE, 1);
+    test_many_threads(many, PLACES, AT_ONCE, SEVERAL);
     test_places(PLACES);
-    if (many >= RCUO_THREADS) test_places(RCUO_THREADS);
+    if (many >= MANY_AT_ONCE) {
+        test_many_threads(many, MANY_PLACES, MANY_AT_ONCE, 1);
+        test_places(RCUO_THREADS);
+    }
     test_registers(many);
     test_blocked();
+    test_brief(many);
     return tell();
 }

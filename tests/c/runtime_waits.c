@@ -54,6 +54,7 @@ static void *write_all(void *argument) {
 static void test_synchronize(unsigned long rounds) {
     pthread_t readers[READERS], writers[WRITERS];
     struct writer words[WRITERS];
+    stop = reads = started = 0;
     for (int t = 0; t < READERS; t++) readers[t] = start_thread(read_all, NULL);
     while (LOAD(&started) < READERS) sched_yield();
     for (unsigned t = 0; t < WRITERS; t++) {
@@ -66,7 +67,10 @@ static void test_synchronize(unsigned long rounds) {
     for (int t = 0; t < READERS; t++) pthread_join(readers[t], NULL);
     holds("there were reads", reads > 0);
     holds("no reader saw what was let go after synchronize", dead_reads == 0);
-    for (int i = 0; i < WRITERS; i++) free(shared[i]);
+    for (int i = 0; i < WRITERS; i++) {
+        free(shared[i]);
+        shared[i] = NULL;
+    }
 }
 
 /* What a callback is answered. */
@@ -186,8 +190,9 @@ static void *report_slowly(void *none) {
 }
 
 static void test_beside_synchronize(unsigned long rounds) {
-    pthread_t threads[2] = {start_thread(synchronize_on, NULL), start_thread(report_slowly, NULL)};
     unsigned long ran = 0, lost = 0;
+    STORE(&waiting_over, 0);
+    pthread_t threads[2] = {start_thread(synchronize_on, NULL), start_thread(report_slowly, NULL)};
     for (unsigned long i = 1; i <= rounds && !lost; i++) {
         rcuo_call_rcu(&new_counted(&ran)->head, count_and_free);
         for (double began = seconds(); LOAD(&ran) < i && !lost;) {
@@ -214,20 +219,27 @@ static void *wait_for_both(void *done) {
     return NULL;
 }
 
+/* Sends signals until so many were handled. */
+static bool interrupt_often(pthread_t thread, unsigned long often) {
+    STORE(&interrupted, 0);
+    for (double began = seconds(); LOAD(&interrupted) < often && seconds() - began < 60;) {
+        pthread_kill(thread, SIGUSR1);
+        nap(1);
+    }
+    return LOAD(&interrupted) >= often;
+}
+
 static void test_interrupted(void) {
     struct sigaction action;
     unsigned long done = 0, ran = 0;
-    memset(&action, 0, sizeof action);
+    memset(&action, 0, sizeof action); /* (without SA_RESTART) */
     action.sa_handler = interrupt;
     sigaction(SIGUSR1, &action, NULL);
     is("register", rcuo_register(), RCUO_OK);
     rcuo_call_rcu(&new_counted(&ran)->head, count_and_free);
     pthread_t thread = start_thread(wait_for_both, &done);
-    for (int i = 0; i < 50; i++) {
-        pthread_kill(thread, SIGUSR1);
-        nap(1);
-    }
-    holds("signals were handled, and the wait is not over", LOAD(&interrupted) > 0 && !LOAD(&done));
+    holds("signals are handled while a thread waits", interrupt_often(thread, 20));
+    holds("its wait is not over, since this thread hasn't reported", !LOAD(&done) && !LOAD(&ran));
     is("offline", rcuo_thread_offline(), RCUO_OK);
     pthread_join(thread, NULL);
     holds("the wait is over when this thread is offline", LOAD(&done) && LOAD(&ran) == 1);
@@ -236,14 +248,15 @@ static void test_interrupted(void) {
 
 int main(int count, char **words) {
     unsigned long rounds = words_of(count, words, 1000);
-    struct rcuo_runtime *runtime;
-    is("start", rcuo_start(&runtime, NULL), RCUO_OK);
-    test_cookies();
-    test_in_callback(runtime, rounds);
-    test_beside_long_callback();
-    test_beside_synchronize(rounds / 5);
-    test_interrupted();
-    test_synchronize(rounds);
-    is("stop", rcuo_stop(runtime, NULL), RCUO_OK);
+    for (uint32_t helpers = 1; helpers <= SEVERAL; helpers += SEVERAL - 1) {
+        struct rcuo_runtime *runtime = start_runtime(helpers);
+        test_cookies();
+        test_in_callback(runtime, rounds * 60);
+        test_beside_long_callback();
+        test_beside_synchronize(rounds / 5);
+        test_interrupted();
+        test_synchronize(rounds);
+        is("stop", rcuo_stop(runtime, NULL), RCUO_OK);
+    }
     return tell();
 }

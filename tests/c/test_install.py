@@ -17,10 +17,17 @@ SAYS = "freed the old version\nclosed: done\n"
 RUNTIME_EXAMPLE = ROOT / "examples/c/runtime.c"
 RUNTIME_SAYS = "published 1000, freed 999, faults 0\n"
 VERSION = re.search(r'^#define RCUO_VERSION "(.*)"$', (ROOT / "include/rcuo.h").read_text(encoding="utf-8"), re.MULTILINE).group(1)
-SONAME = "librcuo.so." + VERSION.partition(".")[0]
-LIBRARIES = {"librcuo.a", f"librcuo.so.{VERSION}", SONAME, "librcuo.so", "pkgconfig/rcuo.pc"}
-LIBRARIES |= {"librcuo-runtime.a", "pkgconfig/rcuo-runtime.pc"}
-HEADERS = {"rcuo.h", "rcuo/runtime.h"}
+MAJOR = VERSION.partition(".")[0]
+# Whether liburcu's headers are here, without which its names can't be built.
+URCU = not subprocess.run(["cc", "-E", "-xc", "-"], input=b"#include <urcu/urcu-qsbr.h>", capture_output=True).returncode
+NAMES = ("rcuo", "rcuo-runtime", "rcuo-urcu-qsbr") if URCU else ("rcuo", "rcuo-runtime")
+LIBRARIES = {f"lib{name}.{it}" for name in NAMES for it in ("a", "so", f"so.{MAJOR}", f"so.{VERSION}")}
+LIBRARIES |= {f"pkgconfig/{name}.pc" for name in NAMES}
+HEADERS = {"rcuo.h", "rcuo/runtime.h"} | ({"rcuo/urcu-qsbr.h", "rcuo/liburcu/urcu/urcu-qsbr.h"} if URCU else set())
+URCU_EXAMPLE = ROOT / "tests/c/liburcu.c"
+# (the words of liburcu that inlined readers report to, and what its library has for systems without futex)
+NOT_OFFERED = {"urcu_qsbr_gp", "urcu_qsbr_reader"}
+COMPATIBLE = re.compile(r"_*(urcu_)?compat_futex_\w+")
 
 
 def run(*words, **variables):
@@ -42,7 +49,7 @@ def path_without_rt(folder):
 class Install(unittest.TestCase):
     @classmethod
     def setUpClass(cls):
-        run("make", "-s", "-C", ROOT / "lib")
+        run("make", "-s", "-C", ROOT / "lib", "all" if URCU else "runtime")
 
     def setUp(self):
         folder = tempfile.TemporaryDirectory()
@@ -69,12 +76,19 @@ class Install(unittest.TestCase):
     def files(self, folder):
         return {str(it.relative_to(folder)) for it in folder.rglob("*") if it.is_symlink() or it.is_file()}
 
-    def built(self, name, how, package="rcuo", example=EXAMPLE):
+    def built(self, name, how, package="rcuo", example=EXAMPLE, flags=("-Wall", "-Wextra", "-Werror")):
         """An example, linked in this way with what pkg-config says of a staged library."""
         variables = {"PKG_CONFIG_LIBDIR": str(self.stage / "usr/lib/pkgconfig"), "PKG_CONFIG_SYSROOT_DIR": str(self.stage)}
         said = run("pkg-config", "--cflags", "--libs", package, **variables).split()
-        run("cc", "-std=gnu11", "-Wall", "-Wextra", "-Werror", "-o", self.work / name, example, how, *said, "-Wl,-Bdynamic")
+        run("cc", "-std=gnu11", *flags, "-o", self.work / name, example, how, *said, "-Wl,-Bdynamic")
         return self.work / name
+
+    def needed(self, program):
+        """The names of the shared libraries that a file asks for."""
+        return set(re.findall(r"\(NEEDED\).*\[(.*)\]", run("readelf", "-d", program)))
+
+    def offered(self, library):
+        return {line.split()[-1] for line in run("nm", "-D", "--defined-only", library).splitlines()}
 
     def test_staged_used_and_removed(self):
         self.installs("PREFIX=/usr", f"DESTDIR={self.stage}")
@@ -86,30 +100,60 @@ class Install(unittest.TestCase):
             self.assertNotIn("librcuo", run("readelf", "-d", archived))
         with self.subTest("the shared library"):
             shared = self.built("shared", "-Wl,-Bdynamic")
-            self.assertIn(f"[{SONAME}]", run("readelf", "-d", shared))
+            self.assertIn(f"librcuo.so.{MAJOR}", self.needed(shared))
             self.assertEqual(run(shared, LD_LIBRARY_PATH=str(self.stage / "usr/lib")), SAYS)
-        with self.subTest("the managed runtime, over the archive and over the shared library"):
-            for how in ("-Wl,-Bstatic", "-Wl,-Bdynamic"):
+        for how in ("-Wl,-Bstatic", "-Wl,-Bdynamic"):
+            with self.subTest("the managed runtime", how=how):
                 program = self.built("runtime", how, "rcuo-runtime", RUNTIME_EXAMPLE)
+                self.assertEqual(f"librcuo-runtime.so.{MAJOR}" in self.needed(program), how == "-Wl,-Bdynamic")
                 self.assertEqual(run(program, "1000", LD_LIBRARY_PATH=str(self.stage / "usr/lib")), RUNTIME_SAYS)
+            with self.subTest("a program of liburcu, as it is", how=how):
+                if not URCU:
+                    self.skipTest("liburcu-dev isn't here")
+                program = self.built("liburcu", how, "rcuo-urcu-qsbr", URCU_EXAMPLE, ("-w", "-Wl,--no-as-needed", "-lurcu-cds"))
+                self.assertEqual(f"librcuo-urcu-qsbr.so.{MAJOR}" in self.needed(program), how == "-Wl,-Bdynamic")
+                said = run(program, "8", "100", LD_LIBRARY_PATH=str(self.stage / "usr/lib"))
+                self.assertIn("threads 8, deferred 8, called again 20, lost 0, dead 0", said)
         self.installs("--uninstall", "PREFIX=/usr", f"DESTDIR={self.stage}")
         self.assertEqual(self.files(self.stage), set())
 
     def test_the_managed_runtime_offers_what_its_header_declares(self):
         self.installs("PREFIX=/usr", f"DESTDIR={self.stage}")
         said = run("nm", "-g", "--defined-only", self.stage / "usr/lib/librcuo-runtime.a").splitlines()
-        offered = {line.split()[-1] for line in said if len(line.split()) == 3}
+        archived = {line.split()[-1] for line in said if len(line.split()) == 3}
         header = (ROOT / "include/rcuo/runtime.h").read_text(encoding="utf-8")
         declared = re.findall(r"^(?:enum rcuo_answer|void|bool|pthread_t) (rcuo_\w+)\(|^extern __thread .* (rcuo_\w+);", header, re.MULTILINE)
-        self.assertEqual(offered, {one or other for one, other in declared})
+        self.assertEqual(archived, {one or other for one, other in declared})
+        self.assertEqual(self.offered(self.stage / "usr/lib/librcuo-runtime.so"), archived)
+
+    def test_the_shared_libraries_name_each_other(self):
+        self.installs("PREFIX=/usr", f"DESTDIR={self.stage}")
+        for name, below in zip(NAMES, (None, *NAMES)):
+            library = self.stage / f"usr/lib/lib{name}.so"
+            self.assertIn(f"Library soname: [lib{name}.so.{MAJOR}]", run("readelf", "-d", library))
+            # (a thread's end calls into the managed runtime)
+            self.assertEqual("NODELETE" in run("readelf", "-d", library), name != "rcuo")
+            self.assertEqual({it for it in self.needed(library) if "rcuo" in it}, {f"lib{below}.so.{MAJOR}"} if below else set())
+
+    def test_what_loads_it_at_run_time_finds_room_for_its_threads_words(self):
+        self.installs("PREFIX=/usr", f"DESTDIR={self.stage}")
+        load = "import ctypes, sys; print(ctypes.CDLL(sys.argv[1]).rcuo_register())"
+        library = str(self.stage / f"usr/lib/librcuo-runtime.so.{MAJOR}")
+        self.assertEqual(run(sys.executable, "-c", load, library, LD_LIBRARY_PATH=str(self.stage / "usr/lib")), "6\n")
+
+    @unittest.skipUnless(URCU, "liburcu-dev isn't here")
+    def test_liburcus_names_are_all_there_but_the_words_of_inlined_readers(self):
+        self.installs("PREFIX=/usr", f"DESTDIR={self.stage}")
+        theirs = run("cc", "-print-file-name=liburcu-qsbr.so").strip()
+        wanted = {name for name in self.offered(theirs) - NOT_OFFERED if not COMPATIBLE.fullmatch(name)}
+        self.assertIn("urcu_qsbr_call_rcu", wanted)
+        self.assertEqual(self.offered(self.stage / "usr/lib/librcuo-urcu-qsbr.so"), wanted)
 
     def test_the_shared_library_offers_what_the_header_declares(self):
         self.installs("PREFIX=/usr", f"DESTDIR={self.stage}")
-        library = self.stage / "usr/lib" / SONAME
-        offered = {line.split()[-1] for line in run("nm", "-D", "--defined-only", library).splitlines()}
+        library = self.stage / "usr/lib/librcuo.so"
         header = (ROOT / "include/rcuo.h").read_text(encoding="utf-8")
-        self.assertEqual(offered, set(re.findall(r"^uint32_t (rcuo_\w+)\(", header, re.MULTILINE)))
-        self.assertIn(f"Library soname: [{SONAME}]", run("readelf", "-d", library))
+        self.assertEqual(self.offered(library), set(re.findall(r"^uint32_t (rcuo_\w+)\(", header, re.MULTILINE)))
         wanted = {line.split()[-1].partition("@")[0] for line in run("nm", "-D", "--undefined-only", library).splitlines()}
         wanted -= {"__cxa_finalize", "__gmon_start__", "_ITM_deregisterTMCloneTable", "_ITM_registerTMCloneTable"}
         self.assertEqual(wanted, {"malloc", "realloc", "free", "memcpy", "memmove", "memset"})
@@ -140,7 +184,8 @@ class Install(unittest.TestCase):
     def test_uninstall_of_an_earlier_version(self):
         self.installs("PREFIX=/usr", f"DESTDIR={self.stage}")
         libraries = self.stage / "usr/lib"
-        os.rename(libraries / f"librcuo.so.{VERSION}", libraries / "librcuo.so.0.0.9")
+        for name in NAMES:
+            os.rename(libraries / f"lib{name}.so.{VERSION}", libraries / f"lib{name}.so.0.0.9")
         described = libraries / "pkgconfig/rcuo.pc"
         described.write_text(described.read_text(encoding="utf-8").replace(VERSION, "0.0.9"), encoding="utf-8")
         self.installs("--uninstall", "PREFIX=/usr", f"DESTDIR={self.stage}")

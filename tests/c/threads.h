@@ -22,6 +22,17 @@
 
 #define OBJECT_OF(head, type) ((type *)(void *)(head))
 
+/* How many helpers a runtime of several has here: more than one, and some members for each. */
+enum { SEVERAL = 3 };
+
+/* Starts a runtime of so many helpers. */
+static inline struct rcuo_runtime *start_runtime(uint32_t helpers) {
+    struct rcuo_options options = {.helpers = helpers};
+    struct rcuo_runtime *runtime;
+    is("start", rcuo_start(&runtime, &options), RCUO_OK);
+    return runtime;
+}
+
 static inline pthread_t start_thread(void *(*run)(void *), void *argument) {
     pthread_t thread;
     if (pthread_create(&thread, NULL, run, argument)) abort();
