@@ -41,4 +41,4 @@ docs: ## write the pages and tables that are made from the code
 	tools/documents --write
 
 clean: ## remove all that was built, and what checks kept: the next build proves from nothing
-	rm -rf out crates/*/out bindings/rust/target tools/__pycache__ tests/program/__pycache__
+	rm -rf out crates/*/out bindings/target tools/__pycache__ tests/program/__pycache__
