@@ -57,6 +57,13 @@ template <typename Function> struct callback_of final : callback {
     Function function;
 };
 
+/* A callable that owns an object, and destroys it where it is called, or destroyed uncalled. */
+template <typename Object, typename Deleter> struct destroys {
+    explicit destroys(std::unique_ptr<Object, Deleter> &&from) : object(std::move(from)) {}
+    void operator()() { object.reset(); }
+    std::unique_ptr<Object, Deleter> object;
+};
+
 /* What the helper calls. The callable may let its own place go only after it ran. */
 inline void run_callback(rcuo_head *head) noexcept {
     std::unique_ptr<callback> entered(static_cast<callback *>(head));
@@ -162,12 +169,10 @@ template <typename Function> void call(Function &&function) {
 
 /* Destroys an object after a grace period. */
 template <typename Object, typename Deleter> void retire(std::unique_ptr<Object, Deleter> object) {
-    call([raw = object.release(), deleter = std::move(object.get_deleter())]() mutable { deleter(raw); });
+    call(detail::destroys<Object, Deleter>(std::move(object)));
 }
 
-template <typename Object> void retire(Object *object) {
-    call([object] { delete object; });
-}
+template <typename Object> void retire(Object *object) { retire(std::unique_ptr<Object>(object)); }
 
 /* What a pointer leads to was published by `publish`, `rcuo::atomic_ptr`, or a release store. */
 template <typename Object> Object *dereference(const std::atomic<Object *> &from) noexcept {

@@ -97,7 +97,8 @@
 //! # let runtime = rcuo::Runtime::start().unwrap();
 //! # let thread = runtime.register().unwrap();
 //! let number = 1;
-//! thread.pin().defer(|| println!("{}", &number));
+//! let borrowed = &number;
+//! thread.pin().defer(move || println!("{borrowed}"));
 //! ```
 
 #![deny(missing_docs, missing_debug_implementations, unsafe_op_in_unsafe_fn)]

@@ -8,9 +8,9 @@ mod stack;
 
 use map::Map;
 use queue::Queue;
-use rcuo::{Runtime, Thread};
+use rcuo::{Atomic, Owned, Runtime, Thread};
 use stack::Stack;
-use std::sync::atomic::{AtomicU64, Ordering::SeqCst};
+use std::sync::atomic::{AtomicU64, Ordering::Acquire, Ordering::SeqCst};
 use std::sync::Arc;
 use std::thread;
 
@@ -161,6 +161,30 @@ fn readers_of_a_map_see_whole_values_while_it_changes() {
                 let value = map.get(key, &guard).map(Counted::number);
                 assert!(value.is_none() || value == Some(key));
             }
+        }
+    });
+}
+
+/// What a race is: the value is dropped at once, by who took it out, while others may read it. ThreadSanitizer has to see it.
+#[test]
+#[ignore = "it has a data race"]
+fn a_value_that_is_dropped_at_once() {
+    let place = Atomic::new(1);
+    let runtime = Runtime::start().unwrap();
+    thread::scope(|scope| {
+        for number in 0..THREADS {
+            let (runtime, place) = (&runtime, &place);
+            scope.spawn(move || {
+                let thread = runtime.register().unwrap();
+                for _ in 0..100_000 {
+                    let guard = thread.pin();
+                    // SAFETY: none.
+                    assert!(unsafe { place.load(Acquire, &guard).deref() } >= &0);
+                    let old = place.swap(Owned::new(number), SeqCst, &guard);
+                    // SAFETY: none.
+                    drop(unsafe { old.into_owned() });
+                }
+            });
         }
     });
 }
