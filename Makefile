@@ -3,7 +3,7 @@
 CRATE ?=
 
 .DEFAULT_GOAL := help
-.PHONY: help build lib test gate check bench install uninstall docs clean
+.PHONY: help build lib test gate check bench install uninstall deb docs clean
 
 help: ## this list
 	@echo 'usage: make COMMAND'
@@ -36,6 +36,9 @@ install: ## install the library for C, its header and what pkg-config reads; hee
 
 uninstall: ## remove what install put there, with the same PREFIX, DESTDIR and LIBDIR
 	tools/install-librcuo --uninstall
+
+deb: ## make Debian packages of what is built, in out/deb
+	tools/deb
 
 docs: ## write the pages and tables that are made from the code
 	tools/documents --write
