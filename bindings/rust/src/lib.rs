@@ -110,7 +110,6 @@ mod job;
 mod runtime;
 mod thread;
 
-#[allow(unsafe_op_in_unsafe_fn)]
 pub mod parts;
 
 pub use atomic::{Atomic, CompareExchangeError, Owned, Pointer, Shared};

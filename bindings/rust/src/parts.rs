@@ -105,22 +105,18 @@ impl fmt::Display for Error {
 
 impl std::error::Error for Error {}
 
-const NONE_LEFT: u32 = 17;
-const TURN: u32 = 18;
-const AGAIN: u32 = 19;
-
 fn answer(number: u32) -> Result<(), Error> {
     match number {
-        0 => Ok(()),
-        1 => Err(Error::Spent),
-        2 => Err(Error::Memory),
-        3 => Err(Error::Closed),
-        4 => Err(Error::Limit),
-        5 => Err(Error::NotOffloadable),
-        6 => Err(Error::NoProcessor),
-        8 => Err(Error::Missing),
-        13 => Err(Error::Foreign),
-        14 => Err(Error::Shape),
+        ffi::RCUO_OK => Ok(()),
+        ffi::RCUO_SPENT => Err(Error::Spent),
+        ffi::RCUO_MEMORY => Err(Error::Memory),
+        ffi::RCUO_CLOSED => Err(Error::Closed),
+        ffi::RCUO_LIMIT => Err(Error::Limit),
+        ffi::RCUO_NOT_OFFLOADABLE => Err(Error::NotOffloadable),
+        ffi::RCUO_NO_PROCESSOR => Err(Error::NoProcessor),
+        ffi::RCUO_EMPTY => Err(Error::Missing),
+        ffi::RCUO_FOREIGN => Err(Error::Foreign),
+        ffi::RCUO_SHAPE => Err(Error::Shape),
         other => Err(Error::Other(other)),
     }
 }
@@ -283,8 +279,9 @@ struct Slots {
     held: Mutex<Places>,
 }
 
-// (see `held`)
+// SAFETY: a slot's part may go to another thread, and one thread at a time reaches it: see `held`.
 unsafe impl Send for Slots {}
+// SAFETY: as above.
 unsafe impl Sync for Slots {}
 
 impl Slots {
@@ -308,6 +305,7 @@ impl Slots {
     }
 
     fn control(&self) -> *mut ffi::rcuo_slot {
+        // SAFETY: the slots are there, and no reference to them is made.
         unsafe { &raw mut (*self.slots.get()).control }
     }
 
@@ -317,11 +315,18 @@ impl Slots {
     ///
     /// The caller has all handles, or there are none.
     unsafe fn close(&self) -> Result<Closed, Error> {
-        answer(ffi::rcuo_slot_close(self.slots.get()))?;
+        // SAFETY: the caller's: so no other thread has a slot.
+        answer(unsafe { ffi::rcuo_slot_close(self.slots.get()) })?;
         let processors = 0..self.opened.processors.len();
-        let ran = processors.clone().map(|processor| self.records_of(processor)).collect();
-        let back = processors.map(|processor| self.jobs_of(processor)).collect();
-        answer(ffi::rcuo_slot_end(self.control()))?;
+        // SAFETY: the close was made, and the end wasn't; each processor is asked for its jobs once.
+        let (ran, back) = unsafe {
+            (
+                processors.clone().map(|processor| self.records_of(processor)).collect(),
+                processors.map(|processor| self.jobs_of(processor)).collect(),
+            )
+        };
+        // SAFETY: as of the close.
+        answer(unsafe { ffi::rcuo_slot_end(self.control()) })?;
         Ok(Closed { ran, back })
     }
 
@@ -333,7 +338,8 @@ impl Slots {
     unsafe fn records_of(&self, processor: u64) -> Vec<Record> {
         let mut records = Vec::new();
         let mut record = ffi::rcuo_record::NONE;
-        while ffi::rcuo_slot_record(self.control(), processor, records.len() as u64, &mut record) == 0 {
+        // SAFETY: the caller's.
+        while unsafe { ffi::rcuo_slot_record(self.control(), processor, records.len() as u64, &mut record) } == ffi::RCUO_OK {
             records.push(Record { number: record.number, stamp: record.stamp, ready: record.ready });
         }
         records
@@ -347,9 +353,10 @@ impl Slots {
     unsafe fn jobs_of(&self, processor: u64) -> Vec<Job> {
         let mut jobs = Vec::new();
         let mut job = ffi::rcuo_job::NONE;
-        while ffi::rcuo_slot_back(self.control(), processor, jobs.len() as u64, &mut job) == 0 {
-            // (each job that comes back was made by `Processor::call`, and comes back once)
-            jobs.push(job_of(&job));
+        // SAFETY: the caller's.
+        while unsafe { ffi::rcuo_slot_back(self.control(), processor, jobs.len() as u64, &mut job) } == ffi::RCUO_OK {
+            // SAFETY: each job that comes back was made by `Processor::call`, and comes back once.
+            jobs.push(unsafe { job_of(&job) });
         }
         jobs
     }
@@ -359,7 +366,7 @@ impl Drop for Slots {
     fn drop(&mut self) {
         // A runtime all of whose parts were dropped: the jobs that didn't run are dropped too.
         if self.slots.get_mut().control.full {
-            // (each handle has the slots, so there is none)
+            // SAFETY: each handle has the slots, so there is none.
             let _ = unsafe { self.close() };
         }
     }
@@ -375,7 +382,8 @@ fn words_of(job: Job) -> ffi::rcuo_job {
 ///
 /// Once for each.
 unsafe fn job_of(words: &ffi::rcuo_job) -> Job {
-    *Box::from_raw(words.argument.cast::<Job>())
+    // SAFETY: the caller's.
+    *unsafe { Box::from_raw(words.argument.cast::<Job>()) }
 }
 
 macro_rules! part {
@@ -395,6 +403,7 @@ macro_rules! part {
             }
 
             fn slot(&self) -> *mut ffi::rcuo_slot {
+                // SAFETY: the slots are there, with one in this place, and no reference to them is made.
                 unsafe { (&raw mut (*self.slots.slots.get()).$slot).cast::<ffi::rcuo_slot>().add(self.at) }
             }
 
@@ -508,6 +517,7 @@ pub fn open(settings: &Settings<'_>) -> Result<Parts, Error> {
     let number = Arc::as_ptr(&slots) as u64;
     let whole = Arc::get_mut(&mut slots).expect("the slots have one owner");
     let filled = whole.slots.get_mut();
+    // SAFETY: the slots are empty, and nobody else has them.
     answer(unsafe { ffi::rcuo_slot_open(&asked, number, filled) })?;
     whole.opened = Places {
         processors: full(&filled.processors),
@@ -529,6 +539,7 @@ impl Parts {
     /// The parts come back, and nothing was lost. [`Error::Missing`]: a part isn't there; where it was dropped,
     /// [`Parts::recover`] takes it up again. [`Error::Foreign`]: a part is of another open. [`Error::Memory`]: close again.
     pub fn close(self) -> Result<Closed, Refused<Parts>> {
+        // SAFETY: these are all handles.
         match self.are_all().and_then(|()| unsafe { self.control.slots.close() }) {
             Ok(closed) => Ok(closed),
             Err(error) => Err(Refused { error, back: self }),
@@ -612,6 +623,7 @@ struct Running(*mut ffi::rcuo_slot);
 
 impl Drop for Running {
     fn drop(&mut self) {
+        // SAFETY: the slot is this thread's as long as this lives: `run`.
         unsafe { ffi::rcuo_slot_finish(self.0) };
     }
 }
@@ -623,7 +635,8 @@ impl Drop for Running {
 /// The slot is this thread's.
 unsafe fn is_halted(slot: *mut ffi::rcuo_slot) -> Result<bool, Error> {
     let mut halted = false;
-    answer(ffi::rcuo_slot_halted(slot, &mut halted))?;
+    // SAFETY: the caller's.
+    answer(unsafe { ffi::rcuo_slot_halted(slot, &mut halted) })?;
     Ok(halted)
 }
 
@@ -634,7 +647,8 @@ unsafe fn is_halted(slot: *mut ffi::rcuo_slot) -> Result<bool, Error> {
 /// The slot is this thread's.
 unsafe fn barrier(slot: *mut ffi::rcuo_slot) -> Result<Barrier, Error> {
     let mut counts = ffi::rcuo_counts::NONE;
-    answer(ffi::rcuo_slot_barrier(slot, &mut counts))?;
+    // SAFETY: the caller's.
+    answer(unsafe { ffi::rcuo_slot_barrier(slot, &mut counts) })?;
     Ok(Barrier(counts))
 }
 
@@ -645,7 +659,8 @@ unsafe fn barrier(slot: *mut ffi::rcuo_slot) -> Result<Barrier, Error> {
 /// As of [`poll`].
 unsafe fn start_poll(slot: *mut ffi::rcuo_slot) -> Result<Cookie, Error> {
     let mut cookie = 0;
-    answer(ffi::rcuo_slot_start_poll(slot, &mut cookie))?;
+    // SAFETY: the caller's.
+    answer(unsafe { ffi::rcuo_slot_start_poll(slot, &mut cookie) })?;
     Ok(Cookie(cookie))
 }
 
@@ -656,7 +671,8 @@ unsafe fn start_poll(slot: *mut ffi::rcuo_slot) -> Result<Cookie, Error> {
 /// As of [`poll`].
 unsafe fn poll_state(slot: *mut ffi::rcuo_slot, cookie: Cookie) -> Result<bool, Error> {
     let mut elapsed = false;
-    answer(ffi::rcuo_slot_poll_state(slot, cookie.0, &mut elapsed))?;
+    // SAFETY: the caller's.
+    answer(unsafe { ffi::rcuo_slot_poll_state(slot, cookie.0, &mut elapsed) })?;
     Ok(elapsed)
 }
 
@@ -667,7 +683,8 @@ unsafe fn poll_state(slot: *mut ffi::rcuo_slot, cookie: Cookie) -> Result<bool, 
 /// The slot is this thread's.
 unsafe fn poll(slot: *mut ffi::rcuo_slot, barrier: &Barrier) -> Result<bool, Error> {
     let mut passed = false;
-    answer(ffi::rcuo_slot_poll(slot, &barrier.0, &mut passed))?;
+    // SAFETY: the caller's.
+    answer(unsafe { ffi::rcuo_slot_poll(slot, &barrier.0, &mut passed) })?;
     Ok(passed)
 }
 
@@ -679,13 +696,16 @@ unsafe fn poll(slot: *mut ffi::rcuo_slot, barrier: &Barrier) -> Result<bool, Err
 unsafe fn run(slot: *mut ffi::rcuo_slot, moment: u64, most: u64) -> Result<u64, Error> {
     for ran in 0..most {
         let mut words = ffi::rcuo_job::NONE;
-        match ffi::rcuo_slot_begin(slot, moment, &mut words) {
-            0 => {
+        // SAFETY: the caller's.
+        match unsafe { ffi::rcuo_slot_begin(slot, moment, &mut words) } {
+            ffi::RCUO_OK => {
                 let running = Running(slot);
-                job_of(&words)();
+                // SAFETY: the callback was made by `Processor::call`, and is begun once.
+                let job = unsafe { job_of(&words) };
+                job();
                 drop(running);
             }
-            NONE_LEFT | TURN | AGAIN => return Ok(ran),
+            ffi::RCUO_NONE_LEFT | ffi::RCUO_TURN | ffi::RCUO_AGAIN => return Ok(ran),
             other => answer(other)?,
         }
     }
@@ -708,6 +728,7 @@ impl Away {
     /// The processor, which is back: from now on grace periods wait for its reports again.
     pub fn come_back(self) -> Processor {
         let Away { processor } = self;
+        // SAFETY: the slot is this handle's, which nobody else uses meanwhile.
         unsafe { ffi::rcuo_slot_return(processor.slot()) };
         processor
     }
@@ -717,6 +738,7 @@ impl Processor {
     /// Takes up the processor in this place, which is back if it was away.
     fn back(slots: &Arc<Slots>, at: usize) -> Processor {
         let processor = Processor::of(slots, at);
+        // SAFETY: the slot is this handle's, which nobody else uses meanwhile.
         unsafe { ffi::rcuo_slot_return(processor.slot()) };
         processor
     }
@@ -729,9 +751,10 @@ impl Processor {
     fn call_job(&mut self, lazy: bool, moment: u64, job: Job) -> Result<Ticket, Refused<Job>> {
         let words = words_of(job);
         let mut ticket = ffi::rcuo_ticket::default();
+        // SAFETY: the slot is this handle's, which nobody else uses meanwhile.
         match answer(unsafe { ffi::rcuo_slot_call(self.slot(), lazy, moment, &words, &mut ticket) }) {
             Ok(()) => Ok(Ticket { processor: ticket.processor, number: ticket.number }),
-            // (a refused job is still the caller's)
+            // SAFETY: a refused job is still the caller's.
             Err(error) => Err(Refused { error, back: unsafe { job_of(&words) } }),
         }
     }
@@ -762,17 +785,20 @@ impl Processor {
     /// Reports a quiescent state. Answers the number of the grace period that counted it.
     pub fn quiescent(&mut self) -> Result<Option<u64>, Error> {
         let mut counted = 0;
+        // SAFETY: the slot is this handle's, which nobody else uses meanwhile.
         answer(unsafe { ffi::rcuo_slot_quiescent(self.slot(), &mut counted) })?;
         Ok((counted != 0).then_some(counted))
     }
 
     /// Asks for a grace period that begins after this call.
     pub fn start_poll(&mut self) -> Result<Cookie, Error> {
+        // SAFETY: the slot is this handle's, which nobody else uses meanwhile.
         unsafe { start_poll(self.slot()) }
     }
 
     /// Whether the grace period of a cookie of this runtime has ended: then each processor reported since, or was away.
     pub fn poll_state(&mut self, cookie: Cookie) -> Result<bool, Error> {
+        // SAFETY: the slot is this handle's, which nobody else uses meanwhile.
         unsafe { poll_state(self.slot(), cookie) }
     }
 
@@ -797,6 +823,7 @@ impl Processor {
     /// # Ok::<(), Error>(())
     /// ```
     pub fn leave(self) -> Result<Away, Refused<Processor>> {
+        // SAFETY: the slot is this handle's, which nobody else uses meanwhile.
         match answer(unsafe { ffi::rcuo_slot_leave(self.slot()) }) {
             Ok(()) => Ok(Away { processor: self }),
             Err(error) => Err(Refused { error, back: self }),
@@ -805,12 +832,14 @@ impl Processor {
 
     /// Its tick, in which it runs its own callbacks that may run now, at most so many. Answers how many ran.
     pub fn run(&mut self, moment: u64, most: u64) -> Result<u64, Error> {
+        // SAFETY: the slot is this handle's, which nobody else uses meanwhile.
         unsafe { run(self.slot(), moment, most) }
     }
 
     /// How many callbacks it accepted.
     pub fn accepted(&mut self) -> Result<u64, Error> {
         let mut accepted = 0;
+        // SAFETY: the slot is this handle's, which nobody else uses meanwhile.
         answer(unsafe { ffi::rcuo_slot_accepted(self.slot(), &mut accepted) })?;
         Ok(accepted)
     }
@@ -818,22 +847,26 @@ impl Processor {
     /// How many callbacks it still accepts at most.
     pub fn left(&mut self) -> Result<u64, Error> {
         let mut left = 0;
+        // SAFETY: the slot is this handle's, which nobody else uses meanwhile.
         answer(unsafe { ffi::rcuo_slot_left(self.slot(), &mut left) })?;
         Ok(left)
     }
 
     /// Opens a barrier for all callbacks accepted before this call.
     pub fn barrier(&mut self) -> Result<Barrier, Error> {
+        // SAFETY: the slot is this handle's, which nobody else uses meanwhile.
         unsafe { barrier(self.slot()) }
     }
 
     /// Whether a barrier's callbacks have all run, whoever opened it.
     pub fn poll(&mut self, barrier: &Barrier) -> Result<bool, Error> {
+        // SAFETY: the slot is this handle's, which nobody else uses meanwhile.
         unsafe { poll(self.slot(), barrier) }
     }
 
     /// Whether control was told to halt.
     pub fn is_halted(&mut self) -> Result<bool, Error> {
+        // SAFETY: the slot is this handle's, which nobody else uses meanwhile.
         unsafe { is_halted(self.slot()) }
     }
 }
@@ -846,11 +879,13 @@ impl Hand {
 
     /// Runs callbacks that may run now, at most so many. Answers how many ran.
     pub fn run(&mut self, most: u64) -> Result<u64, Error> {
+        // SAFETY: the slot is this handle's, which nobody else uses meanwhile.
         unsafe { run(self.slot(), 0, most) }
     }
 
     /// Whether control was told to halt.
     pub fn is_halted(&mut self) -> Result<bool, Error> {
+        // SAFETY: the slot is this handle's, which nobody else uses meanwhile.
         unsafe { is_halted(self.slot()) }
     }
 }
@@ -875,12 +910,14 @@ impl Group {
     /// A turn.
     pub fn turn(&mut self) -> Result<GroupTurn, Error> {
         let mut turn = ffi::rcuo_group_turn::default();
+        // SAFETY: the slot is this handle's, which nobody else uses meanwhile.
         answer(unsafe { ffi::rcuo_slot_group_turn(self.slot(), &mut turn) })?;
         Ok(GroupTurn { took: turn.took, gave: turn.gave, held: turn.held })
     }
 
     /// Whether control was told to halt.
     pub fn is_halted(&mut self) -> Result<bool, Error> {
+        // SAFETY: the slot is this handle's, which nobody else uses meanwhile.
         unsafe { is_halted(self.slot()) }
     }
 }
@@ -902,6 +939,7 @@ impl Driver {
     /// A turn.
     pub fn turn(&mut self) -> Result<DriverTurn, Error> {
         let mut turn = ffi::rcuo_driver_turn::default();
+        // SAFETY: the slot is this handle's, which nobody else uses meanwhile.
         answer(unsafe { ffi::rcuo_slot_driver_turn(self.slot(), &mut turn) })?;
         Ok(match turn.step {
             1 => DriverTurn::Started(turn.number),
@@ -913,6 +951,7 @@ impl Driver {
 
     /// Whether control was told to halt.
     pub fn is_halted(&mut self) -> Result<bool, Error> {
+        // SAFETY: the slot is this handle's, which nobody else uses meanwhile.
         unsafe { is_halted(self.slot()) }
     }
 }
@@ -942,43 +981,51 @@ impl fmt::Debug for Barrier {
 impl Control {
     /// Asks for a grace period that begins after this call.
     pub fn start_poll(&mut self) -> Result<Cookie, Error> {
+        // SAFETY: the slot is this handle's, which nobody else uses meanwhile.
         unsafe { start_poll(self.slot()) }
     }
 
     /// Whether the grace period of a cookie of this runtime has ended: then each processor reported since, or was away.
     pub fn poll_state(&mut self, cookie: Cookie) -> Result<bool, Error> {
+        // SAFETY: the slot is this handle's, which nobody else uses meanwhile.
         unsafe { poll_state(self.slot(), cookie) }
     }
 
     /// Asks that a processor be offloaded, which its next tick heeds.
     pub fn offload(&mut self, processor: u64) -> Result<(), Error> {
+        // SAFETY: the slot is this handle's, which nobody else uses meanwhile.
         answer(unsafe { ffi::rcuo_slot_switch(self.slot(), processor, true) })
     }
 
     /// Asks that a processor be local, which its next tick heeds.
     pub fn deoffload(&mut self, processor: u64) -> Result<(), Error> {
+        // SAFETY: the slot is this handle's, which nobody else uses meanwhile.
         answer(unsafe { ffi::rcuo_slot_switch(self.slot(), processor, false) })
     }
 
     /// Opens a barrier for all callbacks accepted before this call.
     pub fn barrier(&mut self) -> Result<Barrier, Error> {
+        // SAFETY: the slot is this handle's, which nobody else uses meanwhile.
         unsafe { barrier(self.slot()) }
     }
 
     /// Whether a barrier's callbacks have all run, whoever opened it.
     pub fn poll(&mut self, barrier: &Barrier) -> Result<bool, Error> {
+        // SAFETY: the slot is this handle's, which nobody else uses meanwhile.
         unsafe { poll(self.slot(), barrier) }
     }
 
     /// Shuts every processor: from now on each call is refused. Answers how many callbacks each accepted.
     pub fn shut(&mut self) -> Result<Vec<u64>, Error> {
         let mut counts = ffi::rcuo_counts::NONE;
+        // SAFETY: the slot is this handle's, which nobody else uses meanwhile.
         answer(unsafe { ffi::rcuo_slot_shut(self.slot(), &mut counts) })?;
         Ok(counts_of(&counts).to_vec())
     }
 
     /// Sets the halt word, which `is_halted` of the other parts reads. No call heeds it by itself.
     pub fn halt(&mut self) -> Result<(), Error> {
+        // SAFETY: the slot is this handle's, which nobody else uses meanwhile.
         answer(unsafe { ffi::rcuo_slot_halt(self.slot()) })
     }
 }
