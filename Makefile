@@ -3,7 +3,7 @@
 CRATE ?=
 
 .DEFAULT_GOAL := help
-.PHONY: help build lib test gate check bench install uninstall deb docs clean
+.PHONY: help build lib test gate check bench install uninstall deb dist docs clean
 
 help: ## this list
 	@echo 'usage: make COMMAND'
@@ -39,6 +39,9 @@ uninstall: ## remove what install put there, with the same PREFIX, DESTDIR and L
 
 deb: ## make Debian packages of what is built, in out/deb
 	tools/deb
+
+dist: ## make an archive of what is built, in out/dist, that is used without the prover
+	tools/dist
 
 docs: ## write the pages and tables that are made from the code
 	tools/documents --write

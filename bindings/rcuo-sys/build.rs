@@ -1,5 +1,5 @@
-//! Links `rcuo-runtime` and `rcuo`: the archives in the folder that `RCUO_LIB` names; else those in `out/` of the repository, where
-//! this crate stands in it; else what `pkg-config` says of an installed library.
+//! Links `rcuo-runtime` and `rcuo`: the archives in the folder that `RCUO_LIB` names; else, where this crate stands in the repository
+//! or in what `make dist` made of it, those in `out` or in `lib` there; else what `pkg-config` says of an installed library.
 
 use std::env;
 use std::mem;
@@ -28,14 +28,15 @@ fn link() -> Result<(), String> {
     if let Some(folder) = env::var_os("RCUO_LIB") {
         return link_archives(Path::new(&folder)).map_err(|why| format!("{why}, which RCUO_LIB names"));
     }
-    match repository() {
+    match root() {
+        Some(root) if root.join("lib/librcuo.a").exists() => link_archives(&root.join("lib")),
         Some(root) => link_archives(&root.join("out")).map_err(|why| format!("{why}: run `tools/build librcuo` and `make -C lib`")),
         None => link_installed(),
     }
 }
 
-/// The repository that this crate stands in, unless it was packaged.
-fn repository() -> Option<PathBuf> {
+/// The folder with the headers that this crate stands in, unless it was packaged.
+fn root() -> Option<PathBuf> {
     let root = PathBuf::from(env::var_os("CARGO_MANIFEST_DIR")?).join("../..");
     root.join("include/rcuo/runtime.h").exists().then_some(root)
 }

@@ -8,9 +8,9 @@
  *     rcuo::retire(old);                      in any thread: `delete old` after a grace period
  *     rcuo::call([=] { .. });                 the same for any callable
  *
- * What a program owes stands in rcuo/runtime.h. A call that is refused throws an rcuo::error, which has the answer. A callable that
- * throws ends the program, by std::terminate. Where a thread uses several runtimes, those calls that name none mean the one that
- * its last registration or rcuo_use chose.
+ * What a program owes stands in rcuo/runtime.h. A call that is refused throws an rcuo::error, which has the answer, or ends the
+ * program where there are no exceptions. So does a callable that throws, by std::terminate. Where a thread uses several runtimes,
+ * those calls that name none mean the one that its last registration or rcuo_use chose.
  */
 #ifndef RCUO_RUNTIME_HPP
 #define RCUO_RUNTIME_HPP
@@ -36,7 +36,12 @@ private:
 };
 
 inline void check(rcuo_answer answer) {
-    if (answer != RCUO_OK) throw error(answer);
+    if (answer == RCUO_OK) return;
+#ifdef __EXCEPTIONS
+    throw error(answer);
+#else
+    std::terminate();
+#endif
 }
 
 namespace detail {

@@ -21,7 +21,7 @@ SONAME = "librcuo.so." + VERSION.partition(".")[0]
 LIBRARIES = {"librcuo.a", f"librcuo.so.{VERSION}", SONAME, "librcuo.so", "pkgconfig/rcuo.pc"}
 LIBRARIES |= {"librcuo-runtime.a", "pkgconfig/rcuo-runtime.pc"}
 HEADERS = {"rcuo.h", "rcuo/runtime.h", "rcuo/runtime.hpp"}
-MANUALS = {f"man{it.suffix[1:]}/{it.name}" for it in (ROOT / "docs/man").iterdir()}
+MANUALS = {f"man{it.suffix[1:]}/{it.name}" for it in (ROOT / "docs/man").glob("*.[37]")}
 
 
 def run(*words, **variables):

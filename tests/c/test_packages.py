@@ -1,4 +1,5 @@
-"""Makes the Debian packages and the packages of the crates, unpacks them, and builds programs with what is there alone:
+"""Makes the Debian packages, the packages of the crates, and the archive of `make dist`, unpacks them, and builds programs with what
+is there alone:
 python3 tests/c/test_packages.py
 
 It wants what is built (tools/build librcuo), debhelper, lintian, compilers for C and C++, pkg-config and cargo.
@@ -57,7 +58,8 @@ class Packages(unittest.TestCase):
         names = {it.name.partition("_")[0] for it in DEBS.glob("*.deb")}
         self.assertLessEqual({"librcuo0", "librcuo-dev"}, names)
         for file in ("include/rcuo.h", "include/rcuo/runtime.h", "include/rcuo/runtime.hpp", "share/man/man3/rcuo.3.gz",
-                     "share/man/man7/rcuo-urcu.7.gz", "share/doc/librcuo-dev/examples/c/first.c"):
+                     "share/man/man7/rcuo-urcu.7.gz",
+                     "share/doc/librcuo-dev/examples/c/first.c"):
             self.assertTrue((self.there / "usr" / file).exists(), file)
         for file in ("librcuo.a", "librcuo.so", "librcuo.so.0", "librcuo-runtime.a"):
             self.assertTrue((self.libraries / file).exists(), file)
@@ -91,6 +93,30 @@ class Packages(unittest.TestCase):
             f'[patch.crates-io]\nrcuo-sys = {{ path = "../rcuo-sys-{version}" }}\n', encoding="utf-8")
         printed = self.ran("cargo", "run", "--offline", "--quiet", "--target-dir", self.work / "built", cwd=crate)
         self.assertEqual(printed, "read the old version\nthe old version is gone\nleft the new version\n")
+        with self.subTest("a library that isn't there is named"):
+            for variables, text in (({"RCUO_LIB": str(crate)}, f"librcuo-runtime.a isn't in {crate}, which RCUO_LIB names"),
+                                    ({"PKG_CONFIG_LIBDIR": str(crate)}, "install librcuo, or name the folder of its archives by RCUO_LIB")):
+                with self.assertRaisesRegex(AssertionError, text):
+                    run("cargo", "build", "--offline", "--target-dir", self.work / "built", cwd=crate, variables=variables)
+
+    def test_an_archive_without_the_prover(self):
+        """What `make dist` makes, unpacked: programs in C, C++ and Rust by the commands of its README, and its sums."""
+        (archive,) = run(ROOT / "tools/dist").split()[-1:]
+        run("tar", "-xf", ROOT / archive, "-C", self.work)
+        folder = self.work / pathlib.Path(archive).name.removesuffix(".tar.gz")
+        readme = (folder / "README.md").read_text(encoding="utf-8")
+        path = os.pathsep.join(it for it in os.environ["PATH"].split(os.pathsep) if not os.access(pathlib.Path(it) / "rt", os.X_OK))
+        script = [line.removeprefix("$ ") for line in readme.splitlines() if line.startswith("$ ")]
+        self.assertEqual(len(script), 5)
+        if not (folder / "bin/rcuo").exists() or not shutil.which("cargo"):
+            script = [line for line in script if not line.startswith("bin/") and (shutil.which("cargo") or not line.startswith("cargo"))]
+        printed = run("bash", "-e", "-c", "\n".join(script), cwd=folder, variables={"PATH": path, "CARGO_TARGET_DIR": str(self.work / "dist")})
+        self.assertIn("published 100000, freed 99999, faults 0\npublished 100000, faults 0\n", printed)
+        if shutil.which("cargo"):
+            self.assertIn("left the new version\n", printed)
+        os.unlink(folder / "a.out")
+        run("sha256sum", "--check", "--quiet", "FILES", cwd=folder)
+        run("sha256sum", "--check", "--quiet", folder / "SOURCES", cwd=ROOT)
 
     def test_the_program(self):
         program = self.there / "usr/bin/rcuo"

@@ -7,7 +7,7 @@
 //! The build script finds the libraries:
 //!
 //! 1. the archives `librcuo-runtime.a` and `librcuo.a` in the folder that the environment variable `RCUO_LIB` names;
-//! 2. else, within the repository, those in its folder `out`;
+//! 2. else, within the repository, those in its folder `out`, and within what `make dist` made of it, those in its folder `lib`;
 //! 3. else what `pkg-config --libs rcuo-runtime` says of an installed library (`PKG_CONFIG` names another program).
 //!
 //! ```

@@ -102,7 +102,8 @@ impl Builder {
 /// A runtime with a helper thread, which runs the jobs, one at a time.
 ///
 /// It is a handle: clones, and the [`Thread`]s that were registered, mean the same runtime. When the last of them is dropped, the
-/// runtime stops: that waits until the jobs have run. [`Runtime::stop`] does so by name, and says what came back.
+/// runtime stops: that waits until the jobs have run, and drops those that jobs still defer after sixteen rounds. Where a job dropped
+/// it, another thread waits. [`Runtime::stop`] does so by name, and says what came back.
 #[derive(Clone)]
 pub struct Runtime {
     owner: Arc<Owner>,

@@ -42,7 +42,8 @@ impl Local {
                 unsafe { self.report() };
             }
         }
-        self.guards.set(guards + 1);
+        // (where it began anew at 0, it would count none of those that live)
+        self.guards.set(guards.checked_add(1).expect("there are fewer guards than numbers"));
     }
 
     /// No guard lives: those that are counted were forgotten.

@@ -1,4 +1,4 @@
-//! Pointers, by a guard that guards nothing: what Miri sees too, since no call leaves Rust.
+//! Pointers, by a guard that guards nothing: no call leaves Rust, so Miri can run these too.
 
 use rcuo::{unprotected, Atomic, Guard, Helper, Owned, Pointer, Shared};
 use std::cell::Cell;
