@@ -22,6 +22,7 @@ impl<'t> Guard<'t> {
     /// # Safety
     ///
     /// `local` has counted this guard, and its thread is registered as long as the borrow lasts.
+    #[inline]
     pub(crate) unsafe fn of(local: &'t Local) -> Guard<'t> {
         Guard { local: Some(local) }
     }
@@ -107,6 +108,7 @@ impl<'t> Guard<'t> {
 }
 
 impl Drop for Guard<'_> {
+    #[inline]
     fn drop(&mut self) {
         if let Some(local) = self.local {
             local.end_guard();

@@ -1,6 +1,7 @@
 //! A registered thread.
 
 use crate::guard::Guard;
+use crate::job;
 use crate::runtime::{Home, Runtime};
 use rcuo_sys as ffi;
 use std::cell::Cell;
@@ -21,17 +22,21 @@ pub(crate) struct Local {
 }
 
 impl Local {
+    /// Reports a quiescent state.
+    ///
     /// # Safety
     ///
     /// This thread is registered with the runtime of its home, and no guard of it lives.
+    #[inline(never)]
     unsafe fn report(&self) {
         // SAFETY: the caller's. What a registered, online thread reports isn't refused, since no section is counted.
         unsafe {
-            crate::job::choose(self.home.as_ref().runtime);
+            job::choose(self.home.as_ref().runtime);
             ffi::rcuo_report_all();
         }
     }
 
+    #[inline]
     fn begin_guard(&self) {
         let guards = self.guards.get();
         if guards == 0 {
@@ -51,6 +56,7 @@ impl Local {
         self.guards.set(0);
     }
 
+    #[inline]
     pub(crate) fn end_guard(&self) {
         self.guards.set(self.guards.get() - 1);
     }
@@ -95,6 +101,7 @@ impl Thread {
     /// Begins a read section, which ends where the guard is dropped. Sections may nest.
     ///
     /// It costs a few instructions, and so does the end; each 64th outermost pin reports a quiescent state before.
+    #[inline]
     pub fn pin(&self) -> Guard<'_> {
         self.local.begin_guard();
         // SAFETY: the guard was counted, and borrows this thread.
