@@ -35,6 +35,8 @@ private:
     rcuo_answer answer_;
 };
 
+namespace detail {
+
 inline void check(rcuo_answer answer) {
     if (answer == RCUO_OK) return;
 #ifdef __EXCEPTIONS
@@ -43,8 +45,6 @@ inline void check(rcuo_answer answer) {
     std::terminate();
 #endif
 }
-
-namespace detail {
 
 /* A callable with a head, on the heap. */
 struct callback : rcuo_head {
@@ -89,7 +89,7 @@ inline void destroy_all(rcuo_head *head) noexcept {
 /* A runtime with its helper thread. Registrations end before it is stopped or destroyed. */
 class runtime {
 public:
-    explicit runtime(const rcuo_options *options = nullptr) : started_(nullptr) { check(rcuo_start(&started_, options)); }
+    explicit runtime(const rcuo_options *options = nullptr) : started_(nullptr) { detail::check(rcuo_start(&started_, options)); }
     runtime(runtime &&other) noexcept : started_(other.started_) { other.started_ = nullptr; }
     runtime(const runtime &) = delete;
     runtime &operator=(const runtime &) = delete;
@@ -104,7 +104,7 @@ public:
 
     /* Waits until all callbacks have run. Callables that callbacks called for more rounds than rcuo_stop waits for are destroyed
      * uncalled. Throws where it is refused: RCUO_FULL, RCUO_RUNNING, RCUO_MEMORY. */
-    void stop() { check(try_stop()); }
+    void stop() { detail::check(try_stop()); }
 
     rcuo_runtime *get() const noexcept { return started_; }
 
@@ -124,10 +124,10 @@ private:
 /* While it lives this thread is registered, with the runtime that is named, or the one that it uses. It stays with its thread. */
 class registration {
 public:
-    registration() : with_(nullptr) { check(rcuo_register()); }
+    registration() : with_(nullptr) { detail::check(rcuo_register()); }
     explicit registration(const runtime &with) : with_(with.get()) {
         rcuo_use(with_);
-        check(rcuo_register());
+        detail::check(rcuo_register());
     }
     registration(const registration &) = delete;
     registration &operator=(const registration &) = delete;
@@ -152,18 +152,18 @@ public:
 /* While it lives nobody waits for this thread, which reads nothing. */
 class offline {
 public:
-    offline() { check(rcuo_thread_offline()); }
+    offline() { detail::check(rcuo_thread_offline()); }
     offline(const offline &) = delete;
     offline &operator=(const offline &) = delete;
     ~offline() { rcuo_thread_online(); }
 };
 
 /* No read section of this thread is open. */
-inline void quiescent_state() { check(rcuo_quiescent_state()); }
+inline void quiescent_state() { detail::check(rcuo_quiescent_state()); }
 
 /* Waits for a grace period; and until all callbacks have run that any thread called before. */
-inline void synchronize() { check(rcuo_synchronize()); }
-inline void barrier() { check(rcuo_runtime_barrier()); }
+inline void synchronize() { detail::check(rcuo_synchronize()); }
+inline void barrier() { detail::check(rcuo_runtime_barrier()); }
 
 /* Calls a callable after a grace period, in the helper: a copy of it, or what it was moved into, on the heap. By any thread, within
  * read sections and callbacks too. Throws what the copy and `new` throw, and else is never refused. */
