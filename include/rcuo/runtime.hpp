@@ -18,6 +18,7 @@
 #include <atomic>
 #include <exception>
 #include <memory>
+#include <new>
 #include <rcuo/runtime.h>
 #include <type_traits>
 #include <utility>
@@ -73,6 +74,16 @@ template <typename Object, typename Deleter> struct destroys {
 inline void run_callback(rcuo_head *head) noexcept {
     std::unique_ptr<callback> entered(static_cast<callback *>(head));
     entered->run();
+}
+
+/* Room for a callable that destroys an object: it is had before anything owns that. */
+template <typename Object, typename Deleter> void *room_to_retire() {
+    return ::operator new(sizeof(callback_of<destroys<Object, Deleter>>));
+}
+
+template <typename Object, typename Deleter> void retire_in(void *room, std::unique_ptr<Object, Deleter> &&object) noexcept {
+    using retires = callback_of<destroys<Object, Deleter>>;
+    rcuo_call_rcu(new (room) retires(destroys<Object, Deleter>(std::move(object))), run_callback);
 }
 
 /* Destroys the callables of a list that came back, without calling them. Heads of C are the program's. */
@@ -172,12 +183,16 @@ template <typename Function> void call(Function &&function) {
     rcuo_call_rcu(new callback(std::forward<Function>(function)), detail::run_callback);
 }
 
-/* Destroys an object after a grace period. */
-template <typename Object, typename Deleter> void retire(std::unique_ptr<Object, Deleter> object) {
-    call(detail::destroys<Object, Deleter>(std::move(object)));
+/* Destroys an object after a grace period. Where `new` throws, it is the caller's still: readers may see it. */
+template <typename Object, typename Deleter> void retire(std::unique_ptr<Object, Deleter> &&object) {
+    void *room = detail::room_to_retire<Object, Deleter>();
+    detail::retire_in(room, std::move(object));
 }
 
-template <typename Object> void retire(Object *object) { retire(std::unique_ptr<Object>(object)); }
+template <typename Object> void retire(Object *object) {
+    void *room = detail::room_to_retire<Object, std::default_delete<Object>>();
+    detail::retire_in(room, std::unique_ptr<Object>(object));
+}
 
 /* What a pointer leads to was published by `publish`, `rcuo::atomic_ptr`, or a release store. */
 template <typename Object> Object *dereference(const std::atomic<Object *> &from) noexcept {

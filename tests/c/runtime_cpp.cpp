@@ -6,10 +6,29 @@
 #include <cstdio>
 #include <cstdlib>
 #include <functional>
+#include <new>
 #include <rcuo/runtime.hpp>
 #include <string>
 #include <thread>
 #include <vector>
+
+namespace {
+
+/* Whether this thread's next allocation is refused. */
+thread_local bool refuses;
+
+} // namespace
+
+/* (where one of them is inlined alone, gcc takes the other for another allocator's) */
+#define NOT_INLINED __attribute__((noinline))
+NOT_INLINED void *operator new(std::size_t size) {
+    void *const place = refuses ? nullptr : std::malloc(size);
+    refuses = false;
+    if (!place) throw std::bad_alloc();
+    return place;
+}
+NOT_INLINED void operator delete(void *place) noexcept { std::free(place); }
+NOT_INLINED void operator delete(void *place, std::size_t) noexcept { std::free(place); }
 
 namespace {
 
@@ -28,6 +47,18 @@ template <typename Call> rcuo_answer refusal_of(Call &&refused) {
         return error.answer();
     }
     return RCUO_OK;
+}
+
+/* Whether a call throws where its first allocation is refused. */
+template <typename Call> bool is_refused(Call &&call) {
+    refuses = true;
+    try {
+        call();
+    } catch (const std::bad_alloc &) {
+        return true;
+    }
+    refuses = false;
+    return false;
 }
 
 /* How many of these live. */
@@ -150,6 +181,21 @@ void test_retired() {
     EXPECT(counted::live == 0);
 }
 
+void test_refused_memory() {
+    rcuo::runtime runtime;
+    counted *const object = new counted;
+    std::unique_ptr<counted> owned(new counted);
+    EXPECT(is_refused([&] { rcuo::retire(object); }));
+    EXPECT(is_refused([&] { rcuo::retire(std::move(owned)); }));
+    EXPECT(is_refused([] { rcuo::call(call_plain); }));
+    rcuo::barrier();
+    EXPECT(counted::live == 2 && owned && plain_calls == 1);
+    rcuo::retire(object);
+    rcuo::retire(std::move(owned));
+    rcuo::barrier();
+    EXPECT(counted::live == 0);
+}
+
 void test_pointers() {
     std::array<int, 2> numbers = {{1, 2}};
     std::atomic<int *> plain(nullptr);
@@ -209,8 +255,11 @@ int main() {
     test_calls();
     test_what_comes_back();
     test_retired();
+    /* (valgrind has operator new for itself) */
+    const bool can_refuse = is_refused([] { ::operator delete(::operator new(1)); });
+    if (can_refuse) test_refused_memory();
     test_pointers();
     test_readers();
     test_two_runtimes();
-    std::puts("all tests passed");
+    std::puts(can_refuse ? "all tests passed" : "all tests passed but those that refuse memory, which can't be refused here");
 }
