@@ -3,7 +3,7 @@
 CRATE ?=
 
 .DEFAULT_GOAL := help
-.PHONY: help build lib test gate check bench install uninstall docs clean
+.PHONY: help build lib test gate check bench install uninstall deb dist docs clean
 
 help: ## this list
 	@echo 'usage: make COMMAND'
@@ -37,8 +37,14 @@ install: ## install the libraries for C, their headers and what pkg-config reads
 uninstall: ## remove what install put there, with the same PREFIX, DESTDIR and LIBDIR
 	tools/install-librcuo --uninstall
 
+deb: ## make Debian packages of what is built, in out/deb
+	tools/deb
+
+dist: ## make an archive of what is built, in out/dist, that is used without the prover
+	tools/dist
+
 docs: ## write the pages and tables that are made from the code
 	tools/documents --write
 
 clean: ## remove all that was built, and what checks kept: the next build proves from nothing
-	rm -rf out crates/*/out bindings/rust/target tools/__pycache__ tests/program/__pycache__
+	rm -rf out crates/*/out bindings/target tools/__pycache__ tests/program/__pycache__

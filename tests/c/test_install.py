@@ -23,11 +23,12 @@ URCU = not subprocess.run(["cc", "-E", "-xc", "-"], input=b"#include <urcu/urcu-
 NAMES = ("rcuo", "rcuo-runtime", "rcuo-urcu-qsbr") if URCU else ("rcuo", "rcuo-runtime")
 LIBRARIES = {f"lib{name}.{it}" for name in NAMES for it in ("a", "so", f"so.{MAJOR}", f"so.{VERSION}")}
 LIBRARIES |= {f"pkgconfig/{name}.pc" for name in NAMES}
-HEADERS = {"rcuo.h", "rcuo/runtime.h"} | ({"rcuo/urcu-qsbr.h", "rcuo/liburcu/urcu/urcu-qsbr.h"} if URCU else set())
+HEADERS = {"rcuo.h", "rcuo/runtime.h", "rcuo/runtime.hpp"} | ({"rcuo/urcu-qsbr.h", "rcuo/liburcu/urcu/urcu-qsbr.h"} if URCU else set())
 URCU_EXAMPLE = ROOT / "tests/c/liburcu.c"
 # (the words of liburcu that inlined readers report to, and what its library has for systems without futex)
 NOT_OFFERED = {"urcu_qsbr_gp", "urcu_qsbr_reader"}
 COMPATIBLE = re.compile(r"_*(urcu_)?compat_futex_\w+")
+MANUALS = {f"man{it.suffix[1:]}/{it.name}" for it in (ROOT / "docs/man").glob("*.[37]")}
 
 
 def run(*words, **variables):
@@ -93,7 +94,8 @@ class Install(unittest.TestCase):
     def test_staged_used_and_removed(self):
         self.installs("PREFIX=/usr", f"DESTDIR={self.stage}")
         libraries = {f"usr/lib/{it}" for it in LIBRARIES}
-        self.assertEqual(self.files(self.stage), {*(f"usr/include/{it}" for it in HEADERS), *libraries})
+        manuals = {f"usr/share/man/{it}" for it in MANUALS}
+        self.assertEqual(self.files(self.stage), {*(f"usr/include/{it}" for it in HEADERS), *libraries, *manuals})
         with self.subTest("the archive"):
             archived = self.built("archived", "-Wl,-Bstatic")
             self.assertEqual(run(archived), SAYS)
@@ -116,6 +118,17 @@ class Install(unittest.TestCase):
                 self.assertIn("threads 8, deferred 8, called again 20, lost 0, dead 0", said)
         self.installs("--uninstall", "PREFIX=/usr", f"DESTDIR={self.stage}")
         self.assertEqual(self.files(self.stage), set())
+
+    def test_the_manuals_name_what_the_headers_declare(self):
+        headers = "".join((ROOT / f"include/{it}").read_text(encoding="utf-8") for it in ("rcuo.h", "rcuo/runtime.h"))
+        for page in (ROOT / "docs/man").glob("*.3"):
+            for name in re.findall(r"^\.Fn (\w+)", page.read_text(encoding="utf-8").partition("\n.Sh DESCRIPTION")[0], re.MULTILINE):
+                with self.subTest(page.name, name=name):
+                    self.assertRegex(headers, rf"\b{name}\(")
+
+    @unittest.skipUnless(shutil.which("mandoc"), "mandoc reads the manuals")
+    def test_the_manuals_are_in_order(self):
+        run("mandoc", "-T", "lint", "-W", "warning", *(ROOT / "docs/man").iterdir())
 
     def test_the_managed_runtime_offers_what_its_header_declares(self):
         self.installs("PREFIX=/usr", f"DESTDIR={self.stage}")
@@ -161,7 +174,7 @@ class Install(unittest.TestCase):
     def test_the_environment_and_a_folder_for_libraries(self):
         self.installs(PREFIX="/opt/rcuo/", LIBDIR="/usr/lib/some-system", DESTDIR="stage")
         headers, libraries = (f"opt/rcuo/include/{it}" for it in HEADERS), (f"usr/lib/some-system/{it}" for it in LIBRARIES)
-        self.assertEqual(self.files(self.stage), {*headers, *libraries})
+        self.assertEqual(self.files(self.stage), {*headers, *libraries, *(f"opt/rcuo/share/man/{it}" for it in MANUALS)})
         described = (self.stage / "usr/lib/some-system/pkgconfig/rcuo.pc").read_text(encoding="utf-8")
         self.assertIn("prefix=/opt/rcuo\n", described)
         self.assertIn("libdir=/usr/lib/some-system\n", described)

@@ -1,16 +1,24 @@
-//! A whole program, in one thread: `cargo run --offline --example first`.
+//! A whole program: `cargo run --offline --example first`.
 
-fn main() -> Result<(), rcuo::Error> {
-    let mut parts = rcuo::open(&rcuo::Settings { processors: 2, records: true, ..Default::default() })?;
-    let old = String::from("the old version");
-    parts.processors[0].call(0, move || println!("freed {old}"))?;
-    while parts.processors[0].run(0, 10)? == 0 {
-        for processor in &mut parts.processors {
-            processor.quiescent()?; // no thread reads now as this processor
-        }
-        parts.driver.turn()?; // starts and ends grace periods
-    }
-    let closed = parts.close()?;
-    println!("closed: {} ran", closed.ran[0].len());
+use rcuo::{Atomic, Owned, Runtime};
+use std::sync::atomic::Ordering::{Acquire, SeqCst};
+
+fn main() -> Result<(), Box<dyn std::error::Error>> {
+    let runtime = Runtime::start()?;
+    let config = Atomic::new(String::from("the old version"));
+    let mut thread = runtime.register()?; // in each thread that reads
+
+    let guard = thread.pin(); // a read section
+    // SAFETY: what was loaded under the guard stays as long as it.
+    println!("read {}", unsafe { config.load(Acquire, &guard).deref() });
+    let old = config.swap(Owned::new(String::from("the new version")), SeqCst, &guard);
+    // SAFETY: it was taken out, once. The helper drops it after a grace period.
+    unsafe { guard.defer_destroy(old) };
+    guard.defer(|| println!("the old version is gone"));
+    drop(guard);
+
+    thread.barrier(); // all that was deferred has run
+    // SAFETY: no thread has it any more.
+    println!("left {}", unsafe { config.into_owned() }.into_box());
     Ok(())
 }

@@ -1,7 +1,7 @@
 //! Parts that are dropped, as by a thread that panics: close hands the others back with the reason, no job is lost, and the
 //! program gets on.
 
-use rcuo::{open, Closed, Error, Parts, Recovered, Settings};
+use rcuo::parts::{open, Closed, Error, Parts, Recovered, Settings};
 use std::mem::replace;
 use std::sync::atomic::{AtomicU64, Ordering::SeqCst};
 use std::sync::Arc;

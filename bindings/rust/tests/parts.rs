@@ -1,6 +1,6 @@
 //! The parts in threads of their own, and what close gives back.
 
-use rcuo::{open, Error, Settings};
+use rcuo::parts::{open, Error, Settings};
 use std::sync::atomic::{AtomicBool, AtomicU64, Ordering::SeqCst};
 use std::sync::{Arc, Mutex};
 use std::thread;
@@ -192,7 +192,7 @@ fn refusals_are_errors() {
     }
     let refused = boxed().unwrap_err();
     assert_eq!(refused.to_string(), Error::Limit.to_string());
-    assert!(refused.is::<rcuo::Refused<rcuo::Job>>());
+    assert!(refused.is::<rcuo::parts::Refused<rcuo::parts::Job>>());
     assert_eq!(format!("{refused:?}"), "Refused { error: Limit, .. }");
     assert_eq!(plain(), Err(Error::Closed));
     let mut parts = open(&Settings::default()).unwrap();
@@ -208,20 +208,6 @@ fn types_show_themselves() {
     assert_eq!(format!("{parts:?}"), shown);
     assert_eq!(format!("{:?}", parts.control.barrier().unwrap()), "Barrier([1, 0])");
     assert_eq!(format!("{:?}", parts.close().unwrap()), "Closed { ran: [[], []], back: [1, 0] }");
-}
-
-/// The header's version and defaults are those of this crate and of the library that it links.
-#[test]
-fn the_header_and_the_library_are_this_versions() {
-    let header = include_str!("../../../include/rcuo.h");
-    let defined = |name: &str| header.lines().find_map(|line| line.strip_prefix(&format!("#define {name} "))).unwrap();
-    assert_eq!(defined("RCUO_VERSION"), format!("\"{}\"", env!("CARGO_PKG_VERSION")));
-    assert_eq!(rcuo::version(), env!("CARGO_PKG_VERSION"));
-    let Settings { processors, stride, blimit, qhimark, limit, offloadable, records } = Settings::default();
-    assert_eq!(offloadable, Some([].as_slice()));
-    let records = u32::from(records);
-    let defaults = format!("{{{processors}, {stride}, {blimit}, {qhimark}, {limit}, rcuo_none, rcuo_none, {records}}}");
-    assert_eq!(defined("RCUO_SETTINGS_DEFAULT"), defaults);
 }
 
 #[test]
