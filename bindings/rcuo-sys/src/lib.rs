@@ -294,6 +294,16 @@ impl rcuo_head {
     pub const NONE: rcuo_head = rcuo_head { next: ptr::null_mut(), function: None };
 }
 
+/// What a helper has of its own.
+#[repr(C)]
+#[derive(Clone, Copy, Debug)]
+pub struct rcuo_helper {
+    /// Its name; null: that of the options, with its number.
+    pub name: *const c_char,
+    /// Its attributes, a `pthread_attr_t`; null: those of the options.
+    pub attributes: *const c_void,
+}
+
 /// How a runtime is started.
 #[repr(C)]
 #[derive(Clone, Copy, Debug)]
@@ -302,8 +312,14 @@ pub struct rcuo_options {
     pub threads: u32,
     /// The helper's name; null: `rcuo`.
     pub name: *const c_char,
-    /// The helper's attributes, a `pthread_attr_t`; null: as the starting thread.
+    /// The helpers' attributes, a `pthread_attr_t`; null: as the starting thread.
     pub attributes: *const c_void,
+    /// How many helpers there are at first; 0: one.
+    pub helpers: u32,
+    /// What each of so many has of its own; null: nothing.
+    pub each: *const rcuo_helper,
+    /// How many there may be with those that are added; 0: `helpers`.
+    pub helpers_most: u32,
 }
 
 #[allow(missing_docs)] // (`rcuo/runtime.h` says what each does)
@@ -324,6 +340,9 @@ extern "C" {
     pub fn rcuo_defer(function: Option<rcuo_function>, argument: *mut c_void) -> rcuo_answer;
     pub fn rcuo_runtime_barrier() -> rcuo_answer;
     pub fn rcuo_helper_thread() -> c_ulong;
+    pub fn rcuo_add_helper(own: *const rcuo_helper, number: *mut u32) -> rcuo_answer;
+    pub fn rcuo_call_rcu_in(helper: u32, head: *mut rcuo_head, function: rcuo_head_function);
+    pub fn rcuo_get_helper_thread(number: u32, thread: *mut c_ulong) -> rcuo_answer;
     pub fn rcuo_before_fork();
     pub fn rcuo_after_fork_parent();
     pub fn rcuo_after_fork_child();

@@ -379,7 +379,9 @@ impl<'g, T> Shared<'g, T> {
     /// It isn't null, and what it points to
     /// - was published before it was loaded, by an order that the load's matches;
     /// - was loaded under a guard of the runtime by which it is retired, and isn't retired before that guard began;
-    /// - isn't changed meanwhile but by its own atomics and locks.
+    /// - isn't changed meanwhile but by its own atomics and locks;
+    ///
+    /// and the guard's thread doesn't end before what is answered was used, as it can where a `Thread` was leaked.
     pub unsafe fn deref(&self) -> &'g T {
         // SAFETY: the caller's.
         unsafe { &*self.as_raw() }

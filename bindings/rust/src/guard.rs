@@ -30,7 +30,7 @@ impl<'t> Guard<'t> {
     /// Runs a job in the helper, once each guard is gone that lives now, and its thread has said so. What it answers is dropped
     /// there.
     ///
-    /// Jobs of one thread run in the order in which it deferred them, and one at a time in all. Where a job panics the next one
+    /// Jobs of one thread run in the order in which it deferred them, and with one helper one at a time in all. Where a job panics the next one
     /// runs, and [`Builder::on_panic`](crate::Builder::on_panic) is told. Each has an allocation of its own.
     pub fn defer<F, R>(&self, job: F)
     where

@@ -47,13 +47,15 @@ impl Home {
 #[derive(Default)]
 pub struct Builder {
     threads: u32,
+    helpers: u32,
     name: Option<String>,
     on_panic: Option<PanicHandler>,
 }
 
 impl fmt::Debug for Builder {
     fn fmt(&self, out: &mut fmt::Formatter<'_>) -> fmt::Result {
-        out.debug_struct("Builder").field("threads", &self.threads).field("name", &self.name).finish_non_exhaustive()
+        let mut fields = out.debug_struct("Builder");
+        fields.field("threads", &self.threads).field("helpers", &self.helpers).field("name", &self.name).finish_non_exhaustive()
     }
 }
 
@@ -65,7 +67,15 @@ impl Builder {
         self
     }
 
-    /// The helper thread's name, of which the system keeps 15 bytes; `rcuo` by default.
+    /// How many helper threads run jobs, among which the threads are shared out as they register; 0 is one, as by default. Jobs of one
+    /// thread run in one helper, in order and one at a time; those of two may run at once. Each helper after the first takes the
+    /// place of two threads.
+    pub fn helpers(mut self, helpers: u32) -> Builder {
+        self.helpers = helpers;
+        self
+    }
+
+    /// The helper thread's name, of which the system keeps 15 bytes; `rcuo` by default. Of several each has its number behind it.
     pub fn name(mut self, name: impl Into<String>) -> Builder {
         self.name = Some(name.into());
         self
@@ -86,7 +96,14 @@ impl Builder {
     pub fn start(self) -> Result<Runtime, StartError> {
         let name = self.name.map(CString::new).transpose().map_err(|_| StartError::Name)?;
         let name = name.as_ref().map_or(ptr::null(), |name| name.as_ptr());
-        let options = ffi::rcuo_options { threads: self.threads, name, attributes: ptr::null() };
+        let options = ffi::rcuo_options {
+            threads: self.threads,
+            name,
+            attributes: ptr::null(),
+            helpers: self.helpers,
+            each: ptr::null(),
+            helpers_most: 0,
+        };
         let mut runtime = ptr::null_mut();
         // SAFETY: both pointers are of this frame, and the library copies the name.
         match unsafe { ffi::rcuo_start(&mut runtime, &options) } {
@@ -99,7 +116,7 @@ impl Builder {
     }
 }
 
-/// A runtime with a helper thread, which runs the jobs, one at a time.
+/// A runtime with a helper thread, which runs the jobs, one at a time; or with several ([`Builder::helpers`]).
 ///
 /// It is a handle: clones, and the [`Thread`]s that were registered, mean the same runtime. When the last of them is dropped, the
 /// runtime stops: that waits until the jobs have run, and drops those that jobs still defer after sixteen rounds. Where a job dropped
@@ -233,7 +250,7 @@ impl Runtime {
         self.home().panics.load(Ordering::Relaxed)
     }
 
-    /// The helper thread, as for `pthread_setaffinity_np`. It is there as long as a handle of the runtime is.
+    /// The helper thread that runs this thread's jobs, as for `pthread_setaffinity_np`. It is there as long as a handle of the runtime is.
     pub fn helper_thread(&self) -> RawPthread {
         self.choose();
         // SAFETY: this runtime was chosen, which runs.

@@ -91,5 +91,5 @@ fn the_fields_are_those_of_the_headers() {
         assert_eq!(here, there, "{name}");
         structs += 1;
     }
-    assert_eq!(structs, 11);
+    assert_eq!(structs, 12);
 }

@@ -42,6 +42,24 @@ fn a_thread_registers_once_for_each_runtime() {
 }
 
 #[test]
+fn threads_are_shared_out_among_helpers() {
+    let runtime = Runtime::builder().helpers(2).name("two").start().unwrap();
+    let mut thread = runtime.register().unwrap();
+    let (sender, helpers) = channel();
+    let tells = |sender: std::sync::mpsc::Sender<_>| move || sender.send(thread::current().id()).unwrap();
+    thread.pin().defer(tells(sender.clone()));
+    thread::scope(|scope| {
+        let other = sender.clone();
+        scope.spawn(|| runtime.register().unwrap().pin().defer(tells(other)));
+    });
+    thread.pin().defer(tells(sender));
+    thread.barrier();
+    let helpers = Vec::from_iter(helpers.try_iter());
+    assert_eq!(helpers.len(), 3);
+    assert_eq!(2, std::collections::HashSet::<_>::from_iter(helpers).len());
+}
+
+#[test]
 fn as_many_threads_as_asked_for() {
     let runtime = Runtime::builder().threads(1).start().unwrap();
     let thread = runtime.register().unwrap();
