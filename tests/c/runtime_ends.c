@@ -61,6 +61,19 @@ static void test_stop_with_chains(uint32_t helpers) {
     holds("and no other", both && (back->next == &endless[0].head || back->next == &endless[1].head));
 }
 
+/* Helpers end though they are asked as they go to sleep. */
+static void test_stop_often(uint32_t helpers, unsigned long times) {
+    unsigned long ran = 0;
+    for (unsigned long i = 0; i < times; i++) {
+        struct rcuo_runtime *runtime = start_runtime(helpers);
+        struct timespec some = {0, (long)(i % 64) * 1000};
+        rcuo_call_rcu(&new_counted(&ran)->head, count_and_free);
+        nanosleep(&some, NULL);
+        is("stop", rcuo_stop(runtime, NULL), RCUO_OK);
+    }
+    holds("each callback ran", ran == times);
+}
+
 static void test_several(void) {
     struct rcuo_runtime *one, *other;
     unsigned long ran[2] = {0, 0};
@@ -118,14 +131,21 @@ static bool goes_on(uint32_t helper, unsigned long *ran) {
     return good;
 }
 
-/* A callback that waits for this thread while it is about to fork. */
-static unsigned long entered;
+/* A callback that waits for this thread, which is about to fork, and for the helper of another one, which lasts until that is asked to
+ * stand still. */
+static unsigned long entered, lasting;
 
 static void wait_in_callback(struct rcuo_head *head) {
     STORE(&entered, 1);
-    for (int i = 0; i < 20; i++) {
+    for (int i = 0; i < 20; i += LOAD(&lasting) != 0) {
         if (rcuo_synchronize() != RCUO_OK) abort();
     }
+    count_run(head);
+}
+
+static void last_in_callback(struct rcuo_head *head) {
+    STORE(&lasting, 1);
+    nap(20);
     count_run(head);
 }
 
@@ -138,6 +158,7 @@ static void test_fork(uint32_t helpers) {
     pthread_barrier_t gate;
     pthread_barrier_init(&gate, NULL, 2);
     STORE(&entered, 0);
+    STORE(&lasting, 0);
     is("start", rcuo_start(&runtime, &options), RCUO_OK);
     is("add a helper", rcuo_add_helper(NULL, &added), RCUO_OK);
     pthread_t thread = start_thread(stay_offline, &gate);
@@ -148,7 +169,8 @@ static void test_fork(uint32_t helpers) {
     holds("a callback is entered", report_until(&entered, 1));
     call_many(nodes[0], &ran);
     in_added.ran = &ran;
-    rcuo_call_rcu_in(added, &in_added.head, count_run);
+    rcuo_call_rcu_in(added, &in_added.head, last_in_callback);
+    holds("so is one in the added helper", report_until(&lasting, 1));
     rcuo_before_fork();
     pid_t child = fork();
     if (child == 0) {
@@ -179,12 +201,14 @@ static void test_exit(void) {
     holds("a process with callbacks queued ends at once", status_of(child) == 7);
 }
 
-int main(void) {
+int main(int count, char **words) {
+    unsigned long times = words_of(count, words, 500);
     test_exit();
     test_several();
     for (uint32_t helpers = 1; helpers <= SEVERAL; helpers += SEVERAL - 1) {
         test_stop_runs_all(helpers);
         test_stop_with_chains(helpers);
+        test_stop_often(helpers, times);
 #ifndef __SANITIZE_THREAD__ /* (which knows no threads that a child starts) */
         test_fork(helpers);
 #else
