@@ -15,6 +15,7 @@ mod chance;
 mod checks;
 mod counters;
 mod flaw;
+mod history;
 mod line;
 mod meet;
 mod one_run;

@@ -13,6 +13,7 @@ use crate::chance::Chance;
 use crate::checks::check;
 use crate::counters::Counters;
 use crate::flaw::Flaws;
+use crate::history::check_history;
 use crate::plan::Plan;
 use crate::retire::Retire;
 use crate::shared::{Shared, share};
@@ -26,9 +27,11 @@ use std::sync::{Arc, Wait};
 use std::thread::Threads;
 
 /// How control led a run.
-#[derive(Clone, Copy)]
+#[derive(Drop)]
 struct Course {
     farewell: Farewell,
+    /// The counts of each barrier that passed.
+    passes: Vec<Vec<u64>>,
     /// What control counted.
     counters: Counters,
 }
@@ -66,15 +69,22 @@ fn lead<R: Wait + Clock>(
         shared,
         chance: Chance::new(plan.seed, run, 0),
         counters: Counters::NONE,
+        passes: Vec::new(alloc),
     };
     let farewell = steerer.lead(rt, alloc, plan.ending(run), are_running);
     let Steerer {
         mut control,
         counters,
+        passes,
         ..
     } = steerer;
     control.finish();
-    (control, Course { farewell, counters })
+    let course = Course {
+        farewell,
+        passes,
+        counters,
+    };
+    (control, course)
 }
 
 /// Runs all parts of an open in threads of their own.
@@ -148,6 +158,30 @@ fn close_all(alloc: Global, parts: Parts<Retire>) -> Result<Closed<Retire>, Thre
     }
 }
 
+/// Checks what is left of a run, and its history, and adds up what was counted.
+///
+/// # Errors
+///
+/// Want of memory.
+fn count_up(
+    alloc: Global,
+    shared: &Shared,
+    closed: &Closed<Retire>,
+    logs: &[Log],
+    course: &Course,
+) -> Result<Counters, AllocError> {
+    let Course {
+        farewell,
+        passes,
+        counters,
+    } = course;
+    let mut sum = check(shared, closed, logs, farewell);
+    sum.add(counters);
+    let made = check_history(alloc, shared, closed, logs, farewell, passes.as_slice())?;
+    sum.histories = u64::from(made);
+    Ok(sum)
+}
+
 /// Runs all parts of an open in threads of their own, closes the runtime, and checks what is left.
 ///
 /// # Errors
@@ -173,8 +207,9 @@ fn run_to_end<R: Threads + Wait + Clock + Copy + Send + 'static>(
     } = ended;
     same_parts::<Retire>();
     let closed = close_all(alloc, parts)?;
-    let mut counters = check(shared, &closed, logs.as_slice(), &course.farewell);
-    counters.add(&course.counters);
+    let Ok(counters) = count_up(alloc, shared, &closed, logs.as_slice(), &course) else {
+        return Err(ThreadsFault::Memory);
+    };
     Ok(Outcome { closed, counters })
 }
 

@@ -92,6 +92,23 @@ fn row<T>(rows: &[Vec<T>], p: usize) -> &[T] {
     }
 }
 
+/// The account of processor `p`, by what `close` answered, and by the keys that it accepted, in order, as the program knows them.
+///
+/// # Errors
+///
+/// Want of memory.
+pub fn account_of<J: Job>(
+    alloc: Global,
+    p: usize,
+    accepted: &[u64],
+    closed: &Closed<J>,
+) -> Result<Account, AllocError> {
+    let ran = row(closed.ran.as_slice(), p);
+    let back = row(closed.back.as_slice(), p);
+    let reports = closed.reports.get(p).copied().unwrap_or(0);
+    Account::new(alloc, accepted, ran, back, reports)
+}
+
 /// The account of each processor, by what `close` answered, and by the keys that each accepted, in order, as the program knows
 /// them.
 ///
@@ -105,10 +122,7 @@ pub fn accounts_of<J: Job>(
 ) -> Result<Vec<Account>, AllocError> {
     let mut accounts = Vec::new(alloc);
     for (p, keys) in accepted.iter().enumerate() {
-        let ran = row(closed.ran.as_slice(), p);
-        let back = row(closed.back.as_slice(), p);
-        let reports = closed.reports.get(p).copied().unwrap_or(0);
-        accounts.push(Account::new(alloc, keys.as_slice(), ran, back, reports)?)?;
+        accounts.push(account_of(alloc, p, keys.as_slice(), closed)?)?;
     }
     Ok(accounts)
 }

@@ -19,6 +19,6 @@ mod numbers;
 mod shutting;
 mod sights;
 
-pub use account::{Account, accounts_of};
+pub use account::{Account, account_of, accounts_of};
 pub use agreement::agrees;
 pub use number_order::witness;
