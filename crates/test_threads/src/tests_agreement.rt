@@ -9,12 +9,7 @@ use std::alloc::{AllocError, Global};
 use std::test::Fail;
 
 /// The keys that each of `many` processors accepts of so many jobs, which are dealt in turn, up to its limit.
-fn dealt(
-    alloc: Global,
-    many: u64,
-    jobs: u64,
-    limit: usize,
-) -> Result<Vec<Vec<u64>>, AllocError> {
+fn dealt(alloc: Global, many: u64, jobs: u64, limit: usize) -> Result<Vec<Vec<u64>>, AllocError> {
     let mut keys = Vec::new(alloc);
     for p in 0..many {
         let own = (0..jobs).filter(|key| *key % many.max(1) == p);
