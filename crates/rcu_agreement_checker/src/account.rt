@@ -1,9 +1,10 @@
 //! What is known of a runtime at its end.
 
-ghost use Rattle.std.specs.Prelude.{◌≡◌};
+ghost use Rattle.std.specs.Prelude.{◌≡◌, IfOk, length, map};
 ghost use Rattle.rcu_agreement.specs.Accounts as plain;
 ghost use Rattle.rcu_agreement.specs.Agreement as agreement;
 ghost use Rattle.rcu_agreement_checker.specs.Known.{all_counts, all_known};
+ghost use Rattle.rcu_agreement_checker.specs.Records.{stamps_known};
 
 use rcu_jobs::{Closed, Job, Record};
 use rcu_numbers::LAST_NUMBER;
@@ -30,28 +31,16 @@ pub struct Account {
     pub shuts: Vec<u64>,
 }
 
-/// The stamps of `many` callbacks, of which these have run.
+/// The stamps of `many` callbacks, of which the first ones have run, as these records say.
 ///
 /// `close` answers no stamp of a callback that was handed back. It gets the greatest number here, of which agreeing asks least:
 /// no report has a number above it. Nothing is lost by that, since the law asks for reports only where a callback ran.
-fn stamps_of<R>(alloc: Global, ran: &[Record<R>], many: usize) -> Result<Vec<u64>, AllocError> {
-    let mut stamps = Vec::new(alloc);
-    for record in ran {
-        stamps.push(record.stamp)?;
-    }
-    for _ in ran.len()..many {
-        stamps.push(LAST_NUMBER)?;
-    }
+fn stamps_of<R>(alloc: Global, ran: &[Record<R>], many: usize) -> Result<Vec<u64>, AllocError>
+    ensures { IfOk result (λ stamps. stamps.items ≡ stamps_known ran.now many) }
+{
+    let mut stamps: Vec<u64> = ran.iter().map(|record| record.stamp).collect(alloc)?;
+    stamps.resize(many, LAST_NUMBER)?;
     Ok(stamps)
-}
-
-/// The keys of jobs.
-fn keys_of<J: Job>(alloc: Global, jobs: &[J]) -> Result<Vec<u64>, AllocError> {
-    let mut keys = Vec::new(alloc);
-    for job in jobs {
-        keys.push(job.key())?;
-    }
-    Ok(keys)
 }
 
 impl Account {
@@ -70,13 +59,21 @@ impl Account {
         ran: &[Record<J::Receipt>],
         back: &[J],
         reports: u64,
-    ) -> Result<Account, AllocError> {
+    ) -> Result<Account, AllocError>
+        ensures keys { IfOk result (λ a. a.keys.items ≡ accepted.now) }
+        ensures stamps { IfOk result (λ a.
+            a.stamps.items ≡ stamps_known ran.now (length accepted.now)) }
+        ensures ran { IfOk result (λ a. a.ran.items ≡ map (λ r. r.key) ran.now) }
+        ensures readies { IfOk result (λ a. a.readies.items ≡ map (λ r. r.ready) ran.now) }
+        ensures back { IfOk result (λ a. a.back.items ≡ map J.key_of back.now) }
+        ensures reports { IfOk result (λ a. a.reports ≡ reports) }
+    {
         Ok(Account {
             keys: accepted.to_vec(alloc)?,
             stamps: stamps_of(alloc, ran, accepted.len())?,
             ran: ran.iter().map(|record| record.key).collect(alloc)?,
             readies: ran.iter().map(|record| record.ready).collect(alloc)?,
-            back: keys_of(alloc, back)?,
+            back: back.iter().map(|job| job.key()).collect(alloc)?,
             reports,
             turns: vec![in alloc; ran.len() as u64]?,
             shuts: Vec::new(alloc),

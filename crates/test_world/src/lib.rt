@@ -1,4 +1,4 @@
-//! Tests of `rcu_world` and `rcu_world_checker` through their public calls, on written histories and real runs.
+//! Tests of `rcu_world`, and of the checkers on its runs, through their public calls, and of `rcu_world_checker` on written histories.
 //!
 //! They stand in a crate of their own, so that the functions of those are proved once, and not with their tests once more.
 #![tactic(auto)]
@@ -7,8 +7,6 @@
 mod rounds;
 #[cfg(test)]
 mod steps;
-#[cfg(test)]
-mod tests_agreement;
 #[cfg(test)]
 mod tests_agreement_core;
 #[cfg(test)]

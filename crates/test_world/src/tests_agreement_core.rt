@@ -29,8 +29,8 @@ fn accepted_keys(alloc: Global) -> Result<Vec<Vec<u64>>, AllocError> {
 // What each barrier counted: what each processor had accepted where it opened.
 fn barrier_counts(alloc: Global, history: &[Mark]) -> Result<Vec<Vec<u64>>, AllocError> {
     let mut counts = Vec::new(alloc);
-    for (place, mark) in history.iter().enumerate() {
-        if matches!(mark, Mark::Opened(_)) {
+    for place in 0..history.len() {
+        if let Mark::Opened(_) = history[place] {
             let before = &history[..place];
             let accepted = (0..PROCESSORS).map(|p| many_of(Kind::Accepted, p, before) as u64);
             counts.push(accepted.collect(alloc)?)?;
@@ -153,12 +153,13 @@ fn a_record_before_its_report(rt: HostRuntime) -> Result<(), Fail> {
 
 // A history in which the first mark of this kind stands one place earlier.
 fn one_earlier(history: &mut [Mark], wanted: Mark) -> bool {
-    let place = history.iter().position(|mark| *mark == wanted).unwrap_or(0);
-    if place == 0 {
-        return false;
+    for place in 1..history.len() {
+        if history[place] == wanted {
+            history.swap(place - 1, place);
+            return true;
+        }
     }
-    history.swap(place - 1, place);
-    true
+    false
 }
 
 #[test]
