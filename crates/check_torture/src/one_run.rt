@@ -21,7 +21,7 @@ use crate::steerer::{Farewell, Steerer};
 use rcu_jobs::Closed;
 use rcu_parts::{AllParts, Control, Parts, close, open, same_parts};
 use rcu_threads::{ThreadsFault, join_all, join_driver, start_driver, start_groups, start_hands};
-use std::alloc::{AllocError, Global};
+use std::alloc::Global;
 use std::rt::Clock;
 use std::sync::{Arc, Wait};
 use std::thread::Threads;
@@ -169,7 +169,7 @@ fn count_up(
     closed: &Closed<Retire>,
     logs: &[Log],
     course: &Course,
-) -> Result<Counters, AllocError> {
+) -> Result<Counters, ThreadsFault> {
     let Course {
         farewell,
         passes,
@@ -177,7 +177,9 @@ fn count_up(
     } = course;
     let mut sum = check(shared, closed, logs, farewell);
     sum.add(counters);
-    let made = check_history(alloc, shared, closed, logs, farewell, passes.as_slice())?;
+    let Ok(made) = check_history(alloc, shared, closed, logs, farewell, passes.as_slice()) else {
+        return Err(ThreadsFault::Memory);
+    };
     sum.histories = u64::from(made);
     Ok(sum)
 }
@@ -207,9 +209,7 @@ fn run_to_end<R: Threads + Wait + Clock + Copy + Send + 'static>(
     } = ended;
     same_parts::<Retire>();
     let closed = close_all(alloc, parts)?;
-    let Ok(counters) = count_up(alloc, shared, &closed, logs.as_slice(), &course) else {
-        return Err(ThreadsFault::Memory);
-    };
+    let counters = count_up(alloc, shared, &closed, logs.as_slice(), &course)?;
     Ok(Outcome { closed, counters })
 }
 

@@ -1,5 +1,4 @@
-//! Agreeing, as a program that runs: whether a history agrees with what is known of a runtime at its end, and a history that
-//! does.
+//! Agreeing, to be run: whether a history agrees with what a runtime left, and a history that does.
 //!
 //! Agreeing stands in docs/specification/definitions.md, "Agreeing", and in `rcu_agreement`. A program makes an [`Account`] of
 //! each processor from what `close` answered, and the [`witness`] from those: the history in which everything stands where the

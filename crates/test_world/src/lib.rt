@@ -1,4 +1,4 @@
-//! Tests of `rcu_world`, and of the checkers on its runs, through their public calls, and of `rcu_world_checker` on written histories.
+//! Tests of `rcu_world` and `rcu_world_checker` through their public calls, on written histories and real runs.
 //!
 //! They stand in a crate of their own, so that the functions of those are proved once, and not with their tests once more.
 #![tactic(auto)]
