@@ -1,6 +1,7 @@
 /*
  * Random calls of the library in one thread, beside a plain model: what each callback must wait for, in which order they run,
- * which calls are refused, what a barrier waits for, and what is left at the end.
+ * which calls are refused, what a barrier waits for, and what is left at the end. Where records are kept, the law of the core is
+ * checked on the history that is made of them (law.h), and that it is broken once two of them are swapped.
  *
  *     model [--seconds N] [--seed S]
  *
@@ -12,6 +13,8 @@
  */
 #define RCUO_DEBUG
 #include <rcuo.h>
+
+#include "law.h"
 
 #include <stdio.h>
 #include <stdlib.h>
@@ -42,10 +45,11 @@ static uint64_t offloadable; /* what the settings point to */
 static struct cpu cpus[MOST];
 static bool is_shut, halted;
 static struct rcuo_counts barrier;
-static bool is_barrier_open;
+static bool is_barrier_open, has_barrier_passed;
+static struct left left_over; /* what close answers, by which the law is checked */
 static struct callback cookie; /* as a callback that was accepted when the poll was started; its key is the cookie */
 static bool is_polling;
-static uint64_t moment, next_key, seed, state, steps, ran_in_all, came_back_in_all;
+static uint64_t moment, next_key, seed, state, steps, ran_in_all, came_back_in_all, laws;
 static unsigned long differences;
 
 #ifdef FUZZED
@@ -227,6 +231,7 @@ static void control(uint64_t p) {
         if (cpus[0].away) same("a barrier by a processor that is away", rcuo_barrier(&parts.processors[0], &counts), RCUO_AWAY);
         same("a barrier", rcuo_barrier(cpus[0].away || any(2) ? &parts.control : &parts.processors[0], &barrier), RCUO_OK);
         is_barrier_open = true;
+        has_barrier_passed = false;
         same("the barrier's processors", barrier.processors, settings.processors);
         for (uint64_t q = 0; q < settings.processors; q++) same("what a barrier counts", barrier.counts[q], cpus[q].accepted);
         break;
@@ -249,6 +254,10 @@ static void control(uint64_t p) {
             bool over = true;
             for (uint64_t q = 0; q < settings.processors; q++) over = over && cpus[q].finished >= barrier.counts[q];
             same("whether it passes", is_so, over);
+            if (is_so && !has_barrier_passed && left_over.barriers < LAW_BARRIERS) {
+                has_barrier_passed = true;
+                memcpy(left_over.counts[left_over.barriers++], barrier.counts, sizeof left_over.counts[0]);
+            }
         }
         break;
     case 5:
@@ -338,6 +347,25 @@ static void step(void) {
     }
 }
 
+/* The law holds of what is left, and no longer where two callbacks of a processor ran in the other order. */
+static void check_law(void) {
+    law_witness(&left_over);
+    const char *broken = law_broken(&left_over);
+    if (broken) fprintf(stderr, "the law is broken: %s\n", broken);
+    same("how many laws are broken", broken != NULL, 0);
+    for (uint64_t p = 0; p < left_over.processors; p++) {
+        struct account *account = &left_over.accounts[p];
+        if (account->ran < 2) continue;
+        uint64_t key = account->ran_keys[0];
+        account->ran_keys[0] = account->ran_keys[1];
+        account->ran_keys[1] = key;
+        law_witness(&left_over);
+        same("whether swapped records break the law", law_broken(&left_over) != NULL, 1);
+        break;
+    }
+    laws++;
+}
+
 /* What close answers: a section, or a callback that runs, is in the way; then those that ran, and those that didn't. */
 static void end(void) {
     bool reads = false, runs = false, away = false;
@@ -361,19 +389,34 @@ static void end(void) {
     for (uint64_t p = 0; p < settings.processors; p++) {
         struct rcuo_record record;
         struct rcuo_job job;
+        struct account *account = &left_over.accounts[p];
         uint64_t ran = 0, back = 0, finished = cpus[p].finished;
+        account->accepted = cpus[p].accepted;
+        for (uint64_t k = 0; k < account->accepted; k++) account->keys[k] = cpus[p].callbacks[k].key, account->stamps[k] = UINT64_MAX;
         while (rcuo_next_ran(&parts, p, &ran, &record) == RCUO_OK) {
             same("a record's number", record.number, ran - 1);
             same("a record's key", record.job.key, cpus[p].callbacks[ran - 1].key);
             if (record.ready < record.stamp) differs("a record's wait", record.ready, record.stamp);
+            if (ran > finished) break;
+            account->ran_keys[ran - 1] = record.job.key;
+            account->stamps[ran - 1] = record.stamp;
+            account->readies[ran - 1] = record.ready;
         }
+        account->ran = ran;
+        same("reports", rcuo_reports(&parts, p, &account->reports), RCUO_OK);
         same("how many records there are", ran, settings.records ? finished : 0);
-        while (rcuo_next_back(&parts, p, &back, &job) == RCUO_OK) same("the key of a job that came back", job.key, cpus[p].callbacks[finished + back - 1].key);
+        while (rcuo_next_back(&parts, p, &back, &job) == RCUO_OK) {
+            if (finished + back > cpus[p].accepted) break;
+            same("the key of a job that came back", job.key, cpus[p].callbacks[finished + back - 1].key);
+            account->back_keys[back - 1] = job.key;
+        }
+        account->back = back;
         same("how many came back", finished + back, cpus[p].accepted);
         ran_in_all += finished;
         came_back_in_all += back;
     }
     same("the end", rcuo_end(&parts), RCUO_OK);
+    if (settings.records && !differences) check_law();
 }
 
 static void run(uint64_t number) {
@@ -381,9 +424,11 @@ static void run(uint64_t number) {
     state = number * 0x9e3779b97f4a7c15u + 1;
     for (int i = 0; i < 8; i++) any(2);
     memset(cpus, 0, sizeof cpus);
-    is_shut = halted = is_barrier_open = is_polling = false;
+    is_shut = halted = is_barrier_open = has_barrier_passed = is_polling = false;
     moment = 0;
     settings.processors = 1 + any(MOST);
+    left_over.processors = settings.processors;
+    left_over.barriers = 0;
     settings.stride = 1 + any(3);
     settings.blimit = 1 + any(5);
     settings.qhimark = 1 + any(8);
@@ -417,8 +462,8 @@ int main(int argc, char **argv) {
     time_t began = time(NULL);
     do run(first + runs++);
     while (!is_one && !differences && time(NULL) - began < seconds);
-    printf("runs %llu, steps %llu, ran %llu, handed back %llu, differences %lu\n", (unsigned long long)runs, (unsigned long long)steps,
-           (unsigned long long)ran_in_all, (unsigned long long)came_back_in_all, differences);
+    printf("runs %llu, steps %llu, ran %llu, handed back %llu, laws %llu, differences %lu\n", (unsigned long long)runs, (unsigned long long)steps,
+           (unsigned long long)ran_in_all, (unsigned long long)came_back_in_all, (unsigned long long)laws, differences);
     return differences != 0;
 }
 #endif

@@ -1,5 +1,6 @@
-"""Runs check_torture: 10^6 callbacks by random steps of all parts in threads, in four runs, one for each way in which a run ends; and
-then a run with `--flaws`, in which each check is handed a case that it must refuse.
+"""Runs check_torture: 10^6 callbacks by random steps of all parts in threads, in four runs, one for each way in which a run ends;
+some dozens of short runs, whose histories are checked by the law; and then a run with `--flaws`, in which each check is handed a
+case that it must refuse.
 
 Random steps have passed where the program ends with status 0, its line says `errors 0`, as many callbacks ran or came back as
 were accepted, and these are as many as were wanted; each counter has to say that something was done, and some barrier has to
@@ -15,7 +16,9 @@ from programs import ProgramTest, built
 SECONDS = 600
 CALLBACKS, RUNS = 250000, 4
 WORDS = ["--callbacks", str(CALLBACKS), "--runs", str(RUNS)]
-# What has to be done in those runs, of all that the line counts.
+# Short runs, of which most are short enough for the law to be checked on their history.
+SHORT = 48
+# What has to be done in the long runs, of all that the line counts.
 DONE = ("lazy", "ran", "back", "sections", "current", "removed", "barriers", "tickets", "passed", "drained", "switches", "reports", "leaves")
 FLAWS = (
     "a callback began while another of its processor ran",
@@ -33,6 +36,8 @@ FLAWS = (
     "a shut counted otherwise than was accepted",
     "as many versions were not freed as callbacks ran",
     "fewer reports were counted than a processor was told of",
+    "a history in the order of numbers did not agree with the answer",
+    "a history in the order of numbers was not closed under the law",
 )
 
 
@@ -61,6 +66,15 @@ class Torture(ProgramTest):
         self.assertGreaterEqual(counted["callbacks"], CALLBACKS * RUNS, "all that were wanted were accepted")
         self.assertEqual([], [it for it in DONE if not counted[it]], "these were never done")
         self.assertGreater(counted["passed"], counted["drained"], "a barrier passed before the end of a run")
+
+    def test_short_runs(self):
+        ended = self.run_to_end(["--callbacks", "150", "--runs", str(SHORT)])
+        self.assertEqual((ended.status, ended.stderr), (0, b""))
+        line = ended.stdout.decode()
+        self.assertTrue(line.endswith(" errors 0\n"), line)
+        counted = counters_of(line)
+        self.assertGreater(counted["histories"], SHORT // 2, "the law was checked on the histories of most runs")
+        self.assertGreater(counted["passed"], 0, "a barrier passed")
 
     def test_flaws(self):
         ended = self.run_to_end(["--flaws"])

@@ -21,9 +21,10 @@ barriers_text c =
     codes "barriers " ++ (decimal c.barriers ++ (codes " tickets " ++ (decimal c.tickets ++ (codes " passed " ++ (decimal c.passed
     ++ (codes " drained " ++ decimal c.drained))))))
 
--- BARRIERS switches S reports R leaves L
+-- BARRIERS switches S reports R leaves L histories H
 abbrev pub others_text : Counters → List ℕ
-others_text c = barriers_text c ++ (codes " switches " ++ (decimal c.switches ++ (codes " reports " ++ (decimal c.reports ++ (codes " leaves " ++ decimal c.leaves)))))
+others_text c = barriers_text c ++ (codes " switches " ++ (decimal c.switches ++ (codes " reports " ++ (decimal c.reports ++ (codes " leaves " ++ (decimal c.leaves
+    ++ (codes " histories " ++ decimal c.histories)))))))
 
 -- runs R CALLS SECTIONS OTHERS errors E
 abbrev pub line_text : ℕ → Counters → ℕ → List ℕ

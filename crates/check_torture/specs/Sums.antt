@@ -26,6 +26,7 @@ pub record AddsOthers (old more new : Counters) : Type 0 where
   pub switches : new.switches ≡ sum_up old.switches more.switches
   pub reports : new.reports ≡ sum_up old.reports more.reports
   pub leaves : new.leaves ≡ sum_up old.leaves more.leaves
+  pub histories : new.histories ≡ sum_up old.histories more.histories
 
 -- one read section more whose version was in the table at its end, was removed, or was freed
 abbrev pub one_current : Counters → Counters

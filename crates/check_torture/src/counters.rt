@@ -35,6 +35,8 @@ pub struct Counters {
     pub reports: u64,
     /// How often a processor was away.
     pub leaves: u64,
+    /// Runs that were short enough for the law to be checked on their history.
+    pub histories: u64,
 }
 
 impl Counters {
@@ -55,6 +57,7 @@ impl Counters {
         switches: 0,
         reports: 0,
         leaves: 0,
+        histories: 0,
     };
 
     /// Adds what others were. A sum stays at the greatest `u64`.
@@ -78,5 +81,6 @@ impl Counters {
         self.switches = self.switches.saturating_add(more.switches);
         self.reports = self.reports.saturating_add(more.reports);
         self.leaves = self.leaves.saturating_add(more.leaves);
+        self.histories = self.histories.saturating_add(more.histories);
     }
 }

@@ -36,11 +36,15 @@ pub enum Flaw {
     Freed,
     /// Fewer reports are told of than a processor was told were counted.
     Reports,
+    /// The history in the order of numbers doesn't agree with what `close` answered.
+    Disagrees,
+    /// That history isn't closed under the law.
+    Unlawful,
 }
 
 impl Flaw {
     /// All of them.
-    pub const ALL: [Flaw; 15] = [
+    pub const ALL: [Flaw; 17] = [
         Flaw::Beside,
         Flaw::OutOfOrder,
         Flaw::Twice,
@@ -56,6 +60,8 @@ impl Flaw {
         Flaw::ShutCounts,
         Flaw::Freed,
         Flaw::Reports,
+        Flaw::Disagrees,
+        Flaw::Unlawful,
     ];
 
     /// What it is, in words.
@@ -76,6 +82,8 @@ impl Flaw {
             Flaw::ShutCounts => "a shut counted otherwise than was accepted",
             Flaw::Freed => "as many versions were not freed as callbacks ran",
             Flaw::Reports => "fewer reports were counted than a processor was told of",
+            Flaw::Disagrees => "a history in the order of numbers did not agree with the answer",
+            Flaw::Unlawful => "a history in the order of numbers was not closed under the law",
         }
     }
 }

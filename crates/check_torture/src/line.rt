@@ -49,7 +49,7 @@ fn barriers(alloc: Global, counters: &Counters) -> Result<String, AllocError>
     format!(in alloc; "barriers {barriers} tickets {tickets} passed {passed} drained {drained}")
 }
 
-/// Barriers, switches, reports and leaves.
+/// Barriers, switches, reports, leaves and histories.
 fn others(alloc: Global, counters: &Counters) -> Result<String, AllocError>
     ensures { IfOk result (λ s. string_bytes s ≡ others_text counters.now) }
 {
@@ -57,10 +57,12 @@ fn others(alloc: Global, counters: &Counters) -> Result<String, AllocError>
         switches,
         reports,
         leaves,
+        histories,
         ..
     } = *counters;
     let barriers = barriers(alloc, counters)?;
-    format!(in alloc; "{barriers} switches {switches} reports {reports} leaves {leaves}")
+    let steps = format!(in alloc; "switches {switches} reports {reports} leaves {leaves}")?;
+    format!(in alloc; "{barriers} {steps} histories {histories}")
 }
 
 /// The line of so many runs, with how many errors they met.

@@ -33,6 +33,7 @@ mod chance;
 mod checks;
 mod counters;
 mod flaw;
+mod history;
 mod line;
 mod meet;
 mod one_run;

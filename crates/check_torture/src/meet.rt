@@ -5,6 +5,7 @@ use crate::acts::{Actor, read, saw};
 use crate::chance::Chance;
 use crate::checks::check;
 use crate::counters::Counters;
+use crate::history::check_history;
 use crate::one_run::Report;
 use crate::retire::Retire;
 use crate::shared::{Shared, share};
@@ -104,7 +105,10 @@ fn meet_at_end(alloc: Global, shared: &Arc<Shared>) -> Result<Counters, AllocErr
         shut: Some(wrong_counts()),
         drained: true,
     };
-    Ok(check(shared, &closed, &[log], &farewell))
+    let passes = vec![in alloc; vec![in alloc; WRONG]?]?;
+    let logs = [log];
+    check_history(alloc, shared, &closed, &logs, &farewell, passes.as_slice())?;
+    Ok(check(shared, &closed, &logs, &farewell))
 }
 
 /// Meets each flaw once.

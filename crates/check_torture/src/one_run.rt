@@ -13,6 +13,7 @@ use crate::chance::Chance;
 use crate::checks::check;
 use crate::counters::Counters;
 use crate::flaw::Flaws;
+use crate::history::check_history;
 use crate::plan::Plan;
 use crate::retire::Retire;
 use crate::shared::{Shared, share};
@@ -20,15 +21,17 @@ use crate::steerer::{Farewell, Steerer};
 use rcu_jobs::Closed;
 use rcu_parts::{AllParts, Control, Parts, close, open, same_parts};
 use rcu_threads::{ThreadsFault, join_all, join_driver, start_driver, start_groups, start_hands};
-use std::alloc::{AllocError, Global};
+use std::alloc::Global;
 use std::rt::Clock;
 use std::sync::{Arc, Wait};
 use std::thread::Threads;
 
 /// How control led a run.
-#[derive(Clone, Copy)]
+#[derive(Drop)]
 struct Course {
     farewell: Farewell,
+    /// The counts of each barrier that passed.
+    passes: Vec<Vec<u64>>,
     /// What control counted.
     counters: Counters,
 }
@@ -66,15 +69,22 @@ fn lead<R: Wait + Clock>(
         shared,
         chance: Chance::new(plan.seed, run, 0),
         counters: Counters::NONE,
+        passes: Vec::new(alloc),
     };
     let farewell = steerer.lead(rt, alloc, plan.ending(run), are_running);
     let Steerer {
         mut control,
         counters,
+        passes,
         ..
     } = steerer;
     control.finish();
-    (control, Course { farewell, counters })
+    let course = Course {
+        farewell,
+        passes,
+        counters,
+    };
+    (control, course)
 }
 
 /// Runs all parts of an open in threads of their own.
@@ -148,6 +158,32 @@ fn close_all(alloc: Global, parts: Parts<Retire>) -> Result<Closed<Retire>, Thre
     }
 }
 
+/// Checks what is left of a run, and its history, and adds up what was counted.
+///
+/// # Errors
+///
+/// Want of memory.
+fn count_up(
+    alloc: Global,
+    shared: &Shared,
+    closed: &Closed<Retire>,
+    logs: &[Log],
+    course: &Course,
+) -> Result<Counters, ThreadsFault> {
+    let Course {
+        farewell,
+        passes,
+        counters,
+    } = course;
+    let mut sum = check(shared, closed, logs, farewell);
+    sum.add(counters);
+    let Ok(made) = check_history(alloc, shared, closed, logs, farewell, passes.as_slice()) else {
+        return Err(ThreadsFault::Memory);
+    };
+    sum.histories = u64::from(made);
+    Ok(sum)
+}
+
 /// Runs all parts of an open in threads of their own, closes the runtime, and checks what is left.
 ///
 /// # Errors
@@ -173,8 +209,7 @@ fn run_to_end<R: Threads + Wait + Clock + Copy + Send + 'static>(
     } = ended;
     same_parts::<Retire>();
     let closed = close_all(alloc, parts)?;
-    let mut counters = check(shared, &closed, logs.as_slice(), &course.farewell);
-    counters.add(&course.counters);
+    let counters = count_up(alloc, shared, &closed, logs.as_slice(), &course)?;
     Ok(Outcome { closed, counters })
 }
 

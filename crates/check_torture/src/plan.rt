@@ -176,7 +176,9 @@ fn number<'a>(alloc: Global, name: &'a str, least: i64) -> Arg<'a> {
 fn command<'a>(alloc: Global) -> Result<clap::Command<'a>, AllocError> {
     clap::Command::new(alloc, "check_torture")
         .no_binary_name(true)
-        .arg(number(alloc, "callbacks", 0))?
+        .arg(number(alloc, "callbacks", 0).help(
+            "how many callbacks each run accepts; of short runs the history is checked by the law, too",
+        ))?
         .arg(number(alloc, "processors", 1))?
         .arg(number(alloc, "runs", 1))?
         .arg(number(alloc, "seed", 0))?

@@ -35,6 +35,8 @@ pub(crate) struct Steerer {
     pub(crate) shared: Arc<Shared>,
     pub(crate) chance: Chance,
     pub(crate) counters: Counters,
+    /// The counts of each barrier that passed.
+    pub(crate) passes: Vec<Vec<u64>>,
 }
 
 /// How a run ended.
@@ -49,6 +51,13 @@ pub(crate) struct Farewell {
 /// Sleeps for a short time.
 fn nap(chance: &mut Chance, clock: &impl Clock) {
     thread::sleep(clock, Duration::from_micros(chance.below(NAP)));
+}
+
+/// Keeps the counts of a barrier that passed; but not where there is no memory for them.
+fn keep_counts(passes: &mut Vec<Vec<u64>>, counts: &Counts) {
+    if let Ok(counts) = counts.of_processors().to_vec(*passes.allocator()) {
+        let _ = passes.push(counts);
+    }
 }
 
 impl Steerer {
@@ -77,6 +86,7 @@ impl Steerer {
         for _ in 0..self.chance.below(POLLS) {
             if let Some(passed) = barrier.poll(&mut self.control) {
                 self.shared.check_passed(&passed.counts);
+                keep_counts(&mut self.passes, &passed.counts);
                 self.counters.passed = self.counters.passed.saturating_add(1);
                 return;
             }
@@ -151,6 +161,7 @@ impl Steerer {
         };
         let passed = barrier.wait(rt, &mut self.control);
         self.shared.check_passed(&passed.counts);
+        keep_counts(&mut self.passes, &passed.counts);
         self.counters.passed = self.counters.passed.saturating_add(1);
         self.counters.drained = self.counters.drained.saturating_add(1);
         true

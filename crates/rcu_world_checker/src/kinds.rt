@@ -17,7 +17,7 @@ pub enum Kind {
 }
 
 /// The key of a mark of this kind of `p`. None where the mark is another.
-pub(crate) fn key_of(kind: Kind, p: u64, mark: Mark) -> Option<u64>
+pub fn key_of(kind: Kind, p: u64, mark: Mark) -> Option<u64>
     ensures { key_in kind p mark ≡ in_list result }
 {
     let (q, key) = match (kind, mark) {
@@ -30,7 +30,7 @@ pub(crate) fn key_of(kind: Kind, p: u64, mark: Mark) -> Option<u64>
 }
 
 /// How many marks of this kind `p` has.
-pub(crate) fn many_of(kind: Kind, p: u64, history: &[Mark]) -> usize
+pub fn many_of(kind: Kind, p: u64, history: &[Mark]) -> usize
     ensures { result ≡ length (keys kind p history.now) }
 {
     let mut many = 0;
@@ -43,7 +43,7 @@ pub(crate) fn many_of(kind: Kind, p: u64, history: &[Mark]) -> usize
 }
 
 /// Where the `k`-th mark of this kind of `p` stands, counted from 0, and its key. None where there are fewer.
-pub(crate) fn nth_of(kind: Kind, p: u64, k: usize, history: &[Mark]) -> Option<(usize, u64)>
+pub fn nth_of(kind: Kind, p: u64, k: usize, history: &[Mark]) -> Option<(usize, u64)>
     ensures found { IfSome result (λ it. IsNth kind history.now p k it.0 it.1) }
     ensures none { result ≡ None → length (keys kind p history.now) ≤ k }
 {

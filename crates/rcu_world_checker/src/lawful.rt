@@ -32,7 +32,7 @@ fn is_covered(n: u64, history: &[Mark], after: usize) -> bool
 }
 
 /// Whether `p` was shut.
-pub(crate) fn has_shut(history: &[Mark], p: u64) -> bool
+pub fn has_shut(history: &[Mark], p: u64) -> bool
     ensures { result ≡ true ↔ IsShutBefore history.now p }
 {
     for mark in history {
@@ -72,7 +72,7 @@ fn have_run(history: &[Mark], accepted: usize, ran: usize) -> bool
 }
 
 /// Whether barrier `b` was opened.
-fn was_opened(history: &[Mark], b: u64) -> bool
+pub fn was_opened(history: &[Mark], b: u64) -> bool
     ensures { result ≡ true ↔ IsOpenedBefore history.now b }
 {
     for mark in history {

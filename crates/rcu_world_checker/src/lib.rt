@@ -20,4 +20,5 @@ mod kinds;
 mod lawful;
 
 pub use closed::is_closed;
-pub use lawful::is_lawful;
+pub use kinds::{Kind, key_of, many_of, nth_of};
+pub use lawful::{has_shut, is_lawful, was_opened};

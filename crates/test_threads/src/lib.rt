@@ -5,4 +5,8 @@
 #![tactic(auto)]
 
 #[cfg(test)]
+mod runs;
+#[cfg(test)]
 mod tests;
+#[cfg(test)]
+mod tests_agreement;

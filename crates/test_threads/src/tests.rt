@@ -1,46 +1,14 @@
 //! All parts in threads.
 
+use crate::runs::{Work, jobs, run};
 use rcu_jobs::{BoxedJob, Closed, Job, Refused};
 use rcu_numbers::Shape;
-use rcu_parts::open;
-use rcu_threads::{ThreadsEnd, run_in_threads};
+use rcu_threads::ThreadsEnd;
 use std::alloc::{AllocError, Global};
-use std::rt::Clock;
+use std::sync::Arc;
 use std::sync::atomic::{AtomicU64, Ordering};
-use std::sync::{Arc, Wait};
 use std::test::Fail;
 use std::thread;
-use std::thread::Threads;
-
-type Work = BoxedJob<0>;
-
-/// A job that gives its key.
-fn job(alloc: Global, key: u64) -> Result<Work, AllocError> {
-    Ok(BoxedJob::new(key, Box::new(alloc, move || key)?))
-}
-
-/// Jobs with the keys 0, 1, ..
-fn jobs(alloc: Global, many: u64) -> Result<Vec<Work>, AllocError> {
-    let mut jobs = Vec::new(alloc);
-    for key in 0..many {
-        jobs.push(job(alloc, key)?)?;
-    }
-    Ok(jobs)
-}
-
-/// What a run in threads leaves of a shape's parts, with these jobs.
-fn run<R: Threads + Wait + Clock + Copy + Send + 'static>(
-    rt: &R,
-    alloc: Global,
-    shape: Option<Shape>,
-    jobs: Vec<Work>,
-) -> Result<ThreadsEnd<Work>, Fail> {
-    let parts = open(alloc, &shape.ok_or("no shape")?.for_parts())?;
-    match run_in_threads(rt, alloc, parts, jobs) {
-        Ok(ended) => Ok(ended),
-        Err(_) => Err("not run".into()),
-    }
-}
 
 /// Whether processor `p` ran, of jobs that were dealt in so many rounds to `many` processors, just its own, in order, and
 /// none came back.

@@ -4,7 +4,11 @@
 #![tactic(auto)]
 
 #[cfg(test)]
+mod rounds;
+#[cfg(test)]
 mod steps;
+#[cfg(test)]
+mod tests_agreement_core;
 #[cfg(test)]
 mod tests_checker;
 #[cfg(test)]

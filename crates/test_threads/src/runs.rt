@@ -1,0 +1,42 @@
+//! Runs of all parts in threads.
+
+use rcu_jobs::BoxedJob;
+use rcu_numbers::Shape;
+use rcu_parts::open;
+use rcu_threads::{ThreadsEnd, run_in_threads};
+use std::alloc::{AllocError, Global};
+use std::rt::Clock;
+use std::sync::Wait;
+use std::test::Fail;
+use std::thread::Threads;
+
+/// A job that gives its key.
+pub(crate) type Work = BoxedJob<0>;
+
+/// The job of a key.
+fn job(alloc: Global, key: u64) -> Result<Work, AllocError> {
+    Ok(BoxedJob::new(key, Box::new(alloc, move || key)?))
+}
+
+/// Jobs with the keys 0, 1, ..
+pub(crate) fn jobs(alloc: Global, many: u64) -> Result<Vec<Work>, AllocError> {
+    let mut jobs = Vec::new(alloc);
+    for key in 0..many {
+        jobs.push(job(alloc, key)?)?;
+    }
+    Ok(jobs)
+}
+
+/// What a run in threads leaves of a shape's parts, with these jobs.
+pub(crate) fn run<R: Threads + Wait + Clock + Copy + Send + 'static>(
+    rt: &R,
+    alloc: Global,
+    shape: Option<Shape>,
+    jobs: Vec<Work>,
+) -> Result<ThreadsEnd<Work>, Fail> {
+    let parts = open(alloc, &shape.ok_or("no shape")?.for_parts())?;
+    match run_in_threads(rt, alloc, parts, jobs) {
+        Ok(ended) => Ok(ended),
+        Err(_) => Err("not run".into()),
+    }
+}

@@ -1,0 +1,67 @@
+//! What threads did, by the law of the core: the history in the order of numbers, made of what `close` answered after them.
+
+use crate::runs::{Work, jobs, run};
+use rcu_agreement_checker::{accounts_of, agrees, witness};
+use rcu_jobs::Closed;
+use rcu_numbers::Shape;
+use rcu_world_checker::is_closed;
+use std::alloc::{AllocError, Global};
+use std::test::Fail;
+
+/// The keys that each of `many` processors accepts of so many jobs, which are dealt in turn, up to its limit.
+fn dealt(alloc: Global, many: u64, jobs: u64, limit: usize) -> Result<Vec<Vec<u64>>, AllocError> {
+    let mut keys = Vec::new(alloc);
+    for p in 0..many {
+        let own = (0..jobs).filter(|key| *key % many.max(1) == p);
+        keys.push(own.take(limit).collect(alloc)?)?;
+    }
+    Ok(keys)
+}
+
+/// Whether the history in the order of numbers agrees with what `close` answered, and whether it is closed.
+fn judged(
+    alloc: Global,
+    accepted: &[Vec<u64>],
+    closed: &Closed<Work>,
+) -> Result<(bool, bool), AllocError> {
+    let accounts = accounts_of(alloc, accepted, closed)?;
+    let history = witness(alloc, accounts.as_slice(), &[])?;
+    let agreed = agrees(accounts.as_slice(), &[], history.as_slice());
+    Ok((agreed, is_closed(accounts.len() as u64, history.as_slice())))
+}
+
+#[test]
+fn four_processors_keep_the_law(rt: HostRuntime) -> Result<(), Fail> {
+    let alloc = rt.alloc();
+    let shape = Shape::new(4, 0b1110, 2, 10, 10000, 1000);
+    let ended = run(&rt, alloc, shape, jobs(alloc, 100)?)?;
+    let accepted = dealt(alloc, 4, 100, 1000)?;
+    assert!(rt; judged(alloc, accepted.as_slice(), &ended.closed)? == (true, true));
+    Ok(())
+}
+
+#[test]
+fn refused_jobs_keep_the_law(rt: HostRuntime) -> Result<(), Fail> {
+    let alloc = rt.alloc();
+    let shape = Shape::new(2, 0b10, 1, 10, 10000, 2);
+    let ended = run(&rt, alloc, shape, jobs(alloc, 8)?)?;
+    let accepted = dealt(alloc, 2, 8, 2)?;
+    assert!(rt; judged(alloc, accepted.as_slice(), &ended.closed)? == (true, true));
+    // (two more jobs than there are are none that it accepted)
+    let wrong = dealt(alloc, 2, 8, 3)?;
+    assert!(rt; judged(alloc, wrong.as_slice(), &ended.closed)? == (true, false));
+    Ok(())
+}
+
+#[test]
+fn records_that_are_swapped(rt: HostRuntime) -> Result<(), Fail> {
+    let alloc = rt.alloc();
+    let shape = Shape::new(2, 0b10, 1, 10, 10000, 1000);
+    let mut ended = run(&rt, alloc, shape, jobs(alloc, 8)?)?;
+    let records = ended.closed.ran.get_mut(1).ok_or("no records")?;
+    assert!(rt; records.len() > 1);
+    records.swap(0, 1);
+    let accepted = dealt(alloc, 2, 8, 1000)?;
+    assert!(rt; judged(alloc, accepted.as_slice(), &ended.closed)? == (true, false));
+    Ok(())
+}

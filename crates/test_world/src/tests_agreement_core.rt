@@ -1,0 +1,193 @@
+//! What the core leaves agrees with what its `close` answers; and an answer that was tampered with is refused.
+
+use crate::rounds::{PROCESSORS, all_events, key_of};
+use rcu_agreement_checker::{Account, accounts_of, agrees, witness};
+use rcu_numbers::Shape;
+use rcu_world::World;
+use rcu_world_checker::{Kind, is_closed, many_of};
+use rcu_world_law::marks::Mark;
+use std::alloc::{AllocError, Global};
+use std::test::Fail;
+
+// How many rounds a run has.
+const ROUNDS: u64 = 6;
+
+// The keys that each processor accepted: one in each round and two more, but that processor 0 was shut before the last.
+fn accepted_keys(alloc: Global) -> Result<Vec<Vec<u64>>, AllocError> {
+    let mut keys = Vec::new(alloc);
+    for cpu in 0..PROCESSORS {
+        let rounds = if cpu == 0 {
+            0..ROUNDS + 1
+        } else {
+            0..ROUNDS + 2
+        };
+        keys.push(rounds.map(|round| key_of(round, cpu)).collect(alloc)?)?;
+    }
+    Ok(keys)
+}
+
+// What each barrier counted: what each processor had accepted where it opened.
+fn barrier_counts(alloc: Global, history: &[Mark]) -> Result<Vec<Vec<u64>>, AllocError> {
+    let mut counts = Vec::new(alloc);
+    for place in 0..history.len() {
+        if let Mark::Opened(_) = history[place] {
+            let before = &history[..place];
+            let accepted = (0..PROCESSORS).map(|p| many_of(Kind::Accepted, p, before) as u64);
+            counts.push(accepted.collect(alloc)?)?;
+        }
+    }
+    Ok(counts)
+}
+
+// What a run of the core left: its own history, the accounts of its answer, and the counts of its barriers.
+#[derive(Drop)]
+struct Remains {
+    history: Vec<Mark>,
+    accounts: Vec<Account>,
+    counts: Vec<Vec<u64>>,
+}
+
+// What so many rounds leave.
+fn run_rounds(alloc: Global) -> Result<Remains, Fail> {
+    let shape = Shape::new(PROCESSORS, 0b110, 3, 10, 4, 100).ok_or("no shape")?;
+    let mut world = World::new(alloc, shape)?;
+    world.run(all_events(alloc, ROUNDS)?).ok().ok_or("no room")?;
+    let Ok((history, closed)) = world.close() else {
+        return Err(Fail::from("no room"));
+    };
+    let accounts = accounts_of(alloc, accepted_keys(alloc)?.as_slice(), &closed)?;
+    let counts = barrier_counts(alloc, history.as_slice())?;
+    Ok(Remains {
+        history,
+        accounts,
+        counts,
+    })
+}
+
+// By whom an answer is refused.
+#[derive(Clone, Copy, Debug, PartialEq, Eq)]
+struct Refused {
+    // The core's own history doesn't agree with it.
+    own: bool,
+    // The witness made of it doesn't agree with it,
+    witness: bool,
+    // or isn't closed.
+    closed: bool,
+}
+
+impl Remains {
+    // By whom the answer is refused.
+    fn refused(&self, alloc: Global) -> Result<Refused, AllocError> {
+        let accounts = self.accounts.as_slice();
+        let counts = self.counts.as_slice();
+        let made = witness(alloc, accounts, counts)?;
+        Ok(Refused {
+            own: !agrees(accounts, counts, self.history.as_slice()),
+            witness: !agrees(accounts, counts, made.as_slice()),
+            closed: !is_closed(PROCESSORS, made.as_slice()),
+        })
+    }
+
+    // The account of processor 1.
+    fn account(&mut self) -> Result<&mut Account, Fail> {
+        Ok(self.accounts.get_mut(1).ok_or("no account")?)
+    }
+}
+
+#[test]
+fn the_core_agrees(rt: HostRuntime) -> Result<(), Fail> {
+    let left = run_rounds(rt.alloc())?;
+    let none = Refused {
+        own: false,
+        witness: false,
+        closed: false,
+    };
+    assert_eq!(rt; left.refused(rt.alloc())?, none);
+    assert_eq!(rt; left.counts.len(), ROUNDS as usize);
+    Ok(())
+}
+
+#[test]
+fn two_records_swapped(rt: HostRuntime) -> Result<(), Fail> {
+    let mut left = run_rounds(rt.alloc())?;
+    let ran = &mut left.account()?.ran;
+    assert!(rt; ran.len() > 2);
+    ran.swap(1, 2);
+    let wanted = Refused {
+        own: true,
+        witness: false,
+        closed: true,
+    };
+    assert_eq!(rt; left.refused(rt.alloc())?, wanted);
+    Ok(())
+}
+
+#[test]
+fn a_job_dropped(rt: HostRuntime) -> Result<(), Fail> {
+    let mut left = run_rounds(rt.alloc())?;
+    assert!(rt; left.account()?.back.pop().is_some());
+    let wanted = Refused {
+        own: true,
+        witness: false,
+        closed: true,
+    };
+    assert_eq!(rt; left.refused(rt.alloc())?, wanted);
+    Ok(())
+}
+
+#[test]
+fn a_record_before_its_report(rt: HostRuntime) -> Result<(), Fail> {
+    let mut left = run_rounds(rt.alloc())?;
+    let own = left.account()?;
+    let stamp = own.stamps.first().copied().ok_or("no stamp")?;
+    *own.readies.first_mut().ok_or("no record")? = stamp;
+    // (the core's own history still agrees: a smaller sight says less)
+    let wanted = Refused {
+        own: false,
+        witness: false,
+        closed: true,
+    };
+    assert_eq!(rt; left.refused(rt.alloc())?, wanted);
+    Ok(())
+}
+
+// A history in which the first mark of this kind stands one place earlier.
+fn one_earlier(history: &mut [Mark], wanted: Mark) -> bool {
+    for place in 1..history.len() {
+        if history[place] == wanted {
+            history.swap(place - 1, place);
+            return true;
+        }
+    }
+    false
+}
+
+#[test]
+fn a_barrier_that_passed_early(rt: HostRuntime) -> Result<(), Fail> {
+    let mut left = run_rounds(rt.alloc())?;
+    assert!(rt; one_earlier(left.history.as_mut_slice(), Mark::Passed(0)));
+    assert!(rt; !is_closed(PROCESSORS, left.history.as_slice()));
+    let wanted = Refused {
+        own: true,
+        witness: false,
+        closed: false,
+    };
+    assert_eq!(rt; left.refused(rt.alloc())?, wanted);
+    Ok(())
+}
+
+#[test]
+fn a_barrier_that_passed_over_a_job(rt: HostRuntime) -> Result<(), Fail> {
+    let mut left = run_rounds(rt.alloc())?;
+    let accepted = left.account()?.keys.len() as u64;
+    let counts = left.counts.last_mut().ok_or("no barrier")?;
+    *counts.get_mut(1).ok_or("no count")? = accepted;
+    // (the witness lets it open before the job was accepted, whose stamp nobody knows)
+    let wanted = Refused {
+        own: true,
+        witness: true,
+        closed: false,
+    };
+    assert_eq!(rt; left.refused(rt.alloc())?, wanted);
+    Ok(())
+}
