@@ -6,6 +6,14 @@
 //! of it.
 //!
 //! It is written to be read, and not to be fast: its time is of the third power of the history's length.
+//!
+//! # What is proved
+//!
+//! - A history agrees exactly where the checker says so: both ways, for all accounts, counts and marks. Its witness is
+//!   tested.
+//! - An account is what `close` answered, beside the keys that the program knows.
+//! - By `agrees`, over `Agrees` of `rcu_agreement`; `Account::new` (`keys`, `stamps`, `ran`, `readies`, `back`,
+//!   `reports`).
 #![tactic(auto)]
 
 mod account;
