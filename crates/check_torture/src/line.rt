@@ -61,8 +61,9 @@ fn others(alloc: Global, counters: &Counters) -> Result<String, AllocError>
         ..
     } = *counters;
     let barriers = barriers(alloc, counters)?;
-    let steps = format!(in alloc; "switches {switches} reports {reports} leaves {leaves}")?;
-    format!(in alloc; "{barriers} {steps} histories {histories}")
+    format!(in alloc;
+        "{barriers} switches {switches} reports {reports} leaves {leaves} histories {histories}"
+    )
 }
 
 /// The line of so many runs, with how many errors they met.
