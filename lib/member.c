@@ -7,7 +7,7 @@
 #include <sched.h>
 #include <time.h>
 
-/* How many callbacks are released at once in a moment, and at how many the bypass list is (docs/c.md, "Moments"). What is
+/* How many callbacks are released at once in a moment, and at how many the bypass list is (docs/c.md, "The managed runtime"). What is
  * counted by them says when the helper is told, and nothing else: a release that is missed here is told of by the tick, which
  * is owed. */
 enum { DIRECT = 16, HIGH_MARK = RCUO_HIGH_MARK };

@@ -144,7 +144,8 @@ fn take_all(
     requires hands { vec_capacity room.hands ≡ opening.hands }
     ensures held { AreHeld opening result slots.old }
     ensures emptied { AreEmptied slots.new }
-    ensures keeps { Keeps part.Nothing slots.old.control.held.part.value slots.new.control.held.part.value }
+    ensures keeps { Keeps part.Nothing slots.old.control.held.part.value
+        slots.new.control.held.part.value }
     ensures sections { StayRead slots.old slots.new }
 {
     let Reserved {
