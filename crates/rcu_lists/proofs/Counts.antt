@@ -123,6 +123,9 @@ module _ {J : Type 0} where
   may-cut s n m i j k cs = let P : ℕ → ℕ → ℕ → List (Callback J) → Type 0 = λ i j k cs. MayAccelerate s (cut i j k n m cs) → (0 < j → n ≤ s) × (0 < k → m ≤ s) in
       by_parts P (λ d a b e h. may-blocks s n m d a b e (rw (cut-blocks n m d a b e) at h)) i j k cs
 
+  pub may-numbers : (s n m i j k : ℕ) (cs : List (Callback J)) → i + j + k ≤ length cs → (j ≡ 0 → n ≡ 0) → (k ≡ 0 → m ≡ 0) → MayAccelerate s (cut i j k n m cs) → (n ≤ s) × (m ≤ s)
+  may-numbers s n m i j k cs le z w h = let b = may-cut s n m i j k cs le h in (number-small s n j z b.0, number-small s m k w b.1)
+
   pub carries-none : (s n m i j k : ℕ) (cs : List (Callback J)) → i + j + k ≤ length cs → (0 < j → n < s) → (0 < k → m < s) → carries s (cut i j k n m cs) ≡ false
   carries-none s n m i j k cs le p q = rw (count-cut (is_numbered s) n m i j k cs le)
       (rw (none_of (n == s) j (λ x. ne_eqb n s (λ e. let y = p x in omega arith)), none_of (m == s) k (λ x. ne_eqb m s (λ e. let y = q x in omega arith))) refl)
@@ -199,5 +202,5 @@ module _ {J : Type 0} where
   pub may-iff : (s n m i j k : ℕ) (cs : List (Callback J)) → i + j + k ≤ length cs → (j ≡ 0 → n ≡ 0) → (k ≡ 0 → m ≡ 0) → (n ≤ s) × (m ≤ s) × MatchOption (newest_of (callbacks_of (cut i j k n m cs))) (Unit {0}) (λ t. snap_of t ≤ s) ↔ MayAccelerate s (cut i j k n m cs)
   may-iff s n m i j k cs le z w = (
     (λ h. may s n m i j k cs h.0 h.1 le (newest-all (λ t. snap_of t ≤ s) (λ a b le h. omega arith) (callbacks_of (cut i j k n m cs)) h.2)),
-    (λ h. let b = may-cut s n m i j k cs le h in (number-small s n j z b.0, number-small s m k w b.1, newest-has (λ t. snap_of t ≤ s) (snap-join s) (callbacks_of (cut i j k n m cs)) (may-stamps s (cut i j k n m cs) h))),
+    (λ h. let b = may-numbers s n m i j k cs le z w h in (b.0, b.1, newest-has (λ t. snap_of t ≤ s) (snap-join s) (callbacks_of (cut i j k n m cs)) (may-stamps s (cut i j k n m cs) h))),
   )

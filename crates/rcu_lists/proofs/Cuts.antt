@@ -71,6 +71,11 @@ module _ {J : Type 0} where
   cut-push n m i j k cs c = let P : ℕ → ℕ → ℕ → List (Callback J) → Type 0 = λ i j k cs. cut i j k n m (cs ++ c ∷ []) ≡ cut i j k n m cs ++ record { label = Bare; callback = c } ∷ [] in
       by_parts P (λ d a b e. cut-as n m d a b (e ++ c ∷ []) _ _ _ _ refl refl refl (simp append_assoc) ∙ rw (cut-blocks n m d a b e) (simp (marked-append Bare, append_assoc))) i j k cs
 
+  -- some more at the end
+  pub cut-join : (n m i j k : ℕ) (cs ds : List (Callback J)) → i + j + k ≤ length cs → cut i j k n m (cs ++ ds) ≡ cut i j k n m cs ++ marked Bare ds
+  cut-join n m i j k cs ds = let P : ℕ → ℕ → ℕ → List (Callback J) → Type 0 = λ i j k cs. cut i j k n m (cs ++ ds) ≡ cut i j k n m cs ++ marked Bare ds in
+      by_parts P (λ d a b e. cut-as n m d a b (e ++ ds) _ _ _ _ refl refl refl (simp append_assoc) ∙ rw (cut-blocks n m d a b e) (simp (marked-append Bare, append_assoc))) i j k cs
+
   -- the callbacks are those of the list
   callbacks-marked : (l : Label) (cs : List (Callback J)) → callbacks_of (marked l cs) ≡ cs
   callbacks-marked l [] = refl

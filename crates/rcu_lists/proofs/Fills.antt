@@ -1,8 +1,8 @@
 -- The values of places that are joined.
-use Rattle.std.proofs.Common.{◌≡◌, ◌+◌, List, [], ◌∷◌, ◌++◌, length, Option, Some, None, refl, ap, ◌∙◌, sym, length-append, MatchOption, ◌≤◌, subst, arith, Bool, true, false, not, IsTrue, ◌↔◌, ◌<◌, take, drop, get_or, suc, ltb, ℕ}
+use Rattle.std.proofs.Common.{◌≡◌, ◌+◌, ◌-◌, length-drop, List, [], ◌∷◌, ◌++◌, length, Option, Some, None, refl, ap, ◌∙◌, sym, length-append, MatchOption, ◌≤◌, subst, arith, Bool, true, false, not, IsTrue, ◌↔◌, ◌<◌, take, drop, get_or, suc, ltb, ℕ}
 use Rattle.std.proofs.Math.Seq.{drop-cons, take-add}
 use Rattle.std.proofs.lemmas.Bool.{ltb-true, ltb-false}
-use Rattle.std.proofs.lemmas.List.{drop-drop, drop_all}
+use Rattle.std.proofs.lemmas.List.{drop-drop, drop_all, take_all}
 use Rattle.rcu_lists.specs.Release.{is_any}
 use Rattle.rcu_lists.specs.Filled.{filled, AreFilled}
 
@@ -61,6 +61,10 @@ module _ {T : Type 0} where
       → MatchOption place ⊥ (λ x. (ys : List T) × (filled (drop i places) ≡ x ∷ ys))
   first-looked i places seen place e lt at full =
       first-at i places place (ltb-true i (length places) (ap (λ (l : List (Option T)). ltb i (length l)) (sym e) ∙ sym lt)) (at ∙ ap (λ l. get_or l i place) e) full
+
+  -- the places from one on, as a slice tells
+  pub filled-rest : (i : ℕ) (places seen : List (Option T)) → seen ≡ places → filled (take (length seen - i) (drop i seen)) ≡ filled (drop i places)
+  filled-rest i places seen e = rw (take_all (length seen - i) (drop i seen) (omega (arith, length-drop i seen))) (ap (λ l. filled (drop i l)) e)
 
   pub none-looked : (i : ℕ) (places seen : List (Option T)) → seen ≡ places → false ≡ ltb i (length seen) → filled (drop i places) ≡ []
   none-looked i places seen e h =

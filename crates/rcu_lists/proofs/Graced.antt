@@ -2,7 +2,7 @@
 use Rattle.std.proofs.Common.{◌≡◌, ℕ, ◌≤◌, max, List, [], ◌∷◌, ◌++◌, get_or, inl, inr, refl, arith, subst, sym, Option, Some, None}
 use Rattle.std.specs.Prelude.{All, IsTrue, nat_le, IfSome, MatchOption}
 use Rattle.std.proofs.lemmas.Bool.{le-leb, leb-true, cases_Bool}
-use Rattle.std.proofs.lemmas.List.Elements.{All-head, All-tail, All-nil, All-cons, All-map, All-weaker, All-push}
+use Rattle.std.proofs.lemmas.List.Elements.{All-head, All-tail, All-nil, All-cons, All-append, All-map, All-weaker, All-push}
 use Rattle.rcu_jobs.specs.declared.callback.Callback.{Callback}
 use Rattle.rcu_numbers.specs.Numbers.{snap_of}
 use Rattle.rcu_lists.specs.Labels.{Label, Done, Numbered, Bare, Labelled, marked, relabel, advanced, given, is_graced, IsGraced, MayAccelerate, has_two_below, after_advance, after_accelerate}
@@ -40,8 +40,15 @@ module _ {J : Type 0} where
     | inr e ↦ rw e (All-map (graced_at a) (relabel (given s)) xs (graced-given a s xs may h))
   ]
 
+  graced-bare : (a : ℕ) (cs : List (Callback J)) → IsGraced a (marked Bare cs)
+  graced-bare a [] = All-nil (graced_at a)
+  graced-bare a (c ∷ cs) = All-cons (graced_at a) (record { label = Bare; callback = c }) (marked Bare cs) refl (graced-bare a cs)
+
   pub graced-push : (a : ℕ) (xs : List (Labelled J)) (c : Callback J) → IsGraced a xs → IsGraced a (xs ++ record { label = Bare; callback = c } ∷ [])
   graced-push a xs c h = All-push (graced_at a) xs (record { label = Bare; callback = c }) h refl
+
+  pub graced-join : (a : ℕ) (xs : List (Labelled J)) (cs : List (Callback J)) → IsGraced a xs → IsGraced a (xs ++ marked Bare cs)
+  graced-join a xs cs h = All-append (graced_at a) xs (marked Bare cs) h (graced-bare a cs)
 
   -- what is left once the front is taken
   pub graced-left : (a : ℕ) (cs : List (Callback J)) (xs : List (Labelled J)) → IsGraced a (marked Done cs ++ xs) → IsGraced a xs

@@ -1,7 +1,9 @@
+pub mod Blocks
 pub mod Counts
 pub mod Cuts
 pub mod Fills
 pub mod Graced
+pub mod Joins
 pub mod Outcomes
 pub mod Rooms
 pub mod Sizes

@@ -1,5 +1,9 @@
 pub mod Batches
+pub mod BlockSegments
+pub mod Blocks
+pub mod Bounds
 pub mod Bypasses
+pub mod Chains
 pub mod Cut
 pub mod Filled
 pub mod Labels

@@ -6,6 +6,11 @@ abbrev pub greater : ℕ → Option ℕ → ℕ
 greater n None = n
 greater n (Some m) = max n m
 
+-- the greater of two, if there are two
+abbrev pub newer_of : Option ℕ → Option ℕ → Option ℕ
+newer_of None o = o
+newer_of (Some n) o = Some (greater n o)
+
 module _ {J : Type 0} where
   -- the stamps do not fall, and none is below this one
   abbrev pub stamps_from : ℕ → List (Callback J) → Bool
@@ -16,3 +21,8 @@ module _ {J : Type 0} where
   abbrev pub newest_of : List (Callback J) → Option ℕ
   newest_of [] = None
   newest_of (c ∷ cs) = Some (greater c.stamp (newest_of cs))
+
+  -- the last stamp, or this one where there is none
+  abbrev pub last_stamp : ℕ → List (Callback J) → ℕ
+  last_stamp before [] = before
+  last_stamp before (c ∷ cs) = last_stamp c.stamp cs

@@ -1,11 +1,13 @@
 //! A short list of callbacks, as it goes over a lane.
 
-ghost use Rattle.std.specs.Prelude.{◌≡◌, ◌≢◌, ℕ, ◌+◌, ◌≤◌, ◌↔◌, [], ◌∷◌, ◌++◌, length, take, drop, IsOk, IsSome, IsTrue, List, MatchOption, OnOk, OnErr};
+ghost use Rattle.std.specs.Prelude.{◌≡◌, ◌≢◌, true, ℕ, ◌+◌, ◌≤◌, ◌↔◌, [], ◌∷◌, ◌++◌, length, take, drop, IsOk, IsSome, IsTrue, List, MatchOption, OnOk, OnErr};
 ghost use Rattle.std.specs.VecDeque.{deque_capacity};
 ghost use Rattle.smallvec.specs.SmallVec.{HasRoomFor};
 ghost use Rattle.rcu_lists.specs.Filled.{AreFilled};
+ghost use Rattle.rcu_lists.specs.Stamps.{stamps_from, last_stamp};
 ghost use Rattle.rcu_lists.specs.declared.batch.TheConstants.{INLINE_PLACES};
 
+use crate::newest::stamps_behind;
 use rcu_jobs::Callback;
 use smallvec::SmallVec;
 use std::alloc::{AllocError, Global};
@@ -60,11 +62,23 @@ impl<J: Drop> Batch<J> {
         self.len() == 0
     }
 
+    // Asks for memory for so many more. (By itself: most calls find room.)
+    #[inline(never)]
+    fn grow(&mut self, more: usize) -> Result<(), AllocError>
+        ensures items { batch_items self.new ≡ batch_items self.old }
+        ensures found { OnOk result (HasRoom self.new more) }
+        ensures room { (k : ℕ) → HasRoom self.old k → HasRoom self.new k }
+        ensures refused { OnErr result (self.new ≡ self.old) }
+    {
+        self.slots.reserve(more.max(FEWEST_MORE))
+    }
+
     /// Finds room for so many more.
     ///
     /// # Errors
     ///
     /// Refusal 2, want of memory: everything is as it was.
+    #[inline(always)]
     pub fn reserve(&mut self, more: usize) -> Result<(), AllocError>
         ensures items { batch_items self.new ≡ batch_items self.old }
         ensures found { OnOk result (HasRoom self.new more) }
@@ -75,7 +89,7 @@ impl<J: Drop> Batch<J> {
         if more <= self.slots.capacity() - self.slots.len() {
             return Ok(());
         }
-        self.slots.reserve(more.max(FEWEST_MORE))
+        self.grow(more)
     }
 
     /// Adds a callback at the end, in the room that there is.
@@ -155,6 +169,15 @@ impl<J: Drop> Batch<J> {
             self.slots.clear();
             self.next = 0;
         }
+    }
+
+    // Whether its stamps are in order behind a last one, where those before are in order, and the last stamp then.
+    pub(crate) fn stamps_behind(&self, in_order: bool, last: u64) -> (bool, u64)
+        ensures order { result.0 ≡ true
+            → (in_order ≡ true) × (stamps_from last (batch_items self.now) ≡ true) }
+        ensures last { result.1 ≡ last_stamp last (batch_items self.now) }
+    {
+        stamps_behind(&self.slots[self.next..], in_order, last)
     }
 
     // Moves so many callbacks from the front of a list to the end, in the room that there is.

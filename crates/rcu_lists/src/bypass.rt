@@ -93,9 +93,8 @@ impl<J: Drop> Bypass<J> {
         ensures room { (k : ℕ) → BypassRoom self.old (k + 1) → BypassRoom self.new k }
     {
         self.held.add(callback);
-        let (due, pace) = self.pace.hold(moment, kind, self.held.len(), self.qhimark);
-        self.pace = pace;
-        due
+        let (len, qhimark) = (self.held.len(), self.qhimark);
+        self.pace.hold(moment, kind, len, qhimark)
     }
 
     /// Adds a callback at the end, and releases the list where that is due.

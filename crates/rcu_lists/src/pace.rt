@@ -46,60 +46,54 @@ impl Pace {
         }
     }
 
-    /// Whether a list that now has the length `len` is due to be released, its newest callback being of this kind, and
-    /// the pace with this callback in it.
-    pub fn hold(self, moment: u64, kind: Kind, len: u64, qhimark: u64) -> (bool, Pace)
-        ensures due { result.0 ≡ is_due moment kind self len qhimark }
-        ensures held { result.1 ≡ held moment kind self len }
+    /// Takes a callback of this kind on, in a list that now has the length `len`. Answers whether the list is due to be
+    /// released.
+    pub fn hold(&mut self, moment: u64, kind: Kind, len: u64, qhimark: u64) -> bool
+        ensures due { result ≡ is_due moment kind self.old len qhimark }
+        ensures held { self.new ≡ held moment kind self.old len }
 
         // The list is not empty.
-        ensures some { result.1.plain ≡ false → result.1.lazy ≡ None → ⊥ }
+        ensures some { self.new.plain ≡ false → self.new.lazy ≡ None → ⊥ }
     {
         match kind {
             Kind::Plain => self.hold_plain(moment, len, qhimark),
-            Kind::Lazy => (len >= qhimark, self.hold_lazy(moment)),
+            Kind::Lazy => {
+                self.hold_lazy(moment);
+                qhimark <= len
+            }
         }
     }
 
     // The rules "new moment", "after a lazy one", "alone" and "high mark", of which the first that holds decides.
-    fn hold_plain(self, moment: u64, len: u64, qhimark: u64) -> (bool, Pace)
-        ensures due { result.0 ≡ is_due moment Plain self len qhimark }
-        ensures held { result.1 ≡ held moment Plain self len }
-        ensures some { result.1.plain ≡ true }
+    fn hold_plain(&mut self, moment: u64, len: u64, qhimark: u64) -> bool
+        ensures due { result ≡ is_due moment Plain self.old len qhimark }
+        ensures held { self.new ≡ held moment Plain self.old len }
+        ensures some { self.new.plain ≡ true }
     {
-        let pace = Pace {
-            plain: true,
-            ..self
-        };
+        self.plain = true;
         if !self.is_at(moment) {
-            let last = Some(moment);
-            let pace = Pace {
-                last,
-                direct: 1,
-                ..pace
-            };
-            return (true, pace);
+            self.last = Some(moment);
+            self.direct = 1;
+            return true;
         }
         if self.lazy.is_some() {
-            return (true, pace);
+            return true;
         }
         if len == 1 && self.direct < MOST_DIRECT {
-            let direct = self.direct + 1;
-            return (true, Pace { direct, ..pace });
+            self.direct += 1;
+            return true;
         }
-        (len >= qhimark, pace)
+        len >= qhimark
     }
 
     // The moment of the first lazy callback is kept.
-    fn hold_lazy(self, moment: u64) -> Pace
-        ensures held { result ≡ record self { lazy = kept_moment moment self.lazy } }
-        ensures some { result.lazy ≡ None → ⊥ }
+    fn hold_lazy(&mut self, moment: u64)
+        ensures held { self.new ≡ record self.old { lazy = kept_moment moment self.old.lazy } }
+        ensures some { self.new.lazy ≡ None → ⊥ }
     {
-        let lazy = match self.lazy {
-            Some(first) => Some(first),
-            None => Some(moment),
-        };
-        Pace { lazy, ..self }
+        if self.lazy.is_none() {
+            self.lazy = Some(moment);
+        }
     }
 
     /// Whether a tick releases the list because of its moment.

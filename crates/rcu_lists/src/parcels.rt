@@ -21,9 +21,21 @@ impl<J: Drop> Batch<J> {
             (λ back. back ≡ self) }
         ensures heap { IsOnHeap self → IsOk result }
     {
+        match self.into_places() {
+            Ok(places) => Ok(Parcel::Many(places)),
+            Err(back) => Err(back),
+        }
+    }
+
+    // Its places as they stand on the heap. What stands in the batch itself wants memory, and what is on the heap none.
+    pub(crate) fn into_places(self) -> Result<Places<J>, Batch<J>>
+        ensures packed { MatchResult result (λ places. places_items places ≡ batch_items self)
+            (λ back. back ≡ self) }
+        ensures heap { IsOnHeap self → IsOk result }
+    {
         let Batch { slots, next } = self;
         match slots.into_vec() {
-            Ok(slots) => Ok(Parcel::Many(Places { slots, next })),
+            Ok(slots) => Ok(Places { slots, next }),
             Err(AllocFailed { value }) => Err(Batch { slots: value, next }),
         }
     }

@@ -3,13 +3,14 @@
 ghost use Rattle.std.specs.Prelude.{◌≡◌, ℕ, ◌+◌, ◌<◌, ◌≤◌, ◌↔◌, [], ◌∷◌, ◌++◌, true, ⊤, IsTrue, length, min, max, option_to_list, All, List, MatchOption, IfSome, IfOk, IsOk, OnOk, OnErr};
 ghost use Rattle.rcu_numbers.specs.Numbers.{snap_of};
 ghost use Rattle.rcu_lists.specs.Batches.{batch_items};
+ghost use Rattle.rcu_lists.specs.Bounds.{cut_by, IsWithin};
 ghost use Rattle.rcu_lists.specs.Bypasses.{bypass_items, bypass_pace, bypass_qhimark, BypassRoom, BypassUnchanged};
-ghost use Rattle.rcu_lists.specs.Cut.{cut};
 ghost use Rattle.rcu_lists.specs.Labels.{IsGraced};
 ghost use Rattle.rcu_lists.specs.Release.{joined_plain};
 ghost use Rattle.rcu_lists.specs.Stamps.{stamps_from, newest_of};
 
 use crate::batch::{Batch, INLINE_PLACES};
+use crate::bounds::Bounds;
 use crate::bypass::Bypass;
 use rcu_jobs::Callback;
 use std::alloc::{AllocError, Global};
@@ -30,24 +31,14 @@ use std::collections::VecDeque;
 #[derive(Drop)]
 pub struct Segments<J> {
     list: VecDeque<Callback<J>>,
-    // The lengths of done, wait and next-ready. A segment that is merged or moved down costs no more than these.
-    done: usize,
-    wait: usize,
-    ready: usize,
-    // The numbers of wait and next-ready, 0 while empty.
-    wait_number: u64,
-    ready_number: u64,
-    // The greatest number that the list was advanced by.
-    advanced: u64,
+    // Where the list is cut into these segments.
+    bounds: Bounds,
     // Whether no stamp is known to be below the one before it.
     in_order: bool,
-    ghost within: { done + wait + ready ≤ length list.items },
-    ghost filled: { wait ≡ 0 → (ready ≡ 0) × (wait_number ≡ 0) },
-    ghost single: { ready ≡ 0 → ready_number ≡ 0 },
-    ghost rising: { 0 < ready → wait_number < ready_number },
+    ghost within: { IsWithin bounds list.items },
     ghost stamps: { in_order ≡ true → stamps_from 0 list.items ≡ true },
     // No callback is done before a grace period served it.
-    ghost graced: { IsGraced advanced (cut done wait ready wait_number ready_number list.items) },
+    ghost graced: { IsGraced bounds.advanced (cut_by bounds list.items) },
 }
 
 impl<J: Drop> Segments<J> {
@@ -61,12 +52,7 @@ impl<J: Drop> Segments<J> {
     {
         Segments {
             list: VecDeque::new(alloc),
-            done: 0,
-            wait: 0,
-            ready: 0,
-            wait_number: 0,
-            ready_number: 0,
-            advanced: 0,
+            bounds: Bounds::new(),
             in_order: true,
         }
     }
@@ -108,21 +94,7 @@ impl<J: Drop> Segments<J> {
         ensures advanced { advanced_by self.new ≡ max (advanced_by self.old) seq }
         ensures room { (k : ℕ) → SegmentsRoom self.old k → SegmentsRoom self.new k }
     {
-        self.advanced = self.advanced.max(seq);
-        if self.wait_number > seq {
-            return;
-        }
-        self.done += self.wait;
-        if self.ready_number > seq {
-            self.wait = self.ready;
-            self.wait_number = self.ready_number;
-        } else {
-            self.done += self.ready;
-            self.wait = 0;
-            self.wait_number = 0;
-        }
-        self.ready = 0;
-        self.ready_number = 0;
+        self.bounds.advance::<J>(seq);
     }
 
     /// Gives the number `seq` to the callbacks in next, unless two lesser numbers are in the list. Answers whether
@@ -134,27 +106,7 @@ impl<J: Drop> Segments<J> {
         ensures advanced { advanced_by self.new ≡ advanced_by self.old }
         ensures room { (k : ℕ) → SegmentsRoom self.old k → SegmentsRoom self.new k }
     {
-        if self.ready > 0 && self.ready_number < seq {
-            return false;
-        }
-        let not_done = self.list.len() - self.done;
-        if self.wait > 0 && self.wait_number < seq {
-            let later = not_done - self.wait;
-            if later == 0 {
-                return false;
-            }
-            self.ready = later;
-            self.ready_number = seq;
-        } else {
-            if not_done == 0 {
-                return false;
-            }
-            self.wait = not_done;
-            self.wait_number = seq;
-            self.ready = 0;
-            self.ready_number = 0;
-        }
-        true
+        self.bounds.accelerate::<J>(seq, self.list.len())
     }
 
     /// Whether `accelerate(seq)` may be called: `seq` is at least each number in the list, and at least `snap` of
@@ -162,7 +114,7 @@ impl<J: Drop> Segments<J> {
     pub fn may_accelerate(&self, seq: u64) -> bool
         ensures { IsTrue result ↔ MayAccelerate seq (labelled self.now) }
     {
-        let greatest = self.wait_number.max(self.ready_number);
+        let greatest = self.bounds.wait_number.max(self.bounds.ready_number);
         greatest <= seq && is_served(self.newest(), seq)
     }
 
@@ -171,7 +123,7 @@ impl<J: Drop> Segments<J> {
         ensures { MatchOption result (count is_done (labelled self.now) ≡ 0) (λ c.
             (rest : List (Labelled J)) × (labelled self.now ≡ marked Done (c.now ∷ []) ++ rest)) }
     {
-        if self.done == 0 {
+        if self.bounds.done == 0 {
             return None;
         }
         let Some(first) = self.list.front() else {
@@ -185,7 +137,7 @@ impl<J: Drop> Segments<J> {
         ensures number { result ≡ count is_done (labelled self.now) }
         ensures labelled { IsLabelledList (labelled self.now) }
     {
-        let done = self.done;
+        let done = self.bounds.done;
         done as u64
     }
 
@@ -199,10 +151,10 @@ impl<J: Drop> Segments<J> {
         ensures room { (k : ℕ) → SegmentsRoom self.old k
             → SegmentsRoom self.new (k + length (option_to_list result)) }
     {
-        if self.done == 0 {
+        if self.bounds.done == 0 {
             return None;
         }
-        self.done -= 1;
+        self.bounds.done -= 1;
         self.list.pop_front()
     }
 
@@ -256,11 +208,11 @@ impl<J: Drop> Segments<J> {
         ensures refused { OnErr result
             (SegmentsUnchanged self.old self.new × (batch_items batch.new ≡ [])) }
     {
-        let number = max.min(self.done);
+        let number = max.min(self.bounds.done);
         batch.free_places();
         batch.reserve(number)?;
         batch.take_from(&mut self.list, number);
-        self.done -= number;
+        self.bounds.done -= number;
         Ok(())
     }
 
@@ -288,11 +240,7 @@ impl<J: Drop> Segments<J> {
     {
         bypass.make_room(self.list.len())?;
         bypass.take_list(&mut self.list);
-        self.done = 0;
-        self.wait = 0;
-        self.ready = 0;
-        self.wait_number = 0;
-        self.ready_number = 0;
+        self.bounds.clear();
         Ok(())
     }
 
@@ -312,13 +260,7 @@ impl<J: Drop> Segments<J> {
     pub fn lengths(&self) -> [u64; 4]
         ensures { result ≡ lengths_of (labelled self.now) }
     {
-        let next = self.list.len() - self.done - self.wait - self.ready;
-        [
-            self.done as u64,
-            self.wait as u64,
-            self.ready as u64,
-            next as u64,
-        ]
+        self.bounds.lengths::<J>(self.list.len())
     }
 
     /// The numbers of wait and next-ready, 0 while empty.
@@ -329,7 +271,7 @@ impl<J: Drop> Segments<J> {
         ensures labelled { IsLabelledList (labelled self.now) }
         ensures graced { IsGraced (advanced_by self.now) (labelled self.now) }
     {
-        [self.wait_number, self.ready_number]
+        [self.bounds.wait_number, self.bounds.ready_number]
     }
 
     /// All callbacks, in order.

@@ -8,17 +8,17 @@ use Rattle.rcu_lists.proofs.bypass.Bypass.hold.Goals as goal
 pub invariant_of-self : goal.invariant_of-self
 invariant_of-self g c = record {
   unmarked = λ e. absurd (no-snoc (batch_items c.args.self.now.held) c.args.callback (sym c.add.ensures.items ∙ e));
-  marked = λ p l. absurd (c.hold-due.ensures.some p l);
+  marked = λ p l. absurd (c.hold.ensures.some p l);
   roomy = λ e. absurd (no-snoc (batch_items c.args.self.now.held) c.args.callback (sym c.add.ensures.items ∙ e));
 }
 
 pub returns-clause-due : goal.returns-clause-due
 returns-clause-due g c = let s = c.args.self.now in
-    c.hold-due.ensures.due ∙ ap (λ n. is_due c.args.moment c.args.kind s.pace n s.qhimark) (c.len.ensures ∙ length-one_more _ _ c.args.callback c.add.ensures.items)
+    c.hold.ensures.due ∙ ap (λ n. is_due c.args.moment c.args.kind s.pace n s.qhimark) (c.len-len.ensures ∙ length-one_more _ _ c.args.callback c.add.ensures.items)
 
 pub returns-clause-pace : goal.returns-clause-pace
 returns-clause-pace g c =
-    c.hold-due.ensures.held ∙ ap (λ n. held c.args.moment c.args.kind c.args.self.now.pace n) (c.len.ensures ∙ length-one_more _ _ c.args.callback c.add.ensures.items)
+    c.hold.ensures.held ∙ ap (λ n. held c.args.moment c.args.kind c.args.self.now.pace n) (c.len-len.ensures ∙ length-one_more _ _ c.args.callback c.add.ensures.items)
 
 pub returns-clause-room : goal.returns-clause-room
 returns-clause-room g c = c.add.ensures.room

@@ -1,102 +1,25 @@
-use Rattle.std.proofs.Common.{◌≡◌, ◌<◌, ◌-◌, ◌∙◌, length, sym, subst, rules, arith}
+use Rattle.std.proofs.Common.{◌≡◌, length, sym, subst, rules, arith}
 use Rattle.rcu_lists.specs.Labels.{IsGraced}
-use Rattle.rcu_lists.proofs.Cuts.{no-first, no-second}
-use Rattle.rcu_lists.proofs.Counts.{no-second-number, accelerate-full, accelerate-first, accelerate-second, may-cut, carries-none, carries-first, carries-second}
+use Rattle.rcu_lists.proofs.Counts.{may-numbers}
 use Rattle.rcu_lists.proofs.Graced.{graced-accelerate}
-use Rattle.rcu_lists.proofs.segments.Segments.accelerate.Goals.{else-self-gt0-via-then-self-gt0+else-self-seq, else-self-gt0-via-else-self-gt0, else-self-gt0-2-via-then-self-gt0-2+else-self-seq-2, else-self-gt0-2-via-else-self-gt0-2}
 use Rattle.rcu_lists.proofs.segments.Segments.accelerate.Goals as goal
 
--- two lesser numbers are there
-pub returns-then-self-seq-clause-list : goal.returns-then-self-seq-clause-list
-returns-then-self-seq-clause-list g c = let s = c.args.self.now in
-    accelerate-full c.args.seq s.wait_number s.ready_number s.done s.wait s.ready s.list.items s.within (λ e. (s.filled e).0) s.rising c.if-self-gt0.true c.if-self-seq.true
+pub accelerate-requires : goal.accelerate-requires
+accelerate-requires g c = let s = c.args.self.now in let b = s.bounds in
+    let may = may-numbers c.args.seq b.wait_number b.ready_number b.done b.wait b.ready s.list.items s.within (λ e. (b.filled e).1) b.single c.requires in
+    record { within = omega (arith, c.len.ensures, s.list.ok.0, s.within); wait = may.0; ready = may.1 }
 
-pub returns-then-self-seq-clause-carried : goal.returns-then-self-seq-clause-carried
-returns-then-self-seq-clause-carried g c = let s = c.args.self.now in
-    sym (carries-none c.args.seq s.wait_number s.ready_number s.done s.wait s.ready s.list.items s.within (λ p. let r = s.rising c.if-self-gt0.true in omega arith) (λ p. c.if-self-seq.true))
+pub invariant_of-self : goal.invariant_of-self
+invariant_of-self g c = let s = c.args.self.now in let new = c.accelerate.new.self in
+    let len : length s.list.items ≡ c.len.result = search rules in record {
+      within = omega (arith, len, c.accelerate.ensures.within);
+      stamps = s.stamps;
+      graced = rw c.accelerate.ensures.advanced (subst (IsGraced s.bounds.advanced) (sym (c.accelerate.ensures.list s.list.items len))
+          (graced-accelerate s.bounds.advanced c.args.seq _ c.requires s.graced));
+    }
 
--- nothing is after wait
-pub returns-then-later-eq0-clause-list : goal.returns-then-later-eq0-clause-list
-returns-then-later-eq0-clause-list g c = let s = c.args.self.now in
-    let len : length s.list.items ≡ c.len.result = search rules in
-    let no_ready : s.ready ≡ 0 = omega arith in
-    no-second s.wait_number s.ready_number c.args.seq s.done s.wait s.ready (length s.list.items - s.done - s.wait) s.list.items no_ready (omega arith)
-    ∙ accelerate-second c.args.seq s.wait_number s.ready_number s.done s.wait s.ready s.list.items s.within (λ e. (s.filled e).0) s.rising (λ p. omega arith)
+pub returns-clause-list : goal.returns-clause-list
+returns-clause-list g c = let s = c.args.self.now in let len : length s.list.items ≡ c.len.result = search rules in c.accelerate.ensures.list s.list.items len
 
-pub returns-then-later-eq0-clause-carried : goal.returns-then-later-eq0-clause-carried
-returns-then-later-eq0-clause-carried g c = let s = c.args.self.now in
-    let len : length s.list.items ≡ c.len.result = search rules in
-    let no_ready : s.ready ≡ 0 = omega arith in
-    sym (carries-none c.args.seq s.wait_number s.ready_number s.done s.wait s.ready s.list.items s.within (λ p. c.if-self-seq-2.true) (λ p. omega arith))
-
--- nothing is after done
-pub returns-then-not_done-eq0-clause-list : goal.returns-then-not_done-eq0-clause-list
-returns-then-not_done-eq0-clause-list g c = let s = c.args.self.now in
-    let len : length s.list.items ≡ c.len.result = search rules in
-    let no_wait : s.wait ≡ 0 = omega arith in
-    let no_ready : s.ready ≡ 0 = omega arith in
-    no-first s.wait_number s.ready_number c.args.seq s.done s.wait s.ready (length s.list.items - s.done) s.list.items no_wait no_ready (omega arith)
-    ∙ accelerate-first c.args.seq s.wait_number s.ready_number s.done s.wait s.ready s.list.items s.within (λ p. omega arith) no_ready
-
-pub returns-then-not_done-eq0-clause-carried : goal.returns-then-not_done-eq0-clause-carried
-returns-then-not_done-eq0-clause-carried g c = let s = c.args.self.now in
-    let len : length s.list.items ≡ c.len.result = search rules in
-    let no_wait : s.wait ≡ 0 = omega arith in
-    let no_ready : s.ready ≡ 0 = omega arith in
-    sym (carries-none c.args.seq s.wait_number s.ready_number s.done s.wait s.ready s.list.items s.within (λ p. omega arith) (λ p. omega arith))
-
--- the later ones join next-ready
-pub invariant_of-self-then-self-seq-2-clause-graced : goal.invariant_of-self-then-self-seq-2-clause-graced
-invariant_of-self-then-self-seq-2-clause-graced g c = let s = c.args.self.now in
-    let len : c.len.result ≡ length s.list.items = search rules in
-    let may = may-cut c.args.seq s.wait_number s.ready_number s.done s.wait s.ready s.list.items s.within c.requires in
-    let full : 0 < s.ready → s.ready_number ≡ c.args.seq = λ p. let top = may.1 p in elim c.else-self-gt0.branch [
-      | else-self-gt0-via-then-self-gt0+else-self-seq w ↦ omega arith
-      | else-self-gt0-via-else-self-gt0 w ↦ omega arith
-    ] in
-    rw len (subst (IsGraced s.advanced) (sym (accelerate-second c.args.seq s.wait_number s.ready_number s.done s.wait s.ready s.list.items s.within (λ e. (s.filled e).0) s.rising full))
-    (graced-accelerate s.advanced c.args.seq _ c.requires s.graced))
-
-pub returns-else-later-eq0-clause-list : goal.returns-else-later-eq0-clause-list
-returns-else-later-eq0-clause-list g c = let s = c.args.self.now in
-    let len : c.len.result ≡ length s.list.items = search rules in
-    let may = may-cut c.args.seq s.wait_number s.ready_number s.done s.wait s.ready s.list.items s.within c.requires in
-    let full : 0 < s.ready → s.ready_number ≡ c.args.seq = λ p. let top = may.1 p in elim c.else-self-gt0.branch [
-      | else-self-gt0-via-then-self-gt0+else-self-seq w ↦ omega arith
-      | else-self-gt0-via-else-self-gt0 w ↦ omega arith
-    ] in
-    rw len (accelerate-second c.args.seq s.wait_number s.ready_number s.done s.wait s.ready s.list.items s.within (λ e. (s.filled e).0) s.rising full)
-
-pub returns-else-later-eq0-clause-carried : goal.returns-else-later-eq0-clause-carried
-returns-else-later-eq0-clause-carried g c = let s = c.args.self.now in
-    let len : c.len.result ≡ length s.list.items = search rules in
-    rw len (sym (carries-second c.args.seq s.wait_number s.done s.wait (length s.list.items - s.done - s.wait) s.list.items (omega arith) (omega arith)))
-
--- the later ones join wait
-pub invariant_of-self-else-self-gt0-2-clause-graced : goal.invariant_of-self-else-self-gt0-2-clause-graced
-invariant_of-self-else-self-gt0-2-clause-graced g c = let s = c.args.self.now in
-    let len : c.len.result ≡ length s.list.items = search rules in
-    let may = may-cut c.args.seq s.wait_number s.ready_number s.done s.wait s.ready s.list.items s.within c.requires in
-    let same : 0 < s.wait → s.wait_number ≡ c.args.seq = λ p. let top = may.0 p in elim c.else-self-gt0-2.branch [
-      | else-self-gt0-2-via-then-self-gt0-2+else-self-seq-2 w ↦ omega arith
-      | else-self-gt0-2-via-else-self-gt0-2 w ↦ omega arith
-    ] in
-    let no_ready : s.ready ≡ 0 = no-second-number c.args.seq s.wait_number s.ready_number s.wait s.ready (λ e. (s.filled e).0) s.rising same may.1 in
-    rw len (subst (IsGraced s.advanced) (sym (accelerate-first c.args.seq s.wait_number s.ready_number s.done s.wait s.ready s.list.items s.within same no_ready))
-    (graced-accelerate s.advanced c.args.seq _ c.requires s.graced))
-
-pub returns-else-not_done-eq0-clause-list : goal.returns-else-not_done-eq0-clause-list
-returns-else-not_done-eq0-clause-list g c = let s = c.args.self.now in
-    let len : c.len.result ≡ length s.list.items = search rules in
-    let may = may-cut c.args.seq s.wait_number s.ready_number s.done s.wait s.ready s.list.items s.within c.requires in
-    let same : 0 < s.wait → s.wait_number ≡ c.args.seq = λ p. let top = may.0 p in elim c.else-self-gt0-2.branch [
-      | else-self-gt0-2-via-then-self-gt0-2+else-self-seq-2 w ↦ omega arith
-      | else-self-gt0-2-via-else-self-gt0-2 w ↦ omega arith
-    ] in
-    let no_ready : s.ready ≡ 0 = no-second-number c.args.seq s.wait_number s.ready_number s.wait s.ready (λ e. (s.filled e).0) s.rising same may.1 in
-    rw len (accelerate-first c.args.seq s.wait_number s.ready_number s.done s.wait s.ready s.list.items s.within same no_ready)
-
-pub returns-else-not_done-eq0-clause-carried : goal.returns-else-not_done-eq0-clause-carried
-returns-else-not_done-eq0-clause-carried g c = let s = c.args.self.now in
-    let len : c.len.result ≡ length s.list.items = search rules in
-    rw len (sym (carries-first c.args.seq 0 s.done (length s.list.items - s.done) 0 s.list.items (omega arith) (omega arith)))
+pub returns-clause-carried : goal.returns-clause-carried
+returns-clause-carried g c = let s = c.args.self.now in let len : length s.list.items ≡ c.len.result = search rules in c.accelerate.ensures.carried s.list.items len

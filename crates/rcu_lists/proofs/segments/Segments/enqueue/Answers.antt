@@ -12,8 +12,8 @@ invariant_of-self-clause-stamps g c = let s = c.args.self.now in λ e. let k = c
 
 pub invariant_of-self-clause-graced : goal.invariant_of-self-clause-graced
 invariant_of-self-clause-graced g c = let s = c.args.self.now in
-    subst (IsGraced s.advanced) (sym (ap (cut s.done s.wait s.ready s.wait_number s.ready_number) c.push_back_reserved.ensures.items ∙ cut-push s.wait_number s.ready_number s.done s.wait s.ready s.list.items c.args.callback s.within))
-    (graced-push s.advanced _ c.args.callback s.graced)
+    subst (IsGraced s.bounds.advanced) (sym (ap (cut s.bounds.done s.bounds.wait s.bounds.ready s.bounds.wait_number s.bounds.ready_number) c.push_back_reserved.ensures.items ∙ cut-push s.bounds.wait_number s.bounds.ready_number s.bounds.done s.bounds.wait s.bounds.ready s.list.items c.args.callback s.within))
+    (graced-push s.bounds.advanced _ c.args.callback s.graced)
 
 pub returns-clause-list : goal.returns-clause-list
-returns-clause-list g c = let s = c.args.self.now in ap (cut s.done s.wait s.ready s.wait_number s.ready_number) c.push_back_reserved.ensures.items ∙ cut-push s.wait_number s.ready_number s.done s.wait s.ready s.list.items c.args.callback s.within
+returns-clause-list g c = let s = c.args.self.now in ap (cut s.bounds.done s.bounds.wait s.bounds.ready s.bounds.wait_number s.bounds.ready_number) c.push_back_reserved.ensures.items ∙ cut-push s.bounds.wait_number s.bounds.ready_number s.bounds.done s.bounds.wait s.bounds.ready s.list.items c.args.callback s.within

@@ -17,43 +17,40 @@ use Rattle.rcu_lists.proofs.Rooms.{room-moved}
 use Rattle.rcu_lists.proofs.Stamps.{stamps-drop}
 use Rattle.rcu_lists.proofs.segments.Segments.fill_batch.Goals as goal
 
-pub invariant_of-self : goal.invariant_of-self
-invariant_of-self g c = let s = c.args.self.now in let le = s.within in let t = c.min-number.result in
-    let few : t ≤ s.done = search rules in
-    let cut_front = take-front s.wait_number s.ready_number s.done s.wait s.ready t s.list.items few s.within in
+pub invariant_of-self-2 : goal.invariant_of-self-2
+invariant_of-self-2 g c = let s = c.args.self.now in let le = s.within in let t = c.min-number.result in
+    let few : t ≤ s.bounds.done = search rules in
+    let cut_front = take-front s.bounds.wait_number s.bounds.ready_number s.bounds.done s.bounds.wait s.bounds.ready t s.list.items few s.within in
     record {
       within = rw c.take_from.ensures.left (simp length-drop (omega arith));
-      filled = s.filled;
-      single = s.single;
-      rising = s.rising;
       stamps = λ e. rw c.take_from.ensures.left (stamps-drop 0 t s.list.items (s.stamps e));
-      graced = rw c.take_from.ensures.left (graced-left s.advanced (take t s.list.items) (cut (s.done - t) s.wait s.ready s.wait_number s.ready_number (drop t s.list.items)) (subst (IsGraced s.advanced) cut_front s.graced));
+      graced = rw c.take_from.ensures.left (graced-left s.bounds.advanced (take t s.list.items) (cut (s.bounds.done - t) s.bounds.wait s.bounds.ready s.bounds.wait_number s.bounds.ready_number (drop t s.list.items)) (subst (IsGraced s.bounds.advanced) cut_front s.graced));
     }
 
 pub returns-clause-taken : goal.returns-clause-taken
 returns-clause-taken g c = let s = c.args.self.now in let le = s.within in let t = c.min-number.result in
-    let few : t ≤ s.done = search rules in
+    let few : t ≤ s.bounds.done = search rules in
     let b = c.take_from.new.self in
     let front : batch_items b ≡ take t s.list.items = c.take_from.ensures.moved ∙ ap (λ z. z ++ take t s.list.items) (c.reserve.ensures.items ∙ c.free_places.ensures.items ∙ c.requires.none) in
-    take-front s.wait_number s.ready_number s.done s.wait s.ready t s.list.items few s.within
-    ∙ ap (λ z. marked Done z ++ cut (s.done - t) s.wait s.ready s.wait_number s.ready_number (drop t s.list.items)) (sym front)
-    ∙ ap (λ z. marked Done (batch_items b) ++ cut (s.done - t) s.wait s.ready s.wait_number s.ready_number z) (sym c.take_from.ensures.left)
+    take-front s.bounds.wait_number s.bounds.ready_number s.bounds.done s.bounds.wait s.bounds.ready t s.list.items few s.within
+    ∙ ap (λ z. marked Done z ++ cut (s.bounds.done - t) s.bounds.wait s.bounds.ready s.bounds.wait_number s.bounds.ready_number (drop t s.list.items)) (sym front)
+    ∙ ap (λ z. marked Done (batch_items b) ++ cut (s.bounds.done - t) s.bounds.wait s.bounds.ready s.bounds.wait_number s.bounds.ready_number z) (sym c.take_from.ensures.left)
 
 pub returns-clause-number : goal.returns-clause-number
 returns-clause-number g c = let s = c.args.self.now in let le = s.within in let t = c.min-number.result in
-    let few : t ≤ s.done = search rules in
-    let least : t ≡ min c.args.max s.done = search rules in
+    let few : t ≤ s.bounds.done = search rules in
+    let least : t ≡ min c.args.max s.bounds.done = search rules in
     let b = c.take_from.new.self in
     let front : batch_items b ≡ take t s.list.items = c.take_from.ensures.moved ∙ ap (λ z. z ++ take t s.list.items) (c.reserve.ensures.items ∙ c.free_places.ensures.items ∙ c.requires.none) in
-    ap length front ∙ length-take-le t s.list.items (omega arith) ∙ least ∙ ap (min c.args.max) (sym (count-done s.wait_number s.ready_number s.done s.wait s.ready s.list.items s.within))
+    ap length front ∙ length-take-le t s.list.items (omega arith) ∙ least ∙ ap (min c.args.max) (sym (count-done s.bounds.wait_number s.bounds.ready_number s.bounds.done s.bounds.wait s.bounds.ready s.list.items s.within))
 
 pub returns-clause-graced : goal.returns-clause-graced
 returns-clause-graced g c = let s = c.args.self.now in let t = c.min-number.result in
-    let few : t ≤ s.done = search rules in
+    let few : t ≤ s.bounds.done = search rules in
     let b = c.take_from.new.self in
     let front : batch_items b ≡ take t s.list.items = c.take_from.ensures.moved ∙ ap (λ z. z ++ take t s.list.items) (c.reserve.ensures.items ∙ c.free_places.ensures.items ∙ c.requires.none) in
-    subst (All (λ (x : Callback g.row.J.Denot). snap_of x.stamp ≤ s.advanced)) (sym front)
-    (graced-taken s.advanced (take t s.list.items) _ (subst (IsGraced s.advanced) (take-front s.wait_number s.ready_number s.done s.wait s.ready t s.list.items few s.within) s.graced))
+    subst (All (λ (x : Callback g.row.J.Denot). snap_of x.stamp ≤ s.bounds.advanced)) (sym front)
+    (graced-taken s.bounds.advanced (take t s.list.items) _ (subst (IsGraced s.bounds.advanced) (take-front s.bounds.wait_number s.bounds.ready_number s.bounds.done s.bounds.wait s.bounds.ready t s.list.items few s.within) s.graced))
 
 pub returns-in_err-reserve-clause-taken : goal.returns-in_err-reserve-clause-taken
 returns-in_err-reserve-clause-taken g c = on_ok_never _ _ c.from_residual.ensures
@@ -74,14 +71,22 @@ returns-in_err-reserve-clause-refused g c = let s = c.args.self.now in let same 
 
 pub returns-clause-room : goal.returns-clause-room
 returns-clause-room g c = let s = c.args.self.now in let le = s.within in let t = c.min-number.result in
-    let few : t ≤ s.done = search rules in
+    let few : t ≤ s.bounds.done = search rules in
     let b = c.take_from.new.self in
     let front : batch_items b ≡ take t s.list.items = c.take_from.ensures.moved ∙ ap (λ z. z ++ take t s.list.items) (c.reserve.ensures.items ∙ c.free_places.ensures.items ∙ c.requires.none) in
     room-moved s.list.items c.take_from.new.list.items (batch_items b) t _ _ (omega arith) c.take_from.ensures.left front c.take_from.ensures.capacity
 
 pub returns-in_err-reserve-clause-inline : goal.returns-in_err-reserve-clause-inline
 returns-in_err-reserve-clause-inline g c = λ few. let s = c.args.self.now in let t = c.min-number.result in
-    let least : t ≡ min c.args.max s.done = search rules in
-    let small = subst (λ n. min c.args.max n ≤ INLINE_PLACES) (count-done s.wait_number s.ready_number s.done s.wait s.ready s.list.items s.within) few in
+    let least : t ≡ min c.args.max s.bounds.done = search rules in
+    let small = subst (λ n. min c.args.max n ≤ INLINE_PLACES) (count-done s.bounds.wait_number s.bounds.ready_number s.bounds.done s.bounds.wait s.bounds.ready s.list.items s.within) few in
     let room = c.free_places.ensures.inline (c.free_places.ensures.items ∙ c.requires.none) in
     absurd (false≢true (c.in_err-reserve.ensures.had (omega (arith, least, small, room))))
+
+pub invariant_of-self : goal.invariant_of-self
+invariant_of-self g c = let b = c.args.self.now.bounds in record {
+  counted = omega (arith, b.counted);
+  filled = b.filled;
+  single = b.single;
+  rising = b.rising;
+}

@@ -5,10 +5,10 @@ use Rattle.rcu_lists.proofs.Cuts.{callbacks-cut}
 use Rattle.rcu_lists.proofs.segments.Segments.newest.Goals as goal
 
 pub returns-then-not-self : goal.returns-then-not-self
-returns-then-not-self g c = let s = c.args.self.now in c.greatest_stamp.ensures ∙ ap newest_of (sym (callbacks-cut s.wait_number s.ready_number s.done s.wait s.ready s.list.items s.within))
+returns-then-not-self g c = let s = c.args.self.now in c.greatest_stamp.ensures ∙ ap newest_of (sym (callbacks-cut s.bounds.wait_number s.bounds.ready_number s.bounds.done s.bounds.wait s.bounds.ready s.list.items s.within))
 
 pub returns : goal.returns
 returns g c = let s = c.args.self.now in
     let some : 0 < length s.list.items = search rules in
-    rw (callbacks-cut s.wait_number s.ready_number s.done s.wait s.ready s.list.items s.within)
+    rw (callbacks-cut s.bounds.wait_number s.bounds.ready_number s.bounds.done s.bounds.wait s.bounds.ready s.list.items s.within)
     (sym (newest-back s.list.items c.in_ok-last.last.now (s.stamps (search rules)) some (search rules)))

@@ -4,7 +4,7 @@ use Rattle.rcu_lists.proofs.segments.Segments.numbers.Goals as goal
 
 pub returns : goal.returns
 returns g c = let s = c.args.self.now in record {
-  numbers = sym (numbers-shown s.wait_number s.ready_number s.done s.wait s.ready s.list.items s.within s.filled s.single s.rising);
-  labelled = well-formed s.wait_number s.ready_number s.done s.wait s.ready s.list.items s.within (λ e. (s.filled e).0) s.rising;
+  numbers = sym (numbers-shown s.bounds.wait_number s.bounds.ready_number s.bounds.done s.bounds.wait s.bounds.ready s.list.items s.within s.bounds.filled s.bounds.single s.bounds.rising);
+  labelled = well-formed s.bounds.wait_number s.bounds.ready_number s.bounds.done s.bounds.wait s.bounds.ready s.list.items s.within (λ e. (s.bounds.filled e).0) s.bounds.rising;
   graced = s.graced;
 }

@@ -3,7 +3,6 @@ use Rattle.std.proofs.lemmas.List.{length-map}
 use Rattle.std.proofs.lemmas.Bool.{false≢true}
 use Rattle.rcu_jobs.specs.declared.callback.Callback.{Callback}
 use Rattle.rcu_lists.specs.Release.{joined_plain}
-use Rattle.rcu_lists.specs.Labels.{Bare, marked}
 use Rattle.rcu_lists.specs.Bypasses.{bypass_items, BypassRoom, BypassUnchanged}
 use Rattle.rcu_lists.specs.Segments.{labelled, SegmentsUnchanged}
 use Rattle.rcu_lists.specs.declared.segments.Segments.{Segments}
@@ -13,17 +12,17 @@ use Rattle.rcu_lists.proofs.segments.Segments.pour.Goals as goal
 
 -- as many callbacks as the list has
 long : {J : Type 0} (s : Segments J) → length (labelled s) ≡ length s.list.items
-long s = sym (length-map (labelled s) (λ x. x.callback)) ∙ ap length (callbacks-cut s.wait_number s.ready_number s.done s.wait s.ready s.list.items s.within)
+long s = sym (length-map (labelled s) (λ x. x.callback)) ∙ ap length (callbacks-cut s.bounds.wait_number s.bounds.ready_number s.bounds.done s.bounds.wait s.bounds.ready s.list.items s.within)
 
 pub returns-clause-left : goal.returns-clause-left
-returns-clause-left g c = ap (marked Bare) c.take_list.ensures.left
+returns-clause-left g c = let e = c.clear.ensures in rw (e.done, e.wait, e.ready, c.take_list.ensures.left) refl
 
 pub returns-clause-moved : goal.returns-clause-moved
 returns-clause-moved g c = let s = c.args.self.now in
-    c.take_list.ensures.items ∙ ap (λ z. z ++ s.list.items) c.make_room.ensures.same.items ∙ ap (λ z. bypass_items c.args.bypass.now ++ z) (sym (callbacks-cut s.wait_number s.ready_number s.done s.wait s.ready s.list.items s.within))
+    c.take_list.ensures.items ∙ ap (λ z. z ++ s.list.items) c.make_room.ensures.same.items ∙ ap (λ z. bypass_items c.args.bypass.now ++ z) (sym (callbacks-cut s.bounds.wait_number s.bounds.ready_number s.bounds.done s.bounds.wait s.bounds.ready s.list.items s.within))
 
 pub returns-clause-pace : goal.returns-clause-pace
-returns-clause-pace g c = let s = c.args.self.now in c.take_list.ensures.pace ∙ ap (joined_plain s.list.items) c.make_room.ensures.same.pace ∙ ap (λ (z : List (Callback g.row.J.Denot)). joined_plain z c.args.bypass.now.pace) (sym (callbacks-cut s.wait_number s.ready_number s.done s.wait s.ready s.list.items s.within))
+returns-clause-pace g c = let s = c.args.self.now in c.take_list.ensures.pace ∙ ap (joined_plain s.list.items) c.make_room.ensures.same.pace ∙ ap (λ (z : List (Callback g.row.J.Denot)). joined_plain z c.args.bypass.now.pace) (sym (callbacks-cut s.bounds.wait_number s.bounds.ready_number s.bounds.done s.bounds.wait s.bounds.ready s.list.items s.within))
 
 pub returns-in_err-make_room-clause-left : goal.returns-in_err-make_room-clause-left
 returns-in_err-make_room-clause-left g c = on_ok_never _ _ c.from_residual.ensures
@@ -42,13 +41,10 @@ pub take_list-requires : goal.take_list-requires
 take_list-requires g c = (search rules, (let found = c.in_ok-make_room.ensures.found in let many = c.len.ensures in let all = c.args.self.now.list.ok.0 in omega arith))
 
 pub invariant_of-self : goal.invariant_of-self
-invariant_of-self g c = record {
-  within = zero-le;
-  filled = λ _. (refl, refl);
-  single = λ _. refl;
-  rising = λ h. absurd (omega arith);
+invariant_of-self g c = let e = c.clear.ensures in record {
+  within = rw (e.done, e.wait, e.ready) zero-le;
   stamps = λ _. rw c.take_list.ensures.left refl;
-  graced = rw c.take_list.ensures.left (λ k d h. absurd (omega arith));
+  graced = rw (e.done, e.wait, e.ready, c.take_list.ensures.left) (λ k d h. absurd (omega arith));
 }
 
 pub returns-in_err-make_room-clause-qhimark : goal.returns-in_err-make_room-clause-qhimark

@@ -8,24 +8,21 @@ use Rattle.rcu_lists.proofs.Stamps.{stamps-drop}
 use Rattle.rcu_lists.proofs.segments.Segments.take_done.Goals as goal
 
 pub returns-then-self-eq0-clause-taken : goal.returns-then-self-eq0-clause-taken
-returns-then-self-eq0-clause-taken g c = let s = c.args.self.now in (count-done s.wait_number s.ready_number s.done s.wait s.ready s.list.items s.within ∙ c.if-self-eq0.true, refl)
+returns-then-self-eq0-clause-taken g c = let s = c.args.self.now in (count-done s.bounds.wait_number s.bounds.ready_number s.bounds.done s.bounds.wait s.bounds.ready s.list.items s.within ∙ c.if-self-eq0.true, refl)
 
-pub invariant_of-self : goal.invariant_of-self
-invariant_of-self g c = let s = c.args.self.now in record {
+pub invariant_of-self-2 : goal.invariant_of-self-2
+invariant_of-self-2 g c = let s = c.args.self.now in record {
   within = rw c.pop_front.ensures.rest (let le = s.within in simp length-drop (omega arith));
-  filled = s.filled;
-  single = s.single;
-  rising = s.rising;
   stamps = λ e. rw c.pop_front.ensures.rest (stamps-drop 0 1 s.list.items (s.stamps e));
-  graced = rw c.pop_front.ensures.rest (graced-left s.advanced (take 1 s.list.items) (cut (s.done - 1) s.wait s.ready s.wait_number s.ready_number (drop 1 s.list.items))
-      (subst (IsGraced s.advanced) (take-front s.wait_number s.ready_number s.done s.wait s.ready 1 s.list.items (omega arith) s.within) s.graced));
+  graced = rw c.pop_front.ensures.rest (graced-left s.bounds.advanced (take 1 s.list.items) (cut (s.bounds.done - 1) s.bounds.wait s.bounds.ready s.bounds.wait_number s.bounds.ready_number (drop 1 s.list.items))
+      (subst (IsGraced s.bounds.advanced) (take-front s.bounds.wait_number s.bounds.ready_number s.bounds.done s.bounds.wait s.bounds.ready 1 s.list.items (omega arith) s.within) s.graced));
 }
 
 pub returns-clause-taken : goal.returns-clause-taken
 returns-clause-taken g c = let s = c.args.self.now in let le = s.within in
-    take-done _ c.pop_front.result s.wait_number s.ready_number s.done s.wait s.ready s.list.items c.pop_front.new.self.items (omega arith) (omega arith) c.pop_front.ensures.items c.pop_front.ensures.rest
+    take-done _ c.pop_front.result s.bounds.wait_number s.bounds.ready_number s.bounds.done s.bounds.wait s.bounds.ready s.list.items c.pop_front.new.self.items (omega arith) (omega arith) c.pop_front.ensures.items c.pop_front.ensures.rest
 
 pub returns-clause-graced : goal.returns-clause-graced
 returns-clause-graced g c = let s = c.args.self.now in let le = s.within in
-    first-graced (Unit {0}) s.advanced c.pop_front.result _ _ s.graced
-    (take-done (Unit {0}) c.pop_front.result s.wait_number s.ready_number s.done s.wait s.ready s.list.items c.pop_front.new.self.items (omega arith) (omega arith) c.pop_front.ensures.items c.pop_front.ensures.rest)
+    first-graced (Unit {0}) s.bounds.advanced c.pop_front.result _ _ s.graced
+    (take-done (Unit {0}) c.pop_front.result s.bounds.wait_number s.bounds.ready_number s.bounds.done s.bounds.wait s.bounds.ready s.list.items c.pop_front.new.self.items (omega arith) (omega arith) c.pop_front.ensures.items c.pop_front.ensures.rest)

@@ -5,7 +5,7 @@ use Rattle.rcu_lists.proofs.Rooms.{same-batch}
 use Rattle.rcu_lists.proofs.Sizes.{in_first}
 use Rattle.rcu_lists.specs.contracts.batch.Batch as row
 use denote.Param.{param}
-use Rattle.rcu_lists.proofs.batch.Batch.pack.Goals as goal
+use Rattle.rcu_lists.proofs.batch.Batch.into_places.Goals as goal
 
 pub into_vec-requires : goal.into_vec-requires
 into_vec-requires g c = let h : FitsInMemory (row.the_row (param 0 g.row.J)) = assumption in in_first _ _ _ _ _ h

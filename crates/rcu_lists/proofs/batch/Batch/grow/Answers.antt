@@ -1,7 +1,7 @@
 use Rattle.std.proofs.Common.{arith}
 use Rattle.rcu_lists.proofs.Outcomes.{on_err_so}
 use Rattle.rcu_lists.proofs.Rooms.{room-kept, same-batch}
-use Rattle.rcu_lists.proofs.batch.Batch.reserve.Goals as goal
+use Rattle.rcu_lists.proofs.batch.Batch.grow.Goals as goal
 
 pub invariant_of-self : goal.invariant_of-self
 invariant_of-self g c = let b = c.args.self.now in record {

@@ -1,0 +1,18 @@
+use Rattle.std.proofs.Common.{◌∙◌, length, ap, arith, length-append}
+use Rattle.rcu_lists.specs.Batches.{batch_items}
+use Rattle.rcu_lists.specs.Chains.{chain_items}
+use Rattle.rcu_lists.proofs.chain.Chain.join.Goals as goal
+
+pub invariant_of-self : goal.invariant_of-self
+invariant_of-self g c = let s = c.args.self.now in let same = (c.join_blocks.ensures.refused c.if-not-join_blocks.true).0 in record {
+  counted = rw same s.counted;
+  stamps = rw same s.stamps;
+  newest = rw same s.newest;
+}
+
+pub invariant_of-self-2 : goal.invariant_of-self-2
+invariant_of-self-2 g c = let s = c.args.self.now in let more = (c.join_blocks.ensures.joined c.if-not-join_blocks.false).0 in record {
+  counted = ap length more ∙ length-append (chain_items s) (batch_items c.args.batch.now) ∙ omega (arith, s.counted, c.in-Some.ensures, c.len.ensures);
+  stamps = rw more c.stamps_with-in_order.ensures.order;
+  newest = λ _. rw more c.stamps_with-in_order.ensures.last;
+}
