@@ -4,12 +4,13 @@ ghost use Rattle.std.specs.Prelude.{◌≡◌, [], ◌+◌, ◌≤◌, ◌++◌,
 ghost use Rattle.std.specs.List.{flat_map};
 ghost use Rattle.rcu_lanes.specs.Ends.{items_left};
 ghost use Rattle.rcu_lists.specs.Batches.{batch_items};
+ghost use Rattle.rcu_lists.specs.Chains.{chain_items};
 ghost use Rattle.rcu_lists.specs.Parcels.{parcel_items};
 ghost use Rattle.rcu_part_close.specs.Moving.{Takes};
 
 use rcu_jobs::Callback;
 use rcu_lanes::Rest;
-use rcu_lists::{Batch, Parcel};
+use rcu_lists::{Batch, Chain, Parcel};
 use rcu_part_lists::LaneLimits;
 use std::collections::VecDeque;
 
@@ -30,6 +31,16 @@ fn take_list<J: Drop>(list: VecDeque<Callback<J>>, jobs: &mut Vec<J>)
     ensures { Takes list.items jobs.old jobs.new }
 {
     for callback in list {
+        jobs.push_reserved(callback.job);
+    }
+}
+
+/// Takes the jobs of a group's list, behind the others. There is room.
+fn take_chain<J: Drop>(mut list: Chain<J>, jobs: &mut Vec<J>)
+    requires { vec_len jobs.old + length (chain_items list) ≤ vec_capacity jobs.old }
+    ensures { Takes (chain_items list) jobs.old jobs.new }
+{
+    while let Some(callback) = list.take_first() {
         jobs.push_reserved(callback.job);
     }
 }
@@ -57,23 +68,25 @@ pub(crate) fn take_drawn<J: Drop>(
     held: &mut Batch<J>,
     done_lane: Rest<Parcel<J>, LaneLimits>,
     out: &mut Batch<J>,
-    list: VecDeque<Callback<J>>,
+    list: Chain<J>,
     jobs: &mut Vec<J>,
 )
     requires { vec_len jobs.old
         + length
         (batch_items held.old
-        ++ (flat_map parcel_items (items_left done_lane) ++ (batch_items out.old ++ list.items)))
+        ++ (flat_map parcel_items (items_left done_lane)
+        ++ (batch_items out.old ++ chain_items list)))
         ≤ vec_capacity jobs.old }
     ensures { Takes
         (batch_items held.old
-        ++ (flat_map parcel_items (items_left done_lane) ++ (batch_items out.old ++ list.items)))
+        ++ (flat_map parcel_items (items_left done_lane)
+        ++ (batch_items out.old ++ chain_items list)))
         jobs.old jobs.new }
 {
     take_batch(held, jobs);
     take_lane(done_lane, held, jobs);
     take_batch(out, jobs);
-    take_list(list, jobs);
+    take_chain(list, jobs);
 }
 
 /// Takes the jobs out of the places from the drawn batch to the lane, behind the others. There is room.

@@ -219,6 +219,7 @@ impl<J: Job> HandInPlace<J> {
     /// # Errors
     ///
     /// No claim runs, and why, as `turn` says it, but never `Limit`.
+    #[inline(always)]
     pub fn begin(&mut self) -> Result<J, Stop>
         requires rests { self.old.state.claimed ≡ None }
         ensures begins { IfOk result (λ job.

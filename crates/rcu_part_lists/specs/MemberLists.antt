@@ -9,8 +9,8 @@ use Rattle.rcu_lanes.specs.declared.ends.Front.{Front}
 use Rattle.rcu_lanes.specs.declared.ends.Rear.{Rear}
 use Rattle.rcu_lanes.specs.declared.ends.TheConstants.{FIRST_SLOTS}
 use Rattle.rcu_lists.specs.Batches.{batch_items}
+use Rattle.rcu_lists.specs.BlockSegments.{block_labelled, block_advanced_by}
 use Rattle.rcu_lists.specs.Labels.{Done, Bare, Labelled, marked, count, is_done, lengths_of, numbers_of}
-use Rattle.rcu_lists.specs.Segments.{labelled, advanced_by}
 use Rattle.rcu_lists.specs.declared.batch.TheConstants.{INLINE_PLACES}
 use Rattle.rcu_lists.specs.declared.parcel.Parcel.{Parcel}
 use Rattle.rcu_part_lists.specs.Aims.{looked}
@@ -42,8 +42,8 @@ module _ {J : Type 0} where
     received = drawn_calls m.inlet.front;
     draws = length (items_drawn m.inlet.front);
     drawn = batch_items m.drawn;
-    list = labelled m.list;
-    advanced = advanced_by m.list;
+    list = block_labelled m.list;
+    advanced = block_advanced_by m.list;
     out = batch_items m.out;
     put = put_calls m.outlet.rear;
     batches = length (items_put m.outlet.rear);

@@ -24,8 +24,8 @@
 //!   (`taken`).
 #![tactic(auto)]
 
+mod block_views;
 mod hand;
-mod joins;
 mod lane_ends;
 mod laws;
 mod limits;

@@ -3,21 +3,21 @@
 ghost use Rattle.std.specs.Prelude.{◌≡◌, ℕ, ◌+◌, ◌≤◌, [], ◌++◌, length, IfOk, IfSome};
 ghost use Rattle.rcu_lanes.specs.Ends.{SameFront, SameRear, items_put, items_drawn};
 ghost use Rattle.rcu_lists.specs.Batches.{batch_items};
+ghost use Rattle.rcu_lists.specs.BlockSegments.{block_labelled, block_advanced_by};
+ghost use Rattle.rcu_lists.specs.Chains.{chain_items};
 ghost use Rattle.rcu_lists.specs.Labels.{callbacks_of};
-ghost use Rattle.rcu_lists.specs.Segments.{labelled, advanced_by};
 ghost use Rattle.rcu_part_lists.specs.Aims.{AreAimed, AreUpTo, wanted};
 ghost use Rattle.rcu_part_lists.specs.Lanes.{put_calls, drawn_calls};
 ghost use Rattle.rcu_part_lists.specs.Limits.{AreFew, AreSafe};
 
+use crate::block_views::look_at_blocks;
 use crate::lane_ends::{Inlet, Outlet};
 use crate::limits::LaneLimits;
-use crate::views::look_at;
-use rcu_jobs::{Callback, Lists};
+use rcu_jobs::Lists;
 use rcu_lanes::{Front, Rear};
-use rcu_lists::{Batch, Parcel, Segments};
+use rcu_lists::{Batch, BlockSegments, Chain, Parcel};
 use rcu_numbers::LAST_NUMBER;
 use std::alloc::{AllocError, Global};
-use std::collections::VecDeque;
 
 /// How many batches of one member a turn of its group draws at most (docs/specification/rules.md, "The calls, step by
 /// step", Group::turn).
@@ -28,19 +28,19 @@ pub const MOST_BATCHES: u64 = 64;
 pub struct MemberLists<J> {
     pub(crate) inlet: Inlet<J>,
     pub(crate) outlet: Outlet<J>,
-    pub(crate) list: Segments<J>,
+    pub(crate) list: BlockSegments<J>,
     // The drawn batch that waits for room in the list.
     pub(crate) drawn: Batch<J>,
     // The batch that waits for room on the done lane.
     pub(crate) out: Batch<J>,
     ghost order: { drawn_calls inlet.front
         ≡ put_calls outlet.rear
-        ++ (batch_items out ++ (callbacks_of (labelled list) ++ batch_items drawn)) },
+        ++ (batch_items out ++ (callbacks_of (block_labelled list) ++ batch_items drawn)) },
     ghost drawn_safe: { AreSafe (batch_items drawn) },
-    ghost list_safe: { AreSafe (callbacks_of (labelled list)) },
+    ghost list_safe: { AreSafe (callbacks_of (block_labelled list)) },
     ghost out_safe: { AreSafe (batch_items out) },
     ghost few: { AreFew (drawn_calls inlet.front) },
-    ghost aimed: { AreAimed (advanced_by list) (labelled list) },
+    ghost aimed: { AreAimed (block_advanced_by list) (block_labelled list) },
 }
 
 impl<J: Drop> MemberLists<J> {
@@ -64,7 +64,7 @@ impl<J: Drop> MemberLists<J> {
         Ok(MemberLists {
             inlet: Inlet::new(front),
             outlet: Outlet::new(alloc, rear)?,
-            list: Segments::new(alloc),
+            list: BlockSegments::new(alloc),
             drawn: Batch::new(alloc),
             out: Batch::new(alloc),
         })
@@ -84,7 +84,7 @@ impl<J: Drop> MemberLists<J> {
         ensures needed { (s : ℕ) → AreUpTo s (relay self.old).list → IfSome result (λ n. n ≤ s)
             → AreUpTo s (relay self.new).list }
     {
-        look_at(&mut self.list, seen)
+        look_at_blocks(&mut self.list, seen)
     }
 
     /// How many callbacks wait in the batch that was drawn, or in the one that is to be put.
@@ -110,20 +110,20 @@ impl<J: Drop> MemberLists<J> {
     ) -> (
         Front<Parcel<J>, LaneLimits>,
         Rear<Parcel<J>, LaneLimits>,
-        VecDeque<Callback<J>>,
+        Chain<J>,
         Batch<J>,
         Batch<J>,
     )
         ensures ends { (result.0 ≡ front_of self) × (result.1 ≡ rear_of self) }
-        ensures list { result.2.items ≡ callbacks_of (relay self).list }
+        ensures list { chain_items result.2 ≡ callbacks_of (relay self).list }
         ensures drawn { batch_items result.3 ≡ (relay self).drawn }
         ensures out { batch_items result.4 ≡ (relay self).out }
 
         // What was drawn is what was put and what comes back, in order.
         ensures order { (relay self).received
             ≡ (relay self).put
-            ++ (batch_items result.4 ++ (result.2.items ++ batch_items result.3)) }
-        ensures safe { AreSafe result.2.items × AreSafe (batch_items result.3)
+            ++ (batch_items result.4 ++ (chain_items result.2 ++ batch_items result.3)) }
+        ensures safe { AreSafe (chain_items result.2) × AreSafe (batch_items result.3)
             × AreSafe (batch_items result.4) }
     {
         let MemberLists {
@@ -134,7 +134,7 @@ impl<J: Drop> MemberLists<J> {
             out,
         } = self;
         let (front, rear) = (inlet.into_front(), outlet.into_rear());
-        (front, rear, list.into_callbacks(), drawn, out)
+        (front, rear, list.into_chain(), drawn, out)
     }
 }
 

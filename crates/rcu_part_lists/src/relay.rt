@@ -7,7 +7,6 @@ ghost use Rattle.rcu_lists.specs.Batches.{batch_items};
 ghost use Rattle.rcu_lists.specs.Labels.{callbacks_of, count, is_done};
 ghost use Rattle.rcu_part_lists.specs.MemberLists.{Relay, relay, front_of, rear_of, most_batches, joined, Draws, TakesIn, Loads, Hands, Gives, GivesSome};
 
-use crate::joins::join;
 use crate::member_lists::{MOST_BATCHES, MemberLists};
 use rcu_lanes::Draw;
 use rcu_lists::INLINE_PLACES;
@@ -43,7 +42,7 @@ impl<J: Drop> MemberLists<J> {
         ensures joins { result ≡ true → relay self.new ≡ joined (relay self.old) }
         ensures waits { result ≡ false → relay self.new ≡ relay self.old }
     {
-        join(&mut self.list, &mut self.drawn)
+        self.list.join(&mut self.drawn)
     }
 
     // Draws a batch, which waits then. Answers whether one came.

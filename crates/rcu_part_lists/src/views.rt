@@ -3,7 +3,7 @@
 ghost use Rattle.std.specs.Prelude.{◌≡◌, ℕ, ◌≤◌, IfSome};
 ghost use Rattle.rcu_lists.specs.Labels.{callbacks_of};
 ghost use Rattle.rcu_lists.specs.Segments.{labelled, advanced_by, SegmentsRoom};
-ghost use Rattle.rcu_lists.specs.Stamps.{greater, newest_of};
+ghost use Rattle.rcu_lists.specs.Stamps.{greater};
 ghost use Rattle.rcu_part_lists.specs.Aims.{AreUpTo, AreAimed, looked, wanted};
 ghost use Rattle.rcu_part_lists.specs.Limits.{AreSafe};
 
@@ -26,7 +26,7 @@ pub(crate) fn look_at<J: Drop>(list: &mut Segments<J>, seen: u64) -> Option<u64>
     ensures room { (k : ℕ) → SegmentsRoom list.old k → SegmentsRoom list.new k }
 {
     list.advance(seen);
-    let aim = snap(newest_in(list, seen));
+    let aim = snap(newest_with(seen, list.newest()));
     if list.accelerate(aim) {
         Some(aim)
     } else {
@@ -34,11 +34,11 @@ pub(crate) fn look_at<J: Drop>(list: &mut Segments<J>, seen: u64) -> Option<u64>
     }
 }
 
-/// The greatest of the number and the stamps in a list.
-fn newest_in<J: Drop>(list: &Segments<J>, seen: u64) -> u64
-    ensures { result ≡ greater seen (newest_of (callbacks_of (labelled list.now))) }
+/// The greater of the number and the newest stamp, if there is one.
+pub(crate) fn newest_with(seen: u64, newest: Option<u64>) -> u64
+    ensures { result ≡ greater seen newest }
 {
-    match list.newest() {
+    match newest {
         None => seen,
         Some(stamp) => seen.max(stamp),
     }

@@ -45,8 +45,13 @@ impl<J: Job> ProcessorInPlace<J> {
         self.call(moment, Kind::Lazy, job)
     }
 
-    // Accepts a job of either kind.
-    fn call(&mut self, moment: u64, kind: Kind, job: J) -> Result<Ticket, Refused<J>>
+    /// Accepts a job of either kind, as [`call_rcu`](ProcessorInPlace::call_rcu) and
+    /// [`call_rcu_lazy`](ProcessorInPlace::call_rcu_lazy) do.
+    ///
+    /// # Errors
+    ///
+    /// As those.
+    pub fn call(&mut self, moment: u64, kind: Kind, job: J) -> Result<Ticket, Refused<J>>
         ensures calls { CallsAs moment kind J.key_of J.gives job result self.old.state self.new.state }
     {
         let state = &mut self.state;

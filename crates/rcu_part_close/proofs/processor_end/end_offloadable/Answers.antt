@@ -8,6 +8,7 @@ use Rattle.rcu_part_lists.specs.Helds.{drawn_by, held_by, taken_by}
 use Rattle.rcu_jobs.specs.declared.callback.Record.{Record}
 use Rattle.rcu_lanes.specs.Ends.{items_drawn, items_left, items_put}
 use Rattle.rcu_lists.specs.Batches.{batch_items}
+use Rattle.rcu_lists.specs.Chains.{chain_items}
 use Rattle.rcu_lists.specs.Parcels.{parcel_items}
 use Rattle.rcu_numbers.specs.Numbers.{snap_of}
 use Rattle.rcu_part_order.specs.Recorded.{left_in, ran_of}
@@ -29,9 +30,9 @@ take_drawn-requires g c =
     let k = c.into_parts-done_front in
     let p = passage (items_put c.args.processor_lists.outlet.rear) (items_put i.result.0) (items_drawn c.args.member.inlet.front) (items_drawn j.result.0) (items_left c.rest-lane.result)
     (items_put c.args.member.outlet.rear) (items_put j.result.1) (items_drawn c.args.held.inlet.front) (items_drawn k.result.0) (items_left c.rest-done_lane.result)
-    (taken_by c.args.held) (batch_items k.result.1) (held_by c.args.held) (batch_items j.result.4) j.result.2.items (batch_items j.result.3)
+    (taken_by c.args.held) (batch_items k.result.1) (held_by c.args.held) (batch_items j.result.4) (chain_items j.result.2) (batch_items j.result.3)
     (ap items_put i.ensures.rear) (ap items_drawn j.ensures.ends.0) c.rest-lane.ensures (ap items_put j.ensures.ends.1) (ap items_drawn k.ensures.front) c.rest-done_lane.ensures j.ensures.order k.ensures.order k.ensures.batch in
-    let first = batch_items k.result.1 ++ (flat_map parcel_items (items_left c.rest-done_lane.result) ++ (batch_items j.result.4 ++ j.result.2.items)) in
+    let first = batch_items k.result.1 ++ (flat_map parcel_items (items_left c.rest-done_lane.result) ++ (batch_items j.result.4 ++ chain_items j.result.2)) in
     let second = batch_items j.result.3 ++ flat_map parcel_items (items_left c.rest-lane.result) in
     let last = batch_items i.result.2 ++ i.result.1.items in
     let same : last ≡ held_in (holding c.args.processor_lists) = ap (λ l. l ++ i.result.1.items) i.ensures.bypass ∙ ap (λ l. (holding c.args.processor_lists).outgoing.bypass ++ l) i.ensures.own in
@@ -46,9 +47,9 @@ take_undrawn-requires g c =
     let k = c.into_parts-done_front in
     let p = passage (items_put c.args.processor_lists.outlet.rear) (items_put i.result.0) (items_drawn c.args.member.inlet.front) (items_drawn j.result.0) (items_left c.rest-lane.result)
     (items_put c.args.member.outlet.rear) (items_put j.result.1) (items_drawn c.args.held.inlet.front) (items_drawn k.result.0) (items_left c.rest-done_lane.result)
-    (taken_by c.args.held) (batch_items k.result.1) (held_by c.args.held) (batch_items j.result.4) j.result.2.items (batch_items j.result.3)
+    (taken_by c.args.held) (batch_items k.result.1) (held_by c.args.held) (batch_items j.result.4) (chain_items j.result.2) (batch_items j.result.3)
     (ap items_put i.ensures.rear) (ap items_drawn j.ensures.ends.0) c.rest-lane.ensures (ap items_put j.ensures.ends.1) (ap items_drawn k.ensures.front) c.rest-done_lane.ensures j.ensures.order k.ensures.order k.ensures.batch in
-    let first = batch_items k.result.1 ++ (flat_map parcel_items (items_left c.rest-done_lane.result) ++ (batch_items j.result.4 ++ j.result.2.items)) in
+    let first = batch_items k.result.1 ++ (flat_map parcel_items (items_left c.rest-done_lane.result) ++ (batch_items j.result.4 ++ chain_items j.result.2)) in
     let second = batch_items j.result.3 ++ flat_map parcel_items (items_left c.rest-lane.result) in
     let last = batch_items i.result.2 ++ i.result.1.items in
     let same : last ≡ held_in (holding c.args.processor_lists) = ap (λ l. l ++ i.result.1.items) i.ensures.bypass ∙ ap (λ l. (holding c.args.processor_lists).outgoing.bypass ++ l) i.ensures.own in
@@ -63,9 +64,9 @@ take_lists-requires g c =
     let k = c.into_parts-done_front in
     let p = passage (items_put c.args.processor_lists.outlet.rear) (items_put i.result.0) (items_drawn c.args.member.inlet.front) (items_drawn j.result.0) (items_left c.rest-lane.result)
     (items_put c.args.member.outlet.rear) (items_put j.result.1) (items_drawn c.args.held.inlet.front) (items_drawn k.result.0) (items_left c.rest-done_lane.result)
-    (taken_by c.args.held) (batch_items k.result.1) (held_by c.args.held) (batch_items j.result.4) j.result.2.items (batch_items j.result.3)
+    (taken_by c.args.held) (batch_items k.result.1) (held_by c.args.held) (batch_items j.result.4) (chain_items j.result.2) (batch_items j.result.3)
     (ap items_put i.ensures.rear) (ap items_drawn j.ensures.ends.0) c.rest-lane.ensures (ap items_put j.ensures.ends.1) (ap items_drawn k.ensures.front) c.rest-done_lane.ensures j.ensures.order k.ensures.order k.ensures.batch in
-    let first = batch_items k.result.1 ++ (flat_map parcel_items (items_left c.rest-done_lane.result) ++ (batch_items j.result.4 ++ j.result.2.items)) in
+    let first = batch_items k.result.1 ++ (flat_map parcel_items (items_left c.rest-done_lane.result) ++ (batch_items j.result.4 ++ chain_items j.result.2)) in
     let second = batch_items j.result.3 ++ flat_map parcel_items (items_left c.rest-lane.result) in
     let last = batch_items i.result.2 ++ i.result.1.items in
     let same : last ≡ held_in (holding c.args.processor_lists) = ap (λ l. l ++ i.result.1.items) i.ensures.bypass ∙ ap (λ l. (holding c.args.processor_lists).outgoing.bypass ++ l) i.ensures.own in
@@ -80,7 +81,7 @@ returns-clause-passed g c =
     let k = c.into_parts-done_front in
     let p = passage (items_put c.args.processor_lists.outlet.rear) (items_put i.result.0) (items_drawn c.args.member.inlet.front) (items_drawn j.result.0) (items_left c.rest-lane.result)
     (items_put c.args.member.outlet.rear) (items_put j.result.1) (items_drawn c.args.held.inlet.front) (items_drawn k.result.0) (items_left c.rest-done_lane.result)
-    (taken_by c.args.held) (batch_items k.result.1) (held_by c.args.held) (batch_items j.result.4) j.result.2.items (batch_items j.result.3)
+    (taken_by c.args.held) (batch_items k.result.1) (held_by c.args.held) (batch_items j.result.4) (chain_items j.result.2) (batch_items j.result.3)
     (ap items_put i.ensures.rear) (ap items_drawn j.ensures.ends.0) c.rest-lane.ensures (ap items_put j.ensures.ends.1) (ap items_drawn k.ensures.front) c.rest-done_lane.ensures j.ensures.order k.ensures.order k.ensures.batch in
     taken_first (put_by (holding c.args.processor_lists)) (taken_by c.args.held) _ p.0
 
@@ -91,9 +92,9 @@ returns-clause-back g c =
     let k = c.into_parts-done_front in
     let p = passage (items_put c.args.processor_lists.outlet.rear) (items_put i.result.0) (items_drawn c.args.member.inlet.front) (items_drawn j.result.0) (items_left c.rest-lane.result)
     (items_put c.args.member.outlet.rear) (items_put j.result.1) (items_drawn c.args.held.inlet.front) (items_drawn k.result.0) (items_left c.rest-done_lane.result)
-    (taken_by c.args.held) (batch_items k.result.1) (held_by c.args.held) (batch_items j.result.4) j.result.2.items (batch_items j.result.3)
+    (taken_by c.args.held) (batch_items k.result.1) (held_by c.args.held) (batch_items j.result.4) (chain_items j.result.2) (batch_items j.result.3)
     (ap items_put i.ensures.rear) (ap items_drawn j.ensures.ends.0) c.rest-lane.ensures (ap items_put j.ensures.ends.1) (ap items_drawn k.ensures.front) c.rest-done_lane.ensures j.ensures.order k.ensures.order k.ensures.batch in
-    let first = batch_items k.result.1 ++ (flat_map parcel_items (items_left c.rest-done_lane.result) ++ (batch_items j.result.4 ++ j.result.2.items)) in
+    let first = batch_items k.result.1 ++ (flat_map parcel_items (items_left c.rest-done_lane.result) ++ (batch_items j.result.4 ++ chain_items j.result.2)) in
     let second = batch_items j.result.3 ++ flat_map parcel_items (items_left c.rest-lane.result) in
     let last = batch_items i.result.2 ++ i.result.1.items in
     let same : last ≡ held_in (holding c.args.processor_lists) = ap (λ l. l ++ i.result.1.items) i.ensures.bypass ∙ ap (λ l. (holding c.args.processor_lists).outgoing.bypass ++ l) i.ensures.own in
@@ -107,9 +108,9 @@ returns-clause-ends g c =
     let k = c.into_parts-done_front in
     let p = passage (items_put c.args.processor_lists.outlet.rear) (items_put i.result.0) (items_drawn c.args.member.inlet.front) (items_drawn j.result.0) (items_left c.rest-lane.result)
     (items_put c.args.member.outlet.rear) (items_put j.result.1) (items_drawn c.args.held.inlet.front) (items_drawn k.result.0) (items_left c.rest-done_lane.result)
-    (taken_by c.args.held) (batch_items k.result.1) (held_by c.args.held) (batch_items j.result.4) j.result.2.items (batch_items j.result.3)
+    (taken_by c.args.held) (batch_items k.result.1) (held_by c.args.held) (batch_items j.result.4) (chain_items j.result.2) (batch_items j.result.3)
     (ap items_put i.ensures.rear) (ap items_drawn j.ensures.ends.0) c.rest-lane.ensures (ap items_put j.ensures.ends.1) (ap items_drawn k.ensures.front) c.rest-done_lane.ensures j.ensures.order k.ensures.order k.ensures.batch in
-    let first = batch_items k.result.1 ++ (flat_map parcel_items (items_left c.rest-done_lane.result) ++ (batch_items j.result.4 ++ j.result.2.items)) in
+    let first = batch_items k.result.1 ++ (flat_map parcel_items (items_left c.rest-done_lane.result) ++ (batch_items j.result.4 ++ chain_items j.result.2)) in
     let second = batch_items j.result.3 ++ flat_map parcel_items (items_left c.rest-lane.result) in
     let last = batch_items i.result.2 ++ i.result.1.items in
     let same : last ≡ held_in (holding c.args.processor_lists) = ap (λ l. l ++ i.result.1.items) i.ensures.bypass ∙ ap (λ l. (holding c.args.processor_lists).outgoing.bypass ++ l) i.ensures.own in

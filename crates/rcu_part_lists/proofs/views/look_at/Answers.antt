@@ -12,19 +12,19 @@ pub snap-aim-requires : goal.snap-aim-requires
 snap-aim-requires g c =
     let xs = labelled c.args.list.now in
     let e = ap callbacks_of c.advance.ensures.list ∙ callbacks-relabel (advanced c.args.seen) xs in
-    subst (λ n. n ≤ LAST_NUMBER) (sym (c.newest_in.ensures ∙ ap (λ cs. greater c.args.seen (newest_of cs)) e)) (greatest-safe c.args.seen (callbacks_of xs) c.requires.small c.requires.safe)
+    subst (λ n. n ≤ LAST_NUMBER) (sym (c.newest_with.ensures ∙ ap (greater c.args.seen) c.newest.ensures ∙ ap (λ cs. greater c.args.seen (newest_of cs)) e)) (greatest-safe c.args.seen (callbacks_of xs) c.requires.small c.requires.safe)
 
 pub accelerate-requires : goal.accelerate-requires
 accelerate-requires g c =
     let xs = labelled c.args.list.now in
-    let e = look-steps c.args.seen c.newest_in.result c.snap-aim.result xs (labelled c.advance.new.self) _ c.advance.ensures.list c.newest_in.ensures c.snap-aim.ensures.value refl in
+    let e = look-steps c.args.seen c.newest_with.result c.snap-aim.result xs (labelled c.advance.new.self) _ c.advance.ensures.list (c.newest_with.ensures ∙ ap (greater c.args.seen) c.newest.ensures) c.snap-aim.ensures.value refl in
     subst (MayAccelerate c.snap-aim.result) (sym c.advance.ensures.list) (subst (λ s. MayAccelerate s (after_advance c.args.seen xs)) (sym e.0) (may-look (advanced_by c.args.list.now) c.args.seen xs c.requires.later c.requires.aimed))
 
 pub returns-then-accelerate : goal.returns-then-accelerate
 returns-then-accelerate g c =
     let xs = labelled c.args.list.now in
     let ys = labelled c.accelerate.new.self in
-    let e = look-steps c.args.seen c.newest_in.result c.snap-aim.result xs (labelled c.advance.new.self) ys c.advance.ensures.list c.newest_in.ensures c.snap-aim.ensures.value c.accelerate.ensures.list in
+    let e = look-steps c.args.seen c.newest_with.result c.snap-aim.result xs (labelled c.advance.new.self) ys c.advance.ensures.list (c.newest_with.ensures ∙ ap (greater c.args.seen) c.newest.ensures) c.snap-aim.ensures.value c.accelerate.ensures.list in
     let a = c.accelerate.ensures.advanced ∙ (c.advance.ensures.advanced ∙ max-later (advanced_by c.args.list.now) c.args.seen c.requires.later) in
     record {
       list = e.1;
@@ -40,7 +40,7 @@ pub returns-else-accelerate : goal.returns-else-accelerate
 returns-else-accelerate g c =
     let xs = labelled c.args.list.now in
     let ys = labelled c.accelerate.new.self in
-    let e = look-steps c.args.seen c.newest_in.result c.snap-aim.result xs (labelled c.advance.new.self) ys c.advance.ensures.list c.newest_in.ensures c.snap-aim.ensures.value c.accelerate.ensures.list in
+    let e = look-steps c.args.seen c.newest_with.result c.snap-aim.result xs (labelled c.advance.new.self) ys c.advance.ensures.list (c.newest_with.ensures ∙ ap (greater c.args.seen) c.newest.ensures) c.snap-aim.ensures.value c.accelerate.ensures.list in
     let a = c.accelerate.ensures.advanced ∙ (c.advance.ensures.advanced ∙ max-later (advanced_by c.args.list.now) c.args.seen c.requires.later) in
     let none : carries (aim c.args.seen xs) (looked c.args.seen xs) ≡ false = ap (carries (aim c.args.seen xs)) (sym e.1) ∙ (ap (λ s. carries s ys) (sym e.0) ∙ (sym c.accelerate.ensures.carried ∙ c.if-accelerate.false)) in
     record {

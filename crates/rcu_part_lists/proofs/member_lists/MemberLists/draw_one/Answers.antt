@@ -3,7 +3,7 @@ use Rattle.std.specs.List.{flat_map}
 use Rattle.rcu_lists.specs.Batches.{batch_items}
 use Rattle.rcu_lists.specs.Labels.{callbacks_of}
 use Rattle.rcu_lists.specs.Parcels.{parcel_items}
-use Rattle.rcu_lists.specs.Segments.{labelled}
+use Rattle.rcu_lists.specs.BlockSegments.{block_labelled}
 use Rattle.rcu_part_lists.specs.Lanes.{put_calls, drawn_calls}
 use Rattle.rcu_part_lists.specs.MemberLists.{relay}
 use Rattle.rcu_part_lists.proofs.Fetches.{fetched-drawn, fetched-few, fetched-safe, none-tested, some-tested}
@@ -22,7 +22,7 @@ invariant_of-self g c =
     let new = drawn_calls c.draw_into.new.self.front in
     record {
       order = fetched-drawn r old new batch (λ e. (d.drawn e).0) (λ n. ap (flat_map parcel_items) (d.none n).0) (λ n. (d.none n).1)
-          ∙ drawn-waits old (put_calls s.outlet.rear) (batch_items s.out) (callbacks_of (labelled s.list)) batch (batch_items s.drawn) c.requires s.order;
+          ∙ drawn-waits old (put_calls s.outlet.rear) (batch_items s.out) (callbacks_of (block_labelled s.list)) batch (batch_items s.drawn) c.requires s.order;
       drawn_safe = fetched-safe r batch (λ e. (d.allowed e).0) (λ n. (d.none n).1);
       list_safe = s.list_safe;
       out_safe = s.out_safe;

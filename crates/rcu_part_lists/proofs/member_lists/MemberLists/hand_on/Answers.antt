@@ -4,7 +4,7 @@ use Rattle.rcu_lanes.specs.Ends.{items_put}
 use Rattle.rcu_lists.specs.Batches.{batch_items}
 use Rattle.rcu_lists.specs.Labels.{callbacks_of}
 use Rattle.rcu_lists.specs.Parcels.{parcel_items}
-use Rattle.rcu_lists.specs.Segments.{labelled}
+use Rattle.rcu_lists.specs.BlockSegments.{block_labelled}
 use Rattle.rcu_part_lists.specs.Lanes.{put_calls, drawn_calls}
 use Rattle.rcu_part_lists.specs.MemberLists.{relay}
 use Rattle.rcu_part_lists.proofs.Fetches.{put-order, put-safe}
@@ -20,14 +20,14 @@ returns-then-is_empty-clause-hands g c = inr (refl, refl, inl (c.is_empty.ensure
 pub put_from-requires : goal.put_from-requires
 put_from-requires g c =
     let s = c.args.self.now in
-    let rest = callbacks_of (labelled s.list) ++ batch_items s.drawn in
+    let rest = callbacks_of (block_labelled s.list) ++ batch_items s.drawn in
     (member-batch (param 0 g.row.J) assumption, (s.out_safe, out-few (drawn_calls s.inlet.front) (put_calls s.outlet.rear) (batch_items s.out) rest s.order s.few))
 
 pub invariant_of-self : goal.invariant_of-self
 invariant_of-self g c =
     let s = c.args.self.now in
     let p = c.put_from.ensures.puts in
-    let rest = callbacks_of (labelled s.list) ++ batch_items s.drawn in
+    let rest = callbacks_of (block_labelled s.list) ++ batch_items s.drawn in
     let left = batch_items c.put_from.new.batch in
     record {
       order = put-order c.put_from.result (drawn_calls s.inlet.front) (put_calls s.outlet.rear) (batch_items s.out) rest (put_calls c.put_from.new.self.rear) left

@@ -1,6 +1,6 @@
 use Rattle.std.proofs.Common.{◌++◌, ap, sym, ◌∙◌, subst}
 use Rattle.rcu_lists.specs.Batches.{batch_items}
-use Rattle.rcu_lists.specs.Segments.{labelled, advanced_by}
+use Rattle.rcu_lists.specs.BlockSegments.{block_labelled, block_advanced_by}
 use Rattle.rcu_part_lists.specs.Aims.{AreAimed}
 use Rattle.rcu_part_lists.specs.Lanes.{put_calls}
 use Rattle.rcu_part_lists.specs.MemberLists.{relay}
@@ -12,8 +12,8 @@ use Rattle.rcu_part_lists.proofs.member_lists.MemberLists.join_one.Goals as goal
 pub invariant_of-self : goal.invariant_of-self
 invariant_of-self g c =
     let s = c.args.self.now in
-    let xs = labelled s.list in
-    let ys = labelled c.join.new.list in
+    let xs = block_labelled s.list in
+    let ys = block_labelled c.join.new.self in
     let ds = batch_items s.drawn in
     let es = batch_items c.join.new.batch in
     let h : IfJoined c.join.result xs ys ds es = (c.join.ensures.joined, c.join.ensures.refused) in
@@ -23,19 +23,19 @@ invariant_of-self g c =
       list_safe = join-safe c.join.result xs ys ds es h s.list_safe s.drawn_safe;
       out_safe = s.out_safe;
       few = s.few;
-      aimed = subst (λ n. AreAimed n ys) (sym c.join.ensures.advanced) (join-aimed (advanced_by s.list) c.join.result xs ys ds es h s.aimed);
+      aimed = subst (λ n. AreAimed n ys) (sym c.join.ensures.advanced) (join-aimed (block_advanced_by s.list) c.join.result xs ys ds es h s.aimed);
     }
 
 pub returns-clause-joins : goal.returns-clause-joins
 returns-clause-joins g c =
     let r = relay c.args.self.now in
-    let n = record r { list = labelled c.join.new.list; advanced = advanced_by c.join.new.list; drawn = batch_items c.join.new.batch } in
+    let n = record r { list = block_labelled c.join.new.self; advanced = block_advanced_by c.join.new.self; drawn = batch_items c.join.new.batch } in
     (join-relay c.join.result r n (c.join.ensures.joined, c.join.ensures.refused) (ap (λ k. record n { advanced = k }) c.join.ensures.advanced)).0
 
 pub returns-clause-waits : goal.returns-clause-waits
 returns-clause-waits g c =
     let r = relay c.args.self.now in
-    let n = record r { list = labelled c.join.new.list; advanced = advanced_by c.join.new.list; drawn = batch_items c.join.new.batch } in
+    let n = record r { list = block_labelled c.join.new.self; advanced = block_advanced_by c.join.new.self; drawn = batch_items c.join.new.batch } in
     (join-relay c.join.result r n (c.join.ensures.joined, c.join.ensures.refused) (ap (λ k. record n { advanced = k }) c.join.ensures.advanced)).1
 
 pub join-requires : goal.join-requires

@@ -3,7 +3,7 @@ use Rattle.std.proofs.lemmas.Bool.{false≢true}
 use Rattle.rcu_lists.specs.Batches.{batch_items}
 use Rattle.rcu_lists.specs.Labels.{callbacks_of}
 use Rattle.rcu_lists.specs.Release.{is_any}
-use Rattle.rcu_lists.specs.Segments.{labelled, advanced_by}
+use Rattle.rcu_lists.specs.BlockSegments.{block_labelled, block_advanced_by}
 use Rattle.rcu_part_lists.specs.Aims.{AreAimed}
 use Rattle.rcu_part_lists.specs.Lanes.{put_calls, drawn_calls}
 use Rattle.rcu_part_lists.specs.MemberLists.{relay}
@@ -22,14 +22,14 @@ invariant_of-self g c =
     let f = c.fill_batch.ensures in
     let r = c.fill_batch.result in
     let b = batch_items c.fill_batch.new.batch in
-    let ys = labelled c.fill_batch.new.self in
-    let cs : callbacks_of (labelled s.list) ≡ b ++ callbacks_of ys =
+    let ys = block_labelled c.fill_batch.new.self in
+    let cs : callbacks_of (block_labelled s.list) ≡ b ++ callbacks_of ys =
     either_way _ _ _ r f.taken f.refused (λ t. ap callbacks_of t ∙ callbacks-left b ys) (λ e. sym (ap (λ l. l ++ callbacks_of ys) e.1 ∙ ap callbacks_of e.0.list)) in
-    let aimed : AreAimed (advanced_by s.list) ys =
+    let aimed : AreAimed (block_advanced_by s.list) ys =
     either_way _ _ _ r (on_ok_both _ _ r f.taken f.graced) f.refused
-    (λ p. aimed-left (advanced_by s.list) b ys p.1 (subst (AreAimed (advanced_by s.list)) p.0 s.aimed)) (λ e. subst (AreAimed (advanced_by s.list)) (sym e.0.list) s.aimed) in
+    (λ p. aimed-left (block_advanced_by s.list) b ys p.1 (subst (AreAimed (block_advanced_by s.list)) p.0 s.aimed)) (λ e. subst (AreAimed (block_advanced_by s.list)) (sym e.0.list) s.aimed) in
     record {
-      order = made-out (drawn_calls s.inlet.front) (put_calls s.outlet.rear) (batch_items s.out) b (callbacks_of (labelled s.list)) (callbacks_of ys) (batch_items s.drawn) (c.is_empty.ensures.0 c.if-not-is_empty.false) cs s.order;
+      order = made-out (drawn_calls s.inlet.front) (put_calls s.outlet.rear) (batch_items s.out) b (callbacks_of (block_labelled s.list)) (callbacks_of ys) (batch_items s.drawn) (c.is_empty.ensures.0 c.if-not-is_empty.false) cs s.order;
       drawn_safe = s.drawn_safe;
       list_safe = safe-back b (callbacks_of ys) (subst AreSafe cs s.list_safe);
       out_safe = safe-front b (callbacks_of ys) (subst AreSafe cs s.list_safe);
@@ -42,7 +42,7 @@ returns-in-Ok-clause-fits g c = λ _ _. let r = relay c.args.self.now in record 
   none_waits = c.is_empty.ensures.0 c.if-not-is_empty.false;
   front = c.in-Ok.ensures.taken;
   number = c.in-Ok.ensures.number;
-  others = ap (λ k. record r { list = labelled c.fill_batch.new.self; advanced = k; out = batch_items c.fill_batch.new.batch }) c.fill_batch.ensures.advanced;
+  others = ap (λ k. record r { list = block_labelled c.fill_batch.new.self; advanced = k; out = batch_items c.fill_batch.new.batch }) c.fill_batch.ensures.advanced;
 }
 
 pub returns-in-Ok-clause-loads : goal.returns-in-Ok-clause-loads
@@ -52,7 +52,7 @@ returns-in-Ok-clause-loads g c =
       none_waits = c.is_empty.ensures.0 c.if-not-is_empty.false;
       front = c.in-Ok.ensures.taken;
       number = c.in-Ok.ensures.number;
-      others = ap (λ k. record r { list = labelled c.fill_batch.new.self; advanced = k; out = batch_items c.fill_batch.new.batch }) c.fill_batch.ensures.advanced;
+      others = ap (λ k. record r { list = block_labelled c.fill_batch.new.self; advanced = k; out = batch_items c.fill_batch.new.batch }) c.fill_batch.ensures.advanced;
     })
 
 pub returns-then-not-is_empty-clause-fits : goal.returns-then-not-is_empty-clause-fits
@@ -93,5 +93,5 @@ pub returns-in-Err-clause-loads : goal.returns-in-Err-clause-loads
 returns-in-Err-clause-loads g c = let r = relay c.args.self.now in
     let none = c.is_empty.ensures.0 c.if-not-is_empty.false in
     let out = batch_items c.fill_batch.new.batch in
-    inl (ap (λ k. record r { list = labelled c.fill_batch.new.self; advanced = k; out = out }) c.fill_batch.ensures.advanced
+    inl (ap (λ k. record r { list = block_labelled c.fill_batch.new.self; advanced = k; out = out }) c.fill_batch.ensures.advanced
     ∙ (ap (λ ws. record r { list = ws; out = out }) c.in-Err.ensures.refused.0.list ∙ ap (λ l. record r { out = l }) (c.in-Err.ensures.refused.1 ∙ sym none)))

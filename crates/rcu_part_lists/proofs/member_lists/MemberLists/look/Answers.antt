@@ -8,25 +8,25 @@ pub invariant_of-self : goal.invariant_of-self
 invariant_of-self g c =
     let s = c.args.self.now in
     record {
-      order = s.order ∙ ap (λ cs. put_calls s.outlet.rear ++ (batch_items s.out ++ (cs ++ batch_items s.drawn))) (sym c.look_at.ensures.callbacks);
+      order = s.order ∙ ap (λ cs. put_calls s.outlet.rear ++ (batch_items s.out ++ (cs ++ batch_items s.drawn))) (sym c.look_at_blocks.ensures.callbacks);
       drawn_safe = s.drawn_safe;
-      list_safe = subst AreSafe (sym c.look_at.ensures.callbacks) s.list_safe;
+      list_safe = subst AreSafe (sym c.look_at_blocks.ensures.callbacks) s.list_safe;
       out_safe = s.out_safe;
       few = s.few;
-      aimed = c.look_at.ensures.aimed;
+      aimed = c.look_at_blocks.ensures.aimed;
     }
 
-pub look_at-requires-clause-safe : goal.look_at-requires-clause-safe
-look_at-requires-clause-safe g c = c.args.self.now.list_safe
+pub look_at_blocks-requires-clause-safe : goal.look_at_blocks-requires-clause-safe
+look_at_blocks-requires-clause-safe g c = c.args.self.now.list_safe
 
-pub look_at-requires-clause-aimed : goal.look_at-requires-clause-aimed
-look_at-requires-clause-aimed g c = c.args.self.now.aimed
+pub look_at_blocks-requires-clause-aimed : goal.look_at_blocks-requires-clause-aimed
+look_at_blocks-requires-clause-aimed g c = c.args.self.now.aimed
 
-pub look_at-requires-clause-later : goal.look_at-requires-clause-later
-look_at-requires-clause-later g c = c.requires.later
+pub look_at_blocks-requires-clause-later : goal.look_at_blocks-requires-clause-later
+look_at_blocks-requires-clause-later g c = c.requires.later
 
-pub look_at-requires-clause-small : goal.look_at-requires-clause-small
-look_at-requires-clause-small g c = c.requires.small
+pub look_at_blocks-requires-clause-small : goal.look_at_blocks-requires-clause-small
+look_at_blocks-requires-clause-small g c = c.requires.small
 
 pub returns-clause-ends : goal.returns-clause-ends
 returns-clause-ends g c = (refl, refl)

@@ -4,7 +4,7 @@ use Rattle.std.specs.List.{flat_map}
 use Rattle.rcu_lanes.specs.Ends.{items_drawn, items_put}
 use Rattle.rcu_lists.specs.Batches.{batch_items}
 use Rattle.rcu_lists.specs.Parcels.{parcel_items}
-use Rattle.rcu_lists.specs.Segments.{labelled, advanced_by}
+use Rattle.rcu_lists.specs.BlockSegments.{block_labelled, block_advanced_by}
 use Rattle.rcu_lists.proofs.Outcomes.{if_ok_never}
 use Rattle.rcu_part_lists.specs.Lanes.{drawn_calls, put_calls}
 use Rattle.rcu_part_lists.specs.Limits.{AreSafe, IsSafe}
@@ -31,12 +31,12 @@ invariant_of-result g c =
     let drawn = ap (flat_map parcel_items) (ap items_drawn c.new.ensures ∙ c.requires.none_drawn) in
     let put = ap (flat_map parcel_items) (ap items_put c.in_ok-new.ensures.rear ∙ c.requires.none_put) in
     record {
-      order = nothing-lost (drawn_calls c.new.result.front) (put_calls c.in_ok-new.field-0.rear) (batch_items c.new-5.result) (batch_items c.new-4.result) (labelled c.new-3.result) drawn put c.new-5.ensures.items c.new-4.ensures.items c.new-3.ensures.list;
+      order = nothing-lost (drawn_calls c.new.result.front) (put_calls c.in_ok-new.field-0.rear) (batch_items c.new-5.result) (batch_items c.new-4.result) (block_labelled c.new-3.result) drawn put c.new-5.ensures.items c.new-4.ensures.items c.new-3.ensures.list;
       drawn_safe = subst AreSafe (sym c.new-4.ensures.items) (All-nil IsSafe);
-      list_safe = all-of-none (labelled c.new-3.result) c.new-3.ensures.list;
+      list_safe = all-of-none (block_labelled c.new-3.result) c.new-3.ensures.list;
       out_safe = subst AreSafe (sym c.new-5.ensures.items) (All-nil IsSafe);
       few = nothing-few (drawn_calls c.new.result.front) drawn;
-      aimed = aimed-none (advanced_by c.new-3.result) (labelled c.new-3.result) c.new-3.ensures.list;
+      aimed = aimed-none (block_advanced_by c.new-3.result) (block_labelled c.new-3.result) c.new-3.ensures.list;
     }
 
 pub returns-clause-ends : goal.returns-clause-ends
