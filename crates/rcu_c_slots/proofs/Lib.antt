@@ -13,3 +13,4 @@ pub mod Sections
 pub mod Lending
 pub mod Jobs
 pub mod LentParts
+pub mod GoingOn

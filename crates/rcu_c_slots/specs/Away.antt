@@ -1,5 +1,5 @@
 -- What leaving and coming back of a processor in a slot do, in the words of their own calls.
-use Rattle.std.specs.Prelude.{◌≡◌, ℕ, ◌*◌, ◌≤◌, [], Result, MatchOption, MatchResult}
+use Rattle.std.specs.Prelude.{◌≡◌, ◌*◌, ◌≤◌, [], Result, MatchOption, MatchResult}
 use Rattle.std.specs.declared.result.Result.TheVariants.{Err, Ok}
 use Rattle.rcu_board.specs.Plays.{return_own, stepped_own}
 use Rattle.rcu_board.specs.Words.{reports_word}

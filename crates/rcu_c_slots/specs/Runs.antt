@@ -1,6 +1,7 @@
 -- What begin and finish on a processor or a hand in a slot do, in the words of their own calls.
-use Rattle.std.specs.Prelude.{◌≡◌, ◌≢◌, ℕ, Option, None, Some, Result, MatchOption, MatchResult, refl}
+use Rattle.std.specs.Prelude.{◌≡◌, ◌≢◌, ℕ, None, Some, Result, IfErr, MatchOption, MatchResult, refl}
 use Rattle.std.specs.declared.result.Result.TheVariants.{Err, Ok}
+use Rattle.std.proofs.Common.{◌⊎◌}
 use Rattle.rcu_jobs.specs.declared.Stop.{Stop}
 use Rattle.rcu_jobs.specs.declared.Stop.TheVariants.{Limit}
 use Rattle.rcu_c_slots.specs.Faults.{stop_fault}
@@ -79,6 +80,16 @@ pub record FinishesHandOne (job : ForeignJob) (h i : LentHand) : Type 0 where
 
 -- ---- by whether a callback runs
 
+-- what a begin answered, where its job is in a place of the caller's
+abbrev pub handed : Result (Unit {0}) Fault → ForeignJob → Result ForeignJob Fault
+handed (Ok _) begun = Ok begun
+handed (Err fault) begun = Err fault
+
+-- A begin was made, whose job is in the caller's place; where none was begun the place is as it was.
+pub record HandsOut (Begins : Result ForeignJob Fault → Type 0) (result : Result (Unit {0}) Fault) (old new : ForeignJob) : Type 0 where
+  pub begins : Begins (handed result new)
+  pub none : IfErr result (λ _. new ≡ old)
+
 abbrev pub BeginsCpu : ℕ → Result ForeignJob Fault → LentProcessor → LentProcessor → Type 0
 BeginsCpu moment result p q = WhereRests p.job (λ r o n. MatchResult r (λ job. BeginsOne moment job o n) (λ fault. StopsOne moment fault o n)) result p q
 
@@ -104,3 +115,20 @@ abbrev pub FinishesBy : Result (Unit {0}) Fault → Part → Part → Type 0
 FinishesBy result (Processor p) new = (q : LentProcessor) × (new ≡ Processor q) × FinishesCpu result p q
 FinishesBy result (Hand h) new = (i : LentHand) × (new ≡ Hand i) × FinishesHand result h i
 FinishesBy result old new = (result ≡ Err (not_running old)) × (new ≡ old)
+
+-- ---- a finish, and then a begin
+
+-- The callback that runs isn't ended, for this fault; or it is, and then another is begun.
+abbrev pub GoesOn : {P : Type 0} → (Result (Unit {0}) Fault → P → P → Type 0) → (Result ForeignJob Fault → P → P → Type 0) → Result ForeignJob Fault → P → P → Type 0
+GoesOn {P} Finishes Begins result old new = ((fault : Fault) × (result ≡ Err fault) × Finishes (Err fault) old new)
+    ⊎ ((between : P) × Finishes (Ok tt) old between × Begins result between new)
+
+abbrev pub GoesOnCpu : ℕ → Result ForeignJob Fault → LentProcessor → LentProcessor → Type 0
+GoesOnCpu moment = GoesOn FinishesCpu (BeginsCpu moment)
+
+abbrev pub GoesOnHand : Result ForeignJob Fault → LentHand → LentHand → Type 0
+GoesOnHand = GoesOn FinishesHand BeginsHand
+
+-- A finish and a begin, by what the part was.
+abbrev pub GoesOnBy : ℕ → Result ForeignJob Fault → Part → Part → Type 0
+GoesOnBy moment = GoesOn FinishesBy (BeginsBy moment)

@@ -8,7 +8,7 @@ ghost use Rattle.rcu_c_slots.specs.Gathers.{HasEnds, RefusesEnd};
 ghost use Rattle.rcu_c_slots.specs.Others.{DriverTurnsBy, GroupTurnsBy, HaltsBy, ReadsHaltBy, ShutsBy, SwitchesPart};
 ghost use Rattle.rcu_c_slots.specs.Polls.{PollsStateBy, StartsPollBy};
 ghost use Rattle.rcu_c_slots.specs.Processors.{CallsBy, ReportsBy};
-ghost use Rattle.rcu_c_slots.specs.Runs.{BeginsBy, FinishesBy};
+ghost use Rattle.rcu_c_slots.specs.Runs.{BeginsBy, FinishesBy, GoesOnBy, HandsOut};
 ghost use Rattle.rcu_c_slots.specs.Shows.{OnlyShows, ShowsAccepted, ShowsBack, ShowsLeft, ShowsLists, ShowsRan, ShowsReports};
 ghost use Rattle.rcu_c_slots.specs.Slots.{OnSlot};
 
@@ -256,13 +256,14 @@ impl Slot {
     /// # Errors
     ///
     /// As that, or the slot is empty.
-    pub fn begin(&mut self, alloc: Global, moment: u64) -> Result<ForeignJob, Fault>
-        ensures { OnSlot (BeginsBy moment) result self.old self.new }
+    pub fn begin(&mut self, alloc: Global, moment: u64, begun: &mut ForeignJob) -> Result<(), Fault>
+        ensures { HandsOut (λ r. OnSlot (BeginsBy moment) r self.old self.new) result begun.old
+            begun.new }
     {
         let Some(mut boxed) = self.take(alloc) else {
             return Err(Fault::Empty);
         };
-        let answer = boxed.part.begin(moment);
+        let answer = boxed.part.begin(moment, begun);
         self.put(boxed);
         answer
     }
@@ -279,6 +280,23 @@ impl Slot {
             return Err(Fault::Empty);
         };
         let answer = boxed.part.finish();
+        self.put(boxed);
+        answer
+    }
+
+    /// `Part::next` of the slot's part.
+    ///
+    /// # Errors
+    ///
+    /// As that, or the slot is empty.
+    pub fn next(&mut self, alloc: Global, moment: u64, begun: &mut ForeignJob) -> Result<(), Fault>
+        ensures { HandsOut (λ r. OnSlot (GoesOnBy moment) r self.old self.new) result begun.old
+            begun.new }
+    {
+        let Some(mut boxed) = self.take(alloc) else {
+            return Err(Fault::Empty);
+        };
+        let answer = boxed.part.next(moment, begun);
         self.put(boxed);
         answer
     }

@@ -19,10 +19,7 @@ impl LentProcessor {
     ) -> Result<Ticket, Refused<ForeignJob>>
         ensures { AnswersCall kind moment job result self.old self.new }
     {
-        match kind {
-            Kind::Plain => self.processor.call_rcu(moment, job),
-            Kind::Lazy => self.processor.call_rcu_lazy(moment, job),
-        }
+        self.processor.call(moment, kind, job)
     }
 
     /// A report.

@@ -6,11 +6,11 @@ use crate::lent::{LentHand, LentProcessor};
 use crate::part::Part;
 
 impl LentProcessor {
-    ghost use Rattle.rcu_c_slots.specs.Runs.{BeginsCpu, FinishesCpu};
+    ghost use Rattle.rcu_c_slots.specs.Runs.{BeginsCpu, FinishesCpu, GoesOnCpu, HandsOut};
 
-    /// Begins a callback, in a tick at this moment.
-    fn begin(&mut self, moment: u64) -> Result<ForeignJob, Fault>
-        ensures { BeginsCpu moment result self.old self.new }
+    /// Begins a callback, in a tick at this moment, and hands its job out.
+    fn begin(&mut self, moment: u64, begun: &mut ForeignJob) -> Result<(), Fault>
+        ensures { HandsOut (λ r. BeginsCpu moment r self.old self.new) result begun.old begun.new }
     {
         if self.job.is_some() {
             return Err(Fault::Running);
@@ -18,7 +18,8 @@ impl LentProcessor {
         match self.processor.begin(moment) {
             Ok(job) => {
                 self.job = Some(job);
-                Ok(job)
+                *begun = job;
+                Ok(())
             }
             Err(stop) => Err(fault_of_stop(stop)),
         }
@@ -35,14 +36,25 @@ impl LentProcessor {
         self.job = None;
         Ok(())
     }
+
+    /// Ends the callback that runs, and begins another, in a tick at this moment.
+    fn next(&mut self, moment: u64, begun: &mut ForeignJob) -> Result<(), Fault>
+        ensures { HandsOut (λ r. GoesOnCpu moment r self.old self.new) result begun.old begun.new }
+    {
+        match self.finish() {
+            Ok(()) => self.begin(moment, begun),
+            Err(fault) => Err(fault),
+        }
+    }
 }
 
 impl LentHand {
-    ghost use Rattle.rcu_c_slots.specs.Runs.{BeginsHand, FinishesHand};
+    ghost use Rattle.rcu_c_slots.specs.Runs.{BeginsHand, FinishesHand, GoesOnHand, HandsOut};
 
-    /// Begins a callback.
-    fn begin(&mut self) -> Result<ForeignJob, Fault>
-        ensures { BeginsHand result self.old self.new }
+    /// Begins a callback, and hands its job out.
+    #[inline(always)]
+    fn begin(&mut self, begun: &mut ForeignJob) -> Result<(), Fault>
+        ensures { HandsOut (λ r. BeginsHand r self.old self.new) result begun.old begun.new }
     {
         if self.job.is_some() {
             return Err(Fault::Running);
@@ -50,7 +62,8 @@ impl LentHand {
         match self.hand.begin() {
             Ok(job) => {
                 self.job = Some(job);
-                Ok(job)
+                *begun = job;
+                Ok(())
             }
             Err(stop) => Err(fault_of_stop(stop)),
         }
@@ -67,22 +80,33 @@ impl LentHand {
         self.job = None;
         Ok(())
     }
+
+    /// Ends the callback that runs, and begins another.
+    fn next(&mut self, begun: &mut ForeignJob) -> Result<(), Fault>
+        ensures { HandsOut (λ r. GoesOnHand r self.old self.new) result begun.old begun.new }
+    {
+        match self.finish() {
+            Ok(()) => self.begin(begun),
+            Err(fault) => Err(fault),
+        }
+    }
 }
 
 impl Part {
-    ghost use Rattle.rcu_c_slots.specs.Runs.{BeginsBy, FinishesBy};
+    ghost use Rattle.rcu_c_slots.specs.Runs.{BeginsBy, FinishesBy, GoesOnBy, HandsOut};
 
-    /// Begins a callback, by a processor, in a tick at this moment, or by a hand. Its job is to be run until `finish`.
+    /// Begins a callback, by a processor, in a tick at this moment, or by a hand, and hands its job out, which is to be run
+    /// until `finish`.
     ///
     /// # Errors
     ///
-    /// Why nothing was begun, as the part says; or a callback runs; or the part is of another kind.
-    pub fn begin(&mut self, moment: u64) -> Result<ForeignJob, Fault>
-        ensures { BeginsBy moment result self.old self.new }
+    /// Why nothing was begun, as the part says; or a callback runs; or the part is of another kind. No job is handed out.
+    pub fn begin(&mut self, moment: u64, begun: &mut ForeignJob) -> Result<(), Fault>
+        ensures { HandsOut (λ r. BeginsBy moment r self.old self.new) result begun.old begun.new }
     {
         match self {
-            Part::Processor(processor) => processor.begin(moment),
-            Part::Hand(hand) => hand.begin(),
+            Part::Processor(processor) => processor.begin(moment, begun),
+            Part::Hand(hand) => hand.begin(begun),
             other => Err(other.not_resting()),
         }
     }
@@ -98,6 +122,22 @@ impl Part {
         match self {
             Part::Processor(processor) => processor.finish(),
             Part::Hand(hand) => hand.finish(),
+            other => Err(other.not_running()),
+        }
+    }
+
+    /// Ends the callback that was begun, as [`finish`](Part::finish) does, and then begins another, as [`begin`](Part::begin)
+    /// does.
+    ///
+    /// # Errors
+    ///
+    /// As `finish`, and then nothing was begun; or as `begin`, and then the callback has ended. No job is handed out.
+    pub fn next(&mut self, moment: u64, begun: &mut ForeignJob) -> Result<(), Fault>
+        ensures { HandsOut (λ r. GoesOnBy moment r self.old self.new) result begun.old begun.new }
+    {
+        match self {
+            Part::Processor(processor) => processor.next(moment, begun),
+            Part::Hand(hand) => hand.next(begun),
             other => Err(other.not_running()),
         }
     }

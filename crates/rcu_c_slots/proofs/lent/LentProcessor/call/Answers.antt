@@ -1,7 +1,5 @@
-use Rattle.std.proofs.Common.{is_some, ap, sym, ◌∙◌, refl, subst}
+use Rattle.std.proofs.Common.{is_some, ap, sym, ◌∙◌, refl}
 use Rattle.rcu_jobs.specs.declared.answers.Refused.{Refused}
-use Rattle.rcu_lists.specs.declared.pace.Kind.{Kind}
-use Rattle.rcu_lists.specs.declared.pace.Kind.TheVariants.{Lazy, Plain}
 use Rattle.rcu_part_processor.specs.Accepting.{IsLimit}
 use Rattle.rcu_part_processor.specs.InPlace.{IsAccepted, IsRefusedAs, KeepsAll}
 use Rattle.rcu_c_slots.specs.declared.job.ForeignJob.{ForeignJob}
@@ -10,17 +8,14 @@ use Rattle.rcu_c_slots.proofs.Jobs.{job_sends, placed_cpu_fits, receipt_sends}
 use Rattle.rcu_c_slots.proofs.lent.LentProcessor.call.Goals as goal
 
 pub invariant_of-self : goal.invariant_of-self
-invariant_of-self c = record { both = c.args.self.now.both ∙ sym (ap is_some c.call_rcu.ensures.calls.same.claimed) }
+invariant_of-self c = record { both = c.args.self.now.both ∙ sym (ap is_some c.call.ensures.calls.same.claimed) }
 
-pub invariant_of-self-in-Lazy : goal.invariant_of-self-in-Lazy
-invariant_of-self-in-Lazy c = record { both = c.args.self.now.both ∙ sym (ap is_some c.call_rcu_lazy.ensures.calls.same.claimed) }
-
-pub returns-in-Plain : goal.returns-in-Plain
-returns-in-Plain c = let a = c.args in let e = c.call_rcu.ensures.calls in let s = a.self.now.processor.state in let t = c.call_rcu.new.self.state in let r = c.call_rcu.result in
+pub returns : goal.returns
+returns c = let a = c.args in let e = c.call.ensures.calls in let s = a.self.now.processor.state in let t = c.call.new.self.state in let r = c.call.result in
     match_by r _ _
     (λ ticket is. record {
       kept = record { same = e.same; job = refl; sound = e.sound };
-      accepts = subst (λ (k : Kind). IsAccepted a.moment k a.job.key a.job ticket s t) (sym c.in-Plain.is) (ok_at r ticket (λ x. IsAccepted a.moment Plain a.job.key a.job x s t) is e.ok);
+      accepts = ok_at r ticket (λ x. IsAccepted a.moment a.kind a.job.key a.job x s t) is e.ok;
       room = λ full. never_err r ticket is (e.full full).1;
       not_shut = λ shut. never_err r ticket is (e.closed shut);
     })
@@ -31,36 +26,11 @@ returns-in-Plain c = let a = c.args in let e = c.call_rcu.ensures.calls in let s
       full = λ full. err_at r refused (λ (x : Refused ForeignJob). IsLimit x) is (e.full full).0;
     })
 
-pub returns-in-Lazy : goal.returns-in-Lazy
-returns-in-Lazy c = let a = c.args in let e = c.call_rcu_lazy.ensures.calls in let s = a.self.now.processor.state in let t = c.call_rcu_lazy.new.self.state in let r = c.call_rcu_lazy.result in
-    match_by r _ _
-    (λ ticket is. record {
-      kept = record { same = e.same; job = refl; sound = e.sound };
-      accepts = subst (λ (k : Kind). IsAccepted a.moment k a.job.key a.job ticket s t) (sym c.in-Lazy.is) (ok_at r ticket (λ x. IsAccepted a.moment Lazy a.job.key a.job x s t) is e.ok);
-      room = λ full. never_err r ticket is (e.full full).1;
-      not_shut = λ shut. never_err r ticket is (e.closed shut);
-    })
-    (λ refused is. record {
-      kept = record { same = e.same; job = refl; sound = e.sound };
-      lists = err_at r refused (λ _. KeepsAll s t) is e.err;
-      why = err_at r refused (λ x. IsRefusedAs a.job x s t) is e.refused;
-      full = λ full. err_at r refused (λ (x : Refused ForeignJob). IsLimit x) is (e.full full).0;
-    })
+pub call-requires-send-J : goal.call-requires-send-J
+call-requires-send-J c κs = job_sends
 
-pub call_rcu-requires-send-J : goal.call_rcu-requires-send-J
-call_rcu-requires-send-J c κs = job_sends
+pub call-requires-send-J-Receipt : goal.call-requires-send-J-Receipt
+call-requires-send-J-Receipt c κs = receipt_sends
 
-pub call_rcu-requires-send-J-Receipt : goal.call_rcu-requires-send-J-Receipt
-call_rcu-requires-send-J-Receipt c κs = receipt_sends
-
-pub call_rcu-requires-after_bounds : goal.call_rcu-requires-after_bounds
-call_rcu-requires-after_bounds c κs = placed_cpu_fits
-
-pub call_rcu_lazy-requires-send-J : goal.call_rcu_lazy-requires-send-J
-call_rcu_lazy-requires-send-J c κs = job_sends
-
-pub call_rcu_lazy-requires-send-J-Receipt : goal.call_rcu_lazy-requires-send-J-Receipt
-call_rcu_lazy-requires-send-J-Receipt c κs = receipt_sends
-
-pub call_rcu_lazy-requires-after_bounds : goal.call_rcu_lazy-requires-after_bounds
-call_rcu_lazy-requires-after_bounds c κs = placed_cpu_fits
+pub call-requires-after_bounds : goal.call-requires-after_bounds
+call-requires-after_bounds c κs = placed_cpu_fits
