@@ -245,7 +245,8 @@ struct rcuo_shape {
  */
 uint32_t rcuo_slot_open(const struct rcuo_shape *shape, uint64_t number, struct rcuo_parts *parts);
 uint32_t rcuo_slot_close(struct rcuo_parts *parts);
-uint32_t rcuo_slot_call(struct rcuo_slot *slot, bool lazy, uint64_t moment, const struct rcuo_job *job, struct rcuo_ticket *ticket);
+uint32_t rcuo_slot_call(struct rcuo_slot *slot, bool lazy, uint64_t moment, uint64_t key, rcuo_function *function, void *argument,
+                        struct rcuo_ticket *ticket);
 uint32_t rcuo_slot_quiescent(struct rcuo_slot *slot, uint64_t *counted);
 uint32_t rcuo_slot_start_poll(struct rcuo_slot *slot, uint64_t *cookie);
 uint32_t rcuo_slot_poll_state(struct rcuo_slot *slot, uint64_t cookie, bool *elapsed);
@@ -253,6 +254,7 @@ uint32_t rcuo_slot_leave(struct rcuo_slot *slot);
 uint32_t rcuo_slot_return(struct rcuo_slot *slot);
 uint32_t rcuo_slot_begin(struct rcuo_slot *slot, uint64_t moment, struct rcuo_job *job);
 uint32_t rcuo_slot_finish(struct rcuo_slot *slot);
+uint32_t rcuo_slot_next(struct rcuo_slot *slot, uint64_t moment, struct rcuo_job *job);
 uint32_t rcuo_slot_driver_turn(struct rcuo_slot *slot, struct rcuo_driver_turn *turn);
 uint32_t rcuo_slot_group_turn(struct rcuo_slot *slot, struct rcuo_group_turn *turn);
 uint32_t rcuo_slot_switch(struct rcuo_slot *slot, uint64_t processor, bool on);
@@ -391,7 +393,7 @@ static inline enum rcuo_answer rcuo_call_job(struct rcuo_slot *processor, uint64
                                              struct rcuo_ticket *ticket) {
     struct rcuo_ticket unused;
     if (!processor || !job || !job->function) return RCUO_NULL;
-    return RCUO_CALL(rcuo_slot_call(processor, lazy, moment, job, ticket ? ticket : &unused));
+    return RCUO_CALL(rcuo_slot_call(processor, lazy, moment, job->key, job->function, job->argument, ticket ? ticket : &unused));
 }
 
 static inline enum rcuo_answer rcuo_call(struct rcuo_slot *processor, uint64_t moment, rcuo_function *function, void *argument,
@@ -516,19 +518,24 @@ static inline enum rcuo_answer rcuo_finish(struct rcuo_slot *slot) {
     return RCUO_CALL(rcuo_slot_finish(slot));
 }
 
+/* Ends the callback that was begun and begins another: `rcuo_finish`, and then `rcuo_begin`, in one call.
+ * Answers RCUO_NOT_RUNNING where none was begun: then nothing was done. Else the callback has ended, and the answer is that of
+ * `rcuo_begin`. */
+static inline enum rcuo_answer rcuo_next(struct rcuo_slot *slot, uint64_t moment, struct rcuo_job *job) {
+    if (!slot || !job) return RCUO_NULL;
+    return RCUO_CALL(rcuo_slot_next(slot, moment, job));
+}
+
 /* Begins, calls and finishes callbacks of a processor or a hand, at most so many. `ran`, which may be null, gets how many ran.
  * Answers RCUO_OK where so many ran, else what `rcuo_begin` answered last. */
 static inline enum rcuo_answer rcuo_run(struct rcuo_slot *slot, uint64_t moment, uint64_t most, uint64_t *ran) {
     uint64_t done = 0;
-    enum rcuo_answer answer = RCUO_OK;
-    while (done < most) {
-        struct rcuo_job job;
-        answer = rcuo_begin(slot, moment, &job);
-        if (answer != RCUO_OK) break;
+    struct rcuo_job job;
+    enum rcuo_answer answer = most ? rcuo_begin(slot, moment, &job) : RCUO_OK;
+    while (answer == RCUO_OK && done < most) {
         job.function(job.argument);
-        answer = rcuo_finish(slot);
-        if (answer != RCUO_OK) break;
-        done++;
+        answer = done + 1 < most ? rcuo_next(slot, moment, &job) : rcuo_finish(slot);
+        if (answer != RCUO_NOT_RUNNING) done++; /* (it has ended, whatever came next) */
     }
     if (ran) *ran = done;
     return answer;

@@ -158,14 +158,14 @@ static void be_here(struct helper *helper) {
 static uint64_t run_hand(struct helper *helper, struct rcuo_slot *hand) {
     struct rcuo_job job;
     uint64_t ran = 0;
-    for (;; ran++) {
-        enum rcuo_answer answer = rcuo_begin(hand, 0, &job);
-        if (answer == RCUO_MEMORY) helper->refused = true;
-        if (answer != RCUO_OK) return ran;
+    enum rcuo_answer answer = rcuo_begin(hand, 0, &job);
+    for (; answer == RCUO_OK; ran++) {
         be_here(helper);
         job.function(job.argument);
-        (void)rcuo_finish(hand); /* (one was begun) */
+        answer = rcuo_next(hand, 0, &job); /* (one was begun, so it has ended) */
     }
+    if (answer == RCUO_MEMORY) helper->refused = true;
+    return ran;
 }
 
 /* Leaves for a member whose owner went, and makes a turn of its group and of its hand. Answers whether anything moved. */

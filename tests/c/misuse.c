@@ -40,6 +40,8 @@ static void null_pointers(void) {
     is("begin of nothing", rcuo_begin(NULL, 0, &job), RCUO_NULL);
     is("begin into nothing", rcuo_begin(&empty, 0, NULL), RCUO_NULL);
     is("finish of nothing", rcuo_finish(NULL), RCUO_NULL);
+    is("next of nothing", rcuo_next(NULL, 0, &job), RCUO_NULL);
+    is("next into nothing", rcuo_next(&empty, 0, NULL), RCUO_NULL);
     is("run of nothing", rcuo_run(NULL, 0, 1, NULL), RCUO_NULL);
     is("turn of no driver", rcuo_driver_turn(NULL, NULL), RCUO_NULL);
     is("turn of no group", rcuo_group_turn(NULL, NULL), RCUO_NULL);
@@ -73,6 +75,7 @@ static void all_calls(const char *what, struct rcuo_slot *slot, enum rcuo_answer
     is(what, rcuo_lists(slot, &lists), processor);
     is(what, rcuo_begin(slot, 0, &job), runs);
     is(what, rcuo_finish(slot), finishes);
+    is(what, rcuo_next(slot, 0, &job), finishes);
     is(what, rcuo_group_turn(slot, NULL), group);
     is(what, rcuo_driver_turn(slot, NULL), driver);
     is(what, rcuo_halted(slot, &is_so), halts);
@@ -230,6 +233,9 @@ static void while_it_runs(void) {
     job.function(job.argument);
     is("its finish", rcuo_finish(self), RCUO_OK);
     is("a second finish", rcuo_finish(self), RCUO_NOT_RUNNING);
+    second = job;
+    is("a next after it", rcuo_next(self, 0, &second), RCUO_NOT_RUNNING);
+    holds("nothing was handed out", second.key == job.key && second.argument == job.argument);
     is("a third call", rcuo_call(self, 0, count, NULL, NULL), RCUO_OK);
     is("a fourth call", rcuo_call_lazy(self, 0, count, NULL, NULL), RCUO_OK);
     is("a call at the limit", rcuo_call(self, 0, count, NULL, NULL), RCUO_LIMIT);

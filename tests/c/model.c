@@ -143,20 +143,10 @@ static void read_or_end(uint64_t p) {
     }
 }
 
-/* A begin, by the processor or its hand: what it hands out is the next callback, and each processor has reported or was away
- * since it was accepted. */
-static void begin(uint64_t p, struct rcuo_slot *slot) {
+/* What a begin, by the processor or its hand, answered: what it hands out is the next callback, and each processor has reported or
+ * was away since it was accepted. */
+static void check_begun(uint64_t p, struct rcuo_slot *slot, enum rcuo_answer answer, const struct rcuo_job *job) {
     struct cpu *cpu = &cpus[p];
-    struct rcuo_job job;
-    enum rcuo_answer answer = rcuo_begin(slot, moment, &job);
-    if (cpu->runs == slot) {
-        same("a begin while one runs", answer, RCUO_RUNNING);
-        return;
-    }
-    if (cpu->away && slot == &parts.processors[p]) {
-        same("a begin while away", answer, RCUO_AWAY);
-        return;
-    }
     if (answer == RCUO_TURN || answer == RCUO_NONE_LEFT || answer == RCUO_AGAIN) return;
     same("a begin", answer, RCUO_OK);
     if (answer != RCUO_OK) return;
@@ -166,13 +156,22 @@ static void begin(uint64_t p, struct rcuo_slot *slot) {
         return;
     }
     struct callback *begun = &cpu->callbacks[cpu->begun++];
-    same("the job's key", job.key, begun->key);
-    same("the job's function", job.function == never_called, true);
-    same("the job's argument", job.argument == cpu, true);
+    same("the job's key", job->key, begun->key);
+    same("the job's function", job->function == never_called, true);
+    same("the job's argument", job->argument == cpu, true);
     for (uint64_t q = 0; q < settings.processors; q++) {
         if (cpus[q].quiets <= begun->quiets[q] && !cpus[q].away) differs("a callback before its grace period", q, 0);
     }
     cpu->runs = slot;
+}
+
+static void begin(uint64_t p, struct rcuo_slot *slot) {
+    struct cpu *cpu = &cpus[p];
+    struct rcuo_job job;
+    enum rcuo_answer answer = rcuo_begin(slot, moment, &job);
+    if (cpu->runs == slot) same("a begin while one runs", answer, RCUO_RUNNING);
+    else if (cpu->away && slot == &parts.processors[p]) same("a begin while away", answer, RCUO_AWAY);
+    else check_begun(p, slot, answer, &job);
 }
 
 static void finish(uint64_t p, struct rcuo_slot *slot) {
@@ -182,6 +181,20 @@ static void finish(uint64_t p, struct rcuo_slot *slot) {
     if (cpu->runs != slot) return;
     cpu->runs = NULL;
     cpu->finished++;
+}
+
+/* A finish and a begin in one call. */
+static void go_on(uint64_t p, struct rcuo_slot *slot) {
+    struct cpu *cpu = &cpus[p];
+    struct rcuo_job job;
+    enum rcuo_answer answer = rcuo_next(slot, moment, &job);
+    if (cpu->runs != slot) {
+        same("a next where none runs", answer, RCUO_NOT_RUNNING);
+        return;
+    }
+    cpu->runs = NULL;
+    cpu->finished++;
+    check_begun(p, slot, answer, &job);
 }
 
 static void turn_others(void) {
@@ -328,7 +341,7 @@ static void step(void) {
     struct rcuo_slot *slot = cpus[p].offloadable && any(2) ? &parts.hands[p] : &parts.processors[p];
     steps++;
     moment += any(3);
-    switch (any(15)) {
+    switch (any(16)) {
     case 0:
     case 1: call(p); break;
     case 2:
@@ -344,6 +357,7 @@ static void step(void) {
     case 12: leave(p); break;
     case 13: come_back(p); break;
     case 14: poll_grace_period(p); break;
+    case 15: go_on(p, slot); break;
     }
 }
 

@@ -245,7 +245,15 @@ extern "C" {
     pub fn rcuo_version() -> u32;
     pub fn rcuo_slot_open(shape: *const rcuo_shape, number: u64, parts: *mut rcuo_parts) -> rcuo_answer;
     pub fn rcuo_slot_close(parts: *mut rcuo_parts) -> rcuo_answer;
-    pub fn rcuo_slot_call(slot: *mut rcuo_slot, lazy: bool, moment: u64, job: *const rcuo_job, ticket: *mut rcuo_ticket) -> rcuo_answer;
+    pub fn rcuo_slot_call(
+        slot: *mut rcuo_slot,
+        lazy: bool,
+        moment: u64,
+        key: u64,
+        function: Option<rcuo_function>,
+        argument: *mut c_void,
+        ticket: *mut rcuo_ticket,
+    ) -> rcuo_answer;
     pub fn rcuo_slot_quiescent(slot: *mut rcuo_slot, counted: *mut u64) -> rcuo_answer;
     pub fn rcuo_slot_start_poll(slot: *mut rcuo_slot, cookie: *mut u64) -> rcuo_answer;
     pub fn rcuo_slot_poll_state(slot: *mut rcuo_slot, cookie: u64, elapsed: *mut bool) -> rcuo_answer;
@@ -253,6 +261,7 @@ extern "C" {
     pub fn rcuo_slot_return(slot: *mut rcuo_slot) -> rcuo_answer;
     pub fn rcuo_slot_begin(slot: *mut rcuo_slot, moment: u64, job: *mut rcuo_job) -> rcuo_answer;
     pub fn rcuo_slot_finish(slot: *mut rcuo_slot) -> rcuo_answer;
+    pub fn rcuo_slot_next(slot: *mut rcuo_slot, moment: u64, job: *mut rcuo_job) -> rcuo_answer;
     pub fn rcuo_slot_driver_turn(slot: *mut rcuo_slot, turn: *mut rcuo_driver_turn) -> rcuo_answer;
     pub fn rcuo_slot_group_turn(slot: *mut rcuo_slot, turn: *mut rcuo_group_turn) -> rcuo_answer;
     pub fn rcuo_slot_switch(slot: *mut rcuo_slot, processor: u64, on: bool) -> rcuo_answer;

@@ -58,6 +58,7 @@ use rcuo_sys as ffi;
 use std::cell::{Cell, UnsafeCell};
 use std::fmt;
 use std::marker::PhantomData;
+use std::mem;
 use std::sync::{Arc, Mutex, MutexGuard, PoisonError};
 
 /// Why a call did nothing: `enum rcuo_answer` of `include/rcuo.h`.
@@ -694,20 +695,28 @@ unsafe fn poll(slot: *mut ffi::rcuo_slot, barrier: &Barrier) -> Result<bool, Err
 ///
 /// The slot is this thread's.
 unsafe fn run(slot: *mut ffi::rcuo_slot, moment: u64, most: u64) -> Result<u64, Error> {
+    let mut words = ffi::rcuo_job::NONE;
     for ran in 0..most {
-        let mut words = ffi::rcuo_job::NONE;
         // SAFETY: the caller's.
-        match unsafe { ffi::rcuo_slot_begin(slot, moment, &mut words) } {
+        let begun = match ran {
+            0 => unsafe { ffi::rcuo_slot_begin(slot, moment, &mut words) },
+            _ => unsafe { ffi::rcuo_slot_next(slot, moment, &mut words) },
+        };
+        match begun {
             ffi::RCUO_OK => {
                 let running = Running(slot);
                 // SAFETY: the callback was made by `Processor::call`, and is begun once.
                 let job = unsafe { job_of(&words) };
                 job();
-                drop(running);
+                // (what comes next ends it, without a call of its own)
+                mem::forget(running);
             }
             ffi::RCUO_NONE_LEFT | ffi::RCUO_TURN | ffi::RCUO_AGAIN => return Ok(ran),
             other => answer(other)?,
         }
+    }
+    if most > 0 {
+        drop(Running(slot));
     }
     Ok(most)
 }
@@ -752,7 +761,8 @@ impl Processor {
         let words = words_of(job);
         let mut ticket = ffi::rcuo_ticket::default();
         // SAFETY: the slot is this handle's, which nobody else uses meanwhile.
-        match answer(unsafe { ffi::rcuo_slot_call(self.slot(), lazy, moment, &words, &mut ticket) }) {
+        let answered = unsafe { ffi::rcuo_slot_call(self.slot(), lazy, moment, words.key, words.function, words.argument, &mut ticket) };
+        match answer(answered) {
             Ok(()) => Ok(Ticket { processor: ticket.processor, number: ticket.number }),
             // SAFETY: a refused job is still the caller's.
             Err(error) => Err(Refused { error, back: unsafe { job_of(&words) } }),

@@ -19,6 +19,7 @@ use Rattle.rcu_c_slots.specs.Shows.{OnlyShows}
 use Rattle.rcu_c_slots.specs.Slots.{OnSlot}
 use Rattle.rcu_c_slots.specs.declared.fault.Fault.{Fault}
 use Rattle.rcu_c_slots.specs.declared.fault.Fault.TheVariants.{Memory, Shape as OfShape}
+use Rattle.rcu_c_slots.specs.declared.job.ForeignJob.{ForeignJob}
 use Rattle.rcu_c_slots.specs.declared.part.Part.{Part}
 use Rattle.rcu_c_slots.specs.declared.slot.PartSlots.{PartSlots}
 use Rattle.rcu_c_slots.specs.declared.slot.Slot.{Slot}
@@ -57,6 +58,10 @@ pub record TellsPoll (barrier : CountWords) (passed : Bool) (answer : ℕ) (old 
 -- a plain call, or a lazy one
 abbrev pub kind_of_call : Bool → Kind
 kind_of_call lazy = cond lazy Lazy Plain
+
+-- a job by its words
+abbrev pub job_of : ℕ → ℕ → ℕ → ForeignJob
+job_of key function argument = record { key = key; function = function; argument = argument }
 
 -- The slots have all parts of a new runtime of these settings, under this number, each in its place.
 pub record OpensBy (settings : Settings) (number : ℕ) (slots : PartSlots) : Type 0 where

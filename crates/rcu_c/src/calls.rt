@@ -2,12 +2,12 @@
 
 ghost use Rattle.std.specs.Prelude.{◌≡◌, ◌≢◌, ◌↔◌, IsTrue};
 ghost use Rattle.std.specs.Option.{unwrap_or};
-ghost use Rattle.rcu_c.specs.Exports.{Refuses, Tells, TellsShown, kind_of_call};
+ghost use Rattle.rcu_c.specs.Exports.{Refuses, Tells, TellsShown, job_of, kind_of_call};
 ghost use Rattle.rcu_c.specs.Words.{AreListWords};
 ghost use Rattle.rcu_c_slots.specs.Away.{LeavesBy, ReturnsBy};
 ghost use Rattle.rcu_c_slots.specs.Polls.{PollsStateBy, StartsPollBy};
 ghost use Rattle.rcu_c_slots.specs.Processors.{CallsBy, ReportsBy};
-ghost use Rattle.rcu_c_slots.specs.Runs.{BeginsBy, FinishesBy};
+ghost use Rattle.rcu_c_slots.specs.Runs.{BeginsBy, FinishesBy, GoesOnBy};
 ghost use Rattle.rcu_c_slots.specs.Shows.{ShowsAccepted, ShowsLeft, ShowsLists};
 ghost use Rattle.rcu_c_slots.specs.declared.fault.Fault.TheVariants.{Reading};
 
@@ -24,22 +24,29 @@ fn kind_of_call(lazy: bool) -> Kind
     if lazy { Kind::Lazy } else { Kind::Plain }
 }
 
-/// `rcuo_call` and `rcuo_call_lazy`: accepts a job, and gives its ticket.
+/// `rcuo_call` and `rcuo_call_lazy`: accepts a job, which comes by its words, and gives its ticket.
 #[unsafe(no_mangle)]
 pub extern "C" fn rcuo_slot_call(
     alloc: Global,
     slot: &mut Slot,
     lazy: bool,
     moment: u64,
-    job: &ForeignJob,
+    key: u64,
+    function: u64,
+    argument: u64,
     ticket: &mut TicketWords,
 ) -> u32
-    ensures tells { Tells (CallsBy (kind_of_call lazy) moment job.now)
+    ensures tells { Tells (CallsBy (kind_of_call lazy) moment (job_of key function argument))
         (λ t. (ticket.new.processor ≡ t.cpu) × (ticket.new.number ≡ t.number)) result slot.old
         slot.new }
     ensures stays { result ≢ 0 → ticket.new ≡ ticket.old }
 {
-    match slot.call(alloc, kind_of_call(lazy), moment, *job) {
+    let job = ForeignJob {
+        key,
+        function,
+        argument,
+    };
+    match slot.call(alloc, kind_of_call(lazy), moment, job) {
         Ok(Ticket { cpu, number }) => {
             *ticket = TicketWords {
                 processor: cpu,
@@ -152,11 +159,8 @@ pub extern "C" fn rcuo_slot_begin(
     ensures tells { Tells (BeginsBy moment) (λ begun. job.new ≡ begun) result slot.old slot.new }
     ensures stays { result ≢ 0 → job.new ≡ job.old }
 {
-    match slot.begin(alloc, moment) {
-        Ok(begun) => {
-            *job = begun;
-            0
-        }
+    match slot.begin(alloc, moment, job) {
+        Ok(()) => 0,
         Err(fault) => fault.number(),
     }
 }
@@ -167,6 +171,23 @@ pub extern "C" fn rcuo_slot_finish(alloc: Global, slot: &mut Slot) -> u32
     ensures { Tells FinishesBy (λ _. Unit {0}) result slot.old slot.new }
 {
     match slot.finish(alloc) {
+        Ok(()) => 0,
+        Err(fault) => fault.number(),
+    }
+}
+
+/// `rcuo_next`: ends the callback that was begun, and then begins another and hands its job out.
+#[unsafe(no_mangle)]
+pub extern "C" fn rcuo_slot_next(
+    alloc: Global,
+    slot: &mut Slot,
+    moment: u64,
+    job: &mut ForeignJob,
+) -> u32
+    ensures tells { Tells (GoesOnBy moment) (λ begun. job.new ≡ begun) result slot.old slot.new }
+    ensures stays { result ≢ 0 → job.new ≡ job.old }
+{
+    match slot.next(alloc, moment, job) {
         Ok(()) => 0,
         Err(fault) => fault.number(),
     }

@@ -3,7 +3,7 @@ use Rattle.std.specs.declared.result.Result.TheVariants.{Ok, Err}
 use Rattle.rcu_c.proofs.calls.rcuo_slot_begin.Goals as goal
 
 pub returns-in-Ok-clause-tells : goal.returns-in-Ok-clause-tells
-returns-in-Ok-clause-tells c = record { result = Ok c.in-Ok.begun; does = c.in-Ok.ensures; answer_is = refl; gives = refl }
+returns-in-Ok-clause-tells c = record { result = Ok c.begin.new.begun; does = c.in-Ok.ensures.begins; answer_is = refl; gives = refl }
 
 pub returns-in-Err-clause-tells : goal.returns-in-Err-clause-tells
-returns-in-Err-clause-tells c = record { result = Err c.in-Err.fault; does = c.in-Err.ensures; answer_is = c.number.ensures; gives = tt }
+returns-in-Err-clause-tells c = record { result = Err c.in-Err.fault; does = c.in-Err.ensures.begins; answer_is = c.number.ensures; gives = tt }
