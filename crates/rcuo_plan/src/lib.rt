@@ -9,7 +9,7 @@
 //!   1048577 bytes of setup are read; the setup is the one of the bytes read.
 //! - As many versions are retired as the run has calls, each with the routes that the calls before it set; for
 //!   no other reason than want of memory are they not made.
-//! - By `read_plan` (`taken`, `named`, `most`, `exact`), `versions` (`many`, `versions`, `memory`).
+//! - By `read_plan` (`taken`, `named`, `most`, `exact`), `versions` (`many`, `versions`).
 #![tactic(auto)]
 
 mod plan;

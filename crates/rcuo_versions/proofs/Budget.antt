@@ -1,5 +1,5 @@
 -- What versions count, one route and one call further.
-use Rattle.std.proofs.Common.{arith, ◌≡◌, ℕ, ◌+◌, ◌++◌, ◌∙◌, [], ◌∷◌, Bool, true, false, List, Some, cond, is_some, length, map, if◌then◌else◌, refl, string_bytes, subst, sym, String}
+use Rattle.std.proofs.Common.{arith, ◌≡◌, ℕ, ◌+◌, ◌++◌, [], ◌∷◌, Bool, true, false, List, Some, cond, is_some, length, map, if◌then◌else◌, refl, string_bytes, subst, String}
 use Rattle.std.proofs.lemmas.List.Sums.{sum_by-cons}
 use Rattle.std.specs.Map.{lookup}
 use Rattle.std.specs.Str.{bytes_eq}

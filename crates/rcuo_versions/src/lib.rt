@@ -11,9 +11,9 @@
 //!   is the number of routes that it holds.
 //! - All versions that are made, version 0 and the last one too, take at most the budget of a run, where each
 //!   route counts as 128 bytes and those of its name.
-//! - For no other reason than want of memory are they not made.
-//! - By `versions_by_script`, `versions_by_rounds` (`many`, `versions`, `within`, `memory`), the ghost field
-//!   `promised` of `Retired`, `added_bytes`.
+//! - For no other reason than want of memory are they not made, as the type of the error says.
+//! - By `versions_by_script`, `versions_by_rounds` (`many`, `versions`, `within`), the ghost field `promised` of
+//!   `Retired`, `added_bytes`.
 #![tactic(auto)]
 
 mod retired;

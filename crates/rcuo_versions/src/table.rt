@@ -1,14 +1,12 @@
 //! One version of the route table.
 
-ghost use Rattle.std.specs.Prelude.{◌≡◌, ◌≤◌, ◌+◌, ◌%◌, ℕ, [], IfErr, IfOk, OnOk, length, map};
+ghost use Rattle.std.specs.Prelude.{◌≡◌, ◌≤◌, ◌+◌, ◌%◌, ℕ, [], IfOk, OnOk, length, map};
 ghost use Rattle.indexmap.specs.IndexMap.{index_map_len};
 ghost use Rattle.rcu_setup.specs.Arrays.{route_view};
 ghost use Rattle.rcuo_versions.specs.Routes.{bytes_of, routes_in, with_route, with_routes};
-ghost use Rattle.rcuo_script.specs.Faults.{IsWantOfMemory};
 
 use indexmap::IndexMap;
-use rcuo_script::Fault;
-use std::alloc::Global;
+use std::alloc::{AllocError, Global};
 
 /// A version of the route table: the hop of each name.
 pub type Version = IndexMap<String, u32>;
@@ -40,11 +38,10 @@ pub fn added_bytes(version: &Version, name: &str) -> u64
 }
 
 /// Sets a route. A name that is there keeps its place.
-fn set_route(alloc: Global, version: &mut Version, name: &str, hop: u32) -> Result<(), Fault>
+fn set_route(alloc: Global, version: &mut Version, name: &str, hop: u32) -> Result<(), AllocError>
     ensures small { OnOk result (index_map_len version.new ≤ index_map_len version.old + 1) }
     ensures routes { OnOk result
         (routes_in version.new ≡ with_route (routes_in version.old) (name.now, hop)) }
-    ensures memory { IfErr result IsWantOfMemory }
 {
     let name = String::from_str(alloc, name)?;
     version.insert(name, hop)?;
@@ -57,11 +54,10 @@ pub fn next_version(
     version: &Version,
     name: &str,
     hop: u32,
-) -> Result<Version, Fault>
+) -> Result<Version, AllocError>
     ensures small { IfOk result (λ v. index_map_len v ≤ index_map_len version.now + 1) }
     ensures routes { IfOk result (λ v.
         routes_in v ≡ with_route (routes_in version.now) (name.now, hop)) }
-    ensures memory { IfErr result IsWantOfMemory }
 {
     let mut copy = version.clone()?;
     set_route(alloc, &mut copy, name, hop)?;
@@ -69,17 +65,16 @@ pub fn next_version(
 }
 
 /// Version 0, which the setup's routes make, and how many bytes it takes, by the count of [`added_bytes`].
-pub fn first_version(alloc: Global, routes: &[(String, u32)]) -> Result<(Version, u64), Fault>
+pub fn first_version(alloc: Global, routes: &[(String, u32)]) -> Result<(Version, u64), AllocError>
     ensures small { IfOk result (λ v. index_map_len v.0 ≤ length routes.now) }
     ensures routes { IfOk result (λ v. routes_in v.0 ≡ with_routes [] (map route_view routes.now)) }
     ensures bytes { IfOk result (λ v. v.1 ≡ bytes_of (routes_in v.0)) }
-    ensures memory { IfErr result IsWantOfMemory }
 {
     let mut version = Version::new(alloc);
     let mut bytes = 0u64;
     for (name, hop) in routes {
         let Some(more) = bytes.checked_add(added_bytes(&version, name.as_str())) else {
-            return Err(Fault::memory());
+            return Err(AllocError);
         };
         set_route(alloc, &mut version, name.as_str(), *hop)?;
         bytes = more;
