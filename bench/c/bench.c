@@ -4,11 +4,14 @@
  *     bench calls THREADS CALLS [malloc] [each] [times]
  *     bench reports THREADS REPORTS
  *     bench periods THREADS PERIODS
+ *     bench counts 1 CALLS [malloc]
  *
  * calls: each thread retires so many nodes, of a pool or by malloc, and reports after each 64; their callbacks run in one helper,
  * or `each` thread has its own. It prints nanoseconds until all were called and until all had run, and with `times` what a call
  * takes. reports: each thread reports so often, while no grace period is needed. periods: one thread more waits for so many grace
- * periods, one after another, while the others report.
+ * periods, one after another, while the others report. counts: batches of 1000 calls, each of whose callbacks run before the next; it
+ * prints how often memory was asked for in the second half, within the calls and elsewhere, and `make_calls` is for a counter of
+ * instructions. So of librcuo one thread makes all turns, and nothing depends on the schedule.
  */
 #include "library.h"
 
@@ -16,26 +19,57 @@
 #include <sys/resource.h>
 
 #define CALLS_TO_A_REPORT 64
+#define CALLS_TO_A_BATCH 1000
 
 struct node {
     struct library_head head;
     uint64_t *ran; /* that of the node's thread */
 };
 
-/* What a thread does, and what came of it; each on lines of its own. */
+/* What a thread does, and what came of it; each on lines of its own, and so is what its callbacks write in another thread. */
 struct worker {
     _Alignas(128) unsigned number;
     uint64_t many;
-    uint64_t ran;
     uint64_t spent;
     struct node *pool;
     uint32_t *times;
+    _Alignas(128) uint64_t ran;
 };
 
 static struct worker workers[LIBRARY_THREADS];
 static pthread_barrier_t gate;
 static atomic_bool over;
 static bool by_malloc, each, timed;
+
+/* How often this program, with all its libraries, asked for memory: within calls, and elsewhere. */
+static __thread bool is_calling;
+static atomic_ulong asked_in_calls, asked_elsewhere;
+
+#ifdef COUNTS
+/* (glibc's own names of what is counted) */
+void *__libc_malloc(size_t size);
+void *__libc_calloc(size_t many, size_t size);
+void *__libc_realloc(void *place, size_t size);
+
+static void count_ask(void) {
+    atomic_fetch_add_explicit(is_calling ? &asked_in_calls : &asked_elsewhere, 1, memory_order_relaxed);
+}
+
+void *malloc(size_t size) {
+    count_ask();
+    return __libc_malloc(size);
+}
+
+void *calloc(size_t many, size_t size) {
+    count_ask();
+    return __libc_calloc(many, size);
+}
+
+void *realloc(void *place, size_t size) {
+    count_ask();
+    return __libc_realloc(place, size);
+}
+#endif
 
 static uint64_t nanoseconds(void) {
     struct timespec now;
@@ -78,7 +112,7 @@ static void *call_all(void *argument) {
         if (i % CALLS_TO_A_REPORT == CALLS_TO_A_REPORT - 1) library_turn(self->number);
     }
     pthread_barrier_wait(&gate);
-    library_unregister(self->number, &over);
+    library_unregister(self->number);
     return NULL;
 }
 
@@ -89,7 +123,7 @@ static void *report_all(void *argument) {
     uint64_t began = nanoseconds();
     for (uint64_t i = 0; i < self->many; i++) library_report(self->number);
     self->spent = nanoseconds() - began;
-    library_unregister(self->number, &over);
+    library_unregister(self->number);
     return NULL;
 }
 
@@ -98,7 +132,7 @@ static void *report_on(void *argument) {
     library_register(self->number, false);
     pthread_barrier_wait(&gate);
     while (!atomic_load_explicit(&over, memory_order_relaxed)) library_report(self->number);
-    library_unregister(self->number, &over);
+    library_unregister(self->number);
     return NULL;
 }
 
@@ -164,7 +198,6 @@ static int measure_reports(unsigned many, uint64_t reports) {
     pthread_t threads[LIBRARY_THREADS];
     uint64_t spent = 0;
     library_open_bare(many);
-    atomic_store(&over, true); /* (nothing is called, so a thread that is done need not report on) */
     start(threads, many, reports, report_all);
     for (unsigned t = 0; t < many; t++) pthread_join(threads[t], NULL);
     for (unsigned t = 0; t < many; t++) spent += workers[t].spent;
@@ -182,18 +215,44 @@ static int measure_periods(unsigned many, uint64_t periods) {
     for (uint64_t i = 0; i < periods; i++) library_synchronize(many);
     uint64_t spent = nanoseconds() - began;
     atomic_store(&over, true);
-    library_unregister(many, &over);
+    library_unregister(many);
     for (unsigned t = 0; t < many; t++) pthread_join(threads[t], NULL);
     printf("periods %lu spent_ns %lu\n", periods, spent);
     library_close();
     return 0;
 }
 
+/* (a function of its own, so that a counter of instructions knows it) */
+__attribute__((noinline, noclone)) static void make_calls(struct worker *self, uint64_t from) {
+    is_calling = true;
+    for (uint64_t i = from; i < from + CALLS_TO_A_BATCH; i++) {
+        library_call(self->number, &next_node(self, i)->head, by_malloc ? free_node : count_node);
+    }
+    is_calling = false;
+}
+
+static int measure_counts(uint64_t calls) {
+    struct worker *self = &workers[0];
+    unsigned long in_calls = 0, elsewhere = 0;
+    calls -= calls % (2 * CALLS_TO_A_BATCH);
+    self->pool = by_malloc ? NULL : allocate(calls, sizeof(struct node));
+    library_open_alone();
+    for (uint64_t i = 0; i < calls; i += CALLS_TO_A_BATCH) {
+        if (i == calls / 2) in_calls = asked_in_calls, elsewhere = asked_elsewhere;
+        make_calls(self, i);
+        library_run_all(&self->ran, i + CALLS_TO_A_BATCH);
+    }
+    in_calls = asked_in_calls - in_calls, elsewhere = asked_elsewhere - elsewhere;
+    printf("ran %lu counted %lu in_calls %lu elsewhere %lu\n", self->ran, calls / 2, in_calls, elsewhere);
+    library_close();
+    return self->ran == calls ? 0 : 1;
+}
+
 int main(int count, char **words) {
     uint64_t threads = count > 3 ? strtoul(words[2], NULL, 10) : 0;
     uint64_t rounds = count > 3 ? strtoul(words[3], NULL, 10) : 0;
     if (threads < 1 || threads >= LIBRARY_THREADS || rounds < 1) {
-        fprintf(stderr, "bench calls|reports|periods THREADS ROUNDS [malloc] [each] [times], with 1 to 15 threads\n");
+        fprintf(stderr, "bench calls|reports|periods|counts THREADS ROUNDS [malloc] [each] [times], with 1 to 15 threads\n");
         return 2;
     }
     for (int i = 4; i < count; i++) {
@@ -203,5 +262,6 @@ int main(int count, char **words) {
     }
     if (strcmp(words[1], "reports") == 0) return measure_reports((unsigned)threads, rounds);
     if (strcmp(words[1], "periods") == 0) return measure_periods((unsigned)threads, rounds);
+    if (strcmp(words[1], "counts") == 0) return measure_counts(rounds);
     return measure_calls((unsigned)threads, rounds);
 }

@@ -30,9 +30,10 @@ struct library_head {
     char none;
 };
 
+/* A group gives a hand as many callbacks in a turn as the hand then runs: what is given and waits takes memory. */
+enum { BLIMIT = 1000 };
+
 static struct rcuo_parts library_parts;
-static pthread_t library_helpers[1 + 2 * LIBRARY_THREADS];
-static unsigned library_helping;
 static atomic_bool library_stop;
 
 static void library_check(const char *what, enum rcuo_answer answer) {
@@ -41,11 +42,13 @@ static void library_check(const char *what, enum rcuo_answer answer) {
     exit(1);
 }
 
-/* A moment is a tick of the coarse clock. */
-static uint64_t library_moment(void) {
+/* A moment is a tick of the coarse clock, read as a thread reports, and kept until it reports again. */
+static __thread uint64_t library_moment;
+
+static void library_look_at_clock(void) {
     struct timespec now;
     clock_gettime(CLOCK_MONOTONIC_COARSE, &now);
-    return (uint64_t)now.tv_sec * 1000 + (uint64_t)now.tv_nsec / 1000000;
+    library_moment = (uint64_t)now.tv_sec * 1000 + (uint64_t)now.tv_nsec / 1000000;
 }
 
 static bool library_drive(void) {
@@ -56,15 +59,13 @@ static bool library_drive(void) {
 
 static bool library_group(struct rcuo_slot *group) {
     struct rcuo_group_turn turn;
-    if (!group->full) return false;
     library_check("a turn of a group", rcuo_group_turn(group, &turn));
     return turn.took != 0 || turn.gave != 0;
 }
 
 static bool library_hand(struct rcuo_slot *hand) {
     uint64_t ran = 0;
-    if (!hand->full) return false;
-    (void)rcuo_run(hand, 0, 256, &ran); /* (it answers why it ran no more) */
+    (void)rcuo_run(hand, 0, BLIMIT, &ran); /* (it answers why it ran no more) */
     return ran != 0;
 }
 
@@ -72,31 +73,30 @@ static bool library_stopped(void) {
     return atomic_load_explicit(&library_stop, memory_order_relaxed);
 }
 
-static void *library_driver_thread(void *none) {
-    (void)none;
-    while (!library_stopped())
-        if (!library_drive()) sched_yield();
-    return NULL;
+/* A helper, and the processors that it makes the turns of group and hand for: from the first, up to the end. */
+struct library_helper {
+    pthread_t thread;
+    unsigned first, end;
+};
+
+static struct library_helper library_helpers[LIBRARY_THREADS];
+static unsigned library_helping;
+
+/* Set while a helper makes a turn of the driver, which whoever finds it free makes next. Acquire and release hand the slot on. */
+static atomic_flag library_driving = ATOMIC_FLAG_INIT;
+
+static bool library_drive_if_free(void) {
+    if (atomic_flag_test_and_set_explicit(&library_driving, memory_order_acquire)) return false;
+    bool moved = library_drive();
+    atomic_flag_clear_explicit(&library_driving, memory_order_release);
+    return moved;
 }
 
-static void *library_group_thread(void *group) {
-    while (!library_stopped())
-        if (!library_group(group)) sched_yield();
-    return NULL;
-}
-
-static void *library_hand_thread(void *hand) {
-    while (!library_stopped())
-        if (!library_hand(hand)) sched_yield();
-    return NULL;
-}
-
-/* One thread that makes the turns of all helping parts. */
-static void *library_one_thread(void *none) {
-    (void)none;
+static void *library_help(void *helper) {
+    const struct library_helper *self = helper;
     while (!library_stopped()) {
-        bool moved = library_drive();
-        for (unsigned p = 0; p < LIBRARY_THREADS; p++) {
+        bool moved = library_drive_if_free();
+        for (unsigned p = self->first; p < self->end; p++) {
             moved |= library_group(&library_parts.groups[p]);
             moved |= library_hand(&library_parts.hands[p]);
         }
@@ -105,23 +105,23 @@ static void *library_one_thread(void *none) {
     return NULL;
 }
 
-static void library_help(void *(*run)(void *), void *part) {
-    if (pthread_create(&library_helpers[library_helping++], NULL, run, part)) abort();
+static void library_start_helper(unsigned first, unsigned end) {
+    struct library_helper *helper = &library_helpers[library_helping++];
+    helper->first = first;
+    helper->end = end;
+    if (pthread_create(&helper->thread, NULL, library_help, helper)) abort();
 }
 
-/* Opens the library for so many threads whose callbacks run in helpers: one helper in all, or `each` some for each thread. */
+/* Opens the library for so many threads whose callbacks run in one helper, or in one for `each`. */
 static void library_open(unsigned threads, bool each) {
     struct rcuo_settings settings = RCUO_SETTINGS_DEFAULT;
     settings.processors = threads;
     settings.offloadable = NULL;
     settings.stride = 1;
-    settings.blimit = 1000;
+    settings.blimit = BLIMIT;
     library_check("open", rcuo_open(&settings, &library_parts));
-    library_help(each ? library_driver_thread : library_one_thread, NULL);
-    for (unsigned p = 0; each && p < threads; p++) {
-        library_help(library_group_thread, &library_parts.groups[p]);
-        library_help(library_hand_thread, &library_parts.hands[p]);
-    }
+    if (!each) library_start_helper(0, threads);
+    for (unsigned p = 0; each && p < threads; p++) library_start_helper(p, p + 1);
 }
 
 static void library_register(unsigned thread, bool each) {
@@ -130,7 +130,7 @@ static void library_register(unsigned thread, bool each) {
 }
 
 static void library_call(unsigned thread, struct library_head *head, void (*run)(void *)) {
-    library_check("call", rcuo_call(&library_parts.processors[thread], library_moment(), run, head, NULL));
+    library_check("call", rcuo_call(&library_parts.processors[thread], library_moment, run, head, NULL));
 }
 
 static void library_report(unsigned thread) {
@@ -141,25 +141,24 @@ static void library_report(unsigned thread) {
 static void library_turn(unsigned thread) {
     struct rcuo_job job;
     library_report(thread);
-    (void)rcuo_begin(&library_parts.processors[thread], library_moment(), &job); /* (an offloaded processor's hand runs them) */
+    library_look_at_clock();
+    (void)rcuo_begin(&library_parts.processors[thread], library_moment, &job); /* (an offloaded processor's hand runs them) */
 }
 
-/* The thread makes no more calls: it reports on until all is over, since a grace period waits for each processor. */
-static void library_unregister(unsigned thread, atomic_bool *over) {
-    while (!atomic_load(over)) {
-        library_turn(thread);
-        sched_yield();
-    }
+/* The thread makes no more calls: no grace period waits for its processor from now on. */
+static void library_unregister(unsigned thread) {
+    library_check("leave", rcuo_leave(&library_parts.processors[thread]));
 }
 
-/* Waits until all that was called has run. */
+/* Waits until all that was called has run, and lets the processor go between its looks. */
 static void library_barrier(void) {
+    const struct timespec pause = {0, 50000};
     struct rcuo_counts barrier;
     bool passed = false;
     library_check("barrier", rcuo_barrier(&library_parts.control, &barrier));
     while (!passed) {
         library_check("poll", rcuo_poll(&library_parts.control, &barrier, &passed));
-        if (!passed) sched_yield();
+        if (!passed) nanosleep(&pause, NULL);
     }
 }
 
@@ -168,6 +167,26 @@ static void library_open_bare(unsigned threads) {
     struct rcuo_settings settings = RCUO_SETTINGS_DEFAULT;
     settings.processors = threads;
     library_check("open", rcuo_open(&settings, &library_parts));
+}
+
+/* Opens the library for one thread, which makes all turns itself. */
+static void library_open_alone(void) {
+    struct rcuo_settings settings = RCUO_SETTINGS_DEFAULT;
+    settings.offloadable = NULL;
+    settings.blimit = BLIMIT;
+    library_check("open", rcuo_open(&settings, &library_parts));
+}
+
+/* Turns of all parts, until so many callbacks have run. */
+static void library_run_all(const uint64_t *ran, uint64_t wanted) {
+    library_moment++;
+    while (*ran < wanted) {
+        (void)rcuo_run(&library_parts.processors[0], library_moment, 1, NULL); /* (a begin in a new moment releases what waits) */
+        library_report(0);
+        (void)library_drive();
+        (void)library_group(&library_parts.groups[0]);
+        (void)library_hand(&library_parts.hands[0]);
+    }
 }
 
 static void library_nothing(void *none) {
@@ -188,7 +207,8 @@ static void library_synchronize(unsigned thread) {
 
 static void library_close(void) {
     atomic_store(&library_stop, true);
-    for (unsigned t = 0; t < library_helping; t++) pthread_join(library_helpers[t], NULL);
+    for (unsigned t = 0; t < library_helping; t++) pthread_join(library_helpers[t].thread, NULL);
+    for (unsigned p = 0; p < RCUO_PROCESSORS; p++) (void)rcuo_return(&library_parts.processors[p]); /* (those that left) */
     library_check("close", rcuo_close(&library_parts));
     rcuo_end(&library_parts);
 }
@@ -233,9 +253,8 @@ static void library_turn(unsigned thread) {
     library_report(thread);
 }
 
-static void library_unregister(unsigned thread, atomic_bool *over) {
+static void library_unregister(unsigned thread) {
     (void)thread;
-    (void)over;
     urcu_qsbr_unregister_thread();
 }
 
@@ -246,6 +265,16 @@ static void library_barrier(void) {
 static void library_synchronize(unsigned thread) {
     (void)thread;
     urcu_qsbr_synchronize_rcu();
+}
+
+static void library_open_alone(void) {
+    urcu_qsbr_register_thread();
+}
+
+static void library_run_all(const uint64_t *ran, uint64_t wanted) {
+    (void)ran;
+    (void)wanted;
+    urcu_qsbr_barrier();
 }
 
 static void library_close(void) {
