@@ -61,11 +61,11 @@ fn between<'a>(code: &'a str, before: &str, behind: &str) -> Option<&'a str> {
 #[test]
 fn the_functions_are_those_of_the_headers() {
     let code = code();
-    for line in SYS.lines().filter_map(|line| line.strip_prefix("    pub fn ")) {
-        let (name, _) = line.split_once('(').unwrap();
+    for declared in SYS.split("    pub fn ").skip(1) {
+        let (name, parameters) = declared.split(';').next().unwrap().split_once('(').unwrap();
         let words = between(&code, &format!("{name}("), ");\n").unwrap_or_else(|| panic!("{name} isn't exported"));
-        let many = if words == "void" { 0 } else { words.matches(", ").count() + 1 };
-        assert_eq!(line.matches(": ").count(), many, "{name}");
+        let many = if words == "void" { 0 } else { words.matches(',').count() + 1 };
+        assert_eq!(parameters.matches(": ").count(), many, "{name}");
     }
     assert!(SYS.matches("    pub fn ").count() > 40);
 }

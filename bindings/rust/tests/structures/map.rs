@@ -19,6 +19,16 @@ struct Entry<V> {
     next: Atomic<Entry<V>>,
 }
 
+impl<V> Entry<V> {
+    /// The entry behind this one, as a writer moves it on to another link.
+    ///
+    /// The lock orders writers, so Relaxed would do. But ThreadSanitizer doesn't see that order where a thread slept for std's lock,
+    /// and would take the entry for one that this writer publishes before it is made.
+    fn behind<'g>(&self, guard: &'g Guard<'_>) -> Shared<'g, Entry<V>> {
+        self.next.load(Acquire, guard)
+    }
+}
+
 impl<V> Map<V> {
     pub fn new() -> Map<V> {
         Map { lists: array::from_fn(|_| Atomic::null()), writers: Mutex::new(()) }
@@ -52,7 +62,7 @@ impl<V> Map<V> {
         let writes = self.write();
         let (link, found) = self.find(key, guard);
         // SAFETY: as of `find`.
-        let next = unsafe { found.as_ref() }.map_or(Shared::null(), |old| old.next.load(Relaxed, guard));
+        let next = unsafe { found.as_ref() }.map_or(Shared::null(), |old| old.behind(guard));
         link.store(Owned::new(Entry { key, value, next: Atomic::from(next) }), Release);
         drop(writes);
         if !found.is_null() {
@@ -67,7 +77,7 @@ impl<V> Map<V> {
         let (link, found) = self.find(key, guard);
         // SAFETY: as of `find`.
         let Some(entry) = (unsafe { found.as_ref() }) else { return false };
-        link.store(entry.next.load(Relaxed, guard), Release);
+        link.store(entry.behind(guard), Release);
         drop(writes);
         // SAFETY: as of `insert`.
         unsafe { guard.defer_destroy(found) };
