@@ -25,7 +25,7 @@ pub returns-then-accelerate : goal.returns-then-accelerate
 returns-then-accelerate g c =
     let s = c.advance.new.self in
     let l = look_steps g.J.Job.key_of c.args.number c.snap-aim.result c.newest_in.result (labelled c.args.list.now) (labelled s) (labelled c.accelerate.new.self) c.accelerate.result
-    (well-formed s.wait_number s.ready_number s.done s.wait s.ready s.list.items s.within (λ e. (s.filled e).0) s.rising)
+    (let b = s.bounds in well-formed b.wait_number b.ready_number b.done b.wait b.ready s.list.items s.within (λ e. (b.filled e).0) b.rising)
     c.advance.ensures.list c.newest_in.ensures c.snap-aim.ensures.value c.accelerate.ensures.list c.accelerate.ensures.carried in
     record { list = l.0; asks = subst (λ b. cond b (Some c.snap-aim.result) None ≡ wanted_by_look c.args.number (waiting g.J.Job.key_of c.args.list.now)) c.if-accelerate.true l.1 }
 
@@ -33,6 +33,6 @@ pub returns-else-accelerate : goal.returns-else-accelerate
 returns-else-accelerate g c =
     let s = c.advance.new.self in
     let l = look_steps g.J.Job.key_of c.args.number c.snap-aim.result c.newest_in.result (labelled c.args.list.now) (labelled s) (labelled c.accelerate.new.self) c.accelerate.result
-    (well-formed s.wait_number s.ready_number s.done s.wait s.ready s.list.items s.within (λ e. (s.filled e).0) s.rising)
+    (let b = s.bounds in well-formed b.wait_number b.ready_number b.done b.wait b.ready s.list.items s.within (λ e. (b.filled e).0) b.rising)
     c.advance.ensures.list c.newest_in.ensures c.snap-aim.ensures.value c.accelerate.ensures.list c.accelerate.ensures.carried in
     record { list = l.0; asks = subst (λ b. cond b (Some c.snap-aim.result) None ≡ wanted_by_look c.args.number (waiting g.J.Job.key_of c.args.list.now)) c.if-accelerate.false l.1 }
