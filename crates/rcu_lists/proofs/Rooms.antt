@@ -41,15 +41,15 @@ module _ {T : Type 0} where
 
 -- a batch is its places, and where those not taken begin
 module _ {J : Type 0} where
-  abbrev pub made : (s : SmallVec (Option (Callback J))) (n : ℕ) → n ≤ length s.items → AreFilled (drop n s.items) → INLINE_PLACES ≤ s.capacity → HasRoomFor s 0 → Batch J
-  made s n w p i r = record { slots = s; next = n; within = w; full = p; inline = i; fits = r }
+  abbrev pub made : (s : SmallVec (Option (Callback J))) (n u : ℕ) → n ≤ length s.items → AreFilled (drop n s.items) → INLINE_PLACES ≤ s.capacity → HasRoomFor s 0 → Batch J
+  made s n u w p i r = record { slots = s; next = n; usual = u; within = w; full = p; inline = i; fits = r }
 
-  same-places : (s : SmallVec (Option (Callback J))) (n : ℕ) (v w : n ≤ length s.items) (p q : AreFilled (drop n s.items)) (i j : INLINE_PLACES ≤ s.capacity) (r t : HasRoomFor s 0) → made s n w q j t ≡ made s n v p i r
-  same-places s n v w p q i j r t = ap (λ x. made s n x q j t) (le_prop w v) ∙ ap (λ x. made s n v x j t) (ℕ_set _ _ q p) ∙ ap (λ x. made s n v p x t) (le_prop j i) ∙ ap (λ x. made s n v p i x) (le_prop t r)
+  same-places : (s : SmallVec (Option (Callback J))) (n u : ℕ) (v w : n ≤ length s.items) (p q : AreFilled (drop n s.items)) (i j : INLINE_PLACES ≤ s.capacity) (r t : HasRoomFor s 0) → made s n u w q j t ≡ made s n u v p i r
+  same-places s n u v w p q i j r t = ap (λ x. made s n u x q j t) (le_prop w v) ∙ ap (λ x. made s n u v x j t) (ℕ_set _ _ q p) ∙ ap (λ x. made s n u v p x t) (le_prop j i) ∙ ap (λ x. made s n u v p i x) (le_prop t r)
 
-  pub same-batch : (old : Batch J) (t : SmallVec (Option (Callback J))) → t ≡ old.slots → (w : old.next ≤ length t.items) (q : AreFilled (drop old.next t.items)) (j : INLINE_PLACES ≤ t.capacity) (r : HasRoomFor t 0) → made t old.next w q j r ≡ old
-  same-batch old t e = subst (λ (u : SmallVec (Option (Callback J))). (w : old.next ≤ length u.items) (q : AreFilled (drop old.next u.items)) (j : INLINE_PLACES ≤ u.capacity) (r : HasRoomFor u 0) → made u old.next w q j r ≡ old) (sym e)
-      (λ w q j r. same-places old.slots old.next old.within w old.full q old.inline j old.fits r)
+  pub same-batch : (old : Batch J) (t : SmallVec (Option (Callback J))) → t ≡ old.slots → (w : old.next ≤ length t.items) (q : AreFilled (drop old.next t.items)) (j : INLINE_PLACES ≤ t.capacity) (r : HasRoomFor t 0) → made t old.next old.usual w q j r ≡ old
+  same-batch old t e = subst (λ (u : SmallVec (Option (Callback J))). (w : old.next ≤ length u.items) (q : AreFilled (drop old.next u.items)) (j : INLINE_PLACES ≤ u.capacity) (r : HasRoomFor u 0) → made u old.next old.usual w q j r ≡ old) (sym e)
+      (λ w q j r. same-places old.slots old.next old.usual old.within w old.full q old.inline j old.fits r)
 
   -- a batch that is not on the heap holds no more than stand in it
   pub most-left : (b : Batch J) → (INLINE_PLACES < b.slots.capacity → ⊥) → length (filled (drop b.next b.slots.items)) ≤ INLINE_PLACES

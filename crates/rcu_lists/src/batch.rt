@@ -21,6 +21,9 @@ pub const INLINE_PLACES: usize = 16;
 /// list of 64 at once, and not over one of 32.
 const FEWEST_MORE: usize = 32;
 
+/// For how many callbacks room is found at once at most, where as many were taken together last.
+const MOST_AT_ONCE: usize = 1024;
+
 /// Callbacks in order. The first sixteen need no memory.
 #[derive(Drop)]
 pub struct Batch<J> {
@@ -28,6 +31,8 @@ pub struct Batch<J> {
     pub(crate) slots: SmallVec<Option<Callback<J>>, INLINE_PLACES>,
     // The places before this one were taken, and the others are filled.
     pub(crate) next: usize,
+    // How many callbacks stood in it when all were taken last: a list that grows asks for room for as many at once.
+    pub(crate) usual: usize,
     ghost within: { next ≤ length slots.items },
     ghost full: { AreFilled (drop next slots.items) },
     ghost inline: { INLINE_PLACES ≤ slots.capacity },
@@ -45,6 +50,7 @@ impl<J: Drop> Batch<J> {
         Batch {
             slots: SmallVec::new(alloc),
             next: 0,
+            usual: 0,
         }
     }
 
@@ -70,7 +76,11 @@ impl<J: Drop> Batch<J> {
         ensures room { (k : ℕ) → HasRoom self.old k → HasRoom self.new k }
         ensures refused { OnErr result (self.new ≡ self.old) }
     {
-        self.slots.reserve(more.max(FEWEST_MORE))
+        let usual = self
+            .usual
+            .min(MOST_AT_ONCE)
+            .saturating_sub(self.slots.len());
+        self.slots.reserve(more.max(FEWEST_MORE).max(usual))
     }
 
     /// Finds room for so many more.
@@ -155,7 +165,8 @@ impl<J: Drop> Batch<J> {
         ensures left { batch_items self.new ≡ [] }
         ensures room { HasRoom self.new INLINE_PLACES }
     {
-        let empty = Batch::new(*self.slots.allocator());
+        let mut empty = Batch::new(*self.slots.allocator());
+        empty.usual = self.slots.len();
         mem::replace(self, empty)
     }
 

@@ -3,7 +3,8 @@
 
 ghost use Rattle.std.specs.Prelude.{◌≡◌, ◌<◌, ◌≤◌, ◌+◌, true, false, [], ◌∷◌, ◌++◌, length, take, drop, IsOk, MatchOption, OnErr, OnOk};
 ghost use Rattle.rcu_lists.specs.Batches.{batch_items, HasRoom};
-ghost use Rattle.rcu_lists.specs.Blocks.{blocks_items};
+ghost use Rattle.rcu_lists.specs.Blocks.{blocks_items, BlockRoom};
+ghost use Rattle.rcu_lists.specs.Parcels.{places_items};
 ghost use Rattle.rcu_lists.specs.Stamps.{last_stamp, newest_of, stamps_from};
 ghost use Rattle.rcu_lists.specs.declared.batch.TheConstants.{INLINE_PLACES};
 
@@ -246,17 +247,37 @@ fn fill_from<J: Drop>(
         ((blocks_items blocks.new.items ≡ blocks_items blocks.old.items)
         × (batch_items batch.new ≡ [])) }
 {
+    if number <= INLINE_PLACES {
+        batch.free_places();
+        move_few(blocks, number, batch);
+        return Ok(());
+    }
     if load_first(blocks, number, batch) {
         return Ok(());
     }
-    batch.free_places();
-    batch.reserve(number)?;
-    move_first(blocks, number, batch);
+    let mut first = Places::with_capacity(*blocks.allocator(), number)?;
+    move_first(blocks, number, &mut first);
+    batch.load(Parcel::Many(first));
     Ok(())
 }
 
-// Makes the first block the batch, which holds nothing, where it has so many callbacks, and they are more than stand in a
-// batch itself. Answers whether it has.
+// Moves the first callbacks, so many, to the end of a batch, in the room that there is.
+fn move_few<J: Drop>(blocks: &mut VecDeque<Places<J>>, number: usize, batch: &mut Batch<J>)
+    requires few { number ≤ length (blocks_items blocks.old.items) }
+    requires room { HasRoom batch.old number }
+    ensures moved { batch_items batch.new
+        ≡ batch_items batch.old ++ take number (blocks_items blocks.old.items) }
+    ensures left { blocks_items blocks.new.items ≡ drop number (blocks_items blocks.old.items) }
+{
+    for _ in 0..number {
+        let Some(callback) = take_from_blocks(blocks) else {
+            unreachable!()
+        };
+        batch.add(callback);
+    }
+}
+
+// Makes the first block the batch, which holds nothing, where it has so many callbacks. Answers whether it has.
 fn load_first<J: Drop>(
     blocks: &mut VecDeque<Places<J>>,
     number: usize,
@@ -273,7 +294,7 @@ fn load_first<J: Drop>(
     let Some(first) = blocks.front() else {
         return false;
     };
-    if number <= INLINE_PLACES || first.len() != number {
+    if first.len() != number {
         return false;
     }
     match blocks.pop_front() {
@@ -285,12 +306,12 @@ fn load_first<J: Drop>(
     }
 }
 
-// Moves the first callbacks, so many, to the end of a batch, in the room that there is. A block that is used up is dropped.
-fn move_first<J: Drop>(blocks: &mut VecDeque<Places<J>>, number: usize, batch: &mut Batch<J>)
+// Moves the first callbacks, so many, to the end of a block, in the room that there is. A block that is used up is dropped.
+fn move_first<J: Drop>(blocks: &mut VecDeque<Places<J>>, number: usize, to: &mut Places<J>)
     requires few { number ≤ length (blocks_items blocks.old.items) }
-    requires room { HasRoom batch.old number }
-    ensures moved { batch_items batch.new
-        ≡ batch_items batch.old ++ take number (blocks_items blocks.old.items) }
+    requires room { BlockRoom to.old number }
+    ensures moved { places_items to.new
+        ≡ places_items to.old ++ take number (blocks_items blocks.old.items) }
     ensures left { blocks_items blocks.new.items ≡ drop number (blocks_items blocks.old.items) }
 {
     let mut more = number;
@@ -299,7 +320,7 @@ fn move_first<J: Drop>(blocks: &mut VecDeque<Places<J>>, number: usize, batch: &
             unreachable!()
         };
         let part = more.min(first.len());
-        first.move_into(part, batch);
+        first.move_into(part, to);
         more -= part;
         if first.len() == 0 {
             blocks.pop_front();

@@ -33,10 +33,14 @@ impl<J: Drop> Batch<J> {
             (λ back. back ≡ self) }
         ensures heap { IsOnHeap self → IsOk result }
     {
-        let Batch { slots, next } = self;
+        let Batch { slots, next, usual } = self;
         match slots.into_vec() {
             Ok(slots) => Ok(Places { slots, next }),
-            Err(AllocFailed { value }) => Err(Batch { slots: value, next }),
+            Err(AllocFailed { value }) => Err(Batch {
+                slots: value,
+                next,
+                usual,
+            }),
         }
     }
 
@@ -67,6 +71,7 @@ impl<J: Drop> Batch<J> {
                 *self = Batch {
                     slots: SmallVec::from_vec(slots),
                     next,
+                    usual: 0,
                 };
             }
         }

@@ -1,7 +1,7 @@
 //! A block of callbacks on the heap: what is moved to its end, and what is taken from its front.
 
 ghost use Rattle.std.specs.Prelude.{◌≡◌, ◌≤◌, ◌+◌, ℕ, [], ◌∷◌, ◌++◌, length, take, drop, IfOk, MatchOption, Option};
-ghost use Rattle.rcu_lists.specs.Batches.{batch_items, HasRoom};
+ghost use Rattle.rcu_lists.specs.Batches.{batch_items};
 ghost use Rattle.rcu_lists.specs.Blocks.{BlockRoom};
 ghost use Rattle.rcu_lists.specs.Parcels.{places_items};
 ghost use Rattle.rcu_lists.specs.Stamps.{newest_of, newer_of};
@@ -80,20 +80,20 @@ impl<J: Drop> Places<J> {
         first
     }
 
-    /// Moves so many callbacks from the front to the end of a batch, in the room that there is.
-    pub(crate) fn move_into(&mut self, number: usize, batch: &mut Batch<J>)
+    /// Moves so many callbacks from the front to the end of another block, in the room that there is.
+    pub(crate) fn move_into(&mut self, number: usize, to: &mut Places<J>)
         requires few { number ≤ length (places_items self.old) }
-        requires room { HasRoom batch.old number }
-        ensures moved { batch_items batch.new
-            ≡ batch_items batch.old ++ take number (places_items self.old) }
-        ensures left_room { (k : ℕ) → HasRoom batch.old (number + k) → HasRoom batch.new k }
+        requires room { BlockRoom to.old number }
+        ensures moved { places_items to.new
+            ≡ places_items to.old ++ take number (places_items self.old) }
+        ensures left_room { (k : ℕ) → BlockRoom to.old (number + k) → BlockRoom to.new k }
         ensures left { places_items self.new ≡ drop number (places_items self.old) }
     {
         for _ in 0..number {
             let Some(callback) = self.take_first() else {
                 unreachable!()
             };
-            batch.add(callback);
+            to.add(callback);
         }
     }
 

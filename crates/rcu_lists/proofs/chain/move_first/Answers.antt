@@ -1,7 +1,6 @@
 use Rattle.std.proofs.Common.{◌≡◌, [], ◌++◌, ◌-◌, ◌≤◌, ◌∙◌, drop, length, sym, ap, refl, arith}
 use Rattle.std.proofs.lemmas.List.{append-nil}
 use Rattle.std.proofs.lemmas.Bool.{false≢true}
-use Rattle.rcu_lists.specs.Batches.{batch_items}
 use Rattle.rcu_lists.specs.Blocks.{blocks_items}
 use Rattle.rcu_lists.specs.Parcels.{places_items}
 use Rattle.rcu_lists.proofs.Blocks.{first-block, first-changed, first-gone, more-blocks, moving-part, nothing-left}
@@ -9,7 +8,7 @@ use Rattle.rcu_lists.proofs.chain.move_first.Goals as goal
 
 pub loop-more-init : goal.loop-more-init
 loop-more-init g c = let n : c.args.number - c.args.number ≡ 0 = omega arith in record {
-  moving = record { moved = rw n (sym (append-nil (batch_items c.args.batch.now))); rest = rw n refl; enough = omega arith };
+  moving = record { moved = rw n (sym (append-nil (places_items c.args.to.now))); rest = rw n refl; enough = omega arith };
   room = c.requires.room;
 }
 

@@ -10,7 +10,7 @@ pub is_empty-requires : goal.is_empty-requires
 is_empty-requires g c = assumption
 
 pub clear-requires : goal.clear-requires
-clear-requires g c = let h : FitsInMemory (row.the_row (param 0 g.row.J)) = assumption in in_first _ _ _ _ _ h
+clear-requires g c = let h : FitsInMemory (row.the_row (param 0 g.row.J)) = assumption in in_first _ _ _ _ _ _ _ h
 
 pub invariant_of-self : goal.invariant_of-self
 invariant_of-self g c = let none = ap length c.clear.ensures.items in let same = c.clear.ensures.capacity in let places = c.args.self.now.inline in record {

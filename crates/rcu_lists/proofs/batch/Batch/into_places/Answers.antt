@@ -8,7 +8,7 @@ use denote.Param.{param}
 use Rattle.rcu_lists.proofs.batch.Batch.into_places.Goals as goal
 
 pub into_vec-requires : goal.into_vec-requires
-into_vec-requires g c = let h : FitsInMemory (row.the_row (param 0 g.row.J)) = assumption in in_first _ _ _ _ _ h
+into_vec-requires g c = let h : FitsInMemory (row.the_row (param 0 g.row.J)) = assumption in in_first _ _ _ _ _ _ _ h
 
 pub invariant_of-result : goal.invariant_of-result
 invariant_of-result g c = record { within = rw c.in-Ok.ensures.ok c.args.self.within; full = rw c.in-Ok.ensures.ok c.args.self.full }

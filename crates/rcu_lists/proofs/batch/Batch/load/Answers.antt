@@ -14,7 +14,7 @@ pub add-requires : goal.add-requires
 add-requires g c = (assumption, let room = c.free_places.ensures.inline (c.free_places.ensures.items ∙ c.requires.none) in omega (arith, room))
 
 pub from_vec-requires : goal.from_vec-requires
-from_vec-requires g c = let h : FitsInMemory (row.the_row (param 0 g.row.J)) = assumption in in_first _ _ _ _ _ h
+from_vec-requires g c = let h : FitsInMemory (row.the_row (param 0 g.row.J)) = assumption in in_first _ _ _ _ _ _ _ h
 
 pub invariant_of-t-10 : goal.invariant_of-t-10
 invariant_of-t-10 g c = let p = c.in-Many.field-0 in let same = c.from_vec.ensures.items in let wide = c.from_vec.ensures.capacity in record {
@@ -25,7 +25,7 @@ invariant_of-t-10 g c = let p = c.in-Many.field-0 in let same = c.from_vec.ensur
 }
 
 pub array_drop-self-requires : goal.array_drop-self-requires
-array_drop-self-requires g c = let h : FitsInMemory (row.the_row (param 0 g.row.J)) = assumption in in_places _ _ _ _ _ _ _ _ _ _ _ _ _ _ _ _ _ _ h
+array_drop-self-requires g c = let h : FitsInMemory (row.the_row (param 0 g.row.J)) = assumption in in_places _ _ _ _ _ _ _ _ _ _ _ _ _ _ _ _ _ _ _ _ h
 
 pub returns-in-Many : goal.returns-in-Many
 returns-in-Many g c = record { items = ap (λ l. filled (drop c.in-Many.field-0.next l)) c.from_vec.ensures.items ∙ ap parcel_items (sym c.in-Many.is) }

@@ -6,7 +6,7 @@ use denote.Param.{param}
 use Rattle.rcu_lists.proofs.batch.Batch.pack_into.Goals as goal
 
 pub spilled-requires : goal.spilled-requires
-spilled-requires g c = let h : FitsInMemory (row.the_row (param 0 g.row.J)) = assumption in in_first _ _ _ _ _ h
+spilled-requires g c = let h : FitsInMemory (row.the_row (param 0 g.row.J)) = assumption in in_first _ _ _ _ _ _ _ h
 
 pub pack-requires : goal.pack-requires
 pack-requires g c = assumption
@@ -24,7 +24,7 @@ pub move_into-requires : goal.move_into-requires
 move_into-requires g c = (assumption, most-left c.args.self (λ lt. absurd (let e = c.spilled.ensures.value.1 lt in let f = c.if-spilled.false in cc)))
 
 pub array_drop-self-requires : goal.array_drop-self-requires
-array_drop-self-requires g c = let h : FitsInMemory (row.the_row (param 0 g.row.J)) = assumption in in_places _ _ _ _ _ _ _ _ _ _ _ _ _ _ _ _ _ _ h
+array_drop-self-requires g c = let h : FitsInMemory (row.the_row (param 0 g.row.J)) = assumption in in_places _ _ _ _ _ _ _ _ _ _ _ _ _ _ _ _ _ _ _ _ h
 
 pub returns : goal.returns
 returns g c = record { packed = c.move_into.ensures.moved }

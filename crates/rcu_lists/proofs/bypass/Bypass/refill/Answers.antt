@@ -19,7 +19,7 @@ pub is_empty-requires : goal.is_empty-requires
 is_empty-requires g c = bypass-batch (param 0 g.row.J) assumption
 
 pub array_drop-self-requires : goal.array_drop-self-requires
-array_drop-self-requires g c = in_places _ _ _ _ _ _ _ _ _ _ _ _ _ _ _ _ _ _ (bypass-batch (param 0 g.row.J) assumption)
+array_drop-self-requires g c = in_places _ _ _ _ _ _ _ _ _ _ _ _ _ _ _ _ _ _ _ _ (bypass-batch (param 0 g.row.J) assumption)
 
 pub free_places-requires : goal.free_places-requires
 free_places-requires g c = bypass-batch (param 0 g.row.J) assumption

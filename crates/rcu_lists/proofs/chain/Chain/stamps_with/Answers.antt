@@ -1,9 +1,13 @@
-use Rattle.std.proofs.Common.{◌≡◌, ◌<◌, ◌∙◌, true, ap, sym, subst, arith}
+use Rattle.std.proofs.Common.{◌≡◌, ◌<◌, ◌∙◌, true, ap, refl, sym, subst, arith}
 use Rattle.rcu_lists.specs.Batches.{batch_items}
 use Rattle.rcu_lists.specs.Chains.{chain_items}
 use Rattle.rcu_lists.specs.Stamps.{last_stamp, stamps_from}
+use Rattle.rcu_lists.proofs.Blocks.{nothing-left}
 use Rattle.rcu_lists.proofs.Stamps.{last-append, stamps-append}
 use Rattle.rcu_lists.proofs.chain.Chain.stamps_with.Goals as goal
+
+pub returns-then-self-eq0-clause-order : goal.returns-then-self-eq0-clause-order
+returns-then-self-eq0-clause-order g c = λ e. let s = c.args.self.now in rw (nothing-left (chain_items s) (s.counted ∙ c.if-self-eq0.true) refl) (c.stamps_behind.ensures.order e).1
 
 pub returns-else-self-eq0-clause-order : goal.returns-else-self-eq0-clause-order
 returns-else-self-eq0-clause-order g c = λ e. let s = c.args.self.now in let p = c.stamps_behind-else-self-eq0.ensures.order e in

@@ -1,5 +1,4 @@
 use Rattle.std.proofs.Common.{◌≡◌, [], ◌∷◌, ◌++◌, ◌+◌, ◌-◌, ◌∙◌, take, drop, sym, ap, arith, append_assoc, length, length-drop}
-use Rattle.rcu_lists.specs.Batches.{batch_items}
 use Rattle.rcu_lists.specs.Parcels.{places_items}
 use Rattle.rcu_lists.proofs.Fills.{moves-one}
 use Rattle.rcu_lists.proofs.parcel.Places.move_into.Goals as goal
@@ -10,7 +9,7 @@ loop-preserved g c = let xs = places_items c.args.self.now in let x = c.in-Some.
     let one = moves-one c.loop.counter xs x rest first in
     let more = c.add.ensures.room (c.args.number - (c.loop.counter + 1)) (omega arith) in
     record {
-      moved = c.add.ensures.items ∙ ap (λ z. z ++ x ∷ []) c.loop.invariant.moved ∙ append_assoc (batch_items c.args.batch.now) (take c.loop.counter xs) (x ∷ []) ∙ ap (λ z. batch_items c.args.batch.now ++ z) (sym one.0);
+      moved = c.add.ensures.items ∙ ap (λ z. z ++ x ∷ []) c.loop.invariant.moved ∙ append_assoc (places_items c.args.to.now) (take c.loop.counter xs) (x ∷ []) ∙ ap (λ z. places_items c.args.to.now ++ z) (sym one.0);
       left = sym one.1;
       room = more;
       left_room = λ k h. c.add.ensures.room k (c.loop.invariant.left_room (k + 1) (omega (arith, h)));
