@@ -21,8 +21,8 @@ pub const INLINE_PLACES: usize = 16;
 /// list of 64 at once, and not over one of 32.
 const FEWEST_MORE: usize = 32;
 
-/// For how many callbacks room is found at once at most, where as many were taken together last.
-const MOST_AT_ONCE: usize = 1024;
+/// For how many callbacks room is asked for at once at most, where as many were taken together last.
+const MOST_AT_ONCE: usize = 16_384;
 
 /// Callbacks in order. The first sixteen need no memory.
 #[derive(Drop)]
@@ -68,7 +68,18 @@ impl<J: Drop> Batch<J> {
         self.len() == 0
     }
 
-    // Asks for memory for so many more. (By itself: most calls find room.)
+    // Asks for memory for so many more.
+    fn ask(&mut self, more: usize) -> Result<(), AllocError>
+        ensures items { batch_items self.new ≡ batch_items self.old }
+        ensures found { OnOk result (HasRoom self.new more) }
+        ensures room { (k : ℕ) → HasRoom self.old k → HasRoom self.new k }
+        ensures refused { OnErr result (self.new ≡ self.old) }
+    {
+        self.slots.reserve(more)
+    }
+
+    // Asks for memory for so many more: for as many as stood in the list last, where there is as much. (By itself: most
+    // calls find room.)
     #[inline(never)]
     fn grow(&mut self, more: usize) -> Result<(), AllocError>
         ensures items { batch_items self.new ≡ batch_items self.old }
@@ -80,7 +91,13 @@ impl<J: Drop> Batch<J> {
             .usual
             .min(MOST_AT_ONCE)
             .saturating_sub(self.slots.len());
-        self.slots.reserve(more.max(FEWEST_MORE).max(usual))
+        if more < usual {
+            match self.ask(usual) {
+                Ok(()) => return Ok(()),
+                Err(_) => {}
+            }
+        }
+        self.ask(more.max(FEWEST_MORE))
     }
 
     /// Finds room for so many more.

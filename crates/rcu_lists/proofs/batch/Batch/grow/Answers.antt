@@ -1,18 +1,21 @@
-use Rattle.std.proofs.Common.{arith}
+use Rattle.std.proofs.Common.{◌≡◌, ◌∙◌, sym, subst}
+use Rattle.rcu_jobs.specs.declared.callback.Callback.{Callback}
+use Rattle.rcu_lists.specs.Batches.{HasRoom}
 use Rattle.rcu_lists.proofs.Outcomes.{on_err_so}
-use Rattle.rcu_lists.proofs.Rooms.{room-kept, same-batch}
+use Rattle.rcu_lists.specs.declared.batch.Batch.{Batch}
+use Rattle.rcu_lists.proofs.batch.Batch.grow.Goals.{then-more-usual+in-Err, else-more-usual}
 use Rattle.rcu_lists.proofs.batch.Batch.grow.Goals as goal
 
-pub invariant_of-self : goal.invariant_of-self
-invariant_of-self g c = let b = c.args.self.now in record {
-  within = rw c.reserve.ensures.items b.within;
-  full = rw c.reserve.ensures.items b.full;
-  inline = let more = c.reserve.ensures.capacity in let places = b.inline in omega arith;
-  fits = room-kept b.slots c.reserve.new.self c.reserve.ensures.items c.reserve.ensures.capacity 0 b.fits;
-}
-
 pub returns-clause-room : goal.returns-clause-room
-returns-clause-room g c = room-kept c.args.self.now.slots c.reserve.new.self c.reserve.ensures.items c.reserve.ensures.capacity
+returns-clause-room g c =
+    let same : c.if-more-usual.self ≡ c.args.self.now = elim c.if-more-usual.branch [
+      | then-more-usual+in-Err w ↦ w.self-is ∙ w.in-Err.ensures.refused
+      | else-more-usual w ↦ w.self-is
+    ] in λ k h. c.ask-2.ensures.room k (subst (λ (b : Batch g.row.J.Denot). HasRoom b k) (sym same) h)
 
 pub returns-clause-refused : goal.returns-clause-refused
-returns-clause-refused g c = on_err_so c.reserve.result (λ e. same-batch c.args.self.now c.reserve.new.self e _ _ _ _) c.reserve.ensures.err
+returns-clause-refused g c =
+    let same : c.if-more-usual.self ≡ c.args.self.now = elim c.if-more-usual.branch [
+      | then-more-usual+in-Err w ↦ w.self-is ∙ w.in-Err.ensures.refused
+      | else-more-usual w ↦ w.self-is
+    ] in on_err_so c.ask-2.result (λ e. e ∙ same) c.ask-2.ensures.refused
