@@ -18,7 +18,7 @@ pub take_lists-requires : goal.take_lists-requires
 take_lists-requires g c = (bypass-batch (param 0 g.row.J) (processor_lists-bypass (param 0 g.row.J) assumption), local_fits c.args.back _ _ _ _ c.requires.no_job c.into_parts-own_list.ensures.bypass c.into_parts-own_list.ensures.own c.requires.room)
 
 pub array_drop-bypass-requires : goal.array_drop-bypass-requires
-array_drop-bypass-requires g c = in_places _ _ _ _ _ _ _ _ _ _ _ _ _ _ _ _ _ _ (bypass-batch (param 0 g.row.J) (processor_lists-bypass (param 0 g.row.J) assumption))
+array_drop-bypass-requires g c = in_places _ _ _ _ _ _ _ _ _ _ _ _ _ _ _ _ _ _ _ _ (bypass-batch (param 0 g.row.J) (processor_lists-bypass (param 0 g.row.J) assumption))
 
 pub returns-clause-back : goal.returns-clause-back
 returns-clause-back g c = local_back c.args.back c.take_lists.new.jobs _ _ _ _ c.requires.no_job c.into_parts-own_list.ensures.bypass c.into_parts-own_list.ensures.own c.take_lists.ensures

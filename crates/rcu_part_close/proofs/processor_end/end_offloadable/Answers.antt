@@ -135,16 +135,16 @@ pub into_parts-rear-requires : goal.into_parts-rear-requires
 into_parts-rear-requires g c = (assumption, held-batch (param 0 g.row.J) assumption)
 
 pub array_drop-out-requires : goal.array_drop-out-requires
-array_drop-out-requires g c = in_places _ _ _ _ _ _ _ _ _ _ _ _ _ _ _ _ _ _ (held-batch (param 0 g.row.J) assumption)
+array_drop-out-requires g c = in_places _ _ _ _ _ _ _ _ _ _ _ _ _ _ _ _ _ _ _ _ (held-batch (param 0 g.row.J) assumption)
 
 pub array_drop-drawn-requires : goal.array_drop-drawn-requires
-array_drop-drawn-requires g c = in_places _ _ _ _ _ _ _ _ _ _ _ _ _ _ _ _ _ _ (held-batch (param 0 g.row.J) assumption)
+array_drop-drawn-requires g c = in_places _ _ _ _ _ _ _ _ _ _ _ _ _ _ _ _ _ _ _ _ (held-batch (param 0 g.row.J) assumption)
 
 pub array_drop-bypass-requires : goal.array_drop-bypass-requires
-array_drop-bypass-requires g c = in_places _ _ _ _ _ _ _ _ _ _ _ _ _ _ _ _ _ _ (held-batch (param 0 g.row.J) assumption)
+array_drop-bypass-requires g c = in_places _ _ _ _ _ _ _ _ _ _ _ _ _ _ _ _ _ _ _ _ (held-batch (param 0 g.row.J) assumption)
 
 pub array_drop-batch-requires : goal.array_drop-batch-requires
-array_drop-batch-requires g c = in_places _ _ _ _ _ _ _ _ _ _ _ _ _ _ _ _ _ _ (held-batch (param 0 g.row.J) assumption)
+array_drop-batch-requires g c = in_places _ _ _ _ _ _ _ _ _ _ _ _ _ _ _ _ _ _ _ _ (held-batch (param 0 g.row.J) assumption)
 
 pub rest-done_lane-requires : goal.rest-done_lane-requires
 rest-done_lane-requires g c = ends_of_one _ _ _ _ c.into_parts-done_front.ensures.front c.into_parts-front.ensures.ends.1 c.requires.done_lane

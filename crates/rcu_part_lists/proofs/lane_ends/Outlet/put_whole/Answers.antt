@@ -19,7 +19,7 @@ put_batch-requires g c =
 
 pub array_drop-batch-requires : goal.array_drop-batch-requires
 array_drop-batch-requires g c = let h : FitsInMemory (batch_row.the_row (param 0 g.row.J)) = assumption in
-    in_places _ _ _ _ _ _ _ _ _ _ _ _ _ _ _ _ _ _ h
+    in_places _ _ _ _ _ _ _ _ _ _ _ _ _ _ _ _ _ _ _ _ h
 
 pub returns-in-Ok-clause-puts : goal.returns-in-Ok-clause-puts
 returns-in-Ok-clause-puts g c = record {

@@ -9,7 +9,7 @@ pub returns-clause-safe : goal.returns-clause-safe
 returns-clause-safe g c = (subst AreSafe (sym c.into_callbacks.ensures) c.args.self.own_safe, subst AreSafe (sym c.flush-released.ensures.all) c.args.self.safe)
 
 pub array_drop-bypass-requires : goal.array_drop-bypass-requires
-array_drop-bypass-requires g c = in_places _ _ _ _ _ _ _ _ _ _ _ _ _ _ _ _ _ _ (bypass-batch (param 0 g.row.J) (processor_lists-bypass (param 0 g.row.J) assumption))
+array_drop-bypass-requires g c = in_places _ _ _ _ _ _ _ _ _ _ _ _ _ _ _ _ _ _ _ _ (bypass-batch (param 0 g.row.J) (processor_lists-bypass (param 0 g.row.J) assumption))
 
 pub flush-released-requires : goal.flush-released-requires
 flush-released-requires g c =
