@@ -6,12 +6,14 @@
  * It prints a line for each of these, with a name and a number, and fails where a callback was lost or a reader saw what was
  * freed:
  *
- * calls_N        what a call costs, in nanoseconds, where N threads call as fast as they can and report after each 64 callbacks_N
- * how many callbacks a second ran then, until the last reads          how many read sections a second three readers make that
- * report after each, beside an updater that calls reads_64       the same where they report after each 64 synchronize    how many
- * synchronize_rcu a second one thread makes beside three readers that report after each section report         what a report
- * costs, in nanoseconds, where no grace period is needed unregistered   what a call of a thread that isn't registered costs, in
- * nanoseconds register       what a register and an unregister cost, in nanoseconds
+ *     calls_N        what a call costs, in nanoseconds, where N threads call as fast as they can and report after each 64
+ *     callbacks_N    how many callbacks a second ran then, until the last
+ *     reads          how many read sections a second three readers make that report after each, beside an updater that calls
+ *     reads_64       the same where they report after each 64
+ *     synchronize    how many synchronize_rcu a second one thread makes beside three readers that report after each section
+ *     report         what a report costs, in nanoseconds, where no grace period is needed
+ *     unregistered   what a call of a thread that isn't registered costs, in nanoseconds
+ *     register       what a register and an unregister cost, in nanoseconds
  */
 #define _GNU_SOURCE
 #include "names.h"
