@@ -87,17 +87,18 @@ impl<J: Drop> Batch<J> {
         ensures room { (k : ℕ) → HasRoom self.old k → HasRoom self.new k }
         ensures refused { OnErr result (self.new ≡ self.old) }
     {
+        let fewest = more.max(FEWEST_MORE);
         let usual = self
             .usual
             .min(MOST_AT_ONCE)
             .saturating_sub(self.slots.len());
-        if more < usual {
+        if fewest < usual {
             match self.ask(usual) {
                 Ok(()) => return Ok(()),
                 Err(_) => {}
             }
         }
-        self.ask(more.max(FEWEST_MORE))
+        self.ask(fewest)
     }
 
     /// Finds room for so many more.
