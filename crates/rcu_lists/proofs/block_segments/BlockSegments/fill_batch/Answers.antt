@@ -1,4 +1,4 @@
-use Rattle.std.proofs.Common.{◌≤◌, ◌-◌, ◌++◌, ◌∙◌, min, length, take, drop, ap, sym, subst, arith, length-drop}
+use Rattle.std.proofs.Common.{◌≤◌, ◌-◌, ◌++◌, ◌∙◌, min, length, take, drop, ap, refl, sym, subst, arith, length-drop}
 use Rattle.std.specs.Prelude.{All}
 use Rattle.std.proofs.lemmas.Bool.{false≢true}
 use Rattle.std.proofs.lemmas.List.{length-take-le}
@@ -12,7 +12,36 @@ use Rattle.rcu_lists.specs.declared.batch.TheConstants.{INLINE_PLACES}
 use Rattle.rcu_lists.proofs.Counts.{count-done}
 use Rattle.rcu_lists.proofs.Cuts.{take-front}
 use Rattle.rcu_lists.proofs.Graced.{graced-left, graced-taken}
+use Rattle.rcu_lists.proofs.Outcomes.{on_err_said, on_ok_never}
 use Rattle.rcu_lists.proofs.block_segments.BlockSegments.fill_batch.Goals as goal
+
+pub fill_batch-requires : goal.fill_batch-requires
+fill_batch-requires g c = let s = c.args.self.now in (assumption, (c.requires.none, omega (arith, s.within, c.min-number.ensures)))
+
+pub returns-in_err-fill_batch-clause-taken : goal.returns-in_err-fill_batch-clause-taken
+returns-in_err-fill_batch-clause-taken g c = on_ok_never c.from_residual.result _ c.from_residual.ensures
+
+pub returns-in_err-fill_batch-clause-number : goal.returns-in_err-fill_batch-clause-number
+returns-in_err-fill_batch-clause-number g c = on_ok_never c.from_residual.result _ c.from_residual.ensures
+
+pub returns-in_err-fill_batch-clause-graced : goal.returns-in_err-fill_batch-clause-graced
+returns-in_err-fill_batch-clause-graced g c = on_ok_never c.from_residual.result _ c.from_residual.ensures
+
+pub returns-in_err-fill_batch-clause-advanced : goal.returns-in_err-fill_batch-clause-advanced
+returns-in_err-fill_batch-clause-advanced g c = refl
+
+pub returns-in_err-fill_batch-clause-refused : goal.returns-in_err-fill_batch-clause-refused
+returns-in_err-fill_batch-clause-refused g c = let s = c.args.self.now in let same = c.in_err-fill_batch.ensures.refused in
+    on_err_said c.from_residual.result _ (record { list = ap (cut s.bounds.done s.bounds.wait s.bounds.ready s.bounds.wait_number s.bounds.ready_number) same.0; advanced = refl }, same.1)
+
+pub overflow_sub-self : goal.overflow_sub-self
+overflow_sub-self g c = omega (arith, c.min-number.ensures)
+
+pub returns-clause-advanced : goal.returns-clause-advanced
+returns-clause-advanced g c = refl
+
+pub returns-clause-inline : goal.returns-clause-inline
+returns-clause-inline g c = λ _. refl
 
 pub invariant_of-self : goal.invariant_of-self
 invariant_of-self g c = let s = c.args.self.now in let same = c.in_err-fill_batch.ensures.refused.0 in record { within = rw same s.within; graced = rw same s.graced }
