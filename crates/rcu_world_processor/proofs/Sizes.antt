@@ -28,7 +28,7 @@ pub held_fits : (J : RattleType) → FitsInMemory (bypass_row.the_row (param 0 J
 held_fits J h = in_third _ _ _ _ _ _ _ _ h
 
 -- the places of a batch that need no memory
-pub slots_fit : (a b c d e f s : ℕ) → up a (up 8 (up b 0 + up b (up c 0 + up c (max (up d 1 + up d (up 1 (up 8 (up e 0 + up e (up f 0 + s)) + 8) + 0)) 32))) + 8) < 9223372036854775808 → s < 9223372036854775808
+pub slots_fit : (a b c d e f s : ℕ) → up a (up 8 (up 8 (up b 0 + up b (up c 0 + up c (max (up d 1 + up d (up 1 (up 8 (up e 0 + up e (up f 0 + s)) + 8) + 0)) 32))) + 8) + 8) < 9223372036854775808 → s < 9223372036854775808
 slots_fit a b c d e f s h = omega arith
 
 -- room for one more
