@@ -81,13 +81,25 @@ impl LentHand {
         Ok(())
     }
 
-    /// Ends the callback that runs, and begins another.
+    /// Ends the callback that runs, and begins another, whose job takes the place of its job.
     fn next(&mut self, begun: &mut ForeignJob) -> Result<(), Fault>
         ensures { HandsOut (λ r. GoesOnHand r self.old self.new) result begun.old begun.new }
     {
-        match self.finish() {
-            Ok(()) => self.begin(begun),
-            Err(fault) => Err(fault),
+        let Some(ended) = self.job else {
+            return Err(Fault::NotRunning);
+        };
+        self.hand.finish(ended);
+        let begins = self.hand.begin();
+        match begins {
+            Ok(next) => {
+                self.job = Some(next);
+                *begun = next;
+                Ok(())
+            }
+            Err(none) => {
+                self.job = None;
+                Err(fault_of_stop(none))
+            }
         }
     }
 }
