@@ -93,7 +93,7 @@ CHANGED = re.compile(rb"(?:call|lazy) \d+ refused 2|(?:tick|hand|group) |driver 
 
 
 class Refuser:
-    """Runs a program with one of its allocations refused, by refuse.c."""
+    """Runs a program with one of its allocations refused, or with some in a row, by refuse.c."""
 
     def __init__(self, folder):
         self.library = pathlib.Path(folder) / "refuse.so"
@@ -101,16 +101,17 @@ class Refuser:
         source = pathlib.Path(__file__).with_name("refuse.c")
         subprocess.run(["cc", "-O2", "-shared", "-fPIC", "-o", self.library, source], check=True)
 
-    def run(self, command, setup=b"", number=0):
-        """The run with this allocation refused, none where it is 0, and whether it came so far."""
+    def run(self, command, setup=b"", number=0, many=1):
+        """The run with this allocation refused, and as many in all, none where it is 0, and whether it came so far."""
         self.told.unlink(missing_ok=True)
-        environment = {**os.environ, "LD_PRELOAD": str(self.library), "REFUSE": str(number), "REFUSE_TOLD": str(self.told)}
+        wanted = {"REFUSE": str(number), "REFUSE_MANY": str(many), "REFUSE_TOLD": str(self.told)}
+        environment = {**os.environ, "LD_PRELOAD": str(self.library), **wanted}
         return programs.run(command, setup, env=environment), self.told.exists()
 
-    def runs(self, command, setup=b""):
+    def runs(self, command, setup=b"", many=1):
         """The runs with the first allocation refused, with the second, and so on, each with its number."""
         for number in itertools.count(1):
-            run, refused = self.run(command, setup, number)
+            run, refused = self.run(command, setup, number, many)
             if not refused:
                 return
             yield number, run
@@ -166,6 +167,9 @@ class Scenarios(GrowthTest):
         growths = [growth_of(scenario, run) for _, run in runs]
         faults = [f"allocation {number}: {run}" for (number, run), growth in zip(runs, growths) if growth is None]
         found = set(growths) - {None, ""}
+        if wanted - found:
+            # (a list that had more places asks for as many at once, and where there is no memory for as few as serve)
+            found |= {growth_of(scenario, run) for _, run in REFUSER.runs(command, many=2)} - {None, ""}
         faults += [f"never refused: {it}" for it in sorted(wanted - found)]
         faults += [f"refused, and it can't be: {it}" for it in sorted(found - wanted)]
         self.see(faults, len(runs))
