@@ -18,6 +18,20 @@ module _ {T : Type 0} where
   pub still-filled : (xs : List (Option T)) (x : T) → AreFilled xs → AreFilled (xs ++ Some x ∷ [])
   still-filled xs x h = ap length (filled-snoc xs x) ∙ length-append (filled xs) (x ∷ []) ∙ ap (λ n. n + 1) h ∙ sym (length-append xs (Some x ∷ []))
 
+  pub filled-le : (xs : List (Option T)) → length (filled xs) ≤ length xs
+  filled-le [] = omega arith
+  filled-le (None ∷ xs) = let h = filled-le xs in omega arith
+  filled-le (Some x ∷ xs) = let h = filled-le xs in omega arith
+
+  -- a place moved behind others: the first of filled ones
+  pub moves-place : (place : Option T) (rest xs : List (Option T)) → AreFilled (place ∷ rest) → AreFilled xs → AreFilled (xs ++ place ∷ []) × (filled (xs ++ place ∷ []) ≡ filled xs ++ take 1 (filled (place ∷ rest)))
+  moves-place None rest xs h f = let le = filled-le rest in absurd (omega (arith, h))
+  moves-place (Some x) rest xs h f = (still-filled xs x f, filled-snoc xs x)
+
+  pub rest-filled : (place : Option T) (rest : List (Option T)) → AreFilled (place ∷ rest) → filled rest ≡ drop 1 (filled (place ∷ rest))
+  rest-filled None rest h = let le = filled-le rest in absurd (omega (arith, h))
+  rest-filled (Some x) rest h = refl
+
   pub no-snoc : (xs : List T) (x : T) → xs ++ x ∷ [] ≡ [] → ⊥
   no-snoc [] x e = cc
   no-snoc (y ∷ xs) x e = cc
@@ -25,11 +39,6 @@ module _ {T : Type 0} where
   pub no-append : (xs ys : List T) → 0 < length ys → xs ++ ys ≡ [] → ⊥
   no-append [] ys h e = let n = ap length e in omega arith
   no-append (x ∷ xs) ys h e = cc
-
-  pub filled-le : (xs : List (Option T)) → length (filled xs) ≤ length xs
-  filled-le [] = omega arith
-  filled-le (None ∷ xs) = let h = filled-le xs in omega arith
-  filled-le (Some x ∷ xs) = let h = filled-le xs in omega arith
 
   -- the first place of filled ones holds the first value
   pub first-filled : (place : Option T) (rest : List (Option T)) → AreFilled (place ∷ rest) → AreFilled rest × MatchOption place ⊥ (λ x. filled (place ∷ rest) ≡ x ∷ filled rest)

@@ -90,11 +90,23 @@ impl<J: Drop> Places<J> {
         ensures left { places_items self.new ≡ drop number (places_items self.old) }
     {
         for _ in 0..number {
-            let Some(callback) = self.take_first() else {
-                unreachable!()
-            };
-            to.add(callback);
+            self.move_first(to);
         }
+    }
+
+    // Moves the first callback to the end of another block, in the room that there is: its place as it stands.
+    fn move_first(&mut self, to: &mut Places<J>)
+        requires some { 1 ≤ length (places_items self.old) }
+        requires room { BlockRoom to.old 1 }
+        ensures moved { places_items to.new ≡ places_items to.old ++ take 1 (places_items self.old) }
+        ensures left_room { (k : ℕ) → BlockRoom to.old (k + 1) → BlockRoom to.new k }
+        ensures left { places_items self.new ≡ drop 1 (places_items self.old) }
+    {
+        let Some(slot) = self.slots.get_mut(self.next) else {
+            unreachable!()
+        };
+        to.slots.push_reserved(slot.take());
+        self.next += 1;
     }
 
     /// The greater of its greatest stamp and this one, whatever their order.

@@ -1,29 +1,27 @@
-use Rattle.std.proofs.Common.{◌≡◌, [], ◌∷◌, ◌++◌, ◌+◌, ◌-◌, ◌∙◌, take, drop, sym, ap, arith, append_assoc, length, length-drop}
+use Rattle.std.proofs.Common.{◌≡◌, ◌++◌, ◌+◌, ◌-◌, ◌∙◌, take, drop, sym, ap, arith, append_assoc, length, length-drop}
+use Rattle.std.proofs.Math.Seq.{take-add}
+use Rattle.std.proofs.lemmas.List.{drop-drop}
 use Rattle.rcu_lists.specs.Parcels.{places_items}
-use Rattle.rcu_lists.proofs.Fills.{moves-one}
 use Rattle.rcu_lists.proofs.parcel.Places.move_into.Goals as goal
 
+pub move_first-requires : goal.move_first-requires
+move_first-requires g c = let xs = places_items c.args.self.now in let n = ap length c.loop.invariant.left in let left = length-drop c.loop.counter xs in
+    record { some = omega (arith, n, left, c.requires.few, c.loop-test.true); room = omega (arith, c.loop.invariant.room, c.loop-test.true) }
+
 pub loop-preserved : goal.loop-preserved
-loop-preserved g c = let xs = places_items c.args.self.now in let x = c.in-Some.callback in let rest = places_items c.take_first.new.self in
-    let first : drop c.loop.counter xs ≡ x ∷ rest = sym c.loop.invariant.left ∙ c.in-Some.ensures in
-    let one = moves-one c.loop.counter xs x rest first in
-    let more = c.add.ensures.room (c.args.number - (c.loop.counter + 1)) (omega arith) in
-    record {
-      moved = c.add.ensures.items ∙ ap (λ z. z ++ x ∷ []) c.loop.invariant.moved ∙ append_assoc (places_items c.args.to.now) (take c.loop.counter xs) (x ∷ []) ∙ ap (λ z. places_items c.args.to.now ++ z) (sym one.0);
-      left = sym one.1;
-      room = more;
-      left_room = λ k h. c.add.ensures.room k (c.loop.invariant.left_room (k + 1) (omega (arith, h)));
-    }
+loop-preserved g c = let xs = places_items c.args.self.now in let i = c.loop.counter in record {
+  moved = c.move_first.ensures.moved ∙ ap (λ z. places_items c.loop.to ++ take 1 z) c.loop.invariant.left ∙ ap (λ z. z ++ take 1 (drop i xs)) c.loop.invariant.moved
+      ∙ append_assoc (places_items c.args.to.now) (take i xs) (take 1 (drop i xs)) ∙ ap (λ z. places_items c.args.to.now ++ z) (sym (take-add i 1 xs));
+  left = c.move_first.ensures.left ∙ ap (drop 1) c.loop.invariant.left ∙ drop-drop 1 i xs;
+  room = c.move_first.ensures.left_room (c.args.number - (i + 1)) (omega arith);
+  left_room = λ k h. c.move_first.ensures.left_room k (c.loop.invariant.left_room (k + 1) (omega (arith, h)));
+}
 
 pub returns-clause-moved : goal.returns-clause-moved
 returns-clause-moved g c = let all : c.loop.counter ≡ c.args.number = omega arith in rw all at c.loop.invariant.moved
 
 pub returns-clause-left : goal.returns-clause-left
 returns-clause-left g c = let all : c.loop.counter ≡ c.args.number = omega arith in rw all at c.loop.invariant.left
-
-pub unreachable-requires : goal.unreachable-requires
-unreachable-requires g c = let xs = places_items c.args.self.now in
-    let none = ap length (sym c.loop.invariant.left ∙ c.in_default.ensures.0) in let left = length-drop c.loop.counter xs in omega (arith, c.requires.few, c.loop-test.true)
 
 pub returns-clause-left_room : goal.returns-clause-left_room
 returns-clause-left_room g c = let all : c.loop.counter ≡ c.args.number = omega arith in rw all at c.loop.invariant.left_room
