@@ -32,6 +32,9 @@ module _ {T : Type 0} where
   rest-filled None rest h = let le = filled-le rest in absurd (omega (arith, h))
   rest-filled (Some x) rest h = refl
 
+  pub both-filled : (xs ys : List (Option T)) → AreFilled xs → AreFilled ys → AreFilled (xs ++ ys)
+  both-filled xs ys h k = ap length (filled-append xs ys) ∙ length-append (filled xs) (filled ys) ∙ ap (λ n. n + length (filled ys)) h ∙ ap (λ n. length xs + n) k ∙ sym (length-append xs ys)
+
   pub no-snoc : (xs : List T) (x : T) → xs ++ x ∷ [] ≡ [] → ⊥
   no-snoc [] x e = cc
   no-snoc (y ∷ xs) x e = cc

@@ -1,5 +1,5 @@
 -- What is said of one outcome, where it is the other one.
-use Rattle.std.proofs.Common.{Result, Ok, Err, IsErr, IfOk, OnOk, OnErr}
+use Rattle.std.proofs.Common.{◌≡◌, List, Result, Ok, Err, IsErr, IsOk, IfOk, OnOk, OnErr, cond, is_ok}
 
 module _ {T E : Type 0} where
   pub if_ok_never : {Q : Type 0} (r : Result T E) (P : T → Type 0) → IsErr r × Q → IfOk r P
@@ -25,3 +25,9 @@ module _ {T E : Type 0} where
   pub on_ok_both : (A B : Type 0) (r : Result T E) → OnOk r A → OnOk r B → OnOk r (A × B)
   on_ok_both A B (Ok x) a b = (a, b)
   on_ok_both A B (Err x) a b = tt
+
+-- what a list has become where the outcome is good
+module _ {T E X : Type 0} where
+  pub where_ok : (r : Result T E) (xs ys zs : List X) → IsOk r → zs ≡ cond (is_ok r) xs ys → zs ≡ xs
+  where_ok (Ok x) xs ys zs ok e = e
+  where_ok (Err x) xs ys zs ok e = absurd (let f = ok in cc)

@@ -89,9 +89,28 @@ impl<J: Drop> Places<J> {
         ensures left_room { (k : ℕ) → BlockRoom to.old (number + k) → BlockRoom to.new k }
         ensures left { places_items self.new ≡ drop number (places_items self.old) }
     {
+        if self.next == 0 && number == self.slots.len() {
+            self.move_whole(to);
+            return;
+        }
         for _ in 0..number {
             self.move_first(to);
         }
+    }
+
+    // Moves all callbacks, of which none was taken before, to the end of another block, in the room that there is: all
+    // places at once.
+    fn move_whole(&mut self, to: &mut Places<J>)
+        requires whole { self.old.next ≡ 0 }
+        requires room { BlockRoom to.old (length (places_items self.old)) }
+        ensures moved { places_items to.new ≡ places_items to.old ++ places_items self.old }
+        ensures left_room { (k : ℕ) → BlockRoom to.old (length (places_items self.old) + k)
+            → BlockRoom to.new k }
+        ensures left { places_items self.new ≡ [] }
+    {
+        let Ok(()) = to.slots.append(&mut self.slots) else {
+            unreachable!()
+        };
     }
 
     // Moves the first callback to the end of another block, in the room that there is: its place as it stands.

@@ -1,6 +1,7 @@
-use Rattle.std.proofs.Common.{◌≡◌, ◌≤◌, true, ◌∙◌, Option, sym, subst}
+use Rattle.std.proofs.Common.{◌≡◌, ◌≤◌, true, ◌∙◌, Option, refl, sym, subst}
 use Rattle.std.specs.Prelude.{MatchOption}
 use Rattle.std.proofs.lemmas.Bool.{leb-true, false≢true}
+use Rattle.std.proofs.lemmas.List.{take_all}
 use Rattle.rcu_jobs.specs.declared.callback.Callback.{Callback}
 use Rattle.rcu_lists.proofs.Stamps.{known-step}
 use Rattle.rcu_lists.proofs.newest.stamps_behind.Goals.{in-Some, then-still, else-still, in-None}
@@ -21,3 +22,15 @@ loop-place-preserved g c =
       )
       | in-None w ↦ subst Step (sym w.in-None.is) (w.still-is, w.newest-is)
     ])
+
+pub loop-place-init : goal.loop-place-init
+loop-place-init g c = record { order = λ e. (e, refl); last = refl }
+
+pub offset_bounds-places-place-index : goal.offset_bounds-places-place-index
+offset_bounds-places-place-index g c = c.loop-place.auto.place-index-end
+
+pub returns-clause-order : goal.returns-clause-order
+returns-clause-order g c = rw (take_all c.loop-place.place-index c.args.places.now c.loop-place-test.false) at c.loop-place.invariant.order
+
+pub returns-clause-last : goal.returns-clause-last
+returns-clause-last g c = rw (take_all c.loop-place.place-index c.args.places.now c.loop-place-test.false) at c.loop-place.invariant.last

@@ -1,8 +1,10 @@
-use Rattle.std.proofs.Common.{sym, ap, ◌∙◌}
+use Rattle.std.proofs.Common.{sym, ap, ◌∙◌, refl}
 use Rattle.rcu_lists.specs.Batches.{batch_items}
 use Rattle.rcu_lists.specs.Release.{is_due, held}
 use Rattle.rcu_lists.proofs.Fills.{no-snoc}
 use Rattle.rcu_lists.proofs.Rooms.{length-one_more}
+use Rattle.rcu_lists.proofs.Sizes.{bypass-batch}
+use denote.Param.{param}
 use Rattle.rcu_lists.proofs.bypass.Bypass.hold.Goals as goal
 
 pub invariant_of-self : goal.invariant_of-self
@@ -22,3 +24,15 @@ returns-clause-pace g c =
 
 pub returns-clause-room : goal.returns-clause-room
 returns-clause-room g c = c.add.ensures.room
+
+pub add-requires : goal.add-requires
+add-requires g c = (bypass-batch (param 0 g.row.J) assumption, c.requires)
+
+pub len-len-requires : goal.len-len-requires
+len-len-requires g c = bypass-batch (param 0 g.row.J) assumption
+
+pub returns-clause-items : goal.returns-clause-items
+returns-clause-items g c = c.add.ensures.items
+
+pub returns-clause-qhimark : goal.returns-clause-qhimark
+returns-clause-qhimark g c = refl

@@ -1,6 +1,7 @@
-use Rattle.std.proofs.Common.{◌≡◌, ◌++◌, ◌+◌, ◌-◌, ◌∙◌, take, drop, sym, ap, arith, append_assoc, length, length-drop}
+use Rattle.std.proofs.Common.{◌≡◌, ◌≤◌, ◌++◌, ◌+◌, ◌-◌, ◌∙◌, take, drop, sym, ap, subst, arith, append_assoc, length, length-drop}
 use Rattle.std.proofs.Math.Seq.{take-add}
-use Rattle.std.proofs.lemmas.List.{drop-drop}
+use Rattle.std.proofs.lemmas.List.{drop-drop, drop_all, take_all}
+use Rattle.rcu_lists.specs.Blocks.{BlockRoom}
 use Rattle.rcu_lists.specs.Parcels.{places_items}
 use Rattle.rcu_lists.proofs.parcel.Places.move_into.Goals as goal
 
@@ -25,3 +26,23 @@ returns-clause-left g c = let all : c.loop.counter ≡ c.args.number = omega ari
 
 pub returns-clause-left_room : goal.returns-clause-left_room
 returns-clause-left_room g c = let all : c.loop.counter ≡ c.args.number = omega arith in rw all at c.loop.invariant.left_room
+
+pub move_whole-requires : goal.move_whole-requires
+move_whole-requires g c = let s = c.args.self.now in let n = length-drop s.next s.slots.items in
+    let many : c.args.number ≡ length (places_items s) = omega (arith, n, s.full, c.if-self-eq0.true, c.if-number-len.true, c.len.ensures, s.slots.ok.0) in
+    record { whole = c.if-self-eq0.true; room = subst (BlockRoom c.args.to.now) many c.requires.room; }
+
+pub returns-then-number-len-clause-moved : goal.returns-then-number-len-clause-moved
+returns-then-number-len-clause-moved g c = let s = c.args.self.now in let n = length-drop s.next s.slots.items in
+    let many : length (places_items s) ≤ c.args.number = omega (arith, n, s.full, c.if-self-eq0.true, c.if-number-len.true, c.len.ensures, s.slots.ok.0) in
+    c.move_whole.ensures.moved ∙ ap (λ z. places_items c.args.to.now ++ z) (sym (take_all c.args.number (places_items s) many))
+
+pub returns-then-number-len-clause-left : goal.returns-then-number-len-clause-left
+returns-then-number-len-clause-left g c = let s = c.args.self.now in let n = length-drop s.next s.slots.items in
+    let many : length (places_items s) ≤ c.args.number = omega (arith, n, s.full, c.if-self-eq0.true, c.if-number-len.true, c.len.ensures, s.slots.ok.0) in
+    c.move_whole.ensures.left ∙ sym (drop_all c.args.number (places_items s) many)
+
+pub returns-then-number-len-clause-left_room : goal.returns-then-number-len-clause-left_room
+returns-then-number-len-clause-left_room g c = let s = c.args.self.now in let n = length-drop s.next s.slots.items in
+    let many : c.args.number ≡ length (places_items s) = omega (arith, n, s.full, c.if-self-eq0.true, c.if-number-len.true, c.len.ensures, s.slots.ok.0) in
+    λ k h. c.move_whole.ensures.left_room k (omega (arith, h, many))
