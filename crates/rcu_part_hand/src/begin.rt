@@ -12,7 +12,7 @@ ghost use Rattle.rcu_part_steps.specs.Begins.{IfRuns, IfStops};
 
 use crate::hand::{Hand, HandState};
 use crate::running_hand::{RunningHand, RunningHandState};
-use rcu_jobs::{Job, Record, Stop};
+use rcu_jobs::{Job, Stop};
 use rcu_numbers::snap;
 use rcu_part_steps::{Begins, ClaimedCallback, end_claim};
 
@@ -33,15 +33,10 @@ impl<J: Job> Hand<J> {
         let Some(first) = state.held.first() else {
             return Err(Stop::Empty);
         };
-        let claimed = ClaimedCallback {
-            number: first.number,
-            key: first.key,
-            stamp: first.stamp,
-            ready: seen,
-        };
-        if snap(claimed.stamp) > seen {
+        if snap(first.stamp) > seen {
             return Err(Stop::Turn);
         }
+        let claimed = ClaimedCallback::of(first, seen);
         let Ok(()) = state.ran.find_room() else {
             return Err(Stop::Memory);
         };
@@ -93,13 +88,7 @@ impl<J: Job> RunningHand<J> {
             held,
         } = self.state;
         end_claim(&board, &mut seat);
-        ran.add(Record {
-            number: claimed.number,
-            key: claimed.key,
-            stamp: claimed.stamp,
-            ready: claimed.ready,
-            receipt,
-        });
+        ran.add(claimed.record(receipt));
         let state = HandState {
             board,
             seat,

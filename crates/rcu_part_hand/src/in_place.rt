@@ -17,7 +17,7 @@ ghost use Rattle.rcu_part_steps.specs.declared.begins.ClaimedCallback.{ClaimedCa
 
 use crate::hand::{Hand, HandState, into_state};
 use rcu_board::{Board, Role, Seat, halted};
-use rcu_jobs::{Callback, Job, Record, Stop};
+use rcu_jobs::{Callback, Job, Stop};
 use rcu_numbers::snap;
 use rcu_part_lists::Held;
 use rcu_part_order::Records;
@@ -170,15 +170,10 @@ impl<J: Job> HandInPlace<J> {
         let Some(first) = state.held.first() else {
             return Err(Stop::Empty);
         };
-        let claimed = ClaimedCallback {
-            number: first.number,
-            key: first.key,
-            stamp: first.stamp,
-            ready: seen,
-        };
-        if snap(claimed.stamp) > seen {
+        if snap(first.stamp) > seen {
             return Err(Stop::Turn);
         }
+        let claimed = ClaimedCallback::of(first, seen);
         let Ok(()) = state.ran.find_room() else {
             return Err(Stop::Memory);
         };
@@ -255,13 +250,7 @@ impl<J: Job> HandInPlace<J> {
             unreachable!()
         };
         end_claim(&state.board, &mut state.seat);
-        state.ran.add(Record {
-            number: claimed.number,
-            key: claimed.key,
-            stamp: claimed.stamp,
-            ready: claimed.ready,
-            receipt,
-        });
+        state.ran.add(claimed.record(receipt));
         state.claimed = None;
     }
 }

@@ -13,7 +13,7 @@ ghost use Rattle.rcu_part_steps.specs.Begins.{IfRuns, IfStops};
 
 use crate::processor::{Processor, ProcessorState};
 use crate::running_processor::{RunningProcessor, RunningProcessorState};
-use rcu_jobs::{Job, Record, Stop};
+use rcu_jobs::{Job, Stop};
 use rcu_part_steps::{Begins, ClaimedCallback, end_claim};
 
 impl<J: Job> Processor<J> {
@@ -34,12 +34,7 @@ impl<J: Job> Processor<J> {
         let Some(first) = state.lists.first() else {
             return Err(Stop::Empty);
         };
-        let claimed = ClaimedCallback {
-            number: first.number,
-            key: first.key,
-            stamp: first.stamp,
-            ready: seen,
-        };
+        let claimed = ClaimedCallback::of(first, seen);
         let Ok(()) = state.ran.find_room() else {
             return Err(Stop::Memory);
         };
@@ -126,13 +121,7 @@ impl<J: Job> RunningProcessor<J> {
             lists,
         } = self.state;
         end_claim(&board, &mut seat);
-        ran.add(Record {
-            number: claimed.number,
-            key: claimed.key,
-            stamp: claimed.stamp,
-            ready: claimed.ready,
-            receipt,
-        });
+        ran.add(claimed.record(receipt));
         let state = ProcessorState {
             board,
             seat,

@@ -11,7 +11,7 @@ ghost use Rattle.rcu_part_processor.specs.Ticks.{CatchesUp, Heeds, Settles, Stop
 
 use crate::in_place::ProcessorInPlace;
 use rcu_board::{asked, heard, need, turn_of};
-use rcu_jobs::{Callback, Job, Record, Stop};
+use rcu_jobs::{Callback, Job, Stop};
 use rcu_part_steps::{ClaimedCallback, end_claim, look_at_number, try_claim};
 
 impl<J: Job> ProcessorInPlace<J> {
@@ -83,12 +83,7 @@ impl<J: Job> ProcessorInPlace<J> {
         let Some(first) = state.lists.first() else {
             return Err(Stop::Empty);
         };
-        let claimed = ClaimedCallback {
-            number: first.number,
-            key: first.key,
-            stamp: first.stamp,
-            ready: seen,
-        };
+        let claimed = ClaimedCallback::of(first, seen);
         let Ok(()) = state.ran.find_room() else {
             return Err(Stop::Memory);
         };
@@ -187,13 +182,7 @@ impl<J: Job> ProcessorInPlace<J> {
             unreachable!()
         };
         end_claim(&state.board, &mut state.seat);
-        state.ran.add(Record {
-            number: claimed.number,
-            key: claimed.key,
-            stamp: claimed.stamp,
-            ready: claimed.ready,
-            receipt,
-        });
+        state.ran.add(claimed.record(receipt));
         state.claimed = None;
     }
 }

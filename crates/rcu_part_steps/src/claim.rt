@@ -9,6 +9,7 @@ ghost use Rattle.rcu_part_steps.specs.Changes.{Finishes, StepsOnly, claim_at};
 ghost use Rattle.rcu_part_order.specs.Records.{numbered_record};
 ghost use Rattle.rcu_part_steps.specs.Places.{numbered_callback};
 
+use crate::begins::ClaimedCallback;
 use crate::steps::end_claim;
 use rcu_board::{Board, Seat};
 use rcu_jobs::{Callback, Job, Record};
@@ -34,20 +35,9 @@ pub fn run_claimed<J: Job>(
     ensures ready { result.ready ≡ ready }
     ensures given { J.key_of callback.job ≡ callback.key → J.gives result.key result.receipt }
 {
-    let Callback {
-        cpu: _,
-        number,
-        key,
-        stamp,
-        job,
-    } = callback;
+    let claimed = ClaimedCallback::of(&callback, ready);
+    let Callback { job, .. } = callback;
     let receipt = job.run();
     end_claim(board, seat);
-    Record {
-        number,
-        key,
-        stamp,
-        ready,
-        receipt,
-    }
+    claimed.record(receipt)
 }

@@ -49,10 +49,10 @@ returns-clause-keeps g c = record { view = refl; held = refl; records = c.find_r
 
 pub returns-clause-next : goal.returns-clause-next
 returns-clause-next g c = let f = c.in-Some.ensures.first in
-    record { first = c.in-Some.first.now; rest = f.0; held = f.1; claimed = refl; over = omega (arith, c.if-snap-seen.false, c.snap.ensures.value) }
+    record { first = c.in-Some.first.now; rest = f.0; held = f.1; claimed = c.of-claimed.ensures; over = omega (arith, c.if-snap-seen.false, c.snap.ensures.value) }
 
 pub returns-clause-small : goal.returns-clause-small
-returns-clause-small g c = c.in-Some.ensures.safe.1
+returns-clause-small g c = rw c.of-claimed.ensures c.in-Some.ensures.safe.1
 
 pub returns-clause-room : goal.returns-clause-room
 returns-clause-room g c = c.in-Ok.ensures.room

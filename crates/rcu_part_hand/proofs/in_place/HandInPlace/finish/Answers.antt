@@ -24,20 +24,20 @@ pub add-requires : goal.add-requires
 add-requires g c = record { room = (c.args.self.now.state.runs c.in-Some.claimed c.in-Some.is).room }
 
 pub invariant_of-state : goal.invariant_of-state
-invariant_of-state g c = let s = c.args.self.now.state in let e = c.end_claim.ensures in record {
+invariant_of-state g c = let added = rw c.record.ensures at c.add.ensures.added in let s = c.args.self.now.state in let e = c.end_claim.ensures in record {
   here = e.same.table ∙ s.here;
   role = e.same.role ∙ s.role;
-  rests = λ r. hand_finished s.cpu c.in-Some.claimed c.args.receipt (view s.seat) (view c.end_claim.new.seat) s.ran.all.items c.add.new.self.all.items (taken_by s.held) e.ends (all_as _ _ c.add.ensures.added)
+  rests = λ r. hand_finished s.cpu c.in-Some.claimed c.args.receipt (view s.seat) (view c.end_claim.new.seat) s.ran.all.items c.add.new.self.all.items (taken_by s.held) e.ends (all_as _ _ added)
       (s.runs c.in-Some.claimed c.in-Some.is).lawful;
   runs = λ k f. (let x : None ≡ Some k = f in cc);
 }
 
 pub returns-clause-finishes : goal.returns-clause-finishes
-returns-clause-finishes g c = λ k e. let s = c.args.self.now.state in (
+returns-clause-finishes g c = let added = rw c.record.ensures at c.add.ensures.added in λ k e. let s = c.args.self.now.state in (
   refl,
-  record { part = record { board = refl; seat = c.end_claim.ensures.same }; lane = refl; cpu = refl; blimit = refl; kept = kept_as _ _ c.add.ensures.added },
+  record { part = record { board = refl; seat = c.end_claim.ensures.same }; lane = refl; cpu = refl; blimit = refl; kept = kept_as _ _ added },
   record {
-    records = c.add.ensures.added ∙ ap (λ (x : ClaimedCallback). and_ran (record_with c.args.receipt x ∷ []) (recorded s.ran)) (some_is c.in-Some.claimed k (sym c.in-Some.is ∙ e));
+    records = added ∙ ap (λ (x : ClaimedCallback). and_ran (record_with c.args.receipt x ∷ []) (recorded s.ran)) (some_is c.in-Some.claimed k (sym c.in-Some.is ∙ e));
     held = refl;
     ends = c.end_claim.ensures.ends;
     steps = subst (λ (p : ℕ). StepsOnly (turns_word p) 1 (view s.seat) (view c.end_claim.new.seat)) (ap cpu_of_role s.role) c.end_claim.ensures.only;
@@ -45,5 +45,5 @@ returns-clause-finishes g c = λ k e. let s = c.args.self.now.state in (
 )
 
 pub returns-clause-sound : goal.returns-clause-sound
-returns-clause-sound g c = λ given sound. let s = c.args.self.now.state in
-    hand_sound_finished g.J.Job.key_of g.J.Job.gives (drawn_by s.held) c.in-Some.claimed c.args.receipt s.ran.all.items c.add.new.self.all.items (all_as _ _ c.add.ensures.added) sound (given c.in-Some.claimed c.in-Some.is)
+returns-clause-sound g c = let added = rw c.record.ensures at c.add.ensures.added in λ given sound. let s = c.args.self.now.state in
+    hand_sound_finished g.J.Job.key_of g.J.Job.gives (drawn_by s.held) c.in-Some.claimed c.args.receipt s.ran.all.items c.add.new.self.all.items (all_as _ _ added) sound (given c.in-Some.claimed c.in-Some.is)

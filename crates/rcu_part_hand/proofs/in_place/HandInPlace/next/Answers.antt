@@ -1,10 +1,11 @@
-use Rattle.std.proofs.Common.{None, Some, ◌∙◌, ◌≡◌, List, inl, sym, subst, refl, arith}
+use Rattle.std.proofs.Common.{ap, None, Some, ◌∙◌, ◌≡◌, List, inl, sym, subst, refl, arith}
 use Rattle.std.specs.Mem.{FitsInMemory}
 use denote.Param.{param}
 use Rattle.rcu_board.proofs.Facts.{same_seat}
 use Rattle.rcu_board.specs.Seats.{view}
 use Rattle.rcu_jobs.specs.declared.Stop.TheVariants.{Limit, Empty, Turn, Memory}
 use Rattle.rcu_jobs.specs.declared.callback.Record.{Record}
+use Rattle.rcu_part_steps.specs.declared.begins.ClaimedCallback.{ClaimedCallback}
 use Rattle.rcu_part_lists.proofs.Sizes.{in_struct}
 use Rattle.rcu_part_lists.specs.Helds.{drawn_by, taken_by}
 use Rattle.rcu_part_hand.specs.HandLaw.{IsLawfulHand}
@@ -68,13 +69,13 @@ returns-clause-keeps g c = λ r. (r, record { part = record { board = refl; seat
 
 pub returns-clause-next : goal.returns-clause-next
 returns-clause-next g c = λ r. let f = c.in-Some.ensures.first in
-    record { first = c.in-Some.first.now; rest = f.0; held = f.1; claimed = refl; over = omega (arith, c.if-snap-seen.false, c.snap.ensures.value) }
+    record { first = c.in-Some.first.now; rest = f.0; held = f.1; claimed = c.of-claimed.ensures; over = omega (arith, c.if-snap-seen.false, c.snap.ensures.value) }
 
 pub returns-clause-ready : goal.returns-clause-ready
-returns-clause-ready g c = refl
+returns-clause-ready g c = ap (λ (x : ClaimedCallback). x.ready) c.of-claimed.ensures
 
 pub returns-clause-small : goal.returns-clause-small
-returns-clause-small g c = c.in-Some.ensures.safe.1
+returns-clause-small g c = rw c.of-claimed.ensures c.in-Some.ensures.safe.1
 
 pub returns-clause-room : goal.returns-clause-room
 returns-clause-room g c = c.in-Ok.ensures.room

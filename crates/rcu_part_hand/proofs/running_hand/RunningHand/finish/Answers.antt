@@ -11,10 +11,10 @@ use Rattle.rcu_part_hand.proofs.HandBegins.{hand_finished, hand_sound_finished}
 use Rattle.rcu_part_hand.proofs.running_hand.RunningHand.finish.Goals as goal
 
 pub invariant_of-state : goal.invariant_of-state
-invariant_of-state g c = let s = c.args.self.state in let e = c.end_claim.ensures in record {
+invariant_of-state g c = let added = rw c.record.ensures at c.add.ensures.added in let s = c.args.self.state in let e = c.end_claim.ensures in record {
   here = e.same.table ∙ s.here;
   role = e.same.role ∙ s.role;
-  lawful = hand_finished s.cpu s.claimed c.args.receipt (view s.seat) (view c.end_claim.new.seat) s.ran.all.items c.add.new.self.all.items (taken_by s.held) e.ends (all_as _ _ c.add.ensures.added) s.lawful;
+  lawful = hand_finished s.cpu s.claimed c.args.receipt (view s.seat) (view c.end_claim.new.seat) s.ran.all.items c.add.new.self.all.items (taken_by s.held) e.ends (all_as _ _ added) s.lawful;
 }
 
 pub end_claim-requires : goal.end_claim-requires
@@ -28,16 +28,16 @@ pub add-requires : goal.add-requires
 add-requires g c = record { room = c.args.self.state.room }
 
 pub returns-clause-same : goal.returns-clause-same
-returns-clause-same g c = record { part = record { board = refl; seat = c.end_claim.ensures.same }; lane = refl; cpu = refl; blimit = refl; kept = kept_as _ _ c.add.ensures.added }
+returns-clause-same g c = let added = rw c.record.ensures at c.add.ensures.added in record { part = record { board = refl; seat = c.end_claim.ensures.same }; lane = refl; cpu = refl; blimit = refl; kept = kept_as _ _ added }
 
 pub returns-clause-finishes : goal.returns-clause-finishes
-returns-clause-finishes g c = let s = c.args.self.state in record {
-  records = c.add.ensures.added;
+returns-clause-finishes g c = let added = rw c.record.ensures at c.add.ensures.added in let s = c.args.self.state in record {
+  records = added;
   held = refl;
   ends = c.end_claim.ensures.ends;
   steps = subst (λ (p : ℕ). StepsOnly (turns_word p) 1 (view s.seat) (view c.end_claim.new.seat)) (ap cpu_of_role s.role) c.end_claim.ensures.only;
 }
 
 pub returns-clause-sound : goal.returns-clause-sound
-returns-clause-sound g c = λ sound given. let s = c.args.self.state in
-    hand_sound_finished g.J.Job.key_of g.J.Job.gives (drawn_by s.held) s.claimed c.args.receipt s.ran.all.items c.add.new.self.all.items (all_as _ _ c.add.ensures.added) sound given
+returns-clause-sound g c = let added = rw c.record.ensures at c.add.ensures.added in λ sound given. let s = c.args.self.state in
+    hand_sound_finished g.J.Job.key_of g.J.Job.gives (drawn_by s.held) s.claimed c.args.receipt s.ran.all.items c.add.new.self.all.items (all_as _ _ added) sound given

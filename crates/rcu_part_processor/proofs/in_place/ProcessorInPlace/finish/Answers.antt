@@ -25,7 +25,7 @@ pub add-requires : goal.add-requires
 add-requires g c = record { room = (c.args.self.now.state.runs c.in-Some.claimed c.in-Some.is).room }
 
 pub invariant_of-state : goal.invariant_of-state
-invariant_of-state g c = let s = c.args.self.now.state in let e = c.end_claim.ensures in record {
+invariant_of-state g c = let added = rw c.record.ensures at c.add.ensures.added in let s = c.args.self.now.state in let e = c.end_claim.ensures in record {
   here = e.same.table ∙ s.here;
   role = e.same.role ∙ s.role;
   there = s.there;
@@ -33,17 +33,17 @@ invariant_of-state g c = let s = c.args.self.now.state in let e = c.end_claim.en
   local = s.local;
   small = s.small;
   since = since_kept _ _ _ (e.ends.word) s.since;
-  rests = λ r. finished_law s.cpu s.accepted _ c.in-Some.claimed c.args.receipt (view s.seat) (view c.end_claim.new.seat) (ran_of s.ran) (ran_of c.add.new.self) (holding s.lists) e.ends (e.same.later (arc_value s.board) s.here) (ap (λ (r : Recorded g.row.J-Receipt.Denot). r.all) c.add.ensures.added)
+  rests = λ r. finished_law s.cpu s.accepted _ c.in-Some.claimed c.args.receipt (view s.seat) (view c.end_claim.new.seat) (ran_of s.ran) (ran_of c.add.new.self) (holding s.lists) e.ends (e.same.later (arc_value s.board) s.here) (ap (λ (r : Recorded g.row.J-Receipt.Denot). r.all) added)
       (s.runs c.in-Some.claimed c.in-Some.is).lawful;
   runs = λ k f. (let x : None ≡ Some k = f in cc);
 }
 
 pub returns-clause-finishes : goal.returns-clause-finishes
-returns-clause-finishes g c = λ k e. let s = c.args.self.now.state in (
+returns-clause-finishes g c = let added = rw c.record.ensures at c.add.ensures.added in λ k e. let s = c.args.self.now.state in (
   refl,
-  record { part = record { board = refl; seat = c.end_claim.ensures.same }; lane = refl; cpu = refl; offloadable = refl; limit = refl; blimit = refl; kept = ap (λ (r : Recorded g.row.J-Receipt.Denot). r.kept) c.add.ensures.added },
+  record { part = record { board = refl; seat = c.end_claim.ensures.same }; lane = refl; cpu = refl; offloadable = refl; limit = refl; blimit = refl; kept = ap (λ (r : Recorded g.row.J-Receipt.Denot). r.kept) added },
   record {
-    records = c.add.ensures.added ∙ ap (λ (x : ClaimedCallback). and_ran (record_with c.args.receipt x ∷ []) (recorded s.ran)) (some_is c.in-Some.claimed k (sym c.in-Some.is ∙ e));
+    records = added ∙ ap (λ (x : ClaimedCallback). and_ran (record_with c.args.receipt x ∷ []) (recorded s.ran)) (some_is c.in-Some.claimed k (sym c.in-Some.is ∙ e));
     lists = refl;
     count = refl;
     ends = c.end_claim.ensures.ends;
@@ -52,5 +52,5 @@ returns-clause-finishes g c = λ k e. let s = c.args.self.now.state in (
 )
 
 pub returns-clause-sound : goal.returns-clause-sound
-returns-clause-sound g c = λ given sound. let s = c.args.self.now.state in
-    record { keyed = sound.keyed; given = given_finished g.J.Job.gives c.in-Some.claimed c.args.receipt (ran_of s.ran) (ran_of c.add.new.self) (ap (λ (r : Recorded g.row.J-Receipt.Denot). r.all) c.add.ensures.added) (given c.in-Some.claimed c.in-Some.is) sound.given }
+returns-clause-sound g c = let added = rw c.record.ensures at c.add.ensures.added in λ given sound. let s = c.args.self.now.state in
+    record { keyed = sound.keyed; given = given_finished g.J.Job.gives c.in-Some.claimed c.args.receipt (ran_of s.ran) (ran_of c.add.new.self) (ap (λ (r : Recorded g.row.J-Receipt.Denot). r.all) added) (given c.in-Some.claimed c.in-Some.is) sound.given }

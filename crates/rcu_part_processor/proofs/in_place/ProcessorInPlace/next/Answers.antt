@@ -5,6 +5,7 @@ use Rattle.rcu_board.proofs.Facts.{same_seat}
 use Rattle.rcu_board.specs.Seats.{view}
 use Rattle.rcu_jobs.specs.declared.Stop.TheVariants.{Limit, Empty, Memory}
 use Rattle.rcu_jobs.specs.declared.callback.Record.{Record}
+use Rattle.rcu_part_steps.specs.declared.begins.ClaimedCallback.{ClaimedCallback}
 use Rattle.rcu_part_lists.proofs.Sizes.{in_struct}
 use Rattle.rcu_part_lists.specs.ProcessorLists.{holding}
 use Rattle.rcu_part_order.specs.Recorded.{Recorded}
@@ -58,13 +59,13 @@ pub returns-clause-keeps : goal.returns-clause-keeps
 returns-clause-keeps g c = λ r. (r, record { part = record { board = refl; seat = same_seat _ }; lane = refl; cpu = refl; offloadable = refl; limit = refl; blimit = refl; kept = ap (λ (r : Recorded g.row.J-Receipt.Denot). r.kept) c.find_room.ensures.same }, record { view = refl; lists = refl; records = c.find_room.ensures.same; count = refl })
 
 pub returns-clause-next : goal.returns-clause-next
-returns-clause-next g c = λ r. let f = c.in-Some.ensures.first in record { first = c.in-Some.first.now; rest = f.0; done = f.1; claimed = refl }
+returns-clause-next g c = λ r. let f = c.in-Some.ensures.first in record { first = c.in-Some.first.now; rest = f.0; done = f.1; claimed = c.of-claimed.ensures }
 
 pub returns-clause-ready : goal.returns-clause-ready
-returns-clause-ready g c = refl
+returns-clause-ready g c = ap (λ (x : ClaimedCallback). x.ready) c.of-claimed.ensures
 
 pub returns-clause-small : goal.returns-clause-small
-returns-clause-small g c = c.in-Some.ensures.safe.1
+returns-clause-small g c = rw c.of-claimed.ensures c.in-Some.ensures.safe.1
 
 pub returns-clause-room : goal.returns-clause-room
 returns-clause-room g c = c.in-Ok.ensures.room

@@ -51,10 +51,10 @@ pub returns-clause-keeps : goal.returns-clause-keeps
 returns-clause-keeps g c = record { view = refl; lists = refl; records = c.find_room.ensures.same; count = refl }
 
 pub returns-clause-next : goal.returns-clause-next
-returns-clause-next g c = let f = c.in-Some.ensures.first in record { first = c.in-Some.first.now; rest = f.0; done = f.1; claimed = refl }
+returns-clause-next g c = let f = c.in-Some.ensures.first in record { first = c.in-Some.first.now; rest = f.0; done = f.1; claimed = c.of-claimed.ensures }
 
 pub returns-clause-small : goal.returns-clause-small
-returns-clause-small g c = c.in-Some.ensures.safe.1
+returns-clause-small g c = rw c.of-claimed.ensures c.in-Some.ensures.safe.1
 
 pub returns-clause-room : goal.returns-clause-room
 returns-clause-room g c = c.in-Ok.ensures.room

@@ -13,7 +13,7 @@ use Rattle.rcu_part_processor.proofs.Passing.{since_kept}
 use Rattle.rcu_part_processor.proofs.running_processor.RunningProcessor.finish.Goals as goal
 
 pub invariant_of-state : goal.invariant_of-state
-invariant_of-state g c = let s = c.args.self.state in let e = c.end_claim.ensures in record {
+invariant_of-state g c = let added = rw c.record.ensures at c.add.ensures.added in let s = c.args.self.state in let e = c.end_claim.ensures in record {
   here = e.same.table ∙ s.here;
   role = e.same.role ∙ s.role;
   there = s.there;
@@ -21,7 +21,7 @@ invariant_of-state g c = let s = c.args.self.state in let e = c.end_claim.ensure
   local = s.local;
   small = s.small;
   since = since_kept _ _ _ (e.ends.word) s.since;
-  lawful = finished_law s.cpu s.accepted _ s.claimed c.args.receipt (view s.seat) (view c.end_claim.new.seat) (ran_of s.ran) (ran_of c.add.new.self) (holding s.lists) e.ends (e.same.later (arc_value s.board) s.here) (ap (λ (r : Recorded g.row.J-Receipt.Denot). r.all) c.add.ensures.added) s.lawful;
+  lawful = finished_law s.cpu s.accepted _ s.claimed c.args.receipt (view s.seat) (view c.end_claim.new.seat) (ran_of s.ran) (ran_of c.add.new.self) (holding s.lists) e.ends (e.same.later (arc_value s.board) s.here) (ap (λ (r : Recorded g.row.J-Receipt.Denot). r.all) added) s.lawful;
 }
 
 pub end_claim-requires : goal.end_claim-requires
@@ -35,11 +35,11 @@ pub add-requires : goal.add-requires
 add-requires g c = record { room = c.args.self.state.room }
 
 pub returns-clause-same : goal.returns-clause-same
-returns-clause-same g c = record { part = record { board = refl; seat = c.end_claim.ensures.same }; lane = refl; cpu = refl; offloadable = refl; limit = refl; blimit = refl; kept = ap (λ (r : Recorded g.row.J-Receipt.Denot). r.kept) c.add.ensures.added }
+returns-clause-same g c = let added = rw c.record.ensures at c.add.ensures.added in record { part = record { board = refl; seat = c.end_claim.ensures.same }; lane = refl; cpu = refl; offloadable = refl; limit = refl; blimit = refl; kept = ap (λ (r : Recorded g.row.J-Receipt.Denot). r.kept) added }
 
 pub returns-clause-finishes : goal.returns-clause-finishes
-returns-clause-finishes g c = let s = c.args.self.state in record {
-  records = c.add.ensures.added;
+returns-clause-finishes g c = let added = rw c.record.ensures at c.add.ensures.added in let s = c.args.self.state in record {
+  records = added;
   lists = refl;
   count = refl;
   ends = c.end_claim.ensures.ends;
@@ -47,5 +47,5 @@ returns-clause-finishes g c = let s = c.args.self.state in record {
 }
 
 pub returns-clause-sound : goal.returns-clause-sound
-returns-clause-sound g c = λ sound given. let s = c.args.self.state in
-    record { keyed = sound.keyed; given = given_finished g.J.Job.gives s.claimed c.args.receipt (ran_of s.ran) (ran_of c.add.new.self) (ap (λ (r : Recorded g.row.J-Receipt.Denot). r.all) c.add.ensures.added) given sound.given }
+returns-clause-sound g c = let added = rw c.record.ensures at c.add.ensures.added in λ sound given. let s = c.args.self.state in
+    record { keyed = sound.keyed; given = given_finished g.J.Job.gives s.claimed c.args.receipt (ran_of s.ran) (ran_of c.add.new.self) (ap (λ (r : Recorded g.row.J-Receipt.Denot). r.all) added) given sound.given }
