@@ -71,6 +71,10 @@ abbrev pub shown : Lists → ℕ
 shown (Cpu mode accepted bypass lengths numbers) = bypass
 shown (Folk lengths numbers) = 0
 
+abbrev pub is_cpu : Lists → Bool
+is_cpu (Cpu mode accepted bypass lengths numbers) = true
+is_cpu (Folk lengths numbers) = false
+
 pub none_shown : {J : Type 0} (many : ℕ) (cs : List (Callback J)) → many ≡ length cs → IsTrue (many == 0) ↔ (cs ≡ [])
 none_shown many [] e = (λ _. refl, λ _. eq-eqb many 0 e)
 none_shown many (c ∷ cs) e = (λ t. absurd (omega (arith, eqb-true many 0 t, e)), λ none. absurd (omega (arith, ap length none)))

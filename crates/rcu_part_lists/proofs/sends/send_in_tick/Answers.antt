@@ -58,3 +58,15 @@ returns-then-is_empty-clause-safe g c = c.requires.safe
 
 pub returns-then-is_called-clause-safe : goal.returns-then-is_called-clause-safe
 returns-then-is_called-clause-safe g c = c.send.ensures.safe
+
+pub returns-then-is_empty-clause-lane : goal.returns-then-is_empty-clause-lane
+returns-then-is_empty-clause-lane g c = refl
+
+pub returns-then-is_empty-clause-stays : goal.returns-then-is_empty-clause-stays
+returns-then-is_empty-clause-stays g c = λ _. refl
+
+pub returns-then-is_called-clause-lane : goal.returns-then-is_called-clause-lane
+returns-then-is_called-clause-lane g c = c.send.ensures.lane
+
+pub returns-else-is_called-clause-lane : goal.returns-else-is_called-clause-lane
+returns-else-is_called-clause-lane g c = refl

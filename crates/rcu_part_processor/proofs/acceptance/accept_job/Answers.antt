@@ -2,6 +2,7 @@ use Rattle.std.proofs.Common.{◌≡◌, true, false, ℕ, ◌+◌, ◌*◌, ◌
 use Rattle.rcu_board.specs.Plays.{looked, accepted}
 use Rattle.rcu_board.specs.Seats.{view}
 use Rattle.rcu_board.specs.Words.{accepts_word}
+use Rattle.rcu_board.proofs.Facts.{same_seat}
 use Rattle.rcu_part_lists.specs.ProcessorLists.{Holding, holding, Takes, passed_on}
 use Rattle.rcu_jobs.specs.declared.callback.Callback.{Callback}
 use Rattle.rcu_part_steps.specs.Changes.{Enters}
@@ -136,3 +137,84 @@ returns-in_default-accept_and_stamp-clause-local g c offloadable local = subst (
 
 pub returns-in_default-accept_and_stamp-clause-keyed : goal.returns-in_default-accept_and_stamp-clause-keyed
 returns-in_default-accept_and_stamp-clause-keyed g c keyed = subst (λ (h : Holding g.row.J.Denot). AreKeyed g.J.Job.key_of (passed_on h)) (sym c.in-Ok.ensures.same) keyed
+
+pub returns-then-number-limit-clause-same : goal.returns-then-number-limit-clause-same
+returns-then-number-limit-clause-same g c = same_seat c.args.seat.now
+
+pub returns-then-number-limit-clause-lane : goal.returns-then-number-limit-clause-lane
+returns-then-number-limit-clause-lane g c = refl
+
+pub returns-then-number-limit-clause-closed : goal.returns-then-number-limit-clause-closed
+returns-then-number-limit-clause-closed g c = λ _. refl
+
+pub returns-then-number-limit-clause-full : goal.returns-then-number-limit-clause-full
+returns-then-number-limit-clause-full g c = λ _. (tt, refl)
+
+pub returns-then-number-limit-clause-small : goal.returns-then-number-limit-clause-small
+returns-then-number-limit-clause-small g c = c.requires.small.0
+
+pub returns-then-number-limit-clause-word : goal.returns-then-number-limit-clause-word
+returns-then-number-limit-clause-word g c = refl
+
+pub returns-then-number-limit-clause-claims : goal.returns-then-number-limit-clause-claims
+returns-then-number-limit-clause-claims g c = (refl, refl)
+
+pub returns-then-number-limit-clause-places : goal.returns-then-number-limit-clause-places
+returns-then-number-limit-clause-places g c = λ _ has. has
+
+pub returns-then-number-limit-clause-local : goal.returns-then-number-limit-clause-local
+returns-then-number-limit-clause-local g c = λ _ local. local
+
+pub returns-then-number-limit-clause-keyed : goal.returns-then-number-limit-clause-keyed
+returns-then-number-limit-clause-keyed g c = λ keyed. keyed
+
+pub reserve-requires : goal.reserve-requires
+reserve-requires g c = assumption
+
+pub returns-in_default-clause-same : goal.returns-in_default-clause-same
+returns-in_default-clause-same g c = same_seat c.args.seat.now
+
+pub returns-in_default-clause-closed : goal.returns-in_default-clause-closed
+returns-in_default-clause-closed g c = λ _. refl
+
+pub returns-in_default-clause-small : goal.returns-in_default-clause-small
+returns-in_default-clause-small g c = c.requires.small.0
+
+pub returns-in_default-clause-word : goal.returns-in_default-clause-word
+returns-in_default-clause-word g c = refl
+
+pub returns-in_default-clause-claims : goal.returns-in_default-clause-claims
+returns-in_default-clause-claims g c = (refl, refl)
+
+pub accept_and_stamp-requires-clause-board : goal.accept_and_stamp-requires-clause-board
+accept_and_stamp-requires-clause-board g c = c.requires.board
+
+pub accept_and_stamp-requires-clause-role : goal.accept_and_stamp-requires-clause-role
+accept_and_stamp-requires-clause-role g c = c.requires.role
+
+pub accept_and_stamp-requires-clause-count : goal.accept_and_stamp-requires-clause-count
+accept_and_stamp-requires-clause-count g c = c.requires.counted
+
+pub accept_and_stamp-requires-clause-stamped : goal.accept_and_stamp-requires-clause-stamped
+accept_and_stamp-requires-clause-stamped g c = c.requires.stamped
+
+pub returns-in_default-accept_and_stamp-clause-same : goal.returns-in_default-accept_and_stamp-clause-same
+returns-in_default-accept_and_stamp-clause-same g c = c.in_default-accept_and_stamp.ensures.same
+
+pub returns-in_default-accept_and_stamp-clause-closed : goal.returns-in_default-accept_and_stamp-clause-closed
+returns-in_default-accept_and_stamp-clause-closed g c = λ _. refl
+
+pub returns-in_default-accept_and_stamp-clause-small : goal.returns-in_default-accept_and_stamp-clause-small
+returns-in_default-accept_and_stamp-clause-small g c = c.requires.small.0
+
+pub overflow_add-accepted : goal.overflow_add-accepted
+overflow_add-accepted g c = let small = c.requires.small in let low = c.if-number-limit.false in omega arith
+
+pub returns-clause-same : goal.returns-clause-same
+returns-clause-same g c = c.in-Some.ensures.same
+
+pub returns-clause-closed : goal.returns-clause-closed
+returns-clause-closed g c = λ shut. sym (c.in-Some.ensures.closed shut)
+
+pub returns-clause-small : goal.returns-clause-small
+returns-clause-small g c = let low = c.if-number-limit.false in omega arith

@@ -67,3 +67,21 @@ is_empty-requires g c = member-batch (param 0 g.row.J) assumption
 
 pub len-gave-requires : goal.len-gave-requires
 len-gave-requires g c = member-batch (param 0 g.row.J) assumption
+
+pub returns-then-is_empty-clause-lanes : goal.returns-then-is_empty-clause-lanes
+returns-then-is_empty-clause-lanes g c = (refl, refl)
+
+pub returns-then-is_empty-clause-advanced : goal.returns-then-is_empty-clause-advanced
+returns-then-is_empty-clause-advanced g c = refl
+
+pub returns-then-put_from-clause-lanes : goal.returns-then-put_from-clause-lanes
+returns-then-put_from-clause-lanes g c = (refl, c.put_from.ensures.lane)
+
+pub returns-then-put_from-clause-advanced : goal.returns-then-put_from-clause-advanced
+returns-then-put_from-clause-advanced g c = refl
+
+pub returns-else-put_from-clause-lanes : goal.returns-else-put_from-clause-lanes
+returns-else-put_from-clause-lanes g c = (refl, c.put_from.ensures.lane)
+
+pub returns-else-put_from-clause-advanced : goal.returns-else-put_from-clause-advanced
+returns-else-put_from-clause-advanced g c = refl

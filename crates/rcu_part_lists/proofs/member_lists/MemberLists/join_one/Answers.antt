@@ -1,4 +1,4 @@
-use Rattle.std.proofs.Common.{◌++◌, ap, sym, ◌∙◌, subst}
+use Rattle.std.proofs.Common.{◌++◌, ap, sym, ◌∙◌, subst, refl}
 use Rattle.rcu_lists.specs.Batches.{batch_items}
 use Rattle.rcu_lists.specs.BlockSegments.{block_labelled, block_advanced_by}
 use Rattle.rcu_part_lists.specs.Aims.{AreAimed}
@@ -40,3 +40,9 @@ returns-clause-waits g c =
 
 pub join-requires : goal.join-requires
 join-requires g c = member-batch (param 0 g.row.J) assumption
+
+pub returns-clause-ends : goal.returns-clause-ends
+returns-clause-ends g c = (refl, refl)
+
+pub returns-clause-advanced : goal.returns-clause-advanced
+returns-clause-advanced g c = c.join.ensures.advanced

@@ -1,7 +1,10 @@
-use Rattle.std.proofs.Common.{◌++◌, ap, sym, ◌∙◌, subst, refl}
+use Rattle.std.proofs.Common.{◌++◌, ap, sym, ◌∙◌, subst, refl, List}
 use Rattle.rcu_lists.specs.Batches.{batch_items}
 use Rattle.rcu_part_lists.specs.Lanes.{put_calls}
 use Rattle.rcu_part_lists.specs.Limits.{AreSafe}
+use Rattle.rcu_lists.specs.Labels.{Labelled}
+use Rattle.rcu_lists.specs.BlockSegments.{block_labelled}
+use Rattle.rcu_part_lists.specs.MemberLists.{relay}
 use Rattle.rcu_part_lists.proofs.member_lists.MemberLists.look.Goals as goal
 
 pub invariant_of-self : goal.invariant_of-self
@@ -30,3 +33,13 @@ look_at_blocks-requires-clause-small g c = c.requires.small
 
 pub returns-clause-ends : goal.returns-clause-ends
 returns-clause-ends g c = (refl, refl)
+
+pub returns-clause-list : goal.returns-clause-list
+returns-clause-list g c = let r = relay c.args.self.now in let e = c.look_at_blocks.ensures in
+    ap (λ n. record r { list = block_labelled c.look_at_blocks.new.list; advanced = n }) e.advanced ∙ ap (λ (ws : List (Labelled g.row.J.Denot)). record r { list = ws; advanced = c.args.seen }) e.list
+
+pub returns-clause-wanted : goal.returns-clause-wanted
+returns-clause-wanted g c = c.look_at_blocks.ensures.wanted
+
+pub returns-clause-needed : goal.returns-clause-needed
+returns-clause-needed g c = c.look_at_blocks.ensures.needed

@@ -1,10 +1,11 @@
-use Rattle.std.proofs.Common.{◌++◌, ap, sym, ◌∙◌, subst, refl}
+use Rattle.std.proofs.Common.{◌++◌, ap, sym, ◌∙◌, subst, refl, List}
 use Rattle.rcu_lists.specs.Bypasses.{bypass_items}
-use Rattle.rcu_lists.specs.Labels.{callbacks_of}
+use Rattle.rcu_lists.specs.Labels.{callbacks_of, Labelled}
 use Rattle.rcu_lists.specs.Segments.{labelled}
 use Rattle.rcu_part_lists.specs.Lanes.{put_calls}
 use Rattle.rcu_part_lists.specs.Limits.{AreFew, AreSafe}
 use Rattle.rcu_part_lists.proofs.Holdings.{no-callbacks}
+use Rattle.rcu_part_lists.specs.ProcessorLists.{holding}
 use Rattle.rcu_part_lists.proofs.processor_lists.ProcessorLists.look.Goals as goal
 
 pub invariant_of-self : goal.invariant_of-self
@@ -34,3 +35,16 @@ look_at-requires-clause-small g c = c.requires.small
 
 pub returns-clause-rear : goal.returns-clause-rear
 returns-clause-rear g c = refl
+
+pub returns-clause-list : goal.returns-clause-list
+returns-clause-list g c = let h = holding c.args.self.now in let e = c.look_at.ensures in
+    ap (λ n. record h { own = labelled c.look_at.new.list; advanced = n }) e.advanced ∙ ap (λ (ws : List (Labelled g.row.J.Denot)). record h { own = ws; advanced = c.args.seen }) e.list
+
+pub returns-clause-wanted : goal.returns-clause-wanted
+returns-clause-wanted g c = c.look_at.ensures.wanted
+
+pub returns-clause-places : goal.returns-clause-places
+returns-clause-places g c = ap (λ cs. bypass_items c.args.self.now.bypass ++ cs) c.look_at.ensures.callbacks
+
+pub returns-clause-needed : goal.returns-clause-needed
+returns-clause-needed g c = c.look_at.ensures.needed

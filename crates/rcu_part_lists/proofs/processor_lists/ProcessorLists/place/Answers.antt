@@ -90,3 +90,15 @@ pub hold_or_send-requires : goal.hold_or_send-requires
 hold_or_send-requires g c =
     let s = c.args.self.now in
     (processor_lists-bypass (param 0 g.row.J) assumption, (c.requires.ready.0 (sym c.is_offloaded.ensures ∙ c.if-is_offloaded.true), (s.safe, (c.requires.safe, hold-few (put_calls s.outlet.rear) (bypass_items s.bypass) (callbacks_of (labelled s.own)) c.args.callback c.requires.few))))
+
+pub returns-then-is_offloaded-clause-lane : goal.returns-then-is_offloaded-clause-lane
+returns-then-is_offloaded-clause-lane g c = c.hold_or_send.ensures.lane
+
+pub returns-then-is_offloaded-clause-advanced : goal.returns-then-is_offloaded-clause-advanced
+returns-then-is_offloaded-clause-advanced g c = refl
+
+pub returns-else-is_offloaded-clause-lane : goal.returns-else-is_offloaded-clause-lane
+returns-else-is_offloaded-clause-lane g c = refl
+
+pub returns-else-is_offloaded-clause-advanced : goal.returns-else-is_offloaded-clause-advanced
+returns-else-is_offloaded-clause-advanced g c = c.enqueue.ensures.advanced

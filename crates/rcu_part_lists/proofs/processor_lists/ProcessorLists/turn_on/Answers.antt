@@ -1,4 +1,4 @@
-use Rattle.std.proofs.Common.{◌≡◌, false, inl, inr, ap, sym, ◌∙◌, List, subst}
+use Rattle.std.proofs.Common.{◌≡◌, false, inl, inr, ap, sym, ◌∙◌, List, subst, true, refl}
 use Rattle.std.proofs.lemmas.Bool.{false≢true}
 use Rattle.rcu_jobs.specs.declared.modes.Mode.TheVariants.{Offloading, Offloaded}
 use Rattle.rcu_lists.specs.Labels.{Labelled, callbacks_of}
@@ -85,3 +85,28 @@ pub pour_out-requires : goal.pour_out-requires
 pour_out-requires g c = let s = c.args.self.now in
     let h = processor_lists-bypass (param 0 g.row.J) assumption in
     (h, (s.own_safe, (s.safe, s.few)))
+
+pub returns-then-is_offloaded-clause-lane : goal.returns-then-is_offloaded-clause-lane
+returns-then-is_offloaded-clause-lane g c = refl
+
+pub returns-then-is_offloaded-clause-advanced : goal.returns-then-is_offloaded-clause-advanced
+returns-then-is_offloaded-clause-advanced g c = refl
+
+pub returns-then-is_offloaded-clause-on : goal.returns-then-is_offloaded-clause-on
+returns-then-is_offloaded-clause-on g c = let s = c.args.self.now in let on : is_offloaded s.mode ≡ true = sym c.is_offloaded.ensures ∙ c.if-is_offloaded.true in
+    record { stays = λ _. refl; leads = λ off. absurd (other (is_offloaded s.mode) on off); fits = λ off _. absurd (other (is_offloaded s.mode) on off) }
+
+pub returns-then-is_offloaded-clause-places : goal.returns-then-is_offloaded-clause-places
+returns-then-is_offloaded-clause-places g c = refl
+
+pub returns-then-pour_out-clause-lane : goal.returns-then-pour_out-clause-lane
+returns-then-pour_out-clause-lane g c = c.pour_out.ensures.lane
+
+pub returns-then-pour_out-clause-advanced : goal.returns-then-pour_out-clause-advanced
+returns-then-pour_out-clause-advanced g c = c.pour_out.ensures.advanced
+
+pub returns-else-pour_out-clause-lane : goal.returns-else-pour_out-clause-lane
+returns-else-pour_out-clause-lane g c = c.pour_out.ensures.lane
+
+pub returns-else-pour_out-clause-advanced : goal.returns-else-pour_out-clause-advanced
+returns-else-pour_out-clause-advanced g c = c.pour_out.ensures.advanced

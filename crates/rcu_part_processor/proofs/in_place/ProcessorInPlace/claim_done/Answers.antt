@@ -72,3 +72,9 @@ returns-in-None-clause-keyed g c = λ sound. tt
 
 pub returns-in-None-clause-sound : goal.returns-in-None-clause-sound
 returns-in-None-clause-sound g c = λ sound. c.claim.ensures.sound (c.next.ensures.sound sound)
+
+pub claim-requires-send-J : goal.claim-requires-send-J
+claim-requires-send-J g c κs within = c.type_bounds.send-J
+
+pub claim-requires-send-J-Receipt : goal.claim-requires-send-J-Receipt
+claim-requires-send-J-Receipt g c κs within = c.type_bounds.send-J-Receipt

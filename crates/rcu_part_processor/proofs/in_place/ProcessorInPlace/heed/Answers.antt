@@ -106,3 +106,6 @@ asked-on-requires-clause-who g c = subst IsProcessor (sym c.args.self.now.state.
 
 pub heard-urged-requires-clause-board : goal.heard-urged-requires-clause-board
 heard-urged-requires-clause-board g c = let s = c.args.self.now.state in stands (arc_value s.board) c.deref-2.result.now c.asked-on.new.seat c.deref-2.ensures (c.asked-on.ensures.same.table ∙ s.here)
+
+pub returns-clause-count : goal.returns-clause-count
+returns-clause-count g c = refl

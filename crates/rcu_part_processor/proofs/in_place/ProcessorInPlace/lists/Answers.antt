@@ -6,3 +6,6 @@ use Rattle.rcu_part_processor.proofs.in_place.ProcessorInPlace.lists.Goals as go
 
 pub lists-requires : goal.lists-requires
 lists-requires g c = let h : FitsInMemory (row.the_row (param 0 g.row.J) (param 1 g.row.J-Receipt)) = assumption in in_struct _ _ _ (in_struct _ _ _ h)
+
+pub returns : goal.returns
+returns g c = c.lists.ensures

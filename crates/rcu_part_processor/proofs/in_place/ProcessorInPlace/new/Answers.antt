@@ -1,4 +1,4 @@
-use Rattle.std.proofs.Common.{◌≡◌, None, Some, ◌∙◌, sym}
+use Rattle.std.proofs.Common.{◌≡◌, None, Some, ◌∙◌, sym, refl}
 use Rattle.std.specs.Mem.{FitsInMemory}
 use denote.Param.{param}
 use Rattle.rcu_part_lists.proofs.Sizes.{in_struct}
@@ -24,3 +24,12 @@ invariant_of-state g c = let s = c.into_state-board.result in record {
 
 pub returns-clause-same : goal.returns-clause-same
 returns-clause-same g c = λ e. sym (processor_once c.into_state-board.result _ _ _ _ _ _ _ _) ∙ c.into_state-board.ensures
+
+pub into_state-board-requires-send-J : goal.into_state-board-requires-send-J
+into_state-board-requires-send-J g c κs within = c.type_bounds.send-J
+
+pub into_state-board-requires-send-J-Receipt : goal.into_state-board-requires-send-J-Receipt
+into_state-board-requires-send-J-Receipt g c κs within = c.type_bounds.send-J-Receipt
+
+pub returns-clause-rests : goal.returns-clause-rests
+returns-clause-rests g c = refl

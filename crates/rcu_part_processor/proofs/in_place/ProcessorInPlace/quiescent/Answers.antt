@@ -56,3 +56,15 @@ returns-in_default-clause-keeps g c = record { count = refl; lists = refl; recor
 
 pub returns-in_default-clause-sound : goal.returns-in_default-clause-sound
 returns-in_default-clause-sound g c = λ sound. record { keyed = sound.keyed; given = sound.given }
+
+pub report_quiescent_state-counted-requires-clause-role : goal.report_quiescent_state-counted-requires-clause-role
+report_quiescent_state-counted-requires-clause-role g c = c.args.self.now.state.role
+
+pub report_quiescent_state-counted-requires-clause-here : goal.report_quiescent_state-counted-requires-clause-here
+report_quiescent_state-counted-requires-clause-here g c = c.args.self.now.state.since.word
+
+pub returns-in-Some-clause-reports : goal.returns-in-Some-clause-reports
+returns-in-Some-clause-reports g c = c.in-Some.ensures.reports
+
+pub returns-in_default-clause-reports : goal.returns-in_default-clause-reports
+returns-in_default-clause-reports g c = c.report_quiescent_state-counted.ensures.reports

@@ -33,3 +33,6 @@ returns-clause-sound g c = λ sound. record {
   keyed = sound.keyed;
   given = subst (λ (rs : List (Record g.row.J-Receipt.Denot)). Given g.J.Job.gives rs) (sym (ap (λ (r : Recorded g.row.J-Receipt.Denot). r.all) c.take.ensures.rest)) sound.given;
 }
+
+pub returns-clause-taken : goal.returns-clause-taken
+returns-clause-taken g c = c.take.ensures.taken

@@ -86,3 +86,24 @@ returns-clause-keyed g c = λ sound. c.claim_done-2.ensures.keyed (c.settle.ensu
 
 pub returns-clause-sound : goal.returns-clause-sound
 returns-clause-sound g c = λ sound. c.claim_done-2.ensures.sound (c.settle.ensures.sound (c.heed.ensures.sound (c.catch_up-seen.ensures.sound sound)))
+
+pub claim_done-requires-send-J : goal.claim_done-requires-send-J
+claim_done-requires-send-J g c κs within = c.type_bounds.send-J
+
+pub claim_done-requires-send-J-Receipt : goal.claim_done-requires-send-J-Receipt
+claim_done-requires-send-J-Receipt g c κs within = c.type_bounds.send-J-Receipt
+
+pub claim_done-requires-clause-seen : goal.claim_done-requires-clause-seen
+claim_done-requires-clause-seen g c κs within = (assumption, (assumption, c.catch_up-seen.ensures.sight))
+
+pub returns-then-not-processor-clause-counts : goal.returns-then-not-processor-clause-counts
+returns-then-not-processor-clause-counts g c = c.claim_done.ensures.counts
+
+pub claim_done-requires-2-send-J : goal.claim_done-requires-2-send-J
+claim_done-requires-2-send-J g c κs within = c.type_bounds.send-J
+
+pub claim_done-requires-2-send-J-Receipt : goal.claim_done-requires-2-send-J-Receipt
+claim_done-requires-2-send-J-Receipt g c κs within = c.type_bounds.send-J-Receipt
+
+pub returns-clause-counts : goal.returns-clause-counts
+returns-clause-counts g c = c.claim_done-2.ensures.counts

@@ -104,3 +104,9 @@ returns-in_default-clause-same g c = record { part = record { board = refl; seat
 
 pub returns-in_default-clause-sight : goal.returns-in_default-clause-sight
 returns-in_default-clause-sight g c = (sym c.look_at_number-seen.ensures.sight.0, ap (λ (h : Holding g.row.J.Denot). h.advanced) c.in_default.ensures.list)
+
+pub returns-in-Some-clause-count : goal.returns-in-Some-clause-count
+returns-in-Some-clause-count g c = refl
+
+pub returns-in_default-clause-count : goal.returns-in_default-clause-count
+returns-in_default-clause-count g c = refl

@@ -135,3 +135,9 @@ returns-clause-sound g c = λ sound.
     let h = holding c.args.self.state.lists in let h' = holding c.take.new.self in let x = c.in-Some.callback in let t = c.in-Some.ensures in
     let rest = keyed_without g.J.Job.key_of (put_by h) x (held_in h') (subst (AreKeyed g.J.Job.key_of) (ap (λ l. put_by h ++ l) t.places) sound.keyed) in
     (record { keyed = subst (AreKeyed g.J.Job.key_of) (sym (ap (λ l. l ++ held_in h') (ap put_by t.taken.1))) rest; given = sound.given }, tt)
+
+pub returns-then-not-try_claim-clause-count : goal.returns-then-not-try_claim-clause-count
+returns-then-not-try_claim-clause-count g c = refl
+
+pub unreachable-unreachable : goal.unreachable-unreachable
+unreachable-unreachable g c = c.unreachable.result

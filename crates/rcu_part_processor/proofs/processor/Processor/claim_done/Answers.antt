@@ -76,3 +76,12 @@ returns-in-Ok-clause-keyed g c = λ sound. c.claim.ensures.keyed (c.next.ensures
 
 pub returns-in-Ok-clause-sound : goal.returns-in-Ok-clause-sound
 returns-in-Ok-clause-sound g c = λ sound. c.claim.ensures.sound (c.next.ensures.sound sound)
+
+pub claim-requires-send-J : goal.claim-requires-send-J
+claim-requires-send-J g c κs within = c.type_bounds.send-J
+
+pub claim-requires-send-J-Receipt : goal.claim-requires-send-J-Receipt
+claim-requires-send-J-Receipt g c κs within = c.type_bounds.send-J-Receipt
+
+pub returns-in-Ok-clause-counts : goal.returns-in-Ok-clause-counts
+returns-in-Ok-clause-counts g c = c.claim.ensures.counts

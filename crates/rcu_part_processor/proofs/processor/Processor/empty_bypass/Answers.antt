@@ -1,4 +1,5 @@
-use Rattle.std.proofs.Common.{true, false, ap, refl}
+use Rattle.std.proofs.lemmas.Bool.{false≢true}
+use Rattle.std.proofs.Common.{ap, refl}
 use Rattle.std.specs.Mem.{FitsInMemory}
 use denote.Param.{param}
 use Rattle.rcu_board.specs.Seats.{view}
@@ -9,7 +10,7 @@ use Rattle.rcu_part_steps.proofs.Telling.{tells_none}
 use Rattle.rcu_part_order.specs.Recorded.{ran_of}
 use Rattle.rcu_part_processor.specs.contracts.processor.Processor as row
 use Rattle.rcu_part_processor.proofs.Heeding.{shifts_law, shifts_put}
-use Rattle.rcu_part_processor.proofs.Leaving.{none_shown, put_local, shown}
+use Rattle.rcu_part_processor.proofs.Leaving.{none_shown, put_local, shown, is_cpu}
 use Rattle.rcu_part_processor.proofs.Taking.{sound_moved}
 use Rattle.rcu_part_processor.proofs.processor.Processor.empty_bypass.Goals as goal
 
@@ -63,3 +64,9 @@ returns-clause-empty g c = none_shown c.in-Cpu.bypass (holding c.put_bypass.new.
 
 pub returns-clause-sound : goal.returns-clause-sound
 returns-clause-sound g c = sound_moved g.J.Job.key_of g.J.Job.gives c.args.self.now.state _ c.put_bypass.ensures.places refl
+
+pub unreachable-requires : goal.unreachable-requires
+unreachable-requires g c = absurd (false≢true (ap is_cpu c.in_default.ensures))
+
+pub unreachable-unreachable : goal.unreachable-unreachable
+unreachable-unreachable g c = c.unreachable.result

@@ -104,3 +104,6 @@ heard-urged-requires-clause-board g c = let s = c.args.self.now.state in stands 
 
 pub returns-clause-same : goal.returns-clause-same
 returns-clause-same g c = record { part = record { board = refl; seat = same_seat_again c.args.self.now.state.seat c.asked-on.new.seat c.heard-urged.new.seat c.asked-on.ensures.same c.heard-urged.ensures.same }; lane = c.switch.ensures.lane ∙ c.release.ensures.lane; cpu = refl; offloadable = refl; limit = refl; blimit = refl; kept = refl }
+
+pub returns-clause-count : goal.returns-clause-count
+returns-clause-count g c = refl

@@ -38,3 +38,6 @@ returns-clause-keeps g c = record { count = refl; lists = refl; records = refl }
 
 pub returns-clause-sound : goal.returns-clause-sound
 returns-clause-sound g c = λ sound. record { keyed = sound.keyed; given = sound.given }
+
+pub returns-clause-view : goal.returns-clause-view
+returns-clause-view g c = c.halted.ensures.view

@@ -59,3 +59,9 @@ returns-clause-sound g c = λ sound. let s = c.if-not-empty_bypass.ensures.sound
   },
   tt,
 )
+
+pub go_away-requires-send-J : goal.go_away-requires-send-J
+go_away-requires-send-J g c κs within = c.type_bounds.send-J
+
+pub go_away-requires-send-J-Receipt : goal.go_away-requires-send-J-Receipt
+go_away-requires-send-J-Receipt g c κs within = c.type_bounds.send-J-Receipt

@@ -42,3 +42,6 @@ loop-smaller g c = (c.in-Some.ensures.goes.on tt).2
 
 pub unreachable-requires : goal.unreachable-requires
 unreachable-requires g c = let f : false ≡ true = c.in-None.ensures.steps in cc
+
+pub unreachable-unreachable : goal.unreachable-unreachable
+unreachable-unreachable g c = c.unreachable.result

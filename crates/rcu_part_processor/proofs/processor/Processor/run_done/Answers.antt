@@ -57,3 +57,9 @@ returns-in-Some-clause-first g c = in_time c.in-Some.stop c.loop-ran.ran c.args.
 
 pub returns-clause-first : goal.returns-clause-first
 returns-clause-first g c = refl
+
+pub returns-in-Some-clause-few : goal.returns-in-Some-clause-few
+returns-in-Some-clause-few g c = let low = c.loop-ran-test.true in omega arith
+
+pub returns-clause-few : goal.returns-clause-few
+returns-clause-few g c = omega arith

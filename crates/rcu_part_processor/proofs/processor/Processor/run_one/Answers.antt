@@ -189,3 +189,24 @@ returns-in_default-find_room-clause-counts g c = λ e. (let f : Memory ≡ Limit
 
 pub returns-then-not-try_claim-clause-counts : goal.returns-then-not-try_claim-clause-counts
 returns-then-not-try_claim-clause-counts g c = λ e. (let f : Turn ≡ Limit = e in cc)
+
+pub returns-in_default-clause-count : goal.returns-in_default-clause-count
+returns-in_default-clause-count g c = refl
+
+pub returns-in_default-clause-sound : goal.returns-in_default-clause-sound
+returns-in_default-clause-sound g c = λ sound. record { keyed = sound.keyed; given = sound.given }
+
+pub returns-in_default-find_room-clause-count : goal.returns-in_default-find_room-clause-count
+returns-in_default-find_room-clause-count g c = refl
+
+pub returns-then-not-try_claim-clause-count : goal.returns-then-not-try_claim-clause-count
+returns-then-not-try_claim-clause-count g c = refl
+
+pub unreachable-unreachable : goal.unreachable-unreachable
+unreachable-unreachable g c = c.unreachable.result
+
+pub add-requires : goal.add-requires
+add-requires g c = record { room = c.in-Ok.ensures.room }
+
+pub returns-clause-count : goal.returns-clause-count
+returns-clause-count g c = refl

@@ -92,3 +92,9 @@ returns-else-is_deoffloading-clause-sight g c = (refl, refl)
 
 pub returns-else-is_deoffloading-clause-sound : goal.returns-else-is_deoffloading-clause-sound
 returns-else-is_deoffloading-clause-sound g c = λ sound. record { keyed = sound.keyed; given = sound.given }
+
+pub returns-then-is_deoffloading-clause-count : goal.returns-then-is_deoffloading-clause-count
+returns-then-is_deoffloading-clause-count g c = refl
+
+pub returns-else-is_deoffloading-clause-count : goal.returns-else-is_deoffloading-clause-count
+returns-else-is_deoffloading-clause-count g c = refl

@@ -58,3 +58,9 @@ returns g c = let s = c.args.self.now.state in let e = c.accept_job.ensures in r
     sound = λ sound. record { keyed = e.keyed sound.keyed; given = sound.given };
   };
 }
+
+pub accept_job-requires-send-J : goal.accept_job-requires-send-J
+accept_job-requires-send-J g c κs within = c.type_bounds.send-J
+
+pub accept_job-requires-send-J-Receipt : goal.accept_job-requires-send-J-Receipt
+accept_job-requires-send-J-Receipt g c κs within = c.type_bounds.send-J-Receipt
