@@ -29,10 +29,10 @@ array_drop-batch-requires g c = let h : FitsInMemory (row.the_row (param 0 g.row
 
 pub returns-in-Ok-into_places-clause-joined : goal.returns-in-Ok-into_places-clause-joined
 returns-in-Ok-into_places-clause-joined g c = λ _. let old = c.reserve.new.self.items in let all = c.in-Ok-into_places.ensures.packed ∙ ap batch_items c.take_all.ensures.all in (
-      ap blocks_items c.push_back_reserved.ensures.items ∙ blocks-more old c.in-Ok-into_places.block ∙ ap (λ l. blocks_items old ++ l) all
-          ∙ ap (λ bs. blocks_items bs ++ batch_items c.args.batch.now) c.reserve.ensures.items,
-      c.take_all.ensures.left,
-    )
+  ap blocks_items c.push_back_reserved.ensures.items ∙ blocks-more old c.in-Ok-into_places.block ∙ ap (λ l. blocks_items old ++ l) all
+      ∙ ap (λ bs. blocks_items bs ++ batch_items c.args.batch.now) c.reserve.ensures.items,
+  c.take_all.ensures.left,
+)
 
 pub returns-in-Ok-into_places-clause-refused : goal.returns-in-Ok-into_places-clause-refused
 returns-in-Ok-into_places-clause-refused g c = λ e. absurd (false≢true (sym e))

@@ -30,7 +30,7 @@ returns-clause-left_room g c = let all : c.loop.counter ≡ c.args.number = omeg
 pub move_whole-requires : goal.move_whole-requires
 move_whole-requires g c = let s = c.args.self.now in let n = length-drop s.next s.slots.items in
     let many : c.args.number ≡ length (places_items s) = omega (arith, n, s.full, c.if-self-eq0.true, c.if-number-len.true, c.len.ensures, s.slots.ok.0) in
-    record { whole = c.if-self-eq0.true; room = subst (BlockRoom c.args.to.now) many c.requires.room; }
+    record { whole = c.if-self-eq0.true; room = subst (BlockRoom c.args.to.now) many c.requires.room }
 
 pub returns-then-number-len-clause-moved : goal.returns-then-number-len-clause-moved
 returns-then-number-len-clause-moved g c = let s = c.args.self.now in let n = length-drop s.next s.slots.items in

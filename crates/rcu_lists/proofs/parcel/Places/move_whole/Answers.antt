@@ -20,4 +20,4 @@ invariant_of-to g c = let t = c.args.to.now in let xs = t.slots.items in let s =
 pub returns-clause-moved : goal.returns-clause-moved
 returns-clause-moved g c = let t = c.args.to.now in let xs = t.slots.items in let ys = c.args.self.now.slots.items in
     ap filled (ap (drop t.next) c.in-Ok.ensures.items ∙ drop-append-le t.next xs ys t.within) ∙ filled-append (drop t.next xs) ys
-      ∙ ap (λ n. filled (drop t.next xs) ++ filled (drop n ys)) (sym c.requires.whole)
+    ∙ ap (λ n. filled (drop t.next xs) ++ filled (drop n ys)) (sym c.requires.whole)
