@@ -16,3 +16,30 @@ returns g c = (
       c.if-is_fresh.false c.if-can_finish.false (negated c.can_finish-2.result e),
   λ i. ap not (not_hand (seen g.J.Job.key_of c.args.processor.now) c.can_finish-2.result c.can_finish-2.ensures i),
 )
+
+pub is_fresh-requires-send-J : goal.is_fresh-requires-send-J
+is_fresh-requires-send-J g c κs within = c.type_bounds.send-J
+
+pub is_fresh-requires-send-J-Receipt : goal.is_fresh-requires-send-J-Receipt
+is_fresh-requires-send-J-Receipt g c κs within = c.type_bounds.send-J-Receipt
+
+pub is_fresh-requires-after_bounds : goal.is_fresh-requires-after_bounds
+is_fresh-requires-after_bounds g c κs within = assumption
+
+pub can_finish-requires-send-J : goal.can_finish-requires-send-J
+can_finish-requires-send-J g c κs within = c.type_bounds.send-J
+
+pub can_finish-requires-send-J-Receipt : goal.can_finish-requires-send-J-Receipt
+can_finish-requires-send-J-Receipt g c κs within = c.type_bounds.send-J-Receipt
+
+pub can_finish-requires-after_bounds : goal.can_finish-requires-after_bounds
+can_finish-requires-after_bounds g c κs within = assumption
+
+pub can_finish-requires-2-send-J : goal.can_finish-requires-2-send-J
+can_finish-requires-2-send-J g c κs within = c.type_bounds.send-J
+
+pub can_finish-requires-2-send-J-Receipt : goal.can_finish-requires-2-send-J-Receipt
+can_finish-requires-2-send-J-Receipt g c κs within = c.type_bounds.send-J-Receipt
+
+pub can_finish-requires-2-after_bounds : goal.can_finish-requires-2-after_bounds
+can_finish-requires-2-after_bounds g c κs within = assumption

@@ -1,6 +1,7 @@
-use Rattle.std.proofs.Common.{length, ◌<◌, ◌≤◌, ◌∙◌, ap, get_or, subst}
+use Rattle.std.proofs.Common.{[], sym, length, ◌<◌, ◌≤◌, ◌∙◌, ap, get_or, subst}
 use Rattle.rcu_world_processor.specs.Leaving.{IsCounted}
 use Rattle.rcu_world_processor.specs.Views.{seen}
+use Rattle.rcu_world.specs.Leaving.{HaveRoom}
 use Rattle.rcu_world.proofs.Leaving.{all_at, exact_room, room_more, room_end}
 use Rattle.rcu_world.proofs.Wholes.{if_ok_never}
 use Rattle.rcu_world.proofs.end.find_rooms.Goals as goal
@@ -36,3 +37,6 @@ returns-in_err-with_capacity g c = if_ok_never _ _ c.from_residual.ensures
 
 pub returns-in_err-push : goal.returns-in_err-push
 returns-in_err-push g c = if_ok_never _ _ c.from_residual-in_err-push.ensures
+
+pub loop-p-init : goal.loop-p-init
+loop-p-init g c = subst (HaveRoom {R = g.row.J-Receipt.Denot} g.J.Job.key_of []) (sym c.new-rooms.ensures.items) tt

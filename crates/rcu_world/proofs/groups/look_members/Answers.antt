@@ -1,4 +1,4 @@
-use Rattle.std.proofs.Common.{◌<◌, ◌≡◌, length, arith, subst, sym, ap, ◌∙◌, drop, take, ◌+◌, ◌++◌, set, cond}
+use Rattle.std.proofs.Common.{refl, ◌<◌, ◌≡◌, length, arith, subst, sym, ap, ◌∙◌, drop, take, ◌+◌, ◌++◌, set, cond}
 use Rattle.std.proofs.lemmas.List.{length-set, drop-set-lt, length-map, map-set}
 use Rattle.rcu_world_law.specs.Steps.{group_looks}
 use Rattle.rcu_world_law.specs.Events.{each_cpu}
@@ -45,3 +45,15 @@ loop-i-preserved g c =
 
 pub returns-clause-looks : goal.returns-clause-looks
 returns-clause-looks g c = each_end (group_step c.args.offloadable.now.items c.args.stride c.args.group c.args.number) c.loop-i.i _ (all_seen g.J.Job.key_of c.loop-i.processors.items) (omega (arith, length-map c.loop-i.processors.items (seen g.J.Job.key_of))) c.loop-i.invariant.done
+
+pub loop-i-init : goal.loop-i-init
+loop-i-init g c = record { done = refl; rest = refl; len = refl; given = λ mark a. a }
+
+pub is_member_of-member-requires : goal.is_member_of-member-requires
+is_member_of-member-requires g c = c.requires.stride
+
+pub index_mut-p-requires : goal.index_mut-p-requires
+index_mut-p-requires g c = subst (λ n. c.loop-i.i < n) (c.len-i-end.ensures ∙ c.args.processors.now.ok.0 ∙ sym c.loop-i.invariant.len ∙ sym c.loop-i.processors.ok.0) c.loop-i-test.true
+
+pub returns-clause-given : goal.returns-clause-given
+returns-clause-given g c = c.loop-i.invariant.given

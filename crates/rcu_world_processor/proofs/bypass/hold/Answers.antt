@@ -34,3 +34,9 @@ returns-then-lazy-clause-items g c = let k = g.J.Job.key_of in ap (calls k) c.ho
 
 pub returns-clause-items : goal.returns-clause-items
 returns-clause-items g c = let k = g.J.Job.key_of in ap (calls k) c.hold-2.ensures.items ∙ map-append (call k) (bypass_items c.args.bypass.now) (c.args.callback ∷ [])
+
+pub hold-requires : goal.hold-requires
+hold-requires g c = (assumption, c.requires)
+
+pub hold-requires-2 : goal.hold-requires-2
+hold-requires-2 g c = (assumption, c.requires)
