@@ -7,12 +7,14 @@ pub mod Moved
 pub mod BoardSteps
 pub mod Roles
 pub mod WordSteps
+pub mod TwoSteps
 pub mod Groups
 pub mod Opening
 pub mod Whole
 pub mod Rows
 pub mod Facts
 pub mod Later
+pub mod Between
 pub mod Bits
 pub mod Stepping
 pub mod Urging

@@ -149,6 +149,15 @@ pub record Finishing (st : Step ℕ) (m : SeatState) (r : ℕ) (n : SeatState) :
   pub runs : (c : Claim) → m.0.running ≡ c ∷ [] → r ≡ 2 * c.number + 1
   pub later : seen_at m.0 st.word ≤ r
 
+-- a finish and then a claim of the next number, made as one: both are counted, and what stood between them was never seen
+abbrev pub went_on : ℕ → ℕ → ℕ → View → View
+went_on i x p v = claiming i (x + 2) p ((x + 1) / 2) (finished i (x + 1) v)
+
+pub record GoingOn (st : Step ℕ) (m : SeatState) (r : ℕ) (n : SeatState) : Type 0 where
+  pub view : n ≡ (went_on st.word r (cpu_of st.word) m.0, m.1)
+  pub runs : (c : Claim) → m.0.running ≡ c ∷ [] → r ≡ 2 * c.number + 1
+  pub later : seen_at m.0 st.word ≤ r
+
 -- ---- S_p, halt, urge
 
 -- a load or store of a word that is 0 or 1

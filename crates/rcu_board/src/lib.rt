@@ -20,8 +20,8 @@
 //! - By the rule `Rule`, which holds between any two steps (`BoardRule` in its specs, one law for each word,
 //!   and `begins`); `view` and `same` of `look`, `report` (`counted`), `leave`, `come_back` (`later`), `start`,
 //!   `end`, `sighted` (`law`), `meet` (`won`, `lost`, `other`), `need`, `needed`, `accept` (`won`, `shut`),
-//!   `shut_one`, `count_of` (`own`), `claim` (`won`, `lost`), `finish`, `turn_of`, `ask`, `asked`, `halt`,
-//!   `halted`, `urge`, `heard`; `open_board` (`seats`), `merge` (`view`), `last_look` (`stands`),
+//!   `shut_one`, `count_of` (`own`), `claim` (`won`, `lost`), `finish`, `go_on`, `turn_of`, `ask`, `asked`,
+//!   `halt`, `halted`, `urge`, `heard`; `open_board` (`seats`), `merge` (`view`), `last_look` (`stands`),
 //!   `last_turn_of`, `last_report_of` (`settled`), `last_count_of` (`counted`).
 #![tactic(auto)]
 
@@ -38,7 +38,8 @@ pub use gather::{last_count_of, last_look, last_report_of, last_turn_of, merge};
 pub use open::{Seats, open_board};
 pub use plays::Rule;
 pub use steps::{
-    Claimed, accept, ask, asked, claim, come_back, count_of, end, finish, halt, halted, heard,
-    leave, look, meet, need, needed, report, shut_one, sighted, start, turn_of, urge, urge_words,
+    Claimed, accept, ask, asked, claim, come_back, count_of, end, finish, go_on, halt, halted,
+    heard, leave, look, meet, need, needed, report, shut_one, sighted, start, turn_of, urge,
+    urge_words,
 };
 pub use view::{Accepted, Claim, Own, Quiet, View};

@@ -17,8 +17,8 @@ ghost use Rattle.rcu_board.specs.Claims.{IfWon, IfNot};
 
 use crate::board::{Board, Role, Seat};
 use crate::plays::{
-    Accept, Claim, Count, Drive, Finish, Hear, Leave, Load, Look, Meet, Need, Report, Return, Shut,
-    Sight, Switch, Urge,
+    Accept, Claim, Count, Drive, Finish, GoOn, Hear, Leave, Load, Look, Meet, Need, Report, Return,
+    Shut, Sight, Switch, Urge,
 };
 use rcu_numbers::{all_but, first_bits};
 
@@ -350,6 +350,24 @@ pub fn finish(board: &Board, seat: &mut Seat)
     board
         .words
         .fetch_add::<Finish>(&mut seat.seat, FIRST_TURNS + WORDS_EACH * p as usize, 1);
+}
+
+/// Ends the claim that runs, and claims the next number, by one step: nobody else sees what would stand between.
+pub fn go_on(board: &Board, seat: &mut Seat)
+    requires board { AtBoard board.now seat.old }
+    requires who { MayClaim seat.old.role }
+    requires runs { IsRunning (cpu_of_role seat.old.role) (view seat.old) }
+    ensures same { SameSeat seat.old seat.new }
+    ensures view { let p = cpu_of_role seat.old.role in let k = running_number (view seat.old) in
+        view seat.new ≡ claiming (turns_word p) (2 * (k + 1) + 1) p (k + 1)
+        (finished (turns_word p) (2 * k + 2) (view seat.old)) }
+    ensures later { seen_at (view seat.old) (turns_word (cpu_of_role seat.old.role))
+        ≤ 2 * running_number (view seat.old) + 1 }
+{
+    let p = cpu(&seat.role);
+    board
+        .words
+        .fetch_add::<GoOn>(&mut seat.seat, FIRST_TURNS + WORDS_EACH * p as usize, 2);
 }
 
 /// Loads twice the number of the next callback of processor `p` to run, plus 1 while it runs.

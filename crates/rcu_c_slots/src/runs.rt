@@ -88,8 +88,7 @@ impl LentHand {
         let Some(ended) = self.job else {
             return Err(Fault::NotRunning);
         };
-        self.hand.finish(ended);
-        let begins = self.hand.begin();
+        let begins = self.hand.go_on(ended);
         match begins {
             Ok(next) => {
                 self.job = Some(next);

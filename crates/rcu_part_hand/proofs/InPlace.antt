@@ -1,5 +1,5 @@
 -- What a hand in place is, by its parts.
-use Rattle.std.proofs.Common.{◌≡◌, ◌≢◌, ℕ, [], ap, sym, ◌∙◌, Option, None, Some, IfSome}
+use Rattle.std.proofs.Common.{◌≡◌, ◌≢◌, ℕ, [], ap, refl, sym, ◌∙◌, Option, None, Some, IfSome}
 use Rattle.std.proofs.lemmas.Option.{none-some}
 use Rattle.std.proofs.Props.{props}
 use Rattle.rcu_jobs.specs.declared.Stop.{Stop}
@@ -24,6 +24,10 @@ or_else a (Some x) = x
 
 pub some_is : {A : Type 0} (a b : A) → Some a ≡ Some b → a ≡ b
 some_is a b e = ap (or_else a) e
+
+pub some_of : {A : Type 0} (o : Option A) → o ≢ None → (x : A) × (o ≡ Some x)
+some_of None none = absurd (none refl)
+some_of (Some x) none = (x, refl)
 
 -- that no claim runs can be shown in one way alone
 pub none_once : (o : Option ClaimedCallback) (e f : o ≡ None) → e ≡ f

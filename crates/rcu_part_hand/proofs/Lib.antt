@@ -3,3 +3,4 @@ pub mod Standing
 pub mod HandBegins
 pub mod InOneTurn
 pub mod InPlace
+pub mod PassingOn

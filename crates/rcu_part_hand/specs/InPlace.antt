@@ -1,19 +1,23 @@
 -- A hand in place: between its calls it is a hand, or a running hand, and what its calls do is said of those:
 -- docs/specification/surface.md, "rcu_parts", `begin` and `finish`.
-use Rattle.std.specs.Prelude.{◌≡◌, ℕ}
+use Rattle.std.specs.Prelude.{◌≡◌, ℕ, ◌+◌, ◌<◌, ◌≤◌, List, ◌∷◌, IfErr, IfOk, Result}
 use Rattle.std.specs.declared.option.Option.TheVariants.{None, Some}
 use Rattle.std.proofs.lemmas.Option.{none-some}
 use Rattle.rcu_board.specs.Plays.{touched}
 use Rattle.rcu_board.specs.Words.{halt_word}
 use Rattle.rcu_jobs.specs.Records.{Given}
+use Rattle.rcu_jobs.specs.declared.Stop.{Stop}
 use Rattle.rcu_jobs.specs.declared.Stop.TheVariants.{Turn}
+use Rattle.rcu_jobs.specs.declared.callback.Callback.{Callback}
+use Rattle.rcu_numbers.specs.Numbers.{snap_of}
+use Rattle.rcu_numbers.specs.declared.shape.TheConstants.{MOST_CALLS}
 use Rattle.rcu_part_lists.specs.Helds.{drawn_by}
-use Rattle.rcu_part_hand.specs.Begins.{SameBegun, SameFinished}
+use Rattle.rcu_part_hand.specs.Begins.{BeginsHand, FinishesHand, IsGivenFor, SameBegun, SameFinished, StopsHand, running_held}
 use Rattle.rcu_part_hand.specs.Hands.{SameHand, Ran, StopsAt, hand_drawn, hand_held, hand_records, hand_view}
 use Rattle.rcu_part_hand.specs.declared.hand.HandState.{HandState}
 use Rattle.rcu_part_hand.specs.declared.in_place.HandInPlaceState.{HandInPlaceState}
 use Rattle.rcu_part_hand.specs.declared.running_hand.RunningHandState.{RunningHandState}
-use Rattle.rcu_part_order.specs.Recorded.{ran_of}
+use Rattle.rcu_part_order.specs.Recorded.{HasRoomForTwo, ran_of}
 use Rattle.rcu_part_steps.specs.Places.{AreKeyed}
 use Rattle.rcu_part_steps.specs.declared.begins.ClaimedCallback.{ClaimedCallback}
 
@@ -105,3 +109,24 @@ module _ {J R : Type 0} where
     pub held : hand_held q ≡ hand_held p
     pub drawn : hand_drawn q ≡ hand_drawn p
     pub records : hand_records q ≡ hand_records p
+
+  -- While a claim runs: the first callback that is held is the next of its processor, its wait was over at the number that was
+  -- seen before that claim, and there is room for the records of both.
+  pub record IsFollowed (h : RunningHandState J R) : Type 0 where
+    pub first : Callback J
+    pub rest : List (Callback J)
+    pub held : running_held h ≡ first ∷ rest
+    pub next : first.number ≡ h.claimed.number + 1
+    pub over : snap_of first.stamp ≤ h.claimed.ready
+    pub small : first.number < MOST_CALLS
+    pub room : HasRoomForTwo h.ran
+
+  -- A finish with this receipt, and then a begin, which came to this. What is known of jobs stays known over both.
+  pub record GoesOn (key_of : J → ℕ) (gives : ℕ → R → Type 0) (receipt : R) (result : Result J Stop) (p q : HandInPlaceState J R) : Type 0 where
+    pub between : HandInPlaceState J R
+    pub rests : between.claimed ≡ None
+    pub finishes : EndsRunning (FinishesHand receipt) p between
+    pub begins : IfOk result (λ job. StartsRunning (λ a b. BeginsHand a b job) between q)
+    pub stops : IfErr result (λ stop. StaysResting (StopsHand stop) between q)
+    pub finishes_sound : IfRunning (λ h. IsGivenFor key_of gives h receipt) p → KeepsSoundInPlace key_of gives p between
+    pub begins_sound : KeepsSoundInPlace key_of gives between q

@@ -1,5 +1,6 @@
 -- What a hand in place keeps while a claim of it runs.
-use Rattle.std.specs.Prelude.{ℕ, ◌<◌, List}
+use Rattle.std.specs.Prelude.{ℕ, ◌<◌, ◌≤◌, List}
+use Rattle.rcu_board.specs.Views.{sight}
 use Rattle.rcu_board.specs.declared.view.View.{View}
 use Rattle.rcu_jobs.specs.declared.callback.Callback.{Callback}
 use Rattle.rcu_numbers.specs.declared.shape.TheConstants.{MOST_CALLS}
@@ -13,3 +14,5 @@ pub record RunsAs {J R : Type 0} (cpu : ℕ) (c : ClaimedCallback) (v : View) (r
   pub small : c.number < MOST_CALLS
   pub room : HasRoom ran
   pub lawful : IsRunningHand cpu c v (ran_of ran) taken
+  -- the number that was seen before the claim is not above what the seat has seen
+  pub seen : c.ready ≤ sight v

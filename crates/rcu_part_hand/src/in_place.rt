@@ -1,6 +1,6 @@
 //! A hand that stays where it is while claims of it begin and end.
 
-ghost use Rattle.std.specs.Prelude.{◌≡◌, ◌≢◌, ◌<◌, ◌≤◌, ℕ, None, Some, IfNone, IfSome, IfOk, IfErr, is_some};
+ghost use Rattle.std.specs.Prelude.{◌≡◌, ◌≢◌, ◌<◌, ◌≤◌, ℕ, true, None, Some, Ok, IfNone, IfSome, IfOk, IfErr, is_some};
 ghost use Rattle.std.specs.Arc.{arc_value};
 ghost use Rattle.std.specs.Int.{from_bool};
 ghost use Rattle.rcu_numbers.specs.declared.sequence.TheConstants.{LAST_NUMBER};
@@ -21,7 +21,7 @@ use rcu_jobs::{Callback, Job, Stop};
 use rcu_numbers::snap;
 use rcu_part_lists::Held;
 use rcu_part_order::Records;
-use rcu_part_steps::{ClaimedCallback, end_claim, look_at_number, try_claim};
+use rcu_part_steps::{ClaimedCallback, end_and_claim, end_claim, look_at_number, try_claim};
 use std::alloc::Global;
 use std::sync::Arc;
 
@@ -252,6 +252,75 @@ impl<J: Job> HandInPlace<J> {
         end_claim(&state.board, &mut state.seat);
         state.ran.add(claimed.record(receipt));
         state.claimed = None;
+    }
+}
+
+impl<J: Job> HandInPlace<J> {
+    ghost use Rattle.rcu_part_hand.specs.Begins.{IsKeyed};
+    ghost use Rattle.rcu_part_hand.specs.InPlace.{GoesOn, IfRunning, IsFollowed};
+
+    // Whether the first callback that it holds is the next of its processor, its wait was over at the number that was seen
+    // before the claim that runs, and there is room for the records of both.
+    fn is_followed(&self) -> bool
+        requires runs { self.now.state.claimed ≢ None }
+        ensures { result ≡ true → IfRunning IsFollowed self.now.state }
+    {
+        let state = &self.state;
+        let Some(claimed) = state.claimed else {
+            unreachable!()
+        };
+        let Some(first) = state.held.first() else {
+            return false;
+        };
+        if first.number != claimed.number + 1 {
+            return false;
+        }
+        if snap(first.stamp) > claimed.ready {
+            return false;
+        }
+        state.ran.has_room_for_two()
+    }
+
+    // Ends the claim, and claims the next callback, by one step of the board.
+    fn pass_on(&mut self, receipt: J::Receipt) -> J
+        requires runs { self.old.state.claimed ≢ None }
+        requires followed { IfRunning IsFollowed self.old.state }
+        ensures goes_on { GoesOn J.key_of J.gives receipt (Ok result) self.old.state self.new.state }
+        ensures keyed { IfRunning (λ h. IsKeyed J.key_of h result) self.new.state }
+    {
+        let state = &mut self.state;
+        let Some(ended) = state.claimed else {
+            unreachable!()
+        };
+        let seen = look_at_number(&state.board, &mut state.seat);
+        end_and_claim(&state.board, &mut state.seat);
+        state.ran.add(ended.record(receipt));
+        let Some(callback) = state.held.take() else {
+            unreachable!()
+        };
+        state.claimed = Some(ClaimedCallback::of(&callback, seen));
+        let Callback { job, .. } = callback;
+        job
+    }
+
+    /// Ends the claim, as [`finish`](Self::finish) does, and then begins a callback, as [`begin`](Self::begin) does: by one
+    /// step of the board, where the next callback that it holds is the next of its processor.
+    ///
+    /// # Errors
+    ///
+    /// As `begin`; the claim has ended.
+    #[inline(always)]
+    pub fn go_on(&mut self, receipt: J::Receipt) -> Result<J, Stop>
+        requires runs { self.old.state.claimed ≢ None }
+        ensures goes_on { GoesOn J.key_of J.gives receipt result self.old.state self.new.state }
+        ensures counts { IfErr result (λ stop. stop ≢ Limit) }
+        ensures keyed { IfOk result (λ job. IfRunning (λ h. IsKeyed J.key_of h job) self.new.state) }
+    {
+        if self.is_followed() {
+            return Ok(self.pass_on(receipt));
+        }
+        self.finish(receipt);
+        self.begin()
     }
 }
 

@@ -13,6 +13,8 @@
 //! - A begin is a turn up to its first claim, whose callback's job it hands out; a finish adds exactly that
 //!   claim's record and ends it.
 //! - The two are one run of a turn's runs, and follow what the turn ran before at the same look.
+//! - A hand in place goes on from one callback to its processor's next by one step of the board, and that is a
+//!   finish and then a begin (`go_on`, `goes_on`).
 //! - By `Hand::turn` (`turn`, `few`, `sound`), `begin` (`runs`, `stops`, `counts`, `keyed`, `sound`),
 //!   `RunningHand::finish` (`finishes`, `sound`), `is_halted` (`view`, `lists`), `run`, `new`, `cpu`;
 //!   `turns_in_two_steps` (`one`, `more`); `IsLawfulHand` and `IsRunningHand` in specs/HandLaw.antt.

@@ -56,3 +56,8 @@ module _ {R : Type 0} where
   pub record HasRoom (r : Records R) : Type 0 where
     pub slot : r.kept ≢ Nothing → vec_len r.left < vec_capacity r.left
     pub small : length r.all.items + 1 < 2 ^ 64
+
+  -- there is room for two more
+  pub record HasRoomForTwo (r : Records R) : Type 0 where
+    pub slot : r.kept ≢ Nothing → vec_len r.left + 1 < vec_capacity r.left
+    pub small : length r.all.items + 2 < 2 ^ 64

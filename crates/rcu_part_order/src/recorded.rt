@@ -1,6 +1,6 @@
 //! What a part keeps of the callbacks that it ran.
 
-ghost use Rattle.std.specs.Prelude.{◌≡◌, ◌^◌, ◌<◌, [], length};
+ghost use Rattle.std.specs.Prelude.{◌≡◌, ◌^◌, ◌<◌, true, [], length};
 ghost use Rattle.rcu_part_order.specs.Kept.{IsKeptAs, IsLeft};
 
 use rcu_history::History;
@@ -36,7 +36,7 @@ pub struct Records<R> {
 
 impl<R: Drop> Records<R> {
     ghost use Rattle.std.specs.Prelude.{IfOk, ◌∷◌};
-    ghost use Rattle.rcu_part_order.specs.Recorded.{HasRoom, and_ran, as_taken, recorded, takeable};
+    ghost use Rattle.rcu_part_order.specs.Recorded.{HasRoom, HasRoomForTwo, and_ran, as_taken, recorded, takeable};
 
     /// Nothing ran.
     pub fn new(alloc: Global, kept: Kept) -> Records<R>
@@ -89,10 +89,24 @@ impl<R: Drop> Records<R> {
         }
     }
 
+    /// Whether there is room for two records more.
+    pub fn has_room_for_two(&self) -> bool
+        ensures { result ≡ true → HasRoomForTwo self.now }
+    {
+        if self.len() >= usize::MAX - 1 {
+            return false;
+        }
+        match self.kept {
+            Kept::Nothing => true,
+            Kept::Whole | Kept::Rest => self.left.capacity() - self.left.len() >= 2,
+        }
+    }
+
     /// Adds the record of a callback that ran, after all others, in the room that was found. Where none is kept it goes.
     pub fn add(&mut self, next: Record<R>)
         requires room { HasRoom self.old }
         ensures added { recorded self.new ≡ and_ran (next ∷ []) (recorded self.old) }
+        ensures room { HasRoomForTwo self.old → HasRoom self.new }
     {
         self.all = self.all.and(&next);
         match self.kept {

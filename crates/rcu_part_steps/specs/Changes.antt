@@ -1,7 +1,9 @@
 -- What the steps of a call change of the view of a processor or a hand, beside sights and tallies:
 -- docs/specification/definitions.md, "The running parts: views".
-use Rattle.std.specs.Prelude.{◌≡◌, ◌≢◌, ℕ, ◌+◌, [], ◌∷◌, ◌++◌, None}
-use Rattle.rcu_board.specs.Views.{sight, tally}
+use Rattle.std.specs.Prelude.{◌≡◌, ◌≢◌, ℕ, ◌+◌, ◌*◌, ◌≤◌, [], ◌∷◌, ◌++◌, None}
+use Rattle.rcu_board.specs.Plays.{claiming, finished}
+use Rattle.rcu_board.specs.Words.{turns_word}
+use Rattle.rcu_board.specs.Views.{seen_at, sight, tally}
 use Rattle.rcu_board.specs.Seats.{accepted_of, fresh_of, own_word}
 use Rattle.rcu_board.specs.declared.view.Accepted.{Accepted}
 use Rattle.rcu_board.specs.declared.view.Claim.{Claim}
@@ -47,6 +49,11 @@ pub record Finishes (v w : View) : Type 0 where
   pub claims : w.claims ≡ v.claims
   pub running : w.running ≡ []
   pub sights : sight w ≡ sight v
+
+-- the claim of number k on this processor has ended and the next number was claimed, by one step: what an end and a claim leave
+pub record GoesOn (cpu k : ℕ) (v w : View) : Type 0 where
+  pub view : w ≡ claiming (turns_word cpu) (2 * (k + 1) + 1) cpu (k + 1) (finished (turns_word cpu) (2 * k + 2) v)
+  pub later : seen_at v (turns_word cpu) ≤ 2 * k + 1
 
 -- a report was made, which changes at most the count of reports
 pub record Tells (v w : View) : Type 0 where

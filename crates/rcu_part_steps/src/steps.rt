@@ -5,14 +5,14 @@ ghost use Rattle.rcu_numbers.specs.declared.sequence.TheConstants.{LAST_NUMBER};
 ghost use Rattle.rcu_numbers.specs.declared.shape.TheConstants.{MOST_CALLS};
 ghost use Rattle.rcu_board.specs.Plays.{looked, touched, accepted};
 ghost use Rattle.rcu_board.specs.Roles.{MayClaim, cpu_of_role};
-ghost use Rattle.rcu_board.specs.Seats.{view, AtBoard, SameSeat, SawShut, IsRunning, own_word, accepted_of, fresh_of};
+ghost use Rattle.rcu_board.specs.Seats.{view, AtBoard, SameSeat, SawShut, IsRunning, own_word, accepted_of, fresh_of, running_number};
 ghost use Rattle.rcu_board.specs.Views.{seen_at, sight};
 ghost use Rattle.rcu_board.specs.Words.{accepts_word, turns_word};
 ghost use Rattle.rcu_board.specs.declared.board.Role.{Role};
-ghost use Rattle.rcu_part_steps.specs.Changes.{Keeps, Enters, Claims, Finishes, Tells, StepsOnly};
+ghost use Rattle.rcu_part_steps.specs.Changes.{Keeps, Enters, Claims, Finishes, GoesOn, Tells, StepsOnly};
 ghost use Rattle.rcu_part_steps.specs.Reports.{Reports};
 
-use rcu_board::{Board, Claimed, Seat, accept, claim, finish, look, report};
+use rcu_board::{Board, Claimed, Seat, accept, claim, finish, go_on, look, report};
 
 /// Accepts one callback more, and then looks, which gives its stamp. None where the processor was shut.
 pub fn accept_and_stamp(
@@ -105,4 +105,17 @@ pub fn end_claim(board: &Board, seat: &mut Seat)
         (view seat.new) }
 {
     finish(board, seat)
+}
+
+/// Ends the claim that runs, and claims the next number, by one step: an end and a claim, and nobody saw what would stand
+/// between.
+pub fn end_and_claim(board: &Board, seat: &mut Seat)
+    requires board { AtBoard board.now seat.old }
+    requires who { MayClaim seat.old.role }
+    requires runs { IsRunning (cpu_of_role seat.old.role) (view seat.old) }
+    ensures same { SameSeat seat.old seat.new }
+    ensures goes_on { GoesOn (cpu_of_role seat.old.role) (running_number (view seat.old))
+        (view seat.old) (view seat.new) }
+{
+    go_on(board, seat)
 }

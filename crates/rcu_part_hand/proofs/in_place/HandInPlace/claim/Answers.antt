@@ -75,7 +75,7 @@ invariant_of-state-2 g c =
       role = e.same.role ∙ s.role;
       rests = λ r. (let y : Some c.args.claimed ≡ None = r in cc);
       runs = λ k f. subst (λ (y : ClaimedCallback). RunsAs s.cpu y (view c.try_claim.new.seat) s.ran (taken_by c.take.new.self)) (some_is c.args.claimed k f)
-          (record { small = c.requires.small; room = c.requires.room; lawful = law });
+          (record { small = c.requires.small; room = c.requires.room; lawful = law; seen = (let s = won.sights in omega (arith, s, c.requires.seen)) });
     }
 
 pub returns-clause-runs : goal.returns-clause-runs
