@@ -221,12 +221,17 @@ static bool has_pending(struct helper *helper) {
     return false;
 }
 
+/* Whether callbacks of its members were drawn and haven't run. */
+static bool has_active(const struct helper *helper) {
+    uint64_t any = 0;
+    for (uint32_t w = 0; w < WORDS; w++) any |= helper->active[w];
+    return any != 0;
+}
+
 /* Whether the helper sees to it that grace periods end: where callbacks of its members wait; and the first for those who ask for
  * one without a callback. Who waits for one otherwise makes the driver's turns. */
 static bool needs_driver(const struct helper *helper) {
-    uint64_t any = helper->number == 0;
-    for (uint32_t w = 0; w < WORDS; w++) any |= helper->active[w];
-    return any != 0;
+    return helper->number == 0 || has_active(helper);
 }
 
 /* Whether a last look, made after the helper said that it sleeps, found nothing new: the caller has had the driver. Another
@@ -250,7 +255,8 @@ static void sleep_helper(struct helper *helper) {
             store(&helper->idle, 0);
             rcuo_futex_wait(&runtime->waits, (uint32_t)turn.number + 1, most);
         } else if (turn.step == RCUO_IDLE && !has_pending(helper)) {
-            rcuo_futex_wait(&helper->idle, 1, most);
+            /* (callbacks that no grace period is needed for wait for memory: a group gives more than sixteen in a list of their own) */
+            rcuo_futex_wait(&helper->idle, 1, has_active(helper) ? 1 : most);
         }
     }
     store(&helper->idle, 0);

@@ -192,6 +192,39 @@ static void add_refused(void) {
     holds("nothing is left on the heap", LOAD(&live) == at_first);
 }
 
+static void *call_all_mine(void *none) {
+    is("register", rcuo_register(), RCUO_OK);
+    for (unsigned long i = 0; i < CALLS; i++) {
+        mine[i].number = i;
+        rcuo_call_rcu(&mine[i].head, run_mine);
+    }
+    is("unregister", rcuo_unregister(), RCUO_OK);
+    return none;
+}
+
+/* Memory is refused while more callbacks than need none are to be given to a hand: they run once there is memory, whoever sleeps. */
+static void give_refused(void) {
+    struct rcuo_runtime *runtime;
+    long at_first = LOAD(&live);
+    ran_mine = 0;
+    is("start", start_once(&runtime, 1), RCUO_OK);
+    is("register", rcuo_register(), RCUO_OK);
+    pthread_join(start_thread(call_all_mine, NULL), NULL); /* (their grace period waits for this thread) */
+    nap(20);
+    STORE(&made, 0);
+    STORE(&refuse_on, 1);
+    STORE(&refuse_at, 1);
+    is("offline", rcuo_thread_offline(), RCUO_OK);
+    nap(20); /* (the helper sleeps meanwhile) */
+    STORE(&refuse_at, 0);
+    STORE(&refuse_on, 0);
+    is("a barrier", rcuo_runtime_barrier(), RCUO_OK);
+    holds("all have run after it", ran_mine == CALLS);
+    is("unregister", rcuo_unregister(), RCUO_OK);
+    is("stop", rcuo_stop(runtime, NULL), RCUO_OK);
+    holds("nothing is left on the heap", LOAD(&live) == at_first);
+}
+
 /* Lives of which the n-th allocation is refused, for n from 1 until none was, with the later ones or without them. */
 static long refuse_each(uint32_t helpers, long on, long step) {
     long runs = 0, before = -1;
@@ -216,6 +249,7 @@ int main(int count, char **words) {
         stop_refused(helpers);
     }
     add_refused();
+    give_refused();
     holds("each thread's ran in order", out_of_order == 0);
     printf("runs %ld, refused %ld, of these threads %lu\n", runs, LOAD(&refused), refused_threads);
     return tell();
