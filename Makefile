@@ -24,7 +24,7 @@ test: ## run all tests without a proof, after an edit; with CRATE=NAME those of 
 gate: ## run all checks: every proof from nothing, every test, every program
 	.ci/run
 
-check: ## prove the crate CRATE=NAME and what it stands on, run its tests, try its must-fail edits
+check: ## prove the crate CRATE=NAME and what it stands on, run its tests, try its edits
 	@test -n '$(CRATE)' || { echo 'make check CRATE=NAME, where NAME is a crate of crates.txt, as rcu_lists' >&2; exit 2; }
 	tools/check $(CRATE)
 

@@ -6,6 +6,8 @@ import pathlib
 import shutil
 import subprocess
 
+import toolchain
+
 ROOT = pathlib.Path(__file__).resolve().parent.parent
 # The sum of what a crate was proved with, beside what that made.
 STAMP = "out/proved"
@@ -132,6 +134,24 @@ def copy_tree(source, to):
             shutil.copy2(one, other)
 
     shutil.copytree(source, to, copy_function=link)
+
+
+def fill_lane(crate, at):
+    """Fills a folder with a crate and those below it, and what was built of these: a check locks all that it reads, so those that
+    run side by side have a folder each. What `rt ci` built has no sum by which the toolchain knows it again, and gets one."""
+    os.makedirs(at, exist_ok=True)
+    shutil.copy2(ROOT / "HANDLES", at / "HANDLES")
+    (at / "crates.txt").write_text("".join(f"{it.line}\n" for it in [*crate.below, crate]), encoding="utf-8")
+    for it in [*crate.below, crate]:
+        to = at / "crates" / it.name
+        for part in PARTS:
+            if (it.folder / part).is_dir():
+                shutil.copytree(it.folder / part, to / part)
+        if it is not crate:
+            copy_tree(it.folder / "out/rlib", to / "out/rlib")
+    unknown = {it.name for it in crate.below if not (at / "crates" / it.name / "out/rlib/stamp").exists()}
+    for name, stamp in (toolchain.stamps(at, unknown) if unknown else {}).items():
+        (at / "crates" / name / "out/rlib/stamp").write_text(stamp, encoding="utf-8")
 
 
 @functools.cache

@@ -11,6 +11,7 @@ import re
 import tomllib
 
 import crates
+import edit_files
 from crates import ROOT
 
 MOST_LETTERS = 120
@@ -138,14 +139,14 @@ def said_by(edit):
 def edits():
     """All edits, crate by crate, those of the gate first."""
     for crate in crates.read().values():
-        for kind in ("must-fail", "more-edits"):
+        for kind in edit_files.KINDS:
             yield from ((crate, it) for it in sorted((crate.folder / kind).glob("*.edit")))
 
 
 def row_of(crate, edit, clauses):
     """The row of an edit: its name, its crate with what it turns, the clauses, and who tries it."""
     names = ", ".join(dict.fromkeys(f"`{name}`" for names in turned_by(edit).values() for name in names if name))
-    tried = "the gate" if edit.parent.name == "must-fail" else "`tools/edits`"
+    tried = "`tools/edits`" if edit.parent.name == edit_files.LEFT_OUT else "the gate"
     return f"| `{edit.stem}` | `{crate.name}`: {names} | {'; '.join(clauses)} | {tried} |"
 
 
@@ -167,7 +168,7 @@ def edits_page():
         "",
         "For those who ask whether a contract says what it seems to.",
         "Each edit turns what a function or a definition means, and the prover must refuse it: its name says what it makes wrong.",
-        "The gate tries those of `must-fail/`, and `tools/edits` those of `more-edits/`.",
+        "The gate tries those of `must-fail/` and `gate-edits/`, and `tools/edits` those of `more-edits/` too.",
         "This page is made by `make docs` from the edit files: their lines `promise:`, `clause:` and `wrong body:`.",
         "",
         *wrong_bodies(all_edits),
@@ -243,7 +244,7 @@ def totals_table():
     there = lambda pattern: len(list(ROOT.glob(pattern)))
     rows = {
         "crates, each proved from nothing": len(crates.read()),
-        "edits that the gate has the prover refuse": there("crates/*/must-fail/*.edit"),
+        "edits that the gate has the prover refuse": there("crates/*/must-fail/*.edit") + there("crates/*/gate-edits/*.edit"),
         "edits that `tools/edits` has beside these": there("crates/*/more-edits/*.edit"),
         "tests in Rattle, each proved and run": count(TEST, sources),
         "replays, each over the parts and over the core": there("tests/replays/*/"),

@@ -1,0 +1,175 @@
+"""What tools/edit_files.py reads of edits, and how tools/edits judges what a check said of the functions that they turn."""
+import importlib.machinery
+import importlib.util
+import pathlib
+import tempfile
+import unittest
+
+import programs  # (it finds tools/)
+import crates
+import edit_files
+
+
+def edits_program():
+    """The module of tools/edits, which is a program."""
+    loader = importlib.machinery.SourceFileLoader("edits", str(crates.ROOT / "tools/edits"))
+    made = importlib.util.module_from_spec(importlib.util.spec_from_loader("edits", loader))
+    loader.exec_module(made)
+    return made
+
+
+SOURCE = """\
+use crate::hand::Hand;
+
+const MOST: u64 = 64;
+
+impl<J: Job> Hand<J> {
+    /// Turns.
+    pub fn turn(&mut self) -> u64
+        ensures { result ≡ 1 }
+    {
+        self.look(1)
+    }
+
+    fn look(&mut self, by: u64) -> u64 {
+        by + 1
+    }
+}
+
+impl fmt::Display for Fault {
+    fn fmt(&self) -> u64 {
+        2
+    }
+}
+
+impl<J: Job> Drop for Hand<J> {
+    fn drop(self) {
+        let Hand { state: _ } = self;
+    }
+}
+
+impl<J: Job> Whole<AllParts<Processor<J>>> {
+    fn poll(&self) -> u64 {
+        3
+    }
+}
+
+pub extern "C" fn free_standing(n: u64) -> u64 {
+    n * 4
+}
+"""
+
+
+class Names(unittest.TestCase):
+    """`function_at`: the function in which a text stands, by its name as the checker prints it, or the end of that name."""
+
+    def name_at(self, text, place="src/turn.rt"):
+        return edit_files.function_at(place, SOURCE, SOURCE.index(text))
+
+    def test_a_method(self):
+        self.assertEqual(self.name_at("self.look(1)"), "Hand::turn")
+        self.assertEqual(self.name_at("by + 1"), "Hand::look")
+
+    def test_a_trait(self):
+        self.assertEqual(self.name_at("        2\n"), "FaultDisplay::fmt")
+        self.assertEqual(self.name_at("let Hand { state"), "Hand::drop")
+
+    def test_a_type_with_arguments(self):
+        self.assertEqual(self.name_at("        3\n"), "Whole+AllParts+Processor+J::poll")
+
+    def test_a_function_of_a_module(self):
+        self.assertEqual(self.name_at("n * 4"), "turn::free_standing")
+        self.assertEqual(self.name_at("n * 4", "src/parts/mod.rt"), "parts::free_standing")
+        self.assertEqual(self.name_at("n * 4", "src/lib.rt"), "free_standing")
+
+    def test_no_function(self):
+        self.assertEqual(self.name_at("MOST: u64"), "")
+
+
+class Reads(unittest.TestCase):
+    """An edit by its file: which function it turns, and why it can't be applied."""
+
+    def setUp(self):
+        room = tempfile.TemporaryDirectory()
+        self.addCleanup(room.cleanup)
+        self.crate = pathlib.Path(room.name) / "some_crate"
+        for place, text in {"src/turn.rt": SOURCE, "specs/Turns.antt": "turns = 1\n"}.items():
+            (self.crate / place).parent.mkdir(parents=True)
+            (self.crate / place).write_text(text, encoding="utf-8")
+        (self.crate / "gate-edits").mkdir()
+
+    def edit(self, *lines):
+        file = self.crate / "gate-edits/turned.edit"
+        file.write_text("promise: some\n" + "".join(f"{it}\n" for it in lines), encoding="utf-8")
+        return edit_files.Edit(file)
+
+    def test_the_function_of_its_text(self):
+        edit = self.edit("file: src/turn.rt", "old: by + 1", "new: by + 2")
+        self.assertEqual((edit.fault(), edit.function()), ("", "Hand::look"))
+        self.assertIn("by + 2", edit.body())
+
+    def test_an_import_beside_it(self):
+        edit = self.edit("file: src/turn.rt", "old: use crate::hand::Hand;", "new: use crate::hand::{Hand, Fault};", "old: by + 1", "new: by")
+        self.assertEqual(edit.function(), "Hand::look")
+
+    def test_several_functions_or_none(self):
+        two = self.edit("file: src/turn.rt", "old: by + 1", "new: by", "old: self.look(1)", "new: self.look(2)")
+        self.assertEqual(two.function(), "")
+        self.assertEqual(self.edit("file: specs/Turns.antt", "old: turns = 1", "new: turns = 2").function(), "")
+        said = self.edit("function: Hand::turn", "file: specs/Turns.antt", "old: turns = 1", "new: turns = 2")
+        self.assertEqual(said.function(), "Hand::turn")
+
+    def test_what_cannot_be_applied(self):
+        self.assertIn("0 times", self.edit("file: src/turn.rt", "old: by + 9", "new: by").fault())
+        self.assertIn("no file", self.edit("file: src/gone.rt", "old: by", "new: by").fault())
+        self.assertIn("no 'old:'", self.edit("file: src/turn.rt").fault())
+        self.assertIn("before any", self.edit("new: by").fault())
+
+
+class Ends(unittest.TestCase):
+    """`end_of`: an edit is refused where the function's own proof fails, and nowhere else."""
+
+    def end(self, how, function="Hand::turn", name="rcu_part_hand::turn::Hand::turn"):
+        return edits_program().end_of(function, "rcu_part_hand", [(name, how), ("rcu_part_hand::turn::Hand::look", "proved")]).name
+
+    def test_refused(self):
+        self.assertEqual(self.end("not proved"), "REFUSED")
+        self.assertEqual(self.end("no proof: expected answers in ./proofs/turn; `search` did not prove `returns`"), "REFUSED")
+
+    def test_still_proved(self):
+        self.assertEqual(self.end("proved"), "PROVED")
+        self.assertEqual(self.end("proved, may wait"), "PROVED")
+
+    def test_another_is_not_proved(self):
+        self.assertEqual(self.end("not proved; it calls `rcu_part_hand::turn::Hand::look`, which is not proved"), "WAITS")
+
+    def test_its_own_closure_is_not_proved(self):
+        self.assertEqual(self.end("not proved; it calls `rcu_part_hand::fn::turn::map+FnMut::call_mut`, which is not proved"), "REFUSED")
+
+    def test_nothing_is_said(self):
+        self.assertEqual(self.end("could not tell"), "UNKNOWN")
+        self.assertEqual(self.end("not proved", name="rcu_part_hand::turn::Hand::other"), "UNKNOWN")
+
+    def test_a_name_that_fits_two(self):
+        said = [("rcu_part_hand::a::fmt", "not proved"), ("rcu_part_hand::b::fmt", "proved")]
+        self.assertEqual(edits_program().end_of("fmt", "rcu_part_hand", said).name, "UNKNOWN")
+
+
+class Rounds(unittest.TestCase):
+    """`round_of`: the first that is left, and others of functions that don't name each other."""
+
+    class Edit:
+        def __init__(self, function, body):
+            self.function, self.body = lambda: function, lambda: body
+
+    def test_rounds(self):
+        turn, again, look = self.Edit("Hand::turn", "self.look()"), self.Edit("Hand::turn", "self.look()"), self.Edit("Hand::look", "1")
+        other, none = self.Edit("Hand::cpu", "2"), self.Edit("", "")
+        round_of = edits_program().round_of
+        self.assertEqual(round_of([turn, again, look, other, none]), [turn, other])
+        self.assertEqual(round_of([again, look, none]), [again])
+        self.assertEqual(round_of([none, look]), [none])
+
+
+if __name__ == "__main__":
+    unittest.main()
