@@ -1,6 +1,6 @@
 -- A processor in place: between its calls it is a processor, or a running processor, and what its calls do is said of those:
 -- docs/specification/surface.md, "rcu_parts", `begin` and `finish`.
-use Rattle.std.specs.Prelude.{◌≡◌, ℕ, Result, IfOk, IfErr, IsErr}
+use Rattle.std.specs.Prelude.{◌≡◌, ◌≢◌, ℕ, Option, Result, IfNone, IfSome, IfOk, IfErr, IsErr}
 use Rattle.std.specs.declared.option.Option.TheVariants.{None, Some}
 use Rattle.std.specs.Arc.{arc_value}
 use Rattle.std.proofs.lemmas.Option.{none-some}
@@ -9,7 +9,8 @@ use Rattle.rcu_board.specs.declared.board.Board.{Board}
 use Rattle.rcu_board.specs.declared.board.Seat.{Seat}
 use Rattle.rcu_board.specs.declared.view.View.{View}
 use Rattle.rcu_jobs.specs.Records.{Given}
-use Rattle.rcu_jobs.specs.declared.Stop.TheVariants.{Turn}
+use Rattle.rcu_jobs.specs.declared.Stop.{Stop}
+use Rattle.rcu_jobs.specs.declared.Stop.TheVariants.{Limit, Turn}
 use Rattle.rcu_jobs.specs.declared.answers.Refused.{Refused}
 use Rattle.rcu_jobs.specs.declared.answers.Ticket.{Ticket}
 use Rattle.rcu_lists.specs.declared.pace.Kind.{Kind}
@@ -18,6 +19,7 @@ use Rattle.rcu_part_order.specs.Recorded.{ran_of, recorded}
 use Rattle.rcu_part_steps.specs.Places.{AreKeyed}
 use Rattle.rcu_part_steps.specs.declared.begins.ClaimedCallback.{ClaimedCallback}
 use Rattle.rcu_part_processor.specs.Accepting.{Accepting, Accepts, AcceptsNone, IsRefusedByLimit, Refuses}
+use Rattle.rcu_part_processor.specs.Begins.{ClaimsFirst}
 use Rattle.rcu_part_processor.specs.Processors.{SameProcessor}
 use Rattle.rcu_part_processor.specs.Running.{Identity, IsSamePart, SameBegun, SameFinished}
 use Rattle.rcu_part_processor.specs.Ticks.{RanDone, StopsTick}
@@ -162,6 +164,13 @@ module _ {J R : Type 0} where
   abbrev pub StaysResting : (ProcessorState J R → ProcessorState J R → Type 0) → ProcessorInPlaceState J R → ProcessorInPlaceState J R → Type 0
   StaysResting Does p q = (e : p.claimed ≡ None) → (f : q.claimed ≡ None) × SameProcessor (resting p e) (resting q f) × Does (resting p e) (resting q f)
 
+  -- A step of a processor of which no claim runs, which accepts nothing: what it does; and what is known of jobs stays known.
+  pub record KeepingInPlace (Does : ProcessorState J R → ProcessorState J R → Type 0) (key_of : J → ℕ) (gives : ℕ → R → Type 0) (p q : ProcessorInPlaceState J R) : Type 0 where
+    pub does : StaysResting Does p q
+    -- it accepted as many as before
+    pub count : q.accepted ≡ p.accepted
+    pub sound : KeepsSoundInPlace key_of gives p q
+
   -- Where no claim of it runs, this is so of the processor.
   abbrev pub IfResting : (ProcessorState J R → Type 0) → ProcessorInPlaceState J R → Type 0
   IfResting Is p = (e : p.claimed ≡ None) → Is (resting p e)
@@ -183,3 +192,29 @@ module _ {J R : Type 0} where
   -- the claim of the first callback of done wasn't won at the board sight `seen`
   abbrev pub LosesClaim : ℕ → ProcessorState J R → ProcessorState J R → Type 0
   LosesClaim seen p q = RanDone 0 1 seen p q × StopsTick Turn 0 1 q
+
+  -- The claim of the first callback of done was tried at the board sight `seen`: where it was won it runs, and its job is
+  -- handed out.
+  pub record ClaimsAs (seen : ℕ) (key_of : J → ℕ) (gives : ℕ → R → Type 0) (answer : Option J) (p q : ProcessorInPlaceState J R) : Type 0 where
+    -- Some: the claim runs
+    pub runs : IfSome answer (λ job. StartsRunning (λ o r. ClaimsFirst seen o r job) p q)
+    -- None: it wasn't won
+    pub lost : IfNone answer (StaysResting (LosesClaim seen) p q)
+    -- it accepted as many as before
+    pub count : q.accepted ≡ p.accepted
+    -- the job that is handed out has the claim's key
+    pub keyed : IsSoundInPlace key_of gives p → IfSome answer (λ job. IfRunning (λ r. key_of job ≡ r.claimed.key) q)
+    pub sound : KeepsSoundInPlace key_of gives p q
+
+  -- A begin answers a job, whose claim runs then; or no claim runs, and why, which is never that so many ran.
+  pub record BeginsAs (Runs : J → ProcessorState J R → RunningProcessorState J R → Type 0) (Stops : Stop → ProcessorState J R → ProcessorState J R → Type 0) (key_of : J → ℕ) (gives : ℕ → R → Type 0) (answer : Result J Stop) (p q : ProcessorInPlaceState J R) : Type 0 where
+    -- Ok: a claim runs
+    pub runs : IfOk answer (λ job. StartsRunning (Runs job) p q)
+    -- Err: none does
+    pub stops : IfErr answer (λ stop. StaysResting (Stops stop) p q)
+    pub counts : IfErr answer (λ stop. stop ≢ Limit)
+    -- it accepted as many as before
+    pub count : q.accepted ≡ p.accepted
+    -- the job that is handed out has the claim's key
+    pub keyed : IsSoundInPlace key_of gives p → IfOk answer (λ job. IfRunning (λ r. key_of job ≡ r.claimed.key) q)
+    pub sound : KeepsSoundInPlace key_of gives p q

@@ -58,3 +58,13 @@ module _ {J R : Type 0} where
   -- what is known of jobs stays known
   abbrev pub KeepsSound : (J → ℕ) → (ℕ → R → Type 0) → ProcessorState J R → ProcessorState J R → Type 0
   KeepsSound key_of gives old new = IsSound key_of gives old → IsSound key_of gives new
+
+  -- A step that accepts nothing: what it does; and it is the same processor, which knows of jobs what it knew.
+  pub record Keeping (Does : ProcessorState J R → ProcessorState J R → Type 0) (key_of : J → ℕ) (gives : ℕ → R → Type 0) (p q : ProcessorState J R) : Type 0 where
+    pub does : Does p q
+    -- the same part of the same open
+    pub same : SameProcessor p q
+    -- it accepted as many as before
+    pub count : q.accepted ≡ p.accepted
+    -- what is known of jobs stays known
+    pub sound : KeepsSound key_of gives p q

@@ -1,5 +1,5 @@
 -- What a tick does: docs/specification/rules.md, "The calls, step by step", `tick`.
-use Rattle.std.specs.Prelude.{◌≡◌, ◌≢◌, ℕ, ◌+◌, ◌*◌, ◌/◌, ◌≤◌, Bool, true, false, not, IsTrue, ◌↔◌, if◌then◌else◌, List, [], ◌∷◌, ◌++◌, length, All, Option, Some, None, bit_and, max}
+use Rattle.std.specs.Prelude.{◌≡◌, ◌≢◌, ℕ, ◌+◌, ◌*◌, ◌/◌, ◌≤◌, Bool, true, false, not, IsTrue, ◌↔◌, if◌then◌else◌, List, [], ◌∷◌, ◌++◌, length, All, Option, Some, None, IfNone, IfSome, bit_and, max}
 use Rattle.std.specs.Int.{from_bool}
 use Rattle.rcu_numbers.specs.Words.{owes_of, all_but_of}
 use Rattle.rcu_board.specs.Plays.{looked, touched, urged}
@@ -86,6 +86,18 @@ module _ {J R : Type 0} where
   StopsTick Empty ran tried q = (count is_done (lists_of q).own ≡ 0) × (tried ≡ ran)
   StopsTick Turn ran tried q = (tried ≡ ran + 1) × IsNotItsTurn q
   StopsTick Memory ran tried q = (count is_done (lists_of q).own ≢ 0) × (tried ≡ ran)
+
+  -- The first callback of done was run; or none was, and why, which is never that so many were.
+  pub record RunsOne (seen : ℕ) (answer : Option Stop) (p q : ProcessorState J R) : Type 0 where
+    -- None: one was run, under the one claim that was tried
+    pub ran : IfNone answer (RanDone 1 1 seen p q)
+    -- Some: none was, and the reason holds however many were run before
+    pub not : IfSome answer (λ stop. (tried : ℕ) × RanDone 0 tried seen p q × ((n : ℕ) → StopsTick stop n (n + tried) q))
+    pub counts : IfSome answer (λ stop. stop ≢ Limit)
+
+  -- The first callbacks of done were run, as many as the answer says, and why no more.
+  abbrev pub RunsDone : ℕ → Ticked → ProcessorState J R → ProcessorState J R → Type 0
+  RunsDone seen answer p q = (tried : ℕ) × RanDone answer.ran tried seen p q × StopsTick answer.stop answer.ran tried q
 
   -- A tick: it catches up; an offloadable processor heeds what is asked and settles; then the first done callbacks run.
   pub record TicksBy (moment : ℕ) (answer : Ticked) (p q : ProcessorState J R) : Type 0 where

@@ -68,7 +68,7 @@ impl<J: Job> Processor<J> {
     ghost use Rattle.std.specs.Prelude.{IfOk, IfErr, IsTrue, ◌↔◌, false};
     ghost use Rattle.rcu_part_lists.specs.ProcessorLists.{PutsBypass};
     ghost use Rattle.rcu_part_processor.specs.Away.{IsSoundAway, KeepsLeaving, Leaves, SameLeft, StaysHere, away_lists};
-    ghost use Rattle.rcu_part_processor.specs.Processors.{IsSound, KeepsSound, SameProcessor, lists_of, records_of, view_of};
+    ghost use Rattle.rcu_part_processor.specs.Processors.{IsSound, Keeping, lists_of, records_of, view_of};
 
     /// Leaves: from now on no grace period waits for it, and nobody reads as it, since `reading` is a processor's alone. Its
     /// bypass list is put on its lane first, whatever the moment; its own list stays with it and waits.
@@ -95,14 +95,12 @@ impl<J: Job> Processor<J> {
 
     // Puts the bypass list on the lane, and says whether it is empty.
     fn empty_bypass(&mut self) -> bool
-        ensures same { SameProcessor self.old.state self.new.state }
         ensures view { view_of self.new.state ≡ view_of self.old.state }
-        ensures count { (self.new.state.accepted ≡ self.old.state.accepted)
-            × (self.new.state.passed ≡ self.old.state.passed) }
+        ensures passed { self.new.state.passed ≡ self.old.state.passed }
         ensures records { records_of self.new.state ≡ records_of self.old.state }
-        ensures puts { PutsBypass (lists_of self.old.state) (lists_of self.new.state) }
+        ensures puts { Keeping (λ p q. PutsBypass (lists_of p) (lists_of q)) J.key_of J.gives
+            self.old.state self.new.state }
         ensures empty { IsTrue result ↔ ((lists_of self.new.state).outgoing.bypass ≡ []) }
-        ensures sound { KeepsSound J.key_of J.gives self.old.state self.new.state }
     {
         let state = &mut self.state;
         state.lists.put_bypass();

@@ -6,7 +6,7 @@ ghost use Rattle.rcu_numbers.specs.declared.shape.TheConstants.{MOST_CALLS};
 ghost use Rattle.rcu_board.specs.Views.{sight};
 ghost use Rattle.rcu_jobs.specs.declared.Stop.TheVariants.{Limit};
 ghost use Rattle.rcu_part_processor.specs.Begins.{IsNext, KeepsProcessor, ClaimsFirst, ClaimsNone, BeginsTick, StopsBegin, FinishesProcessor};
-ghost use Rattle.rcu_part_processor.specs.Processors.{SameProcessor, IsSound, lists_of, view_of, KeepsSound};
+ghost use Rattle.rcu_part_processor.specs.Processors.{Keeping, SameProcessor, IsSound, lists_of, view_of};
 ghost use Rattle.rcu_part_processor.specs.Running.{SameBegun, SameFinished, IsSoundRunning};
 ghost use Rattle.rcu_part_processor.specs.Ticks.{RanDone, StopsTick};
 ghost use Rattle.rcu_part_steps.specs.Begins.{IfRuns, IfStops};
@@ -21,14 +21,11 @@ impl<J: Job> Processor<J> {
     fn next(&mut self, seen: u64) -> Result<ClaimedCallback, Stop>
         requires seen { (sight (view_of self.old.state) ≡ seen)
             × ((lists_of self.old.state).advanced ≡ seen) }
-        ensures same { SameProcessor self.old.state self.new.state }
-        ensures keeps { KeepsProcessor self.old.state self.new.state }
+        ensures keeps { Keeping KeepsProcessor J.key_of J.gives self.old.state self.new.state }
         ensures next { IfOk result (λ c. IsNext seen c self.new.state) }
         ensures small { IfOk result (λ c. c.number < MOST_CALLS) }
         ensures room { IfOk result (λ _. HasRoom self.new.state.ran) }
-        ensures stops { IfErr result (λ stop. StopsTick stop 0 0 self.new.state) }
-        ensures counts { IfErr result (λ stop. stop ≢ Limit) }
-        ensures sound { KeepsSound J.key_of J.gives self.old.state self.new.state }
+        ensures stops { IfErr result (λ stop. StopsTick stop 0 0 self.new.state × (stop ≢ Limit)) }
     {
         let state = &mut self.state;
         let Some(first) = state.lists.first() else {
@@ -45,8 +42,8 @@ impl<J: Job> Processor<J> {
     fn claim_done(self, seen: u64) -> Begins<RunningProcessor<J>, J, Processor<J>>
         requires seen { (sight (view_of self.state) ≡ seen)
             × ((lists_of self.state).advanced ≡ seen) }
-        ensures same { IfRuns result (λ running _. SameBegun self.state running.state) }
-        ensures stays { IfStops result (λ processor _. SameProcessor self.state processor.state) }
+        ensures same { IfRuns result (λ running _. SameBegun self.state running.state)
+            × IfStops result (λ processor _. SameProcessor self.state processor.state) }
         ensures runs { IfRuns result (λ running job.
             ClaimsFirst seen self.state running.state job) }
         ensures stops { IfStops result (λ processor stop.

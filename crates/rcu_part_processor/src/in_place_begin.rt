@@ -1,12 +1,12 @@
 //! A callback of a processor in place, in two steps: its claim is won and its job handed out, and later the claim is ended.
 
-ghost use Rattle.std.specs.Prelude.{◌≡◌, ◌≢◌, ◌<◌, true, None, IfNone, IfSome, IfErr, IfOk};
+ghost use Rattle.std.specs.Prelude.{◌≡◌, ◌≢◌, ◌<◌, true, None, IfErr, IfOk};
 ghost use Rattle.rcu_part_order.specs.Recorded.{HasRoom};
 ghost use Rattle.rcu_numbers.specs.declared.shape.TheConstants.{MOST_CALLS};
 ghost use Rattle.rcu_board.specs.Views.{sight};
 ghost use Rattle.rcu_jobs.specs.declared.Stop.TheVariants.{Limit};
 ghost use Rattle.rcu_part_processor.specs.Begins.{BeginsTick, ClaimsFirst, ClaimsNone, FinishesProcessor, IsNext, KeepsProcessor, StopsBegin};
-ghost use Rattle.rcu_part_processor.specs.InPlace.{EndsRunning, IfResting, IfRunning, IsSoundInPlace, KeepsSoundInPlace, LosesClaim, StartsRunning, StaysResting, lists_in, view_in};
+ghost use Rattle.rcu_part_processor.specs.InPlace.{BeginsAs, ClaimsAs, EndsRunning, IfResting, IfRunning, IsSoundInPlace, KeepingInPlace, KeepsSoundInPlace, StartsRunning, StaysResting, lists_in, view_in};
 ghost use Rattle.rcu_part_processor.specs.Ticks.{CatchesUp, Heeds, Settles, StopsTick};
 
 use crate::in_place::ProcessorInPlace;
@@ -18,11 +18,10 @@ impl<J: Job> ProcessorInPlace<J> {
     // The begin's look: the own list is advanced by the number seen and accelerated, and what it waits for is asked for.
     fn catch_up(&mut self) -> u64
         requires rests { self.old.state.claimed ≡ None }
-        ensures catches_up { StaysResting (CatchesUp result) self.old.state self.new.state }
+        ensures catches_up { KeepingInPlace (CatchesUp result) J.key_of J.gives self.old.state
+            self.new.state }
         ensures sight { (sight (view_in self.new.state) ≡ result)
             × ((lists_in self.new.state).advanced ≡ result) }
-        ensures count { self.new.state.accepted ≡ self.old.state.accepted }
-        ensures sound { KeepsSoundInPlace J.key_of J.gives self.old.state self.new.state }
     {
         let state = &mut self.state;
         let seen = look_at_number(&state.board, &mut state.seat);
@@ -37,11 +36,10 @@ impl<J: Job> ProcessorInPlace<J> {
     fn heed(&mut self, moment: u64)
         requires rests { self.old.state.claimed ≡ None }
         requires offloadable { self.old.state.offloadable ≡ true }
-        ensures heeds { StaysResting (Heeds moment) self.old.state self.new.state }
+        ensures heeds { KeepingInPlace (Heeds moment) J.key_of J.gives self.old.state
+            self.new.state }
         ensures sight { (sight (view_in self.new.state) ≡ sight (view_in self.old.state))
             × ((lists_in self.new.state).advanced ≡ (lists_in self.old.state).advanced) }
-        ensures count { self.new.state.accepted ≡ self.old.state.accepted }
-        ensures sound { KeepsSoundInPlace J.key_of J.gives self.old.state self.new.state }
     {
         let state = &mut self.state;
         let on = asked(&state.board, &mut state.seat);
@@ -54,11 +52,9 @@ impl<J: Job> ProcessorInPlace<J> {
     fn settle(&mut self)
         requires rests { self.old.state.claimed ≡ None }
         requires offloadable { self.old.state.offloadable ≡ true }
-        ensures settles { StaysResting Settles self.old.state self.new.state }
+        ensures settles { KeepingInPlace Settles J.key_of J.gives self.old.state self.new.state }
         ensures sight { (sight (view_in self.new.state) ≡ sight (view_in self.old.state))
             × ((lists_in self.new.state).advanced ≡ (lists_in self.old.state).advanced) }
-        ensures count { self.new.state.accepted ≡ self.old.state.accepted }
-        ensures sound { KeepsSoundInPlace J.key_of J.gives self.old.state self.new.state }
     {
         let state = &mut self.state;
         if state.lists.mode().is_deoffloading() {
@@ -70,14 +66,14 @@ impl<J: Job> ProcessorInPlace<J> {
     // The first callback of done, where there is room for its record.
     fn next(&mut self, seen: u64) -> Result<ClaimedCallback, Stop>
         requires rests { self.old.state.claimed ≡ None }
-        ensures keeps { StaysResting KeepsProcessor self.old.state self.new.state }
+        ensures keeps { KeepingInPlace KeepsProcessor J.key_of J.gives self.old.state
+            self.new.state }
         ensures next { IfOk result (λ c. IfResting (IsNext seen c) self.new.state) }
         ensures ready { IfOk result (λ c. c.ready ≡ seen) }
         ensures small { IfOk result (λ c. c.number < MOST_CALLS) }
         ensures room { IfOk result (λ _. HasRoom self.new.state.ran) }
-        ensures stops { IfErr result (λ stop. IfResting (StopsTick stop 0 0) self.new.state) }
-        ensures counts { IfErr result (λ stop. stop ≢ Limit) }
-        ensures sound { KeepsSoundInPlace J.key_of J.gives self.old.state self.new.state }
+        ensures stops { IfErr result (λ stop.
+            IfResting (StopsTick stop 0 0) self.new.state × (stop ≢ Limit)) }
     {
         let state = &mut self.state;
         let Some(first) = state.lists.first() else {
@@ -98,14 +94,8 @@ impl<J: Job> ProcessorInPlace<J> {
         requires next { IfResting (IsNext claimed.ready claimed) self.old.state }
         requires small { claimed.number < MOST_CALLS }
         requires room { HasRoom self.old.state.ran }
-        ensures runs { IfSome result (λ job.
-            StartsRunning (λ p q. ClaimsFirst claimed.ready p q job) self.old.state self.new.state) }
-        ensures lost { IfNone result (StaysResting (LosesClaim claimed.ready) self.old.state
-            self.new.state) }
-        ensures count { self.new.state.accepted ≡ self.old.state.accepted }
-        ensures keyed { IsSoundInPlace J.key_of J.gives self.old.state
-            → IfSome result (λ job. IfRunning (λ p. J.key_of job ≡ p.claimed.key) self.new.state) }
-        ensures sound { KeepsSoundInPlace J.key_of J.gives self.old.state self.new.state }
+        ensures claims { ClaimsAs claimed.ready J.key_of J.gives result self.old.state
+            self.new.state }
     {
         let state = &mut self.state;
         if !try_claim(&state.board, &mut state.seat, state.cpu, claimed.number) {
@@ -124,15 +114,8 @@ impl<J: Job> ProcessorInPlace<J> {
         requires rests { self.old.state.claimed ≡ None }
         requires seen { (sight (view_in self.old.state) ≡ seen)
             × ((lists_in self.old.state).advanced ≡ seen) }
-        ensures runs { IfOk result (λ job.
-            StartsRunning (λ p q. ClaimsFirst seen p q job) self.old.state self.new.state) }
-        ensures stops { IfErr result (λ stop.
-            StaysResting (ClaimsNone seen stop) self.old.state self.new.state) }
-        ensures counts { IfErr result (λ stop. stop ≢ Limit) }
-        ensures count { self.new.state.accepted ≡ self.old.state.accepted }
-        ensures keyed { IsSoundInPlace J.key_of J.gives self.old.state
-            → IfOk result (λ job. IfRunning (λ p. J.key_of job ≡ p.claimed.key) self.new.state) }
-        ensures sound { KeepsSoundInPlace J.key_of J.gives self.old.state self.new.state }
+        ensures begins { BeginsAs (λ job p q. ClaimsFirst seen p q job) (ClaimsNone seen) J.key_of
+            J.gives result self.old.state self.new.state }
     {
         match self.next(seen) {
             Err(stop) => Err(stop),

@@ -162,14 +162,14 @@ impl<J: Job> Processor<J> {
         requires next { IsNext claimed.ready claimed self.state }
         requires small { claimed.number < MOST_CALLS }
         requires room { HasRoom self.state.ran }
-        ensures same { IfRuns result (λ running _. SameBegun self.state running.state) }
-        ensures stays { IfStops result (λ processor _. SameProcessor self.state processor.state) }
+        ensures same { IfRuns result (λ running _. SameBegun self.state running.state)
+            × IfStops result (λ processor _. SameProcessor self.state processor.state) }
         ensures runs { IfRuns result (λ running job.
             ClaimsFirst claimed.ready self.state running.state job) }
         ensures lost { IfStops result (λ processor _.
             RanDone 0 1 claimed.ready self.state processor.state) }
-        ensures stops { IfStops result (λ processor stop. StopsTick stop 0 1 processor.state) }
-        ensures counts { IfStops result (λ _ stop. stop ≢ Limit) }
+        ensures stops { IfStops result (λ processor stop.
+            StopsTick stop 0 1 processor.state × (stop ≢ Limit)) }
         ensures count { IfStops result (λ processor _.
             processor.state.accepted ≡ self.state.accepted) }
         ensures keyed { IsSound J.key_of J.gives self.state

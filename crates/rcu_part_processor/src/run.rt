@@ -6,7 +6,7 @@ ghost use Rattle.rcu_board.specs.Plays.{touched};
 ghost use Rattle.rcu_board.specs.Seats.{SawHalt};
 ghost use Rattle.rcu_board.specs.Words.{halt_word};
 ghost use Rattle.rcu_part_processor.specs.Calls.{KeepsAll};
-ghost use Rattle.rcu_part_processor.specs.Processors.{SameProcessor, AcceptedStays, AddsRecords, IsSound, view_of, KeepsSound};
+ghost use Rattle.rcu_part_processor.specs.Processors.{Keeping, SameProcessor, AcceptedStays, AddsRecords, IsSound, view_of, KeepsSound};
 
 use crate::processor::Processor;
 use rcu_board::halted;
@@ -30,12 +30,9 @@ impl<J: Job> Processor<J> {
 
     /// Reports and ticks once, unless the runtime was halted. Answers whether a report was counted or a callback ran.
     fn turn_unless_halted(&mut self, moment: u64) -> Option<bool>
-        ensures same { SameProcessor self.old.state self.new.state }
         ensures halted { IfNone result (SawHalt (view_of self.new.state)) }
-        ensures count { self.new.state.accepted ≡ self.old.state.accepted }
         ensures accepted { AcceptedStays self.old.state self.new.state }
-        ensures records { AddsRecords self.old.state self.new.state }
-        ensures sound { KeepsSound J.key_of J.gives self.old.state self.new.state }
+        ensures records { Keeping AddsRecords J.key_of J.gives self.old.state self.new.state }
     {
         if self.is_halted() {
             return None;

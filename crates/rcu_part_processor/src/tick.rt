@@ -1,11 +1,10 @@
 //! The tick of a processor.
 
-ghost use Rattle.std.specs.Prelude.{◌≡◌, ◌≢◌, ℕ, ◌+◌, ◌≤◌, true, IfNone, IfSome};
+ghost use Rattle.std.specs.Prelude.{◌≡◌, ◌≤◌, true};
 ghost use Rattle.rcu_jobs.specs.Modes.{is_deoffloading};
 ghost use Rattle.rcu_board.specs.Views.{sight};
-ghost use Rattle.rcu_jobs.specs.declared.Stop.TheVariants.{Limit};
-ghost use Rattle.rcu_part_processor.specs.Processors.{SameProcessor, lists_of, view_of, KeepsSound};
-ghost use Rattle.rcu_part_processor.specs.Ticks.{CatchesUp, Heeds, Settles, RanDone, StopsTick, TicksBy, IsFresh, IsLocalOnceRun, RunsNoneOffloaded};
+ghost use Rattle.rcu_part_processor.specs.Processors.{Keeping, SameProcessor, lists_of, view_of, KeepsSound};
+ghost use Rattle.rcu_part_processor.specs.Ticks.{CatchesUp, Heeds, Settles, RunsOne, RunsDone, TicksBy, IsFresh, IsLocalOnceRun, RunsNoneOffloaded};
 ghost use Rattle.rcu_part_steps.specs.Stops.{StopsInTime};
 
 use crate::processor::Processor;
@@ -16,12 +15,10 @@ use rcu_part_steps::{look_at_number, run_claimed, try_claim};
 impl<J: Job> Processor<J> {
     // The tick's look: the own list is advanced by the number seen and accelerated, and what it waits for is asked for.
     pub(crate) fn catch_up(&mut self) -> u64
-        ensures same { SameProcessor self.old.state self.new.state }
-        ensures catches_up { CatchesUp result self.old.state self.new.state }
+        ensures catches_up { Keeping (CatchesUp result) J.key_of J.gives self.old.state
+            self.new.state }
         ensures sight { (sight (view_of self.new.state) ≡ result)
             × ((lists_of self.new.state).advanced ≡ result) }
-        ensures count { self.new.state.accepted ≡ self.old.state.accepted }
-        ensures sound { KeepsSound J.key_of J.gives self.old.state self.new.state }
     {
         let state = &mut self.state;
         let seen = look_at_number(&state.board, &mut state.seat);
@@ -35,12 +32,9 @@ impl<J: Job> Processor<J> {
     // changes the mode as asked.
     pub(crate) fn heed(&mut self, moment: u64)
         requires offloadable { self.old.state.offloadable ≡ true }
-        ensures same { SameProcessor self.old.state self.new.state }
-        ensures heeds { Heeds moment self.old.state self.new.state }
+        ensures heeds { Keeping (Heeds moment) J.key_of J.gives self.old.state self.new.state }
         ensures sight { (sight (view_of self.new.state) ≡ sight (view_of self.old.state))
             × ((lists_of self.new.state).advanced ≡ (lists_of self.old.state).advanced) }
-        ensures count { self.new.state.accepted ≡ self.old.state.accepted }
-        ensures sound { KeepsSound J.key_of J.gives self.old.state self.new.state }
     {
         let state = &mut self.state;
         let on = asked(&state.board, &mut state.seat);
@@ -52,12 +46,9 @@ impl<J: Job> Processor<J> {
     // In Deoffloading, reads the turn word, by which the mode becomes Local.
     pub(crate) fn settle(&mut self)
         requires offloadable { self.old.state.offloadable ≡ true }
-        ensures same { SameProcessor self.old.state self.new.state }
-        ensures settles { Settles self.old.state self.new.state }
+        ensures settles { Keeping Settles J.key_of J.gives self.old.state self.new.state }
         ensures sight { (sight (view_of self.new.state) ≡ sight (view_of self.old.state))
             × ((lists_of self.new.state).advanced ≡ (lists_of self.old.state).advanced) }
-        ensures count { self.new.state.accepted ≡ self.old.state.accepted }
-        ensures sound { KeepsSound J.key_of J.gives self.old.state self.new.state }
     {
         let state = &mut self.state;
         if state.lists.mode().is_deoffloading() {
@@ -70,16 +61,10 @@ impl<J: Job> Processor<J> {
     fn run_one(&mut self, seen: u64) -> Option<Stop>
         requires seen { (sight (view_of self.old.state) ≡ seen)
             × ((lists_of self.old.state).advanced ≡ seen) }
-        ensures same { SameProcessor self.old.state self.new.state }
-        ensures ran { IfNone result (RanDone 1 1 seen self.old.state self.new.state) }
-        ensures counts { IfSome result (λ stop. stop ≢ Limit) }
-        ensures not { IfSome result (λ stop.
-            (tried : ℕ) × RanDone 0 tried seen self.old.state self.new.state
-            × ((n : ℕ) → StopsTick stop n (n + tried) self.new.state)) }
+        ensures runs { Keeping (RunsOne seen result) J.key_of J.gives self.old.state
+            self.new.state }
         ensures sight { (sight (view_of self.new.state) ≡ seen)
             × ((lists_of self.new.state).advanced ≡ seen) }
-        ensures count { self.new.state.accepted ≡ self.old.state.accepted }
-        ensures sound { KeepsSound J.key_of J.gives self.old.state self.new.state }
     {
         let state = &mut self.state;
         let Some(first) = state.lists.first() else {
@@ -104,13 +89,10 @@ impl<J: Job> Processor<J> {
     fn run_done(&mut self, seen: u64) -> Ticked
         requires seen { (sight (view_of self.old.state) ≡ seen)
             × ((lists_of self.old.state).advanced ≡ seen) }
-        ensures same { SameProcessor self.old.state self.new.state }
-        ensures ran { (tried : ℕ) × RanDone result.ran tried seen self.old.state self.new.state
-            × StopsTick result.stop result.ran tried self.new.state }
+        ensures runs { Keeping (RunsDone seen result) J.key_of J.gives self.old.state
+            self.new.state }
         ensures few { result.ran ≤ self.old.state.blimit }
         ensures first { StopsInTime result.stop result.ran self.old.state.blimit }
-        ensures count { self.new.state.accepted ≡ self.old.state.accepted }
-        ensures sound { KeepsSound J.key_of J.gives self.old.state self.new.state }
     {
         let blimit = self.state.blimit;
         for ran in 0..blimit {

@@ -61,22 +61,6 @@ invariant_of-state g c = let s = c.args.self.now.state in let e = c.if-not-try_c
   runs = λ k f. (let x : None ≡ Some k = sym c.requires.rests ∙ f in cc);
 }
 
-pub returns-then-not-try_claim-clause-lost : goal.returns-then-not-try_claim-clause-lost
-returns-then-not-try_claim-clause-lost g c = λ r. let s = c.args.self.now.state in let e = c.if-not-try_claim.ensures in let n = c.requires.next r in let k = ap (λ (x : ClaimedCallback). x.number) n.claimed in let l = (e.lost refl).2 in (
-  r,
-  record { part = record { board = refl; seat = e.same }; lane = refl; cpu = refl; offloadable = refl; limit = refl; blimit = refl; kept = refl },
-  (
-    done_none 1 c.args.claimed.ready (resting s r) _ refl refl e.only ((e.same.later (arc_value s.board) s.here).turns s.cpu s.there),
-    (refl, (n.first, n.rest, n.done, λ e. l (omega (arith, e, k)))),
-  ),
-)
-
-pub returns-then-not-try_claim-clause-keyed : goal.returns-then-not-try_claim-clause-keyed
-returns-then-not-try_claim-clause-keyed g c = λ sound. tt
-
-pub returns-then-not-try_claim-clause-sound : goal.returns-then-not-try_claim-clause-sound
-returns-then-not-try_claim-clause-sound g c = λ sound. record { keyed = sound.keyed; given = sound.given }
-
 pub invariant_of-state-2 : goal.invariant_of-state-2
 invariant_of-state-2 g c =
     let s = c.args.self.now.state in let e = c.if-not-try_claim.ensures in let n = c.requires.next c.requires.rests in let x = c.in-Some.callback in let t = c.in-Some.ensures in
@@ -101,48 +85,62 @@ invariant_of-state-2 g c =
           (record { below = c.requires.small; room = c.requires.room; lawful = law });
     }
 
-pub returns-clause-runs : goal.returns-clause-runs
-returns-clause-runs g c = λ r.
-    let s = c.args.self.now.state in let e = c.if-not-try_claim.ensures in let n = c.requires.next r in let x = c.in-Some.callback in let t = c.in-Some.ensures in
-    let h' = holding c.take.new.self in let seen = c.args.claimed.ready in
-    let first = same_done n.first x n.rest h'.own (sym n.done ∙ t.taken.0) in
-    let is : c.args.claimed ≡ claimed_as seen x = n.claimed ∙ ap (claimed_as seen) first in (
-      c.args.claimed,
-      refl,
-      record { part = record { board = refl; seat = e.same }; lane = same_lane s.lists c.take.new.self t.rear; cpu = refl; offloadable = refl; limit = refl; blimit = refl; kept = refl },
-      record {
-        first = x;
-        job_is = refl;
-        done = t.taken.0;
-        others = t.taken.1;
-        records = refl;
-        count = refl;
-        claimed = is;
-        over = let a = t.graced in let b = c.requires.seen.1 in omega arith;
-        won = subst (λ (k : ℕ). Claims s.cpu k (view s.seat) (view c.try_claim.new.seat)) (ap (λ (y : ClaimedCallback). y.number) is) (e.won refl);
-        steps = e.only;
-      },
-    )
-
-pub returns-clause-keyed : goal.returns-clause-keyed
-returns-clause-keyed g c = λ sound k f.
-    let s = c.args.self.now.state in let n = c.requires.next c.requires.rests in let x = c.in-Some.callback in let t = c.in-Some.ensures in
-    let h = holding s.lists in let h' = holding c.take.new.self in let seen = c.args.claimed.ready in
-    let first = same_done n.first x n.rest h'.own (sym n.done ∙ t.taken.0) in
-    let is : k ≡ claimed_as seen x = sym (some_is c.args.claimed k f) ∙ (n.claimed ∙ ap (claimed_as seen) first) in
-    keyed_in g.J.Job.key_of (put_by h) x (held_in h') (subst (AreKeyed g.J.Job.key_of) (ap (λ l. put_by h ++ l) t.places) sound.keyed) ∙ sym (ap (λ (y : ClaimedCallback). y.key) is)
-
-pub returns-clause-sound : goal.returns-clause-sound
-returns-clause-sound g c = λ sound.
-    let h = holding c.args.self.now.state.lists in let h' = holding c.take.new.self in let x = c.in-Some.callback in let t = c.in-Some.ensures in
-    let rest = keyed_without g.J.Job.key_of (put_by h) x (held_in h') (subst (AreKeyed g.J.Job.key_of) (ap (λ l. put_by h ++ l) t.places) sound.keyed) in
-    record { keyed = subst (AreKeyed g.J.Job.key_of) (sym (ap (λ l. l ++ held_in h') (ap put_by t.taken.1))) rest; given = sound.given }
-
-pub returns-then-not-try_claim-clause-count : goal.returns-then-not-try_claim-clause-count
-returns-then-not-try_claim-clause-count g c = refl
-
 pub unreachable-unreachable : goal.unreachable-unreachable
 unreachable-unreachable g c = c.unreachable.result
 
-pub returns-clause-count : goal.returns-clause-count
-returns-clause-count g c = refl
+pub returns-then-not-try_claim : goal.returns-then-not-try_claim
+returns-then-not-try_claim g c = record {
+  claims = record {
+    runs = tt;
+    lost = λ r. let s = c.args.self.now.state in let e = c.if-not-try_claim.ensures in let n = c.requires.next r in let k = ap (λ (x : ClaimedCallback). x.number) n.claimed in let l = (e.lost refl).2 in (
+      r,
+      record { part = record { board = refl; seat = e.same }; lane = refl; cpu = refl; offloadable = refl; limit = refl; blimit = refl; kept = refl },
+      (
+        done_none 1 c.args.claimed.ready (resting s r) _ refl refl e.only ((e.same.later (arc_value s.board) s.here).turns s.cpu s.there),
+        (refl, (n.first, n.rest, n.done, λ e. l (omega (arith, e, k)))),
+      ),
+    );
+    count = refl;
+    keyed = λ sound. tt;
+    sound = λ sound. record { keyed = sound.keyed; given = sound.given };
+  };
+}
+
+pub returns : goal.returns
+returns g c = record {
+  claims = record {
+    runs = λ r.
+        let s = c.args.self.now.state in let e = c.if-not-try_claim.ensures in let n = c.requires.next r in let x = c.in-Some.callback in let t = c.in-Some.ensures in
+        let h' = holding c.take.new.self in let seen = c.args.claimed.ready in
+        let first = same_done n.first x n.rest h'.own (sym n.done ∙ t.taken.0) in
+        let is : c.args.claimed ≡ claimed_as seen x = n.claimed ∙ ap (claimed_as seen) first in (
+          c.args.claimed,
+          refl,
+          record { part = record { board = refl; seat = e.same }; lane = same_lane s.lists c.take.new.self t.rear; cpu = refl; offloadable = refl; limit = refl; blimit = refl; kept = refl },
+          record {
+            first = x;
+            job_is = refl;
+            done = t.taken.0;
+            others = t.taken.1;
+            records = refl;
+            count = refl;
+            claimed = is;
+            over = let a = t.graced in let b = c.requires.seen.1 in omega arith;
+            won = subst (λ (k : ℕ). Claims s.cpu k (view s.seat) (view c.try_claim.new.seat)) (ap (λ (y : ClaimedCallback). y.number) is) (e.won refl);
+            steps = e.only;
+          },
+        );
+    lost = tt;
+    count = refl;
+    keyed = λ sound k f.
+        let s = c.args.self.now.state in let n = c.requires.next c.requires.rests in let x = c.in-Some.callback in let t = c.in-Some.ensures in
+        let h = holding s.lists in let h' = holding c.take.new.self in let seen = c.args.claimed.ready in
+        let first = same_done n.first x n.rest h'.own (sym n.done ∙ t.taken.0) in
+        let is : k ≡ claimed_as seen x = sym (some_is c.args.claimed k f) ∙ (n.claimed ∙ ap (claimed_as seen) first) in
+        keyed_in g.J.Job.key_of (put_by h) x (held_in h') (subst (AreKeyed g.J.Job.key_of) (ap (λ l. put_by h ++ l) t.places) sound.keyed) ∙ sym (ap (λ (y : ClaimedCallback). y.key) is);
+    sound = λ sound.
+        let h = holding c.args.self.now.state.lists in let h' = holding c.take.new.self in let x = c.in-Some.callback in let t = c.in-Some.ensures in
+        let rest = keyed_without g.J.Job.key_of (put_by h) x (held_in h') (subst (AreKeyed g.J.Job.key_of) (ap (λ l. put_by h ++ l) t.places) sound.keyed) in
+        record { keyed = subst (AreKeyed g.J.Job.key_of) (sym (ap (λ l. l ++ held_in h') (ap put_by t.taken.1))) rest; given = sound.given };
+  };
+}

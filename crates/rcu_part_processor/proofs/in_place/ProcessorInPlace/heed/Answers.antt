@@ -62,29 +62,6 @@ invariant_of-state g c = let s = c.args.self.now.state in let a = c.asked-on.ens
       runs = λ k f. (let x : None ≡ Some k = sym c.requires.rests ∙ f in cc);
     }
 
-pub returns-clause-heeds : goal.returns-clause-heeds
-returns-clause-heeds g c = λ r. (
-  r,
-  record { part = record { board = refl; seat = same_seat_again c.args.self.now.state.seat c.asked-on.new.seat c.heard-urged.new.seat c.asked-on.ensures.same c.heard-urged.ensures.same }; lane = c.switch.ensures.lane ∙ c.release.ensures.lane; cpu = refl; offloadable = refl; limit = refl; blimit = refl; kept = refl },
-  let s = c.args.self.now.state in let a = c.asked-on.ensures in let b = c.heard-urged.ensures in
-      let n = (arc_value s.board).processors in let own = cpu_of_role c.asked-on.new.seat.role in let i = urge_word n own in let found = seen_at (view c.heard-urged.new.seat) i in
-      let u = view c.asked-on.new.seat in let w = view c.heard-urged.new.seat in
-      let step = urges (arc_value s.board) c.deref-2.result.now c.deref-2.ensures (cpu_of_role c.asked-on.new.seat.role) u w b.view in
-      let later : cpu_of_role c.asked-on.new.seat.role ≡ s.cpu = ap cpu_of_role (a.same.role ∙ s.role) in record {
-        on = c.asked-on.result;
-        urges = c.heard-urged.result;
-        found = found;
-        steps = step ∙ (ap (λ (p : ℕ). urged (urge_word n p) found (bit_and found (all_but_of (urge_bit p))) (view c.asked-on.new.seat)) later
-            ∙ ap (λ (x : View). urged (urge_word n s.cpu) found (bit_and found (all_but_of (urge_bit s.cpu))) x) (a.view ∙ ap (λ (p : ℕ). touched (asks_word p) (from_bool c.asked-on.result) (view s.seat)) (ap cpu_of_role s.role)));
-        heard = subst (λ (p : ℕ). IsTrue c.heard-urged.result ↔ (owes_of found (urge_bit p) ≡ 1)) later (subst (λ (t : Board). IsTrue c.heard-urged.result ↔ (owes_of (seen_at w (urge_word t.processors own)) (urge_bit own) ≡ 1)) c.deref-2.ensures b.heard);
-        released = holding c.release.new.self;
-        releases = c.release.ensures.releases;
-        asked_off = c.switch.ensures.off;
-        asked_on = c.switch.ensures.on;
-        records = refl;
-      },
-)
-
 pub returns-clause-sight : goal.returns-clause-sight
 returns-clause-sight g c = let s = c.args.self.now.state in let a = c.asked-on.ensures in let b = c.heard-urged.ensures in
     let n = (arc_value s.board).processors in let own = cpu_of_role c.asked-on.new.seat.role in let i = urge_word n own in let found = seen_at (view c.heard-urged.new.seat) i in
@@ -95,9 +72,6 @@ returns-clause-sight g c = let s = c.args.self.now.state in let a = c.asked-on.e
       c.switch.ensures.advanced ∙ c.release.ensures.advanced,
     )
 
-pub returns-clause-sound : goal.returns-clause-sound
-returns-clause-sound g c = sound_moved_in_place g.J.Job.key_of g.J.Job.gives c.args.self.now.state _ (c.switch.ensures.places ∙ c.release.ensures.places) refl
-
 pub asked-on-requires-clause-board : goal.asked-on-requires-clause-board
 asked-on-requires-clause-board g c = let s = c.args.self.now.state in stands (arc_value s.board) c.deref.result.now s.seat c.deref.ensures s.here
 
@@ -107,5 +81,29 @@ asked-on-requires-clause-who g c = subst IsProcessor (sym c.args.self.now.state.
 pub heard-urged-requires-clause-board : goal.heard-urged-requires-clause-board
 heard-urged-requires-clause-board g c = let s = c.args.self.now.state in stands (arc_value s.board) c.deref-2.result.now c.asked-on.new.seat c.deref-2.ensures (c.asked-on.ensures.same.table ∙ s.here)
 
-pub returns-clause-count : goal.returns-clause-count
-returns-clause-count g c = refl
+pub returns-clause-heeds : goal.returns-clause-heeds
+returns-clause-heeds g c = record {
+  does = λ r. (
+    r,
+    record { part = record { board = refl; seat = same_seat_again c.args.self.now.state.seat c.asked-on.new.seat c.heard-urged.new.seat c.asked-on.ensures.same c.heard-urged.ensures.same }; lane = c.switch.ensures.lane ∙ c.release.ensures.lane; cpu = refl; offloadable = refl; limit = refl; blimit = refl; kept = refl },
+    let s = c.args.self.now.state in let a = c.asked-on.ensures in let b = c.heard-urged.ensures in
+        let n = (arc_value s.board).processors in let own = cpu_of_role c.asked-on.new.seat.role in let i = urge_word n own in let found = seen_at (view c.heard-urged.new.seat) i in
+        let u = view c.asked-on.new.seat in let w = view c.heard-urged.new.seat in
+        let step = urges (arc_value s.board) c.deref-2.result.now c.deref-2.ensures (cpu_of_role c.asked-on.new.seat.role) u w b.view in
+        let later : cpu_of_role c.asked-on.new.seat.role ≡ s.cpu = ap cpu_of_role (a.same.role ∙ s.role) in record {
+          on = c.asked-on.result;
+          urges = c.heard-urged.result;
+          found = found;
+          steps = step ∙ (ap (λ (p : ℕ). urged (urge_word n p) found (bit_and found (all_but_of (urge_bit p))) (view c.asked-on.new.seat)) later
+              ∙ ap (λ (x : View). urged (urge_word n s.cpu) found (bit_and found (all_but_of (urge_bit s.cpu))) x) (a.view ∙ ap (λ (p : ℕ). touched (asks_word p) (from_bool c.asked-on.result) (view s.seat)) (ap cpu_of_role s.role)));
+          heard = subst (λ (p : ℕ). IsTrue c.heard-urged.result ↔ (owes_of found (urge_bit p) ≡ 1)) later (subst (λ (t : Board). IsTrue c.heard-urged.result ↔ (owes_of (seen_at w (urge_word t.processors own)) (urge_bit own) ≡ 1)) c.deref-2.ensures b.heard);
+          released = holding c.release.new.self;
+          releases = c.release.ensures.releases;
+          asked_off = c.switch.ensures.off;
+          asked_on = c.switch.ensures.on;
+          records = refl;
+        },
+  );
+  count = refl;
+  sound = sound_moved_in_place g.J.Job.key_of g.J.Job.gives c.args.self.now.state _ (c.switch.ensures.places ∙ c.release.ensures.places) refl;
+}

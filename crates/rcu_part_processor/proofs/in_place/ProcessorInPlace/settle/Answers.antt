@@ -47,39 +47,9 @@ invariant_of-state g c = let s = c.args.self.now.state in let e = c.turn_of-turn
 pub invariant_of-state-else-is_deoffloading : goal.invariant_of-state-else-is_deoffloading
 invariant_of-state-else-is_deoffloading g c = let s = c.args.self.now.state in record { here = s.here; role = s.role; there = s.there; bit = s.bit; local = s.local; small = s.small; since = s.since; rests = s.rests; runs = s.runs }
 
-pub returns-then-is_deoffloading-clause-settles : goal.returns-then-is_deoffloading-clause-settles
-returns-then-is_deoffloading-clause-settles g c = λ r. (
-  r,
-  record { part = record { board = refl; seat = c.turn_of-turn.ensures.same }; lane = same_lane c.args.self.now.state.lists c.settle.new.self c.settle.ensures.rear; cpu = refl; offloadable = refl; limit = refl; blimit = refl; kept = refl },
-  let s = c.args.self.now.state in let e = c.turn_of-turn.ensures in let h = holding s.lists in let turn = c.turn_of-turn.result in let w = view c.turn_of-turn.new.seat in
-      let found : turn ≡ seen_at w (turns_word s.cpu) = sym (ap (λ (v : View). seen_at v (turns_word s.cpu)) e.view ∙ seen-touched s.seat (turns_word s.cpu) turn (let i = words-of-processor s.seat s.cpu s.role in omega arith)) in
-      let leaving : is_deoffloading h.mode ≡ true = sym (c.is_deoffloading.ensures ∙ ap is_deoffloading c.mode.ensures) ∙ c.if-is_deoffloading.true in record {
-        leaving = λ yes. (e.view ∙ ap (λ (t : ℕ). touched (turns_word s.cpu) t (view s.seat)) found, c.settle.ensures.settled ∙ ap (λ (t : ℕ). record h { mode = settled h.left t h.mode }) found);
-        others = λ no. (let f : true ≡ false = sym leaving ∙ no in cc);
-        local = λ was is. subst (λ (t : ℕ). AreBelow (t / 2) (put_by (holding c.settle.new.self))) found (c.settle.ensures.local was is);
-        records = refl;
-      },
-)
-
 pub returns-then-is_deoffloading-clause-sight : goal.returns-then-is_deoffloading-clause-sight
 returns-then-is_deoffloading-clause-sight g c = let s = c.args.self.now.state in let e = c.turn_of-turn.ensures in
     (sight_touched (turns_word s.cpu) c.turn_of-turn.result (view s.seat) (view c.turn_of-turn.new.seat) (λ z. absurd (omega (arith, z))) e.view, ap (λ (h : Holding g.row.J.Denot). h.advanced) c.settle.ensures.settled)
-
-pub returns-then-is_deoffloading-clause-sound : goal.returns-then-is_deoffloading-clause-sound
-returns-then-is_deoffloading-clause-sound g c = sound_moved_in_place g.J.Job.key_of g.J.Job.gives c.args.self.now.state _ (ap (λ (h : Holding g.row.J.Denot). passed_on h) c.settle.ensures.settled) refl
-
-pub returns-else-is_deoffloading-clause-settles : goal.returns-else-is_deoffloading-clause-settles
-returns-else-is_deoffloading-clause-settles g c = λ r. (
-  r,
-  record { part = record { board = refl; seat = same_seat _ }; lane = refl; cpu = refl; offloadable = refl; limit = refl; blimit = refl; kept = refl },
-  let h = holding c.args.self.now.state.lists in
-      let stays : is_deoffloading h.mode ≡ false = sym (c.is_deoffloading.ensures ∙ ap is_deoffloading c.mode.ensures) ∙ c.if-is_deoffloading.false in record {
-        leaving = λ yes. (let f : true ≡ false = sym yes ∙ stays in cc);
-        others = λ no. (refl, refl);
-        local = λ was is. (let f : true ≡ false = sym is ∙ was in cc);
-        records = refl;
-      },
-)
 
 pub turn_of-turn-requires-clause-board : goal.turn_of-turn-requires-clause-board
 turn_of-turn-requires-clause-board g c = let s = c.args.self.now.state in stands (arc_value s.board) c.deref.result.now s.seat c.deref.ensures s.here
@@ -93,11 +63,37 @@ turn_of-turn-requires-clause-processor g c = let s = c.args.self.now.state in su
 pub returns-else-is_deoffloading-clause-sight : goal.returns-else-is_deoffloading-clause-sight
 returns-else-is_deoffloading-clause-sight g c = (refl, refl)
 
-pub returns-else-is_deoffloading-clause-sound : goal.returns-else-is_deoffloading-clause-sound
-returns-else-is_deoffloading-clause-sound g c = λ sound. record { keyed = sound.keyed; given = sound.given }
+pub returns-then-is_deoffloading-clause-settles : goal.returns-then-is_deoffloading-clause-settles
+returns-then-is_deoffloading-clause-settles g c = record {
+  does = λ r. (
+    r,
+    record { part = record { board = refl; seat = c.turn_of-turn.ensures.same }; lane = same_lane c.args.self.now.state.lists c.settle.new.self c.settle.ensures.rear; cpu = refl; offloadable = refl; limit = refl; blimit = refl; kept = refl },
+    let s = c.args.self.now.state in let e = c.turn_of-turn.ensures in let h = holding s.lists in let turn = c.turn_of-turn.result in let w = view c.turn_of-turn.new.seat in
+        let found : turn ≡ seen_at w (turns_word s.cpu) = sym (ap (λ (v : View). seen_at v (turns_word s.cpu)) e.view ∙ seen-touched s.seat (turns_word s.cpu) turn (let i = words-of-processor s.seat s.cpu s.role in omega arith)) in
+        let leaving : is_deoffloading h.mode ≡ true = sym (c.is_deoffloading.ensures ∙ ap is_deoffloading c.mode.ensures) ∙ c.if-is_deoffloading.true in record {
+          leaving = λ yes. (e.view ∙ ap (λ (t : ℕ). touched (turns_word s.cpu) t (view s.seat)) found, c.settle.ensures.settled ∙ ap (λ (t : ℕ). record h { mode = settled h.left t h.mode }) found);
+          others = λ no. (let f : true ≡ false = sym leaving ∙ no in cc);
+          local = λ was is. subst (λ (t : ℕ). AreBelow (t / 2) (put_by (holding c.settle.new.self))) found (c.settle.ensures.local was is);
+          records = refl;
+        },
+  );
+  count = refl;
+  sound = sound_moved_in_place g.J.Job.key_of g.J.Job.gives c.args.self.now.state _ (ap (λ (h : Holding g.row.J.Denot). passed_on h) c.settle.ensures.settled) refl;
+}
 
-pub returns-then-is_deoffloading-clause-count : goal.returns-then-is_deoffloading-clause-count
-returns-then-is_deoffloading-clause-count g c = refl
-
-pub returns-else-is_deoffloading-clause-count : goal.returns-else-is_deoffloading-clause-count
-returns-else-is_deoffloading-clause-count g c = refl
+pub returns-else-is_deoffloading-clause-settles : goal.returns-else-is_deoffloading-clause-settles
+returns-else-is_deoffloading-clause-settles g c = record {
+  does = λ r. (
+    r,
+    record { part = record { board = refl; seat = same_seat _ }; lane = refl; cpu = refl; offloadable = refl; limit = refl; blimit = refl; kept = refl },
+    let h = holding c.args.self.now.state.lists in
+        let stays : is_deoffloading h.mode ≡ false = sym (c.is_deoffloading.ensures ∙ ap is_deoffloading c.mode.ensures) ∙ c.if-is_deoffloading.false in record {
+          leaving = λ yes. (let f : true ≡ false = sym yes ∙ stays in cc);
+          others = λ no. (refl, refl);
+          local = λ was is. (let f : true ≡ false = sym is ∙ was in cc);
+          records = refl;
+        },
+  );
+  count = refl;
+  sound = λ sound. record { keyed = sound.keyed; given = sound.given };
+}

@@ -60,32 +60,9 @@ invariant_of-state-in_default g c = let s = c.args.self.now.state in let e = c.l
           (l.needed (seen_at w needed_word) (up-raised (seen_at (view s.seat) needed_word) (seen_at w needed_word) (holding s.lists).own z.needed s.lawful.needed) tt) s.lawful;
     }
 
-pub returns-in-Some-clause-catches_up : goal.returns-in-Some-clause-catches_up
-returns-in-Some-clause-catches_up g c = let s = c.args.self.now.state in let e = c.look_at_number-seen.ensures in let n = c.need.ensures in let l = c.in-Some.ensures in record {
-  asks = asks_one (wanted c.look_at_number-seen.result (holding s.lists).own) c.need.result c.in-Some.number (looked c.look_at_number-seen.result (view s.seat)) (view c.need.new.seat) (sym l.wanted)
-      (n.view ∙ ap (λ (v : View). touched needed_word (max c.need.result c.in-Some.number) v) e.view);
-  lists = l.list;
-  records = refl;
-}
-
 pub returns-in-Some-clause-sight : goal.returns-in-Some-clause-sight
 returns-in-Some-clause-sight g c = let s = c.args.self.now.state in let e = c.look_at_number-seen.ensures in let n = c.need.ensures in
     (sight_touched needed_word (max c.need.result c.in-Some.number) (view c.look_at_number-seen.new.seat) (view c.need.new.seat) (λ z. absurd (omega (arith, z))) n.view ∙ sym e.sight.0, ap (λ (h : Holding g.row.J.Denot). h.advanced) c.in-Some.ensures.list)
-
-pub returns-in-Some-clause-sound : goal.returns-in-Some-clause-sound
-returns-in-Some-clause-sound g c = let s = c.args.self.now.state in let l = c.in-Some.ensures in
-    sound_moved g.J.Job.key_of g.J.Job.gives s _ (caught_passes c.look_at_number-seen.result (holding s.lists) (holding c.look.new.self) l.list l.places) refl
-
-pub returns-in_default-clause-catches_up : goal.returns-in_default-clause-catches_up
-returns-in_default-clause-catches_up g c = let s = c.args.self.now.state in let e = c.look_at_number-seen.ensures in let l = c.in_default.ensures in record {
-  asks = asks_none (wanted c.look_at_number-seen.result (holding s.lists).own) (looked c.look_at_number-seen.result (view s.seat)) (view c.look_at_number-seen.new.seat) (sym l.wanted) e.view;
-  lists = l.list;
-  records = refl;
-}
-
-pub returns-in_default-clause-sound : goal.returns-in_default-clause-sound
-returns-in_default-clause-sound g c = let s = c.args.self.now.state in let l = c.in_default.ensures in
-    sound_moved g.J.Job.key_of g.J.Job.gives s _ (caught_passes c.look_at_number-seen.result (holding s.lists) (holding c.look.new.self) l.list l.places) refl
 
 pub look_at_number-seen-requires : goal.look_at_number-seen-requires
 look_at_number-seen-requires g c = let s = c.args.self.now.state in record { board = stands (arc_value s.board) c.deref.result.now s.seat c.deref.ensures s.here }
@@ -96,17 +73,32 @@ need-requires-clause-board g c = let s = c.args.self.now.state in stands (arc_va
 pub need-requires-clause-who : goal.need-requires-clause-who
 need-requires-clause-who g c = subst MayNeed (sym (c.look_at_number-seen.ensures.same.role ∙ c.args.self.now.state.role)) tt
 
-pub returns-in-Some-clause-same : goal.returns-in-Some-clause-same
-returns-in-Some-clause-same g c = let s = c.args.self.now.state in record { part = record { board = refl; seat = same_seat_again s.seat c.look_at_number-seen.new.seat c.need.new.seat c.look_at_number-seen.ensures.same c.need.ensures.same }; lane = same_lane s.lists c.look.new.self c.in-Some.ensures.rear; cpu = refl; offloadable = refl; limit = refl; blimit = refl; kept = refl }
-
-pub returns-in_default-clause-same : goal.returns-in_default-clause-same
-returns-in_default-clause-same g c = record { part = record { board = refl; seat = c.look_at_number-seen.ensures.same }; lane = same_lane c.args.self.now.state.lists c.look.new.self c.in_default.ensures.rear; cpu = refl; offloadable = refl; limit = refl; blimit = refl; kept = refl }
-
 pub returns-in_default-clause-sight : goal.returns-in_default-clause-sight
 returns-in_default-clause-sight g c = (sym c.look_at_number-seen.ensures.sight.0, ap (λ (h : Holding g.row.J.Denot). h.advanced) c.in_default.ensures.list)
 
-pub returns-in-Some-clause-count : goal.returns-in-Some-clause-count
-returns-in-Some-clause-count g c = refl
+pub returns-in-Some-clause-catches_up : goal.returns-in-Some-clause-catches_up
+returns-in-Some-clause-catches_up g c = record {
+  does = let s = c.args.self.now.state in let e = c.look_at_number-seen.ensures in let n = c.need.ensures in let l = c.in-Some.ensures in record {
+    asks = asks_one (wanted c.look_at_number-seen.result (holding s.lists).own) c.need.result c.in-Some.number (looked c.look_at_number-seen.result (view s.seat)) (view c.need.new.seat) (sym l.wanted)
+        (n.view ∙ ap (λ (v : View). touched needed_word (max c.need.result c.in-Some.number) v) e.view);
+    lists = l.list;
+    records = refl;
+  };
+  same = let s = c.args.self.now.state in record { part = record { board = refl; seat = same_seat_again s.seat c.look_at_number-seen.new.seat c.need.new.seat c.look_at_number-seen.ensures.same c.need.ensures.same }; lane = same_lane s.lists c.look.new.self c.in-Some.ensures.rear; cpu = refl; offloadable = refl; limit = refl; blimit = refl; kept = refl };
+  count = refl;
+  sound = let s = c.args.self.now.state in let l = c.in-Some.ensures in
+      sound_moved g.J.Job.key_of g.J.Job.gives s _ (caught_passes c.look_at_number-seen.result (holding s.lists) (holding c.look.new.self) l.list l.places) refl;
+}
 
-pub returns-in_default-clause-count : goal.returns-in_default-clause-count
-returns-in_default-clause-count g c = refl
+pub returns-in_default-clause-catches_up : goal.returns-in_default-clause-catches_up
+returns-in_default-clause-catches_up g c = record {
+  does = let s = c.args.self.now.state in let e = c.look_at_number-seen.ensures in let l = c.in_default.ensures in record {
+    asks = asks_none (wanted c.look_at_number-seen.result (holding s.lists).own) (looked c.look_at_number-seen.result (view s.seat)) (view c.look_at_number-seen.new.seat) (sym l.wanted) e.view;
+    lists = l.list;
+    records = refl;
+  };
+  same = record { part = record { board = refl; seat = c.look_at_number-seen.ensures.same }; lane = same_lane c.args.self.now.state.lists c.look.new.self c.in_default.ensures.rear; cpu = refl; offloadable = refl; limit = refl; blimit = refl; kept = refl };
+  count = refl;
+  sound = let s = c.args.self.now.state in let l = c.in_default.ensures in
+      sound_moved g.J.Job.key_of g.J.Job.gives s _ (caught_passes c.look_at_number-seen.result (holding s.lists) (holding c.look.new.self) l.list l.places) refl;
+}

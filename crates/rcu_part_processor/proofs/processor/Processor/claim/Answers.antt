@@ -52,19 +52,9 @@ invariant_of-state g c = let s = c.args.self.state in let e = c.if-not-try_claim
   lawful = kept_by_keeps s.cpu s.accepted _ (view s.seat) (view c.try_claim.new.seat) (ran_of s.ran) (holding s.lists) (e.lost refl).0 (e.same.later (arc_value s.board) s.here) s.lawful;
 }
 
-pub returns-then-not-try_claim-clause-stays : goal.returns-then-not-try_claim-clause-stays
-returns-then-not-try_claim-clause-stays g c = record { part = record { board = refl; seat = c.if-not-try_claim.ensures.same }; lane = refl; cpu = refl; offloadable = refl; limit = refl; blimit = refl; kept = refl }
-
 pub returns-then-not-try_claim-clause-lost : goal.returns-then-not-try_claim-clause-lost
 returns-then-not-try_claim-clause-lost g c = let s = c.args.self.state in let e = c.if-not-try_claim.ensures in
     done_none 1 c.args.claimed.ready s _ refl refl e.only ((e.same.later (arc_value s.board) s.here).turns s.cpu s.there)
-
-pub returns-then-not-try_claim-clause-stops : goal.returns-then-not-try_claim-clause-stops
-returns-then-not-try_claim-clause-stops g c = let n = c.requires.next in let k = ap (λ (x : ClaimedCallback). x.number) n.claimed in let l = (c.if-not-try_claim.ensures.lost refl).2 in
-    (refl, (n.first, n.rest, n.done, λ e. l (omega (arith, e, k))))
-
-pub returns-then-not-try_claim-clause-counts : goal.returns-then-not-try_claim-clause-counts
-returns-then-not-try_claim-clause-counts g c = λ e. (let f : Turn ≡ Limit = e in cc)
 
 pub returns-then-not-try_claim-clause-keyed : goal.returns-then-not-try_claim-clause-keyed
 returns-then-not-try_claim-clause-keyed g c = λ sound. tt
@@ -100,9 +90,6 @@ invariant_of-state-2 g c =
       room = c.requires.room;
       lawful = begun_law s.cpu s.accepted m seen (view s.seat) (view c.try_claim.new.seat) (ran_of s.ran) h h' x c.args.claimed is won later c.requires.seen.0 (ap put_by t.taken.1) t.places (ap (λ (o : Holding g.row.J.Denot). o.advanced) t.taken.1) less over s.lawful;
     }
-
-pub returns-clause-same : goal.returns-clause-same
-returns-clause-same g c = let s = c.args.self.state in record { part = record { board = refl; seat = c.if-not-try_claim.ensures.same }; lane = same_lane s.lists c.take.new.self c.in-Some.ensures.rear; cpu = refl; offloadable = refl; limit = refl; blimit = refl; kept = refl }
 
 pub returns-clause-runs : goal.returns-clause-runs
 returns-clause-runs g c =
@@ -141,3 +128,16 @@ returns-then-not-try_claim-clause-count g c = refl
 
 pub unreachable-unreachable : goal.unreachable-unreachable
 unreachable-unreachable g c = c.unreachable.result
+
+pub returns-then-not-try_claim-clause-same : goal.returns-then-not-try_claim-clause-same
+returns-then-not-try_claim-clause-same g c = (tt, record { part = record { board = refl; seat = c.if-not-try_claim.ensures.same }; lane = refl; cpu = refl; offloadable = refl; limit = refl; blimit = refl; kept = refl })
+
+pub returns-clause-same : goal.returns-clause-same
+returns-clause-same g c = (let s = c.args.self.state in record { part = record { board = refl; seat = c.if-not-try_claim.ensures.same }; lane = same_lane s.lists c.take.new.self c.in-Some.ensures.rear; cpu = refl; offloadable = refl; limit = refl; blimit = refl; kept = refl }, tt)
+
+pub returns-then-not-try_claim-clause-stops : goal.returns-then-not-try_claim-clause-stops
+returns-then-not-try_claim-clause-stops g c = (
+  (let n = c.requires.next in let k = ap (λ (x : ClaimedCallback). x.number) n.claimed in let l = (c.if-not-try_claim.ensures.lost refl).2 in
+      (refl, (n.first, n.rest, n.done, λ e. l (omega (arith, e, k))))),
+  (λ e. (let f : Turn ≡ Limit = e in cc)),
+)

@@ -44,29 +44,28 @@ invariant_of-state-2 g c = let s = c.args.self.now.state in let r = c.put_bypass
   lawful = shifts_law s.cpu s.accepted 0 (view s.seat) (view s.seat) (ran_of s.ran) h n (tells_none _ _ refl) (never_falls_same 0 (view s.seat)) (shifts_put h n r.puts) r.places s.lawful;
 }
 
-pub returns-clause-same : goal.returns-clause-same
-returns-clause-same g c = record { part = record { board = refl; seat = same_seat _ }; lane = c.put_bypass.ensures.lane; cpu = refl; offloadable = refl; limit = refl; blimit = refl; kept = refl }
-
 pub returns-clause-view : goal.returns-clause-view
 returns-clause-view g c = refl
-
-pub returns-clause-count : goal.returns-clause-count
-returns-clause-count g c = (refl, refl)
 
 pub returns-clause-records : goal.returns-clause-records
 returns-clause-records g c = refl
 
-pub returns-clause-puts : goal.returns-clause-puts
-returns-clause-puts g c = c.put_bypass.ensures.puts
-
 pub returns-clause-empty : goal.returns-clause-empty
 returns-clause-empty g c = none_shown c.in-Cpu.bypass (holding c.put_bypass.new.self).outgoing.bypass (ap shown c.in-Cpu.ensures)
-
-pub returns-clause-sound : goal.returns-clause-sound
-returns-clause-sound g c = sound_moved g.J.Job.key_of g.J.Job.gives c.args.self.now.state _ c.put_bypass.ensures.places refl
 
 pub unreachable-requires : goal.unreachable-requires
 unreachable-requires g c = absurd (false≢true (ap is_cpu c.in_default.ensures))
 
 pub unreachable-unreachable : goal.unreachable-unreachable
 unreachable-unreachable g c = c.unreachable.result
+
+pub returns-clause-passed : goal.returns-clause-passed
+returns-clause-passed g c = refl
+
+pub returns-clause-puts : goal.returns-clause-puts
+returns-clause-puts g c = record {
+  does = c.put_bypass.ensures.puts;
+  same = record { part = record { board = refl; seat = same_seat _ }; lane = c.put_bypass.ensures.lane; cpu = refl; offloadable = refl; limit = refl; blimit = refl; kept = refl };
+  count = refl;
+  sound = sound_moved g.J.Job.key_of g.J.Job.gives c.args.self.now.state _ c.put_bypass.ensures.places refl;
+}

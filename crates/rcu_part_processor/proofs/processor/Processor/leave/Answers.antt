@@ -14,10 +14,10 @@ empty_bypass-requires g c = assumption
 
 pub returns-then-not-empty_bypass-clause-stays : goal.returns-then-not-empty_bypass-clause-stays
 returns-then-not-empty_bypass-clause-stays g c = let p = c.args.self.state in let q = c.empty_bypass.new.self.state in let e = c.if-not-empty_bypass.ensures in
-    let back = put_back (lists_of p) (lists_of q) e.puts (λ none. (let f : false ≡ true = e.empty.1 none in cc)) in record {
-      same = e.same;
+    let back = put_back (lists_of p) (lists_of q) e.puts.does (λ none. (let f : false ≡ true = e.empty.1 none in cc)) in record {
+      same = e.puts.same;
       view = e.view;
-      count = e.count.0;
+      count = e.puts.count;
       records = e.records;
       held = back.0;
       full = back.1;
@@ -25,17 +25,17 @@ returns-then-not-empty_bypass-clause-stays g c = let p = c.args.self.state in le
     }
 
 pub returns-then-not-empty_bypass-clause-sound : goal.returns-then-not-empty_bypass-clause-sound
-returns-then-not-empty_bypass-clause-sound g c = λ sound. (tt, c.if-not-empty_bypass.ensures.sound sound)
+returns-then-not-empty_bypass-clause-sound g c = λ sound. (tt, c.if-not-empty_bypass.ensures.puts.sound sound)
 
 pub go_away-requires-clause-empty : goal.go_away-requires-clause-empty
 go_away-requires-clause-empty g c κs within = (assumption, (assumption, c.if-not-empty_bypass.ensures.empty.0 refl))
 
 pub returns-clause-same : goal.returns-clause-same
-returns-clause-same g c = same_left_after c.args.self.state c.empty_bypass.new.self.state c.go_away.result.state c.if-not-empty_bypass.ensures.same c.go_away.ensures.same
+returns-clause-same g c = same_left_after c.args.self.state c.empty_bypass.new.self.state c.go_away.result.state c.if-not-empty_bypass.ensures.puts.same c.go_away.ensures.same
 
 pub returns-clause-away : goal.returns-clause-away
 returns-clause-away g c = let e = c.if-not-empty_bypass.ensures in
-    left_after c.args.self.state c.empty_bypass.new.self.state c.go_away.result.state e.same.cpu e.view e.count.1 c.go_away.ensures.away
+    left_after c.args.self.state c.empty_bypass.new.self.state c.go_away.result.state e.puts.same.cpu e.view e.passed c.go_away.ensures.away
 
 pub returns-clause-empty : goal.returns-clause-empty
 returns-clause-empty g c = c.go_away.result.state.empty
@@ -43,16 +43,16 @@ returns-clause-empty g c = c.go_away.result.state.empty
 pub returns-clause-keeps : goal.returns-clause-keeps
 returns-clause-keeps g c = let p = c.args.self.state in let q = c.empty_bypass.new.self.state in let e = c.if-not-empty_bypass.ensures in let a = c.go_away.ensures in
     let lists = ap holding a.lists in record {
-      count = a.count.0 ∙ e.count.0;
-      passed = a.count.1 ∙ e.count.1;
+      count = a.count.0 ∙ e.puts.count;
+      passed = a.count.1 ∙ e.passed;
       records = a.records ∙ e.records;
-      put = ap put_by lists ∙ all_put (lists_of p) (lists_of q) e.puts (e.empty.0 refl);
-      batch = ap (λ (h : Holding g.row.J.Denot). h.outgoing) lists ∙ batch_put (lists_of p) (lists_of q) e.puts (e.empty.0 refl);
-      others = lists ∙ (e.puts.others ∙ ap (λ (o : Outgoing g.row.J.Denot). record (lists_of p) { outgoing = o }) (sym (ap (λ (h : Holding g.row.J.Denot). h.outgoing) lists)));
+      put = ap put_by lists ∙ all_put (lists_of p) (lists_of q) e.puts.does (e.empty.0 refl);
+      batch = ap (λ (h : Holding g.row.J.Denot). h.outgoing) lists ∙ batch_put (lists_of p) (lists_of q) e.puts.does (e.empty.0 refl);
+      others = lists ∙ (e.puts.does.others ∙ ap (λ (o : Outgoing g.row.J.Denot). record (lists_of p) { outgoing = o }) (sym (ap (λ (h : Holding g.row.J.Denot). h.outgoing) lists)));
     }
 
 pub returns-clause-sound : goal.returns-clause-sound
-returns-clause-sound g c = λ sound. let s = c.if-not-empty_bypass.ensures.sound sound in let a = c.go_away.ensures in (
+returns-clause-sound g c = λ sound. let s = c.if-not-empty_bypass.ensures.puts.sound sound in let a = c.go_away.ensures in (
   record {
     keyed = subst (λ (h : Holding g.row.J.Denot). AreKeyed g.J.Job.key_of (passed_on h)) (sym (ap holding a.lists)) s.keyed;
     given = subst (λ (rs : Recorded g.row.J-Receipt.Denot). Given g.J.Job.gives rs.all) (sym a.records) s.given;

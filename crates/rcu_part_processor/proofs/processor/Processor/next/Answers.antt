@@ -17,24 +17,6 @@ use Rattle.rcu_part_processor.proofs.processor.Processor.next.Goals as goal
 pub first-requires : goal.first-requires
 first-requires g c = let h : FitsInMemory (row.the_row (param 0 g.row.J) (param 1 g.row.J-Receipt)) = assumption in in_struct _ _ _ (in_struct _ _ _ h)
 
-pub returns-in_default-clause-stops : goal.returns-in_default-clause-stops
-returns-in_default-clause-stops g c = (c.in_default.ensures.first, refl)
-
-pub returns-in_default-clause-counts : goal.returns-in_default-clause-counts
-returns-in_default-clause-counts g c = λ e. (let f : Empty ≡ Limit = e in cc)
-
-pub returns-in_default-find_room-clause-stops : goal.returns-in_default-find_room-clause-stops
-returns-in_default-find_room-clause-stops g c = let f = c.in-Some.ensures.first in (done_some c.in-Some.first.now f.0 (holding c.args.self.now.state.lists).own f.1, refl)
-
-pub returns-in_default-find_room-clause-counts : goal.returns-in_default-find_room-clause-counts
-returns-in_default-find_room-clause-counts g c = λ e. (let f : Memory ≡ Limit = e in cc)
-
-pub returns-in_default-find_room-clause-keeps : goal.returns-in_default-find_room-clause-keeps
-returns-in_default-find_room-clause-keeps g c = record { view = refl; lists = refl; records = c.find_room.ensures.same; count = refl }
-
-pub returns-in_default-find_room-clause-sound : goal.returns-in_default-find_room-clause-sound
-returns-in_default-find_room-clause-sound g c = sound_same g.J.Job.key_of g.J.Job.gives c.args.self.now.state _ refl c.find_room.ensures.same
-
 pub invariant_of-state : goal.invariant_of-state
 invariant_of-state g c = let s = c.args.self.now.state in record {
   here = s.here;
@@ -47,9 +29,6 @@ invariant_of-state g c = let s = c.args.self.now.state in record {
   lawful = subst (λ (rs : List (Record g.row.J-Receipt.Denot)). IsLawful s.cpu s.accepted (view s.seat) rs (holding s.lists)) (sym (ap (λ (r : Recorded g.row.J-Receipt.Denot). r.all) c.find_room.ensures.same)) s.lawful;
 }
 
-pub returns-clause-keeps : goal.returns-clause-keeps
-returns-clause-keeps g c = record { view = refl; lists = refl; records = c.find_room.ensures.same; count = refl }
-
 pub returns-clause-next : goal.returns-clause-next
 returns-clause-next g c = let f = c.in-Some.ensures.first in record { first = c.in-Some.first.now; rest = f.0; done = f.1; claimed = c.of-claimed.ensures }
 
@@ -59,11 +38,32 @@ returns-clause-small g c = rw c.of-claimed.ensures c.in-Some.ensures.safe.1
 pub returns-clause-room : goal.returns-clause-room
 returns-clause-room g c = c.in-Ok.ensures.room
 
-pub returns-clause-sound : goal.returns-clause-sound
-returns-clause-sound g c = sound_same g.J.Job.key_of g.J.Job.gives c.args.self.now.state _ refl c.find_room.ensures.same
+pub returns-in_default-clause-keeps : goal.returns-in_default-clause-keeps
+returns-in_default-clause-keeps g c = record {
+  does = record { view = refl; lists = refl; records = refl; count = refl };
+  same = record { part = record { board = refl; seat = same_seat _ }; lane = refl; cpu = refl; offloadable = refl; limit = refl; blimit = refl; kept = refl };
+  count = refl;
+  sound = λ sound. record { keyed = sound.keyed; given = sound.given };
+}
 
-pub returns-in_default-find_room-clause-same : goal.returns-in_default-find_room-clause-same
-returns-in_default-find_room-clause-same g c = record { part = record { board = refl; seat = same_seat _ }; lane = refl; cpu = refl; offloadable = refl; limit = refl; blimit = refl; kept = ap (λ (r : Recorded g.row.J-Receipt.Denot). r.kept) c.find_room.ensures.same }
+pub returns-in_default-find_room-clause-keeps : goal.returns-in_default-find_room-clause-keeps
+returns-in_default-find_room-clause-keeps g c = record {
+  does = record { view = refl; lists = refl; records = c.find_room.ensures.same; count = refl };
+  same = record { part = record { board = refl; seat = same_seat _ }; lane = refl; cpu = refl; offloadable = refl; limit = refl; blimit = refl; kept = ap (λ (r : Recorded g.row.J-Receipt.Denot). r.kept) c.find_room.ensures.same };
+  count = refl;
+  sound = sound_same g.J.Job.key_of g.J.Job.gives c.args.self.now.state _ refl c.find_room.ensures.same;
+}
 
-pub returns-clause-same : goal.returns-clause-same
-returns-clause-same g c = record { part = record { board = refl; seat = same_seat _ }; lane = refl; cpu = refl; offloadable = refl; limit = refl; blimit = refl; kept = ap (λ (r : Recorded g.row.J-Receipt.Denot). r.kept) c.find_room.ensures.same }
+pub returns-clause-keeps : goal.returns-clause-keeps
+returns-clause-keeps g c = record {
+  does = record { view = refl; lists = refl; records = c.find_room.ensures.same; count = refl };
+  same = record { part = record { board = refl; seat = same_seat _ }; lane = refl; cpu = refl; offloadable = refl; limit = refl; blimit = refl; kept = ap (λ (r : Recorded g.row.J-Receipt.Denot). r.kept) c.find_room.ensures.same };
+  count = refl;
+  sound = sound_same g.J.Job.key_of g.J.Job.gives c.args.self.now.state _ refl c.find_room.ensures.same;
+}
+
+pub returns-in_default-clause-stops : goal.returns-in_default-clause-stops
+returns-in_default-clause-stops g c = (((c.in_default.ensures.first, refl)), (λ e. (let f : Empty ≡ Limit = e in cc)))
+
+pub returns-in_default-find_room-clause-stops : goal.returns-in_default-find_room-clause-stops
+returns-in_default-find_room-clause-stops g c = ((let f = c.in-Some.ensures.first in (done_some c.in-Some.first.now f.0 (holding c.args.self.now.state.lists).own f.1, refl)), (λ e. (let f : Memory ≡ Limit = e in cc)))

@@ -37,9 +37,6 @@ first-requires g c = let h : FitsInMemory (row.the_row (param 0 g.row.J) (param 
 pub invariant_of-state : goal.invariant_of-state
 invariant_of-state g c = let s = c.args.self.now.state in record { here = s.here; role = s.role; there = s.there; bit = s.bit; local = s.local; small = s.small; since = s.since; lawful = s.lawful }
 
-pub returns-in_default-clause-not : goal.returns-in_default-clause-not
-returns-in_default-clause-not g c = (0, done_none 0 c.args.seen c.args.self.now.state _ refl refl (steps_none _ _ _ refl) (omega arith), λ n. (c.in_default.ensures.first, omega arith))
-
 pub invariant_of-state-in_default-find_room : goal.invariant_of-state-in_default-find_room
 invariant_of-state-in_default-find_room g c = let s = c.args.self.now.state in record {
   here = s.here;
@@ -51,13 +48,6 @@ invariant_of-state-in_default-find_room g c = let s = c.args.self.now.state in r
   since = s.since;
   lawful = subst (λ (rs : List (Record g.row.J-Receipt.Denot)). IsLawful s.cpu s.accepted (view s.seat) rs (holding s.lists)) (sym (ap (λ (r : Recorded g.row.J-Receipt.Denot). r.all) c.find_room.ensures.same)) s.lawful;
 }
-
-pub returns-in_default-find_room-clause-not : goal.returns-in_default-find_room-clause-not
-returns-in_default-find_room-clause-not g c = let f = c.in-Some.ensures.first in
-    (0, done_none 0 c.args.seen c.args.self.now.state _ refl c.find_room.ensures.same (steps_none _ _ _ refl) (omega arith), λ n. (done_some c.in-Some.first.now f.0 (holding c.args.self.now.state.lists).own f.1, omega arith))
-
-pub returns-in_default-find_room-clause-sound : goal.returns-in_default-find_room-clause-sound
-returns-in_default-find_room-clause-sound g c = sound_same g.J.Job.key_of g.J.Job.gives c.args.self.now.state _ refl c.find_room.ensures.same
 
 pub invariant_of-state-then-not-try_claim : goal.invariant_of-state-then-not-try_claim
 invariant_of-state-then-not-try_claim g c = let s = c.args.self.now.state in let e = c.if-not-try_claim.ensures in record {
@@ -72,18 +62,8 @@ invariant_of-state-then-not-try_claim g c = let s = c.args.self.now.state in let
       (kept_by_keeps s.cpu s.accepted _ (view s.seat) (view c.try_claim.new.seat) (ran_of s.ran) (holding s.lists) (e.lost refl).0 (e.same.later (arc_value s.board) s.here) s.lawful);
 }
 
-pub returns-then-not-try_claim-clause-not : goal.returns-then-not-try_claim-clause-not
-returns-then-not-try_claim-clause-not g c = let s = c.args.self.now.state in let f = c.in-Some.ensures.first in let e = c.if-not-try_claim.ensures in let l = e.lost refl in (
-  1,
-  done_none 1 c.args.seen s _ refl c.find_room.ensures.same e.only ((e.same.later (arc_value s.board) s.here).turns s.cpu s.there),
-  λ n. (refl, (c.in-Some.first.now, f.0, f.1, l.2)),
-)
-
 pub returns-then-not-try_claim-clause-sight : goal.returns-then-not-try_claim-clause-sight
 returns-then-not-try_claim-clause-sight g c = ((c.if-not-try_claim.ensures.lost refl).1 ∙ c.requires.seen.0, c.requires.seen.1)
-
-pub returns-then-not-try_claim-clause-sound : goal.returns-then-not-try_claim-clause-sound
-returns-then-not-try_claim-clause-sound g c = sound_same g.J.Job.key_of g.J.Job.gives c.args.self.now.state _ refl c.find_room.ensures.same
 
 pub take-requires : goal.take-requires
 take-requires g c = let h : FitsInMemory (row.the_row (param 0 g.row.J) (param 1 g.row.J-Receipt)) = assumption in in_struct _ _ _ (in_struct _ _ _ h)
@@ -122,31 +102,12 @@ invariant_of-state-2 g c =
           (ap (λ (r : Recorded g.row.J-Receipt.Denot). r.all) (c.add.ensures.added ∙ ap (and_ran (c.run_claimed-record.result ∷ [])) c.find_room.ensures.same)) (ap put_by t.taken.1) t.places (ap (λ (o : Holding g.row.J.Denot). o.advanced) t.taken.1) less r.record r.ready over s.lawful;
     }
 
-pub returns-clause-ran : goal.returns-clause-ran
-returns-clause-ran g c = let s = c.args.self.now.state in let e = c.if-not-try_claim.ensures in let r = c.run_claimed-record.ensures in let t = c.in-Some-take.ensures in
-    let u = view c.try_claim.new.seat in let w = view c.run_claimed-record.new.seat in
-    let first : seen_at (view s.seat) (turns_word s.cpu) ≤ seen_at u (turns_word s.cpu) = (e.same.later (arc_value s.board) s.here).turns s.cpu s.there in
-    let second : seen_at u (turns_word s.cpu) ≤ seen_at w (turns_word s.cpu) = (r.same.later (arc_value s.board) (e.same.table ∙ s.here)).turns s.cpu s.there in
-    done_one c.args.seen s _ c.in-Some-take.callback c.run_claimed-record.result t.taken.0 t.taken.1 (c.add.ensures.added ∙ ap (and_ran (c.run_claimed-record.result ∷ [])) c.find_room.ensures.same) r.record r.ready
-    (steps_more (turns_word s.cpu) 1 1 (view s.seat) u w e.only (subst (λ (p : ℕ). StepsOnly (turns_word p) 1 u w) (ap cpu_of_role (e.same.role ∙ s.role)) r.only)) (omega (arith, first, second))
-
 pub returns-clause-sight : goal.returns-clause-sight
 returns-clause-sight g c = let w = c.if-not-try_claim.ensures.won refl in
     (c.run_claimed-record.ensures.ends.sights ∙ (w.sights ∙ c.requires.seen.0), ap (λ (o : Holding g.row.J.Denot). o.advanced) c.in-Some-take.ensures.taken.1 ∙ c.requires.seen.1)
 
-pub returns-clause-sound : goal.returns-clause-sound
-returns-clause-sound g c = let s = c.args.self.now.state in let t = c.in-Some-take.ensures in let h = holding s.lists in let h' = holding c.take.new.self in
-    sound_ran g.J.Job.key_of g.J.Job.gives s _ c.in-Some-take.callback c.run_claimed-record.result (put_by h) (held_in h') (ap (λ l. put_by h ++ l) t.places) (ap (λ l. l ++ held_in h') (ap put_by t.taken.1))
-    (c.add.ensures.added ∙ ap (and_ran (c.run_claimed-record.result ∷ [])) c.find_room.ensures.same) c.run_claimed-record.ensures.given
-
-pub returns-in_default-clause-same : goal.returns-in_default-clause-same
-returns-in_default-clause-same g c = record { part = record { board = refl; seat = same_seat _ }; lane = refl; cpu = refl; offloadable = refl; limit = refl; blimit = refl; kept = refl }
-
 pub returns-in_default-clause-sight : goal.returns-in_default-clause-sight
 returns-in_default-clause-sight g c = c.requires.seen
-
-pub returns-in_default-find_room-clause-same : goal.returns-in_default-find_room-clause-same
-returns-in_default-find_room-clause-same g c = record { part = record { board = refl; seat = same_seat _ }; lane = refl; cpu = refl; offloadable = refl; limit = refl; blimit = refl; kept = ap (λ (r : Recorded g.row.J-Receipt.Denot). r.kept) c.find_room.ensures.same }
 
 pub returns-in_default-find_room-clause-sight : goal.returns-in_default-find_room-clause-sight
 returns-in_default-find_room-clause-sight g c = c.requires.seen
@@ -166,9 +127,6 @@ try_claim-requires-clause-rests g c = c.args.self.now.state.lawful.rests
 pub try_claim-requires-clause-small : goal.try_claim-requires-clause-small
 try_claim-requires-clause-small g c = c.in-Some.ensures.safe.1
 
-pub returns-then-not-try_claim-clause-same : goal.returns-then-not-try_claim-clause-same
-returns-then-not-try_claim-clause-same g c = record { part = record { board = refl; seat = c.if-not-try_claim.ensures.same }; lane = refl; cpu = refl; offloadable = refl; limit = refl; blimit = refl; kept = ap (λ (r : Recorded g.row.J-Receipt.Denot). r.kept) c.find_room.ensures.same }
-
 pub run_claimed-record-requires-clause-board : goal.run_claimed-record-requires-clause-board
 run_claimed-record-requires-clause-board g c κs within = let s = c.args.self.now.state in stands (arc_value s.board) c.deref-2.result.now c.try_claim.new.seat c.deref-2.ensures (c.if-not-try_claim.ensures.same.table ∙ s.here)
 
@@ -178,35 +136,68 @@ run_claimed-record-requires-clause-who g c κs within = subst MayClaim (sym (c.i
 pub run_claimed-record-requires-clause-small : goal.run_claimed-record-requires-clause-small
 run_claimed-record-requires-clause-small g c κs within = c.in-Some-take.ensures.safe.1
 
-pub returns-clause-same : goal.returns-clause-same
-returns-clause-same g c = let s = c.args.self.now.state in record { part = record { board = refl; seat = same_seat_again s.seat c.try_claim.new.seat c.run_claimed-record.new.seat c.if-not-try_claim.ensures.same c.run_claimed-record.ensures.same }; lane = same_lane s.lists c.take.new.self c.in-Some-take.ensures.rear; cpu = refl; offloadable = refl; limit = refl; blimit = refl; kept = ap (λ (r : Recorded g.row.J-Receipt.Denot). r.kept) (c.add.ensures.added ∙ ap (and_ran (c.run_claimed-record.result ∷ [])) c.find_room.ensures.same) }
-
-pub returns-in_default-clause-counts : goal.returns-in_default-clause-counts
-returns-in_default-clause-counts g c = λ e. (let f : Empty ≡ Limit = e in cc)
-
-pub returns-in_default-find_room-clause-counts : goal.returns-in_default-find_room-clause-counts
-returns-in_default-find_room-clause-counts g c = λ e. (let f : Memory ≡ Limit = e in cc)
-
-pub returns-then-not-try_claim-clause-counts : goal.returns-then-not-try_claim-clause-counts
-returns-then-not-try_claim-clause-counts g c = λ e. (let f : Turn ≡ Limit = e in cc)
-
-pub returns-in_default-clause-count : goal.returns-in_default-clause-count
-returns-in_default-clause-count g c = refl
-
-pub returns-in_default-clause-sound : goal.returns-in_default-clause-sound
-returns-in_default-clause-sound g c = λ sound. record { keyed = sound.keyed; given = sound.given }
-
-pub returns-in_default-find_room-clause-count : goal.returns-in_default-find_room-clause-count
-returns-in_default-find_room-clause-count g c = refl
-
-pub returns-then-not-try_claim-clause-count : goal.returns-then-not-try_claim-clause-count
-returns-then-not-try_claim-clause-count g c = refl
-
 pub unreachable-unreachable : goal.unreachable-unreachable
 unreachable-unreachable g c = c.unreachable.result
 
 pub add-requires : goal.add-requires
 add-requires g c = record { room = c.in-Ok.ensures.room }
 
-pub returns-clause-count : goal.returns-clause-count
-returns-clause-count g c = refl
+pub returns-in_default-clause-runs : goal.returns-in_default-clause-runs
+returns-in_default-clause-runs g c = record {
+  does = record {
+    ran = tt;
+    not = (0, done_none 0 c.args.seen c.args.self.now.state _ refl refl (steps_none _ _ _ refl) (omega arith), λ n. (c.in_default.ensures.first, omega arith));
+    counts = λ e. (let f : Empty ≡ Limit = e in cc);
+  };
+  same = record { part = record { board = refl; seat = same_seat _ }; lane = refl; cpu = refl; offloadable = refl; limit = refl; blimit = refl; kept = refl };
+  count = refl;
+  sound = λ sound. record { keyed = sound.keyed; given = sound.given };
+}
+
+pub returns-in_default-find_room-clause-runs : goal.returns-in_default-find_room-clause-runs
+returns-in_default-find_room-clause-runs g c = record {
+  does = record {
+    ran = tt;
+    not = let f = c.in-Some.ensures.first in
+        (0, done_none 0 c.args.seen c.args.self.now.state _ refl c.find_room.ensures.same (steps_none _ _ _ refl) (omega arith), λ n. (done_some c.in-Some.first.now f.0 (holding c.args.self.now.state.lists).own f.1, omega arith));
+    counts = λ e. (let f : Memory ≡ Limit = e in cc);
+  };
+  same = record { part = record { board = refl; seat = same_seat _ }; lane = refl; cpu = refl; offloadable = refl; limit = refl; blimit = refl; kept = ap (λ (r : Recorded g.row.J-Receipt.Denot). r.kept) c.find_room.ensures.same };
+  count = refl;
+  sound = sound_same g.J.Job.key_of g.J.Job.gives c.args.self.now.state _ refl c.find_room.ensures.same;
+}
+
+pub returns-then-not-try_claim-clause-runs : goal.returns-then-not-try_claim-clause-runs
+returns-then-not-try_claim-clause-runs g c = record {
+  does = record {
+    ran = tt;
+    not = let s = c.args.self.now.state in let f = c.in-Some.ensures.first in let e = c.if-not-try_claim.ensures in let l = e.lost refl in (
+      1,
+      done_none 1 c.args.seen s _ refl c.find_room.ensures.same e.only ((e.same.later (arc_value s.board) s.here).turns s.cpu s.there),
+      λ n. (refl, (c.in-Some.first.now, f.0, f.1, l.2)),
+    );
+    counts = λ e. (let f : Turn ≡ Limit = e in cc);
+  };
+  same = record { part = record { board = refl; seat = c.if-not-try_claim.ensures.same }; lane = refl; cpu = refl; offloadable = refl; limit = refl; blimit = refl; kept = ap (λ (r : Recorded g.row.J-Receipt.Denot). r.kept) c.find_room.ensures.same };
+  count = refl;
+  sound = sound_same g.J.Job.key_of g.J.Job.gives c.args.self.now.state _ refl c.find_room.ensures.same;
+}
+
+pub returns-clause-runs : goal.returns-clause-runs
+returns-clause-runs g c = record {
+  does = record {
+    ran = let s = c.args.self.now.state in let e = c.if-not-try_claim.ensures in let r = c.run_claimed-record.ensures in let t = c.in-Some-take.ensures in
+        let u = view c.try_claim.new.seat in let w = view c.run_claimed-record.new.seat in
+        let first : seen_at (view s.seat) (turns_word s.cpu) ≤ seen_at u (turns_word s.cpu) = (e.same.later (arc_value s.board) s.here).turns s.cpu s.there in
+        let second : seen_at u (turns_word s.cpu) ≤ seen_at w (turns_word s.cpu) = (r.same.later (arc_value s.board) (e.same.table ∙ s.here)).turns s.cpu s.there in
+        done_one c.args.seen s _ c.in-Some-take.callback c.run_claimed-record.result t.taken.0 t.taken.1 (c.add.ensures.added ∙ ap (and_ran (c.run_claimed-record.result ∷ [])) c.find_room.ensures.same) r.record r.ready
+        (steps_more (turns_word s.cpu) 1 1 (view s.seat) u w e.only (subst (λ (p : ℕ). StepsOnly (turns_word p) 1 u w) (ap cpu_of_role (e.same.role ∙ s.role)) r.only)) (omega (arith, first, second));
+    not = tt;
+    counts = tt;
+  };
+  same = let s = c.args.self.now.state in record { part = record { board = refl; seat = same_seat_again s.seat c.try_claim.new.seat c.run_claimed-record.new.seat c.if-not-try_claim.ensures.same c.run_claimed-record.ensures.same }; lane = same_lane s.lists c.take.new.self c.in-Some-take.ensures.rear; cpu = refl; offloadable = refl; limit = refl; blimit = refl; kept = ap (λ (r : Recorded g.row.J-Receipt.Denot). r.kept) (c.add.ensures.added ∙ ap (and_ran (c.run_claimed-record.result ∷ [])) c.find_room.ensures.same) };
+  count = refl;
+  sound = let s = c.args.self.now.state in let t = c.in-Some-take.ensures in let h = holding s.lists in let h' = holding c.take.new.self in
+      sound_ran g.J.Job.key_of g.J.Job.gives s _ c.in-Some-take.callback c.run_claimed-record.result (put_by h) (held_in h') (ap (λ l. put_by h ++ l) t.places) (ap (λ l. l ++ held_in h') (ap put_by t.taken.1))
+      (c.add.ensures.added ∙ ap (and_ran (c.run_claimed-record.result ∷ [])) c.find_room.ensures.same) c.run_claimed-record.ensures.given;
+}

@@ -6,57 +6,17 @@ use Rattle.rcu_part_processor.proofs.Accepted.{accepted_told, accepted_ticked}
 use Rattle.rcu_part_processor.proofs.TickRuns.{records_again, records_kept, records_ticked, same_processor_again}
 use Rattle.rcu_part_processor.proofs.processor.Processor.turn_unless_halted.Goals as goal
 
-pub returns-then-counted-clause-sound : goal.returns-then-counted-clause-sound
-returns-then-counted-clause-sound g c = λ sound. c.tick-ticked.ensures.sound (c.quiescent.ensures.sound (c.is_halted.ensures.sound sound))
-
-pub returns-else-counted-clause-sound : goal.returns-else-counted-clause-sound
-returns-else-counted-clause-sound g c = λ sound. c.tick-ticked.ensures.sound (c.quiescent.ensures.sound (c.is_halted.ensures.sound sound))
-
 pub is_halted-requires : goal.is_halted-requires
 is_halted-requires g c = assumption
 
-pub returns-then-is_halted-clause-same : goal.returns-then-is_halted-clause-same
-returns-then-is_halted-clause-same g c = c.is_halted.ensures.same
-
-pub returns-then-is_halted-clause-count : goal.returns-then-is_halted-clause-count
-returns-then-is_halted-clause-count g c = c.is_halted.ensures.keeps.count
-
-pub returns-then-is_halted-clause-sound : goal.returns-then-is_halted-clause-sound
-returns-then-is_halted-clause-sound g c = c.is_halted.ensures.sound
-
 pub returns-then-is_halted-clause-halted : goal.returns-then-is_halted-clause-halted
 returns-then-is_halted-clause-halted g c = let s = c.args.self.now.state in saw-halt (arc_value s.board) s.seat c.is_halted.new.self.state.seat c.is_halted.result s.here c.is_halted.ensures.view c.if-is_halted.true
-
-pub returns-then-is_halted-clause-records : goal.returns-then-is_halted-clause-records
-returns-then-is_halted-clause-records g c = records_kept c.args.self.now.state c.is_halted.new.self.state c.is_halted.ensures.keeps.records
 
 pub quiescent-requires : goal.quiescent-requires
 quiescent-requires g c = assumption
 
 pub tick-ticked-requires : goal.tick-ticked-requires
 tick-ticked-requires g c = assumption
-
-pub returns-then-counted-clause-same : goal.returns-then-counted-clause-same
-returns-then-counted-clause-same g c = let p = c.args.self.now.state in let q = c.quiescent.new.self.state in
-    same_processor_again p q c.tick-ticked.new.self.state (same_processor_again p c.is_halted.new.self.state q c.is_halted.ensures.same c.quiescent.ensures.same) c.tick-ticked.ensures.same
-
-pub returns-then-counted-clause-count : goal.returns-then-counted-clause-count
-returns-then-counted-clause-count g c = c.tick-ticked.ensures.count ∙ (c.quiescent.ensures.keeps.count ∙ c.is_halted.ensures.keeps.count)
-
-pub returns-else-counted-clause-same : goal.returns-else-counted-clause-same
-returns-else-counted-clause-same g c = let p = c.args.self.now.state in let q = c.quiescent.new.self.state in
-    same_processor_again p q c.tick-ticked.new.self.state (same_processor_again p c.is_halted.new.self.state q c.is_halted.ensures.same c.quiescent.ensures.same) c.tick-ticked.ensures.same
-
-pub returns-else-counted-clause-count : goal.returns-else-counted-clause-count
-returns-else-counted-clause-count g c = c.tick-ticked.ensures.count ∙ (c.quiescent.ensures.keeps.count ∙ c.is_halted.ensures.keeps.count)
-
-pub returns-then-counted-clause-records : goal.returns-then-counted-clause-records
-returns-then-counted-clause-records g c = let p = c.args.self.now.state in let q = c.quiescent.new.self.state in let r = c.tick-ticked.new.self.state in
-    records_again p q r (records_kept p q (c.quiescent.ensures.keeps.records ∙ c.is_halted.ensures.keeps.records)) (records_ticked c.args.moment c.tick-ticked.result q r c.tick-ticked.ensures.ticks)
-
-pub returns-else-counted-clause-records : goal.returns-else-counted-clause-records
-returns-else-counted-clause-records g c = let p = c.args.self.now.state in let q = c.quiescent.new.self.state in let r = c.tick-ticked.new.self.state in
-    records_again p q r (records_kept p q (c.quiescent.ensures.keeps.records ∙ c.is_halted.ensures.keeps.records)) (records_ticked c.args.moment c.tick-ticked.result q r c.tick-ticked.ensures.ticks)
 
 pub returns-then-is_halted-clause-accepted : goal.returns-then-is_halted-clause-accepted
 returns-then-is_halted-clause-accepted g c = ap accepted_of c.is_halted.ensures.view
@@ -70,3 +30,31 @@ pub returns-else-counted-clause-accepted : goal.returns-else-counted-clause-acce
 returns-else-counted-clause-accepted g c = let q = c.quiescent.new.self.state in
     accepted_ticked c.args.moment c.tick-ticked.result q c.tick-ticked.new.self.state c.tick-ticked.ensures.ticks
     ∙ (accepted_told c.quiescent.result c.is_halted.new.self.state q c.quiescent.ensures.reports ∙ ap accepted_of c.is_halted.ensures.view)
+
+pub returns-then-is_halted-clause-records : goal.returns-then-is_halted-clause-records
+returns-then-is_halted-clause-records g c = record {
+  does = records_kept c.args.self.now.state c.is_halted.new.self.state c.is_halted.ensures.keeps.records;
+  same = c.is_halted.ensures.same;
+  count = c.is_halted.ensures.keeps.count;
+  sound = c.is_halted.ensures.sound;
+}
+
+pub returns-then-counted-clause-records : goal.returns-then-counted-clause-records
+returns-then-counted-clause-records g c = record {
+  does = let p = c.args.self.now.state in let q = c.quiescent.new.self.state in let r = c.tick-ticked.new.self.state in
+      records_again p q r (records_kept p q (c.quiescent.ensures.keeps.records ∙ c.is_halted.ensures.keeps.records)) (records_ticked c.args.moment c.tick-ticked.result q r c.tick-ticked.ensures.ticks);
+  same = let p = c.args.self.now.state in let q = c.quiescent.new.self.state in
+      same_processor_again p q c.tick-ticked.new.self.state (same_processor_again p c.is_halted.new.self.state q c.is_halted.ensures.same c.quiescent.ensures.same) c.tick-ticked.ensures.same;
+  count = c.tick-ticked.ensures.count ∙ (c.quiescent.ensures.keeps.count ∙ c.is_halted.ensures.keeps.count);
+  sound = λ sound. c.tick-ticked.ensures.sound (c.quiescent.ensures.sound (c.is_halted.ensures.sound sound));
+}
+
+pub returns-else-counted-clause-records : goal.returns-else-counted-clause-records
+returns-else-counted-clause-records g c = record {
+  does = let p = c.args.self.now.state in let q = c.quiescent.new.self.state in let r = c.tick-ticked.new.self.state in
+      records_again p q r (records_kept p q (c.quiescent.ensures.keeps.records ∙ c.is_halted.ensures.keeps.records)) (records_ticked c.args.moment c.tick-ticked.result q r c.tick-ticked.ensures.ticks);
+  same = let p = c.args.self.now.state in let q = c.quiescent.new.self.state in
+      same_processor_again p q c.tick-ticked.new.self.state (same_processor_again p c.is_halted.new.self.state q c.is_halted.ensures.same c.quiescent.ensures.same) c.tick-ticked.ensures.same;
+  count = c.tick-ticked.ensures.count ∙ (c.quiescent.ensures.keeps.count ∙ c.is_halted.ensures.keeps.count);
+  sound = λ sound. c.tick-ticked.ensures.sound (c.quiescent.ensures.sound (c.is_halted.ensures.sound sound));
+}
