@@ -1,5 +1,5 @@
 -- What contracts see of a hand's part, and what its turn does: docs/specification/rules.md, "The calls, step by step", `Hand::turn`.
-use Rattle.std.specs.Prelude.{◌≡◌, ◌≢◌, ℕ, ◌+◌, ◌≤◌, ◌*◌, ◌<◌, List, [], ◌∷◌, ◌++◌, length, All}
+use Rattle.std.specs.Prelude.{◌≡◌, ◌≢◌, ℕ, ◌+◌, ◌≤◌, ◌*◌, ◌<◌, List, [], ◌∷◌, ◌++◌, length, All, Option, IfNone, IfSome}
 use Rattle.std.proofs.Common.{◌⊎◌}
 use Rattle.std.specs.Arc.{arc_value}
 use Rattle.rcu_board.specs.Seats.{view}
@@ -66,6 +66,14 @@ module _ {J R : Type 0} where
   abbrev pub KeepsSoundHand : (J → ℕ) → (ℕ → R → Type 0) → HandState J R → HandState J R → Type 0
   KeepsSoundHand key_of gives old new = IsSoundHand key_of gives old → IsSoundHand key_of gives new
 
+  -- A step of a hand: what it does; and it is the same hand, which knows of jobs what it knew.
+  pub record Keeping (Does : HandState J R → HandState J R → Type 0) (key_of : J → ℕ) (gives : ℕ → R → Type 0) (p q : HandState J R) : Type 0 where
+    pub does : Does p q
+    -- the same part of the same open
+    pub same : SameHand p q
+    -- what is known of jobs stays known
+    pub sound : KeepsSoundHand key_of gives p q
+
   -- The first n of what it held were run, each under a claim that was won at the board sight `seen`, and left a record
   -- each; so many claims were tried.
   pub record Ran (n tried seen : ℕ) (p q : HandState J R) : Type 0 where
@@ -97,6 +105,18 @@ module _ {J R : Type 0} where
   StopsAt Empty ran tried seen h = (hand_held h ≡ []) × (tried ≡ ran)
   StopsAt Turn ran tried seen h = IsNotItsTurn ran tried seen h
   StopsAt Memory ran tried seen h = IsDue seen h × (tried ≡ ran)
+
+  -- The first of what it holds was run; or none was, and why, which is never that so many were, nor that it may go on.
+  pub record RunsOne (seen : ℕ) (answer : Option Stop) (p q : HandState J R) : Type 0 where
+    -- None: one was run, under the one claim that was tried
+    pub ran : IfNone answer (Ran 1 1 seen p q)
+    -- Some: none was, and the reason holds however many were run before
+    pub not : IfSome answer (λ stop. (tried : ℕ) × Ran 0 tried seen p q × ((n : ℕ) → StopsAt stop n (n + tried) seen q))
+    pub counts : IfSome answer (λ stop. (stop ≢ Limit) × (stop ≢ Again))
+
+  -- The first ones of what it held were run, as many as the answer says, and why no more.
+  abbrev pub RunsHeld : ℕ → HandTurn → HandState J R → HandState J R → Type 0
+  RunsHeld seen answer p q = (tried : ℕ) × Ran answer.ran tried seen p q × StopsAt answer.stop answer.ran tried seen q
 
   -- one look, which found the number `seen`
   pub record Looks (seen : ℕ) (p q : HandState J R) : Type 0 where

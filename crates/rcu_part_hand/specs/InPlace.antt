@@ -1,6 +1,6 @@
 -- A hand in place: between its calls it is a hand, or a running hand, and what its calls do is said of those:
 -- docs/specification/surface.md, "rcu_parts", `begin` and `finish`.
-use Rattle.std.specs.Prelude.{◌≡◌, ℕ, ◌+◌, ◌<◌, ◌≤◌, List, ◌∷◌, IfErr, IfOk, Result}
+use Rattle.std.specs.Prelude.{◌≡◌, ℕ, ◌+◌, ◌<◌, ◌≤◌, List, ◌∷◌, IfErr, IfOk, IfNone, IfSome, Option, Result}
 use Rattle.std.specs.declared.option.Option.TheVariants.{None, Some}
 use Rattle.std.proofs.lemmas.Option.{none-some}
 use Rattle.rcu_board.specs.Plays.{touched}
@@ -12,7 +12,7 @@ use Rattle.rcu_jobs.specs.declared.callback.Callback.{Callback}
 use Rattle.rcu_numbers.specs.Numbers.{snap_of}
 use Rattle.rcu_numbers.specs.declared.shape.TheConstants.{MOST_CALLS}
 use Rattle.rcu_part_lists.specs.Helds.{drawn_by}
-use Rattle.rcu_part_hand.specs.Begins.{BeginsHand, FinishesHand, IsGivenFor, SameBegun, SameFinished, StopsHand, running_held}
+use Rattle.rcu_part_hand.specs.Begins.{BeginsHand, ClaimsFirst, FinishesHand, IsGivenFor, IsKeyed, SameBegun, SameFinished, StopsHand, running_held}
 use Rattle.rcu_part_hand.specs.Hands.{SameHand, Ran, StopsAt, hand_drawn, hand_held, hand_records, hand_view}
 use Rattle.rcu_part_hand.specs.declared.hand.HandState.{HandState}
 use Rattle.rcu_part_hand.specs.declared.in_place.HandInPlaceState.{HandInPlaceState}
@@ -81,6 +81,11 @@ module _ {J R : Type 0} where
   abbrev pub StaysResting : (HandState J R → HandState J R → Type 0) → HandInPlaceState J R → HandInPlaceState J R → Type 0
   StaysResting Does p q = (e : p.claimed ≡ None) → (f : q.claimed ≡ None) × SameHand (resting p e) (resting q f) × Does (resting p e) (resting q f)
 
+  -- A step of a hand of which no claim runs: what it does; and what is known of jobs stays known.
+  pub record KeepingInPlace (Does : HandState J R → HandState J R → Type 0) (key_of : J → ℕ) (gives : ℕ → R → Type 0) (p q : HandInPlaceState J R) : Type 0 where
+    pub does : StaysResting Does p q
+    pub sound : KeepsSoundInPlace key_of gives p q
+
   -- Where no claim of it runs, this is so of the hand.
   abbrev pub IfResting : (HandState J R → Type 0) → HandInPlaceState J R → Type 0
   IfResting Is p = (e : p.claimed ≡ None) → Is (resting p e)
@@ -102,6 +107,17 @@ module _ {J R : Type 0} where
   -- the claim of the first callback wasn't won at the board sight `seen`
   abbrev pub LosesClaim : ℕ → HandState J R → HandState J R → Type 0
   LosesClaim seen p q = Ran 0 1 seen p q × StopsAt Turn 0 1 seen q
+
+  -- The claim of the first callback that is held was tried at the board sight `seen`: where it was won it runs, and its job is
+  -- handed out.
+  pub record ClaimsAs (seen : ℕ) (key_of : J → ℕ) (gives : ℕ → R → Type 0) (answer : Option J) (p q : HandInPlaceState J R) : Type 0 where
+    -- Some: the claim runs
+    pub runs : IfSome answer (λ job. StartsRunning (λ o r. ClaimsFirst seen o r job) p q)
+    -- None: it wasn't won
+    pub lost : IfNone answer (StaysResting (LosesClaim seen) p q)
+    -- the job that is handed out has the claim's key
+    pub keyed : IfSome answer (λ job. IfRunning (λ r. IsKeyed key_of r job) q)
+    pub sound : KeepsSoundInPlace key_of gives p q
 
   -- the halt word was read, and nothing else changed
   pub record ReadsHalt (found : ℕ) (p q : HandState J R) : Type 0 where

@@ -6,7 +6,7 @@ ghost use Rattle.rcu_board.specs.Views.{sight};
 ghost use Rattle.rcu_jobs.specs.declared.Stop.TheVariants.{Limit};
 ghost use Rattle.rcu_part_hand.specs.Begins.{SameBegun, SameFinished, IsSoundRunning, IsKeyed, IsGivenFor};
 ghost use Rattle.rcu_part_hand.specs.Begins.{IsNext, KeepsHand, ClaimsFirst, BeginsHand, StopsHand, FinishesHand};
-ghost use Rattle.rcu_part_hand.specs.Hands.{SameHand, IsSoundHand, KeepsSoundHand, Ran, StopsAt, hand_view};
+ghost use Rattle.rcu_part_hand.specs.Hands.{Keeping, SameHand, IsSoundHand, StopsAt, hand_view};
 ghost use Rattle.rcu_part_order.specs.Recorded.{HasRoom};
 ghost use Rattle.rcu_part_steps.specs.Begins.{IfRuns, IfStops};
 
@@ -20,14 +20,12 @@ impl<J: Job> Hand<J> {
     // The first of what it holds, where its wait is over at the number of the look and there is room for its record.
     fn next(&mut self, seen: u64) -> Result<ClaimedCallback, Stop>
         requires seen { sight (hand_view self.old.state) ≡ seen }
-        ensures same { SameHand self.old.state self.new.state }
-        ensures keeps { KeepsHand self.old.state self.new.state }
+        ensures keeps { Keeping KeepsHand J.key_of J.gives self.old.state self.new.state }
         ensures next { IfOk result (λ c. IsNext seen c self.new.state) }
         ensures small { IfOk result (λ c. c.number < MOST_CALLS) }
         ensures room { IfOk result (λ _. HasRoom self.new.state.ran) }
-        ensures stops { IfErr result (λ stop. StopsAt stop 0 0 seen self.new.state) }
-        ensures counts { IfErr result (λ stop. stop ≢ Limit) }
-        ensures sound { KeepsSoundHand J.key_of J.gives self.old.state self.new.state }
+        ensures stops { IfErr result (λ stop.
+            StopsAt stop 0 0 seen self.new.state × (stop ≢ Limit)) }
     {
         let state = &mut self.state;
         let Some(first) = state.held.first() else {

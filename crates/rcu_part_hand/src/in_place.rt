@@ -128,16 +128,16 @@ impl<J: Job> HandInPlace<J> {
 }
 
 impl<J: Job> HandInPlace<J> {
-    ghost use Rattle.rcu_part_hand.specs.Begins.{BeginsHand, ClaimsFirst, FinishesHand, IsGivenFor, IsKeyed, IsNext, KeepsHand, StopsHand};
+    ghost use Rattle.rcu_part_hand.specs.Begins.{BeginsHand, FinishesHand, IsGivenFor, IsKeyed, IsNext, KeepsHand, StopsHand};
     ghost use Rattle.rcu_part_hand.specs.Hands.{Loads, Looks, StopsAt};
-    ghost use Rattle.rcu_part_hand.specs.InPlace.{EndsRunning, IfResting, IfRunning, KeepsSoundInPlace, LosesClaim, StartsRunning, StaysResting};
+    ghost use Rattle.rcu_part_hand.specs.InPlace.{ClaimsAs, EndsRunning, IfResting, IfRunning, KeepingInPlace, KeepsSoundInPlace, StartsRunning, StaysResting};
 
     // The look of a begin.
     fn look(&mut self) -> u64
         requires rests { self.old.state.claimed ≡ None }
-        ensures looks { StaysResting (Looks result) self.old.state self.new.state }
+        ensures looks { KeepingInPlace (Looks result) J.key_of J.gives self.old.state
+            self.new.state }
         ensures small { result ≤ LAST_NUMBER }
-        ensures sound { KeepsSoundInPlace J.key_of J.gives self.old.state self.new.state }
     {
         let state = &mut self.state;
         look_at_number(&state.board, &mut state.seat)
@@ -146,10 +146,9 @@ impl<J: Job> HandInPlace<J> {
     // Draws a batch where none is held. Answers why nothing can run, if so.
     fn load(&mut self) -> Option<Stop>
         requires rests { self.old.state.claimed ≡ None }
-        ensures loads { StaysResting Loads self.old.state self.new.state }
+        ensures loads { KeepingInPlace Loads J.key_of J.gives self.old.state self.new.state }
         ensures none { IfSome result (λ stop.
             IfResting (λ h. (n seen : ℕ) → StopsAt stop n n seen h) self.new.state) }
-        ensures sound { KeepsSoundInPlace J.key_of J.gives self.old.state self.new.state }
     {
         self.state.held.fetch()
     }
@@ -157,14 +156,13 @@ impl<J: Job> HandInPlace<J> {
     // The first of what it holds, where its wait is over at the number of the look and there is room for its record.
     fn next(&mut self, seen: u64) -> Result<ClaimedCallback, Stop>
         requires rests { self.old.state.claimed ≡ None }
-        ensures keeps { StaysResting KeepsHand self.old.state self.new.state }
+        ensures keeps { KeepingInPlace KeepsHand J.key_of J.gives self.old.state self.new.state }
         ensures next { IfOk result (λ c. IfResting (IsNext seen c) self.new.state) }
         ensures ready { IfOk result (λ c. c.ready ≡ seen) }
         ensures small { IfOk result (λ c. c.number < MOST_CALLS) }
         ensures room { IfOk result (λ _. HasRoom self.new.state.ran) }
-        ensures stops { IfErr result (λ stop. IfResting (StopsAt stop 0 0 seen) self.new.state) }
-        ensures counts { IfErr result (λ stop. stop ≢ Limit) }
-        ensures sound { KeepsSoundInPlace J.key_of J.gives self.old.state self.new.state }
+        ensures stops { IfErr result (λ stop.
+            IfResting (StopsAt stop 0 0 seen) self.new.state × (stop ≢ Limit)) }
     {
         let state = &mut self.state;
         let Some(first) = state.held.first() else {
@@ -187,13 +185,8 @@ impl<J: Job> HandInPlace<J> {
         requires next { IfResting (IsNext claimed.ready claimed) self.old.state }
         requires small { claimed.number < MOST_CALLS }
         requires room { HasRoom self.old.state.ran }
-        ensures runs { IfSome result (λ job.
-            StartsRunning (λ p q. ClaimsFirst claimed.ready p q job) self.old.state self.new.state) }
-        ensures lost { IfNone result (StaysResting (LosesClaim claimed.ready) self.old.state
-            self.new.state) }
-        ensures keyed { IfSome result (λ job.
-            IfRunning (λ h. IsKeyed J.key_of h job) self.new.state) }
-        ensures sound { KeepsSoundInPlace J.key_of J.gives self.old.state self.new.state }
+        ensures claims { ClaimsAs claimed.ready J.key_of J.gives result self.old.state
+            self.new.state }
     {
         let state = &mut self.state;
         if !try_claim(&state.board, &mut state.seat, state.cpu, claimed.number) {

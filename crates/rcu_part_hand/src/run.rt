@@ -5,7 +5,7 @@ ghost use Rattle.std.specs.Int.{from_bool};
 ghost use Rattle.rcu_board.specs.Plays.{touched};
 ghost use Rattle.rcu_board.specs.Seats.{SawHalt};
 ghost use Rattle.rcu_board.specs.Words.{halt_word};
-ghost use Rattle.rcu_part_hand.specs.Hands.{SameHand, AddsRecords, IsSoundHand, KeepsSoundHand, hand_view, hand_held, hand_drawn, hand_records};
+ghost use Rattle.rcu_part_hand.specs.Hands.{Keeping, SameHand, AddsRecords, IsSoundHand, KeepsSoundHand, hand_view, hand_held, hand_drawn, hand_records};
 
 use crate::hand::Hand;
 use rcu_board::halted;
@@ -31,10 +31,8 @@ impl<J: Job> Hand<J> {
 
     /// Turns once, unless the runtime was halted. Answers whether a callback ran.
     fn turn_unless_halted(&mut self) -> Option<bool>
-        ensures same { SameHand self.old.state self.new.state }
         ensures halted { IfNone result (SawHalt (hand_view self.new.state)) }
-        ensures records { AddsRecords self.old.state self.new.state }
-        ensures sound { KeepsSoundHand J.key_of J.gives self.old.state self.new.state }
+        ensures records { Keeping AddsRecords J.key_of J.gives self.old.state self.new.state }
     {
         if self.is_halted() {
             return None;

@@ -1,11 +1,11 @@
 //! The turn of a hand.
 
-ghost use Rattle.std.specs.Prelude.{◌≡◌, ◌≢◌, ◌+◌, ◌≤◌, ℕ, [], IfNone, IfSome};
+ghost use Rattle.std.specs.Prelude.{◌≡◌, ◌≢◌, ◌+◌, ◌≤◌, ℕ, [], IfSome};
 ghost use Rattle.rcu_board.specs.Views.{sight, tally};
 ghost use Rattle.rcu_board.specs.Words.{board_word};
-ghost use Rattle.rcu_jobs.specs.declared.Stop.TheVariants.{Limit, Again};
+ghost use Rattle.rcu_jobs.specs.declared.Stop.TheVariants.{Again};
 ghost use Rattle.rcu_numbers.specs.declared.sequence.TheConstants.{LAST_NUMBER};
-ghost use Rattle.rcu_part_hand.specs.Hands.{SameHand, KeepsSoundHand, Looks, Loads, Ran, StopsAt, TurnsBy, hand_held, hand_view};
+ghost use Rattle.rcu_part_hand.specs.Hands.{Keeping, SameHand, KeepsSoundHand, Looks, Loads, RunsOne, RunsHeld, StopsAt, TurnsBy, hand_held, hand_view};
 ghost use Rattle.rcu_part_steps.specs.Stops.{StopsInTime};
 
 use crate::hand::Hand;
@@ -18,13 +18,8 @@ impl<J: Job> Hand<J> {
     fn run_one(&mut self, seen: u64) -> Option<Stop>
         requires seen { sight (hand_view self.old.state) ≡ seen }
         requires small { seen ≤ LAST_NUMBER }
-        ensures same { SameHand self.old.state self.new.state }
-        ensures ran { IfNone result (Ran 1 1 seen self.old.state self.new.state) }
-        ensures counts { IfSome result (λ stop. (stop ≢ Limit) × (stop ≢ Again)) }
-        ensures not { IfSome result (λ stop.
-            (tried : ℕ) × Ran 0 tried seen self.old.state self.new.state
-            × ((n : ℕ) → StopsAt stop n (n + tried) seen self.new.state)) }
-        ensures sound { KeepsSoundHand J.key_of J.gives self.old.state self.new.state }
+        ensures runs { Keeping (RunsOne seen result) J.key_of J.gives self.old.state
+            self.new.state }
     {
         let state = &mut self.state;
         let Some(first) = state.held.first() else {
@@ -52,13 +47,11 @@ impl<J: Job> Hand<J> {
     fn run_held(&mut self, seen: u64) -> HandTurn
         requires seen { sight (hand_view self.old.state) ≡ seen }
         requires small { seen ≤ LAST_NUMBER }
-        ensures same { SameHand self.old.state self.new.state }
-        ensures ran { (tried : ℕ) × Ran result.ran tried seen self.old.state self.new.state
-            × StopsAt result.stop result.ran tried seen self.new.state }
+        ensures runs { Keeping (RunsHeld seen result) J.key_of J.gives self.old.state
+            self.new.state }
         ensures first { StopsInTime result.stop result.ran self.old.state.blimit }
         ensures goes_on { result.stop ≢ Again }
         ensures few { result.ran ≤ self.old.state.blimit }
-        ensures sound { KeepsSoundHand J.key_of J.gives self.old.state self.new.state }
     {
         let blimit = self.state.blimit;
         for ran in 0..blimit {
@@ -74,10 +67,8 @@ impl<J: Job> Hand<J> {
 
     // The turn's look.
     pub(crate) fn look(&mut self) -> u64
-        ensures same { SameHand self.old.state self.new.state }
-        ensures looks { Looks result self.old.state self.new.state }
+        ensures looks { Keeping (Looks result) J.key_of J.gives self.old.state self.new.state }
         ensures small { result ≤ LAST_NUMBER }
-        ensures sound { KeepsSoundHand J.key_of J.gives self.old.state self.new.state }
     {
         let state = &mut self.state;
         look_at_number(&state.board, &mut state.seat)
@@ -85,10 +76,8 @@ impl<J: Job> Hand<J> {
 
     // Draws a batch where none is held. Answers why nothing can run, if so.
     pub(crate) fn load(&mut self) -> Option<Stop>
-        ensures same { SameHand self.old.state self.new.state }
-        ensures loads { Loads self.old.state self.new.state }
+        ensures loads { Keeping Loads J.key_of J.gives self.old.state self.new.state }
         ensures none { IfSome result (λ stop. (n seen : ℕ) → StopsAt stop n n seen self.new.state) }
-        ensures sound { KeepsSoundHand J.key_of J.gives self.old.state self.new.state }
     {
         self.state.held.fetch()
     }

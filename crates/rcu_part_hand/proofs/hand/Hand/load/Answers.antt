@@ -11,16 +11,6 @@ use Rattle.rcu_part_hand.specs.HandLaw.{IsLawfulHand}
 use Rattle.rcu_board.proofs.Facts.{same_seat}
 use Rattle.rcu_part_hand.proofs.hand.Hand.load.Goals as goal
 
-pub returns-clause-loads : goal.returns-clause-loads
-returns-clause-loads g c = let s = c.args.self.now.state in let e = c.fetch.ensures in
-    let f = fetched (c.fetch.result ≡ None) (held_by s.held) (held_by c.fetch.new.self) (drawn_by s.held) (drawn_by c.fetch.new.self) e.held e.drawn in
-    record { batch = f.0; drawn = f.1; held = f.2; only = f.3; view = refl; records = refl }
-
-pub returns-clause-sound : goal.returns-clause-sound
-returns-clause-sound g c = let s = c.args.self.now.state in let e = c.fetch.ensures in
-    let f = fetched (c.fetch.result ≡ None) (held_by s.held) (held_by c.fetch.new.self) (drawn_by s.held) (drawn_by c.fetch.new.self) e.held e.drawn in
-    hand_sound_drawn g.J.Job.key_of g.J.Job.gives (drawn_by s.held) (drawn_by c.fetch.new.self) f.0 s.ran.all.items f.1
-
 pub returns-clause-none : goal.returns-clause-none
 returns-clause-none g c = stops_empty c.fetch.result _ (λ some. (c.fetch.ensures.none some).1) c.fetch.ensures.stops
 
@@ -31,8 +21,16 @@ invariant_of-self g c = let s = c.args.self.now.state in record {
   lawful = subst (λ (cs : List (Callback g.row.J.Denot)). IsLawfulHand s.cpu (view s.seat) s.ran.all.items cs) (sym c.fetch.ensures.taken) s.lawful;
 }
 
-pub returns-clause-same : goal.returns-clause-same
-returns-clause-same g c = record { part = record { board = refl; seat = same_seat _ }; lane = c.fetch.ensures.lane; cpu = refl; blimit = refl; kept = refl }
-
 pub fetch-requires : goal.fetch-requires
 fetch-requires g c = let h : FitsInMemory (row.the_row (param 0 g.row.J) (param 1 g.row.J-Receipt)) = assumption in in_struct _ _ _ (in_struct _ _ _ h)
+
+pub returns-clause-loads : goal.returns-clause-loads
+returns-clause-loads g c = record {
+  does = let s = c.args.self.now.state in let e = c.fetch.ensures in
+      let f = fetched (c.fetch.result ≡ None) (held_by s.held) (held_by c.fetch.new.self) (drawn_by s.held) (drawn_by c.fetch.new.self) e.held e.drawn in
+      record { batch = f.0; drawn = f.1; held = f.2; only = f.3; view = refl; records = refl };
+  same = record { part = record { board = refl; seat = same_seat _ }; lane = c.fetch.ensures.lane; cpu = refl; blimit = refl; kept = refl };
+  sound = let s = c.args.self.now.state in let e = c.fetch.ensures in
+      let f = fetched (c.fetch.result ≡ None) (held_by s.held) (held_by c.fetch.new.self) (drawn_by s.held) (drawn_by c.fetch.new.self) e.held e.drawn in
+      hand_sound_drawn g.J.Job.key_of g.J.Job.gives (drawn_by s.held) (drawn_by c.fetch.new.self) f.0 s.ran.all.items f.1;
+}

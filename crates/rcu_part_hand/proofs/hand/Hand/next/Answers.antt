@@ -12,40 +12,12 @@ use Rattle.rcu_part_hand.specs.HandLaw.{IsLawfulHand}
 use Rattle.rcu_part_hand.proofs.HandRuns.{all_as, kept_as, hand_sound_kept}
 use Rattle.rcu_part_hand.proofs.hand.Hand.next.Goals as goal
 
-pub returns-in_default-clause-stops : goal.returns-in_default-clause-stops
-returns-in_default-clause-stops g c = (c.in_default.ensures.first, refl)
-
-pub returns-in_default-clause-counts : goal.returns-in_default-clause-counts
-returns-in_default-clause-counts g c = λ e. (let f : Empty ≡ Limit = e in cc)
-
-pub returns-then-snap-seen-clause-stops : goal.returns-then-snap-seen-clause-stops
-returns-then-snap-seen-clause-stops g c = let f = c.in-Some.ensures.first in
-    (c.in-Some.first.now, f.0, f.1, inl (omega (arith, c.if-snap-seen.true, c.snap.ensures.value), refl))
-
-pub returns-then-snap-seen-clause-counts : goal.returns-then-snap-seen-clause-counts
-returns-then-snap-seen-clause-counts g c = λ e. (let f : Turn ≡ Limit = e in cc)
-
-pub returns-in_default-find_room-clause-stops : goal.returns-in_default-find_room-clause-stops
-returns-in_default-find_room-clause-stops g c = let f = c.in-Some.ensures.first in ((c.in-Some.first.now, f.0, f.1, omega (arith, c.if-snap-seen.false, c.snap.ensures.value)), refl)
-
-pub returns-in_default-find_room-clause-counts : goal.returns-in_default-find_room-clause-counts
-returns-in_default-find_room-clause-counts g c = λ e. (let f : Memory ≡ Limit = e in cc)
-
-pub returns-in_default-find_room-clause-keeps : goal.returns-in_default-find_room-clause-keeps
-returns-in_default-find_room-clause-keeps g c = record { view = refl; held = refl; records = c.find_room.ensures.same }
-
-pub returns-in_default-find_room-clause-sound : goal.returns-in_default-find_room-clause-sound
-returns-in_default-find_room-clause-sound g c = hand_sound_kept g.J.Job.key_of g.J.Job.gives (drawn_by c.args.self.now.state.held) (drawn_by c.args.self.now.state.held) c.args.self.now.state.ran.all.items c.find_room.new.self.all.items refl (all_as _ _ c.find_room.ensures.same)
-
 pub invariant_of-state : goal.invariant_of-state
 invariant_of-state g c = let s = c.args.self.now.state in record {
   here = s.here;
   role = s.role;
   lawful = subst (λ (rs : List (Record g.row.J-Receipt.Denot)). IsLawfulHand s.cpu (view s.seat) rs (taken_by s.held)) (sym (all_as _ _ c.find_room.ensures.same)) s.lawful;
 }
-
-pub returns-clause-keeps : goal.returns-clause-keeps
-returns-clause-keeps g c = record { view = refl; held = refl; records = c.find_room.ensures.same }
 
 pub returns-clause-next : goal.returns-clause-next
 returns-clause-next g c = let f = c.in-Some.ensures.first in
@@ -57,35 +29,49 @@ returns-clause-small g c = rw c.of-claimed.ensures c.in-Some.ensures.safe.1
 pub returns-clause-room : goal.returns-clause-room
 returns-clause-room g c = c.in-Ok.ensures.room
 
-pub returns-clause-sound : goal.returns-clause-sound
-returns-clause-sound g c = hand_sound_kept g.J.Job.key_of g.J.Job.gives (drawn_by c.args.self.now.state.held) (drawn_by c.args.self.now.state.held) c.args.self.now.state.ran.all.items c.find_room.new.self.all.items refl (all_as _ _ c.find_room.ensures.same)
-
 pub first-requires : goal.first-requires
 first-requires g c = let h : FitsInMemory (row.the_row (param 0 g.row.J) (param 1 g.row.J-Receipt)) = assumption in in_struct _ _ _ (in_struct _ _ _ h)
 
 pub snap-requires : goal.snap-requires
 snap-requires g c = c.in-Some.ensures.safe.0
 
-pub returns-in_default-clause-same : goal.returns-in_default-clause-same
-returns-in_default-clause-same g c = record { part = record { board = refl; seat = same_seat _ }; lane = refl; cpu = refl; blimit = refl; kept = refl }
-
 pub returns-in_default-clause-keeps : goal.returns-in_default-clause-keeps
-returns-in_default-clause-keeps g c = record { view = refl; held = refl; records = refl }
-
-pub returns-in_default-clause-sound : goal.returns-in_default-clause-sound
-returns-in_default-clause-sound g c = λ sound. sound
-
-pub returns-then-snap-seen-clause-same : goal.returns-then-snap-seen-clause-same
-returns-then-snap-seen-clause-same g c = record { part = record { board = refl; seat = same_seat _ }; lane = refl; cpu = refl; blimit = refl; kept = refl }
+returns-in_default-clause-keeps g c = record {
+  does = record { view = refl; held = refl; records = refl };
+  same = record { part = record { board = refl; seat = same_seat _ }; lane = refl; cpu = refl; blimit = refl; kept = refl };
+  sound = λ sound. sound;
+}
 
 pub returns-then-snap-seen-clause-keeps : goal.returns-then-snap-seen-clause-keeps
-returns-then-snap-seen-clause-keeps g c = record { view = refl; held = refl; records = refl }
+returns-then-snap-seen-clause-keeps g c = record {
+  does = record { view = refl; held = refl; records = refl };
+  same = record { part = record { board = refl; seat = same_seat _ }; lane = refl; cpu = refl; blimit = refl; kept = refl };
+  sound = λ sound. sound;
+}
 
-pub returns-then-snap-seen-clause-sound : goal.returns-then-snap-seen-clause-sound
-returns-then-snap-seen-clause-sound g c = λ sound. sound
+pub returns-in_default-find_room-clause-keeps : goal.returns-in_default-find_room-clause-keeps
+returns-in_default-find_room-clause-keeps g c = record {
+  does = record { view = refl; held = refl; records = c.find_room.ensures.same };
+  same = record { part = record { board = refl; seat = same_seat _ }; lane = refl; cpu = refl; blimit = refl; kept = kept_as _ _ c.find_room.ensures.same };
+  sound = hand_sound_kept g.J.Job.key_of g.J.Job.gives (drawn_by c.args.self.now.state.held) (drawn_by c.args.self.now.state.held) c.args.self.now.state.ran.all.items c.find_room.new.self.all.items refl (all_as _ _ c.find_room.ensures.same);
+}
 
-pub returns-in_default-find_room-clause-same : goal.returns-in_default-find_room-clause-same
-returns-in_default-find_room-clause-same g c = record { part = record { board = refl; seat = same_seat _ }; lane = refl; cpu = refl; blimit = refl; kept = kept_as _ _ c.find_room.ensures.same }
+pub returns-clause-keeps : goal.returns-clause-keeps
+returns-clause-keeps g c = record {
+  does = record { view = refl; held = refl; records = c.find_room.ensures.same };
+  same = record { part = record { board = refl; seat = same_seat _ }; lane = refl; cpu = refl; blimit = refl; kept = kept_as _ _ c.find_room.ensures.same };
+  sound = hand_sound_kept g.J.Job.key_of g.J.Job.gives (drawn_by c.args.self.now.state.held) (drawn_by c.args.self.now.state.held) c.args.self.now.state.ran.all.items c.find_room.new.self.all.items refl (all_as _ _ c.find_room.ensures.same);
+}
 
-pub returns-clause-same : goal.returns-clause-same
-returns-clause-same g c = record { part = record { board = refl; seat = same_seat _ }; lane = refl; cpu = refl; blimit = refl; kept = kept_as _ _ c.find_room.ensures.same }
+pub returns-in_default-clause-stops : goal.returns-in_default-clause-stops
+returns-in_default-clause-stops g c = (((c.in_default.ensures.first, refl)), (λ e. (let f : Empty ≡ Limit = e in cc)))
+
+pub returns-then-snap-seen-clause-stops : goal.returns-then-snap-seen-clause-stops
+returns-then-snap-seen-clause-stops g c = (
+  (let f = c.in-Some.ensures.first in
+      (c.in-Some.first.now, f.0, f.1, inl (omega (arith, c.if-snap-seen.true, c.snap.ensures.value), refl))),
+  (λ e. (let f : Turn ≡ Limit = e in cc)),
+)
+
+pub returns-in_default-find_room-clause-stops : goal.returns-in_default-find_room-clause-stops
+returns-in_default-find_room-clause-stops g c = ((let f = c.in-Some.ensures.first in ((c.in-Some.first.now, f.0, f.1, omega (arith, c.if-snap-seen.false, c.snap.ensures.value)), refl)), (λ e. (let f : Memory ≡ Limit = e in cc)))

@@ -9,44 +9,40 @@ use Rattle.rcu_part_hand.proofs.hand.Hand.run_held.Goals as goal
 pub loop-ran-init : goal.loop-ran-init
 loop-ran-init g c = let s = c.args.self.now.state in record { same = same_hand s; ran = ran_none 0 c.args.seen s s refl refl refl c.requires.seen (steps_none _ _ _ refl); sound = λ sound. sound }
 
-pub returns-in-Some-clause-ran : goal.returns-in-Some-clause-ran
-returns-in-Some-clause-ran g c = let i = c.loop-ran.invariant in let k = c.loop-ran.ran in let n = c.in-Some.ensures.not in let same : k + 0 ≡ k = omega arith in
-    (k + n.0, subst (λ (m : ℕ). Ran m (k + n.0) c.args.seen c.args.self.now.state c.run_one.new.self.state) same (ran_more k 0 k n.0 c.args.seen c.args.self.now.state c.loop-ran.self.state c.run_one.new.self.state i.same.cpu i.ran n.1), n.2 k)
-
-pub returns-in-Some-clause-sound : goal.returns-in-Some-clause-sound
-returns-in-Some-clause-sound g c = λ sound. c.run_one.ensures.sound (c.loop-ran.invariant.sound sound)
-
 pub loop-ran-preserved : goal.loop-ran-preserved
 loop-ran-preserved g c = let i = c.loop-ran.invariant in let e = c.run_one.ensures in record {
-  same = same_hand_again c.args.self.now.state c.loop-ran.self.state c.run_one.new.self.state i.same e.same;
-  ran = ran_more c.loop-ran.ran 1 c.loop-ran.ran 1 c.args.seen c.args.self.now.state c.loop-ran.self.state c.run_one.new.self.state i.same.cpu i.ran c.in_default.ensures.ran;
-  sound = λ sound. e.sound (i.sound sound);
+  same = same_hand_again c.args.self.now.state c.loop-ran.self.state c.run_one.new.self.state i.same e.runs.same;
+  ran = ran_more c.loop-ran.ran 1 c.loop-ran.ran 1 c.args.seen c.args.self.now.state c.loop-ran.self.state c.run_one.new.self.state i.same.cpu i.ran c.in_default.ensures.runs.does.ran;
+  sound = λ sound. e.runs.sound (i.sound sound);
 }
-
-pub returns-clause-ran : goal.returns-clause-ran
-returns-clause-ran g c = let i = c.loop-ran.invariant in let b = c.args.self.now.state.blimit in let same : c.loop-ran.ran ≡ b = omega (arith, c.loop-ran-test.false, c.loop-ran.auto.ran-end) in
-    (b, subst (λ (m : ℕ). Ran m m c.args.seen c.args.self.now.state c.loop-ran.self.state) same i.ran, (sym i.same.blimit, refl))
 
 pub run_one-requires : goal.run_one-requires
 run_one-requires g c = (assumption, (assumption, (assumption, (c.loop-ran.invariant.ran.sight, c.requires.small))))
 
-pub returns-in-Some-clause-same : goal.returns-in-Some-clause-same
-returns-in-Some-clause-same g c = same_hand_again c.args.self.now.state c.loop-ran.self.state c.run_one.new.self.state c.loop-ran.invariant.same c.run_one.ensures.same
-
-pub returns-clause-same : goal.returns-clause-same
-returns-clause-same g c = c.loop-ran.invariant.same
-
-pub returns-clause-sound : goal.returns-clause-sound
-returns-clause-sound g c = c.loop-ran.invariant.sound
-
 pub returns-in-Some-clause-first : goal.returns-in-Some-clause-first
-returns-in-Some-clause-first g c = in_time c.in-Some.stop c.loop-ran.ran c.args.self.now.state.blimit c.in-Some.ensures.counts.0 (λ _. c.loop-ran-test.true)
+returns-in-Some-clause-first g c = in_time c.in-Some.stop c.loop-ran.ran c.args.self.now.state.blimit c.in-Some.ensures.runs.does.counts.0 (λ _. c.loop-ran-test.true)
 
 pub returns-in-Some-clause-goes_on : goal.returns-in-Some-clause-goes_on
-returns-in-Some-clause-goes_on g c = c.in-Some.ensures.counts.1
+returns-in-Some-clause-goes_on g c = c.in-Some.ensures.runs.does.counts.1
 
 pub returns-clause-first : goal.returns-clause-first
 returns-clause-first g c = refl
 
 pub returns-clause-goes_on : goal.returns-clause-goes_on
 returns-clause-goes_on g c = λ e. (let f : Limit ≡ Again = e in cc)
+
+pub returns-in-Some-clause-runs : goal.returns-in-Some-clause-runs
+returns-in-Some-clause-runs g c = record {
+  does = let i = c.loop-ran.invariant in let k = c.loop-ran.ran in let n = c.in-Some.ensures.runs.does.not in let same : k + 0 ≡ k = omega arith in
+      (k + n.0, subst (λ (m : ℕ). Ran m (k + n.0) c.args.seen c.args.self.now.state c.run_one.new.self.state) same (ran_more k 0 k n.0 c.args.seen c.args.self.now.state c.loop-ran.self.state c.run_one.new.self.state i.same.cpu i.ran n.1), n.2 k);
+  same = same_hand_again c.args.self.now.state c.loop-ran.self.state c.run_one.new.self.state c.loop-ran.invariant.same c.run_one.ensures.runs.same;
+  sound = λ sound. c.run_one.ensures.runs.sound (c.loop-ran.invariant.sound sound);
+}
+
+pub returns-clause-runs : goal.returns-clause-runs
+returns-clause-runs g c = record {
+  does = let i = c.loop-ran.invariant in let b = c.args.self.now.state.blimit in let same : c.loop-ran.ran ≡ b = omega (arith, c.loop-ran-test.false, c.loop-ran.auto.ran-end) in
+      (b, subst (λ (m : ℕ). Ran m m c.args.seen c.args.self.now.state c.loop-ran.self.state) same i.ran, (sym i.same.blimit, refl));
+  same = c.loop-ran.invariant.same;
+  sound = c.loop-ran.invariant.sound;
+}

@@ -24,33 +24,12 @@ use Rattle.rcu_part_hand.specs.HandLaw.{IsLawfulHand}
 use Rattle.rcu_board.proofs.Facts.{same_seat, same_seat_again}
 use Rattle.rcu_part_hand.proofs.hand.Hand.run_one.Goals as goal
 
-pub returns-in_default-clause-not : goal.returns-in_default-clause-not
-returns-in_default-clause-not g c = (0, ran_none 0 c.args.seen c.args.self.now.state _ refl refl refl c.requires.seen (steps_none _ _ _ refl), λ n. (c.in_default.ensures.first, omega arith))
-
-pub returns-then-snap-seen-clause-not : goal.returns-then-snap-seen-clause-not
-returns-then-snap-seen-clause-not g c = let f = c.in-Some.ensures.first in
-    (0, ran_none 0 c.args.seen c.args.self.now.state _ refl refl refl c.requires.seen (steps_none _ _ _ refl), λ n. (c.in-Some.first.now, f.0, f.1, inl (omega (arith, c.if-snap-seen.true, c.snap.ensures.value), omega arith)))
-
-pub returns-in_default-find_room-clause-not : goal.returns-in_default-find_room-clause-not
-returns-in_default-find_room-clause-not g c = let f = c.in-Some.ensures.first in
-    (0, ran_none 0 c.args.seen c.args.self.now.state _ refl refl c.find_room.ensures.same c.requires.seen (steps_none _ _ _ refl), λ n. ((c.in-Some.first.now, f.0, f.1, omega (arith, c.if-snap-seen.false, c.snap.ensures.value)), omega arith))
-
-pub returns-in_default-find_room-clause-sound : goal.returns-in_default-find_room-clause-sound
-returns-in_default-find_room-clause-sound g c = hand_sound_kept g.J.Job.key_of g.J.Job.gives (drawn_by c.args.self.now.state.held) (drawn_by c.args.self.now.state.held) c.args.self.now.state.ran.all.items c.find_room.new.self.all.items refl (all_as _ _ c.find_room.ensures.same)
-
 pub invariant_of-state-then-not-try_claim : goal.invariant_of-state-then-not-try_claim
 invariant_of-state-then-not-try_claim g c = let s = c.args.self.now.state in let e = c.if-not-try_claim.ensures in record {
   here = e.same.table ∙ s.here;
   role = e.same.role ∙ s.role;
   lawful = hand_kept s.cpu (view s.seat) _ s.ran.all.items _ (taken_by s.held) (e.lost refl).0 (all_as _ _ c.find_room.ensures.same) s.lawful;
 }
-
-pub returns-then-not-try_claim-clause-not : goal.returns-then-not-try_claim-clause-not
-returns-then-not-try_claim-clause-not g c = let f = c.in-Some.ensures.first in let l = c.if-not-try_claim.ensures.lost refl in
-    (1, ran_none 1 c.args.seen c.args.self.now.state _ refl refl c.find_room.ensures.same (l.1 ∙ c.requires.seen) c.if-not-try_claim.ensures.only, λ n. (c.in-Some.first.now, f.0, f.1, inr (l.2, refl)))
-
-pub returns-then-not-try_claim-clause-sound : goal.returns-then-not-try_claim-clause-sound
-returns-then-not-try_claim-clause-sound g c = hand_sound_kept g.J.Job.key_of g.J.Job.gives (drawn_by c.args.self.now.state.held) (drawn_by c.args.self.now.state.held) c.args.self.now.state.ran.all.items c.find_room.new.self.all.items refl (all_as _ _ c.find_room.ensures.same)
 
 pub run_claimed-record-requires-clause-runs : goal.run_claimed-record-requires-clause-runs
 run_claimed-record-requires-clause-runs g c κs within =
@@ -75,31 +54,8 @@ invariant_of-state-2 g c =
           c.in-Some-take.callback c.run_claimed-record.result won r.ends c.requires.seen (all_as (recorded c.add.new.self) (and_ran (c.run_claimed-record.result ∷ []) (recorded s.ran)) (c.add.ensures.added ∙ ap (and_ran (c.run_claimed-record.result ∷ [])) c.find_room.ensures.same)) c.in-Some-take.ensures.taken r.record r.ready over s.lawful;
     }
 
-pub returns-clause-ran : goal.returns-clause-ran
-returns-clause-ran g c = let s = c.args.self.now.state in let e = c.if-not-try_claim.ensures in let w = e.won refl in let r = c.run_claimed-record.ensures in
-    let drawn : drawn_by c.take.new.self ≡ drawn_by s.held = ap (λ f. drawn_calls f) c.in-Some-take.ensures.front in
-    ran_one c.args.seen s _ c.in-Some-take.callback c.run_claimed-record.result c.in-Some-take.ensures.first drawn (c.add.ensures.added ∙ ap (and_ran (c.run_claimed-record.result ∷ [])) c.find_room.ensures.same) r.record r.ready
-    (r.ends.sights ∙ (w.sights ∙ c.requires.seen))
-    (steps_more (turns_word s.cpu) 1 1 (view s.seat) (view c.try_claim.new.seat) (view c.run_claimed-record.new.seat) e.only
-    (subst (λ (p : ℕ). StepsOnly (turns_word p) 1 (view c.try_claim.new.seat) (view c.run_claimed-record.new.seat)) (ap cpu_of_role (e.same.role ∙ s.role)) r.only))
-
-pub returns-clause-sound : goal.returns-clause-sound
-returns-clause-sound g c = let s = c.args.self.now.state in
-    let drawn : drawn_by c.take.new.self ≡ drawn_by s.held = ap (λ f. drawn_calls f) c.in-Some-take.ensures.front in
-    hand_sound_ran g.J.Job.key_of g.J.Job.gives (drawn_by s.held) (drawn_by c.take.new.self) (taken_by s.held) (held_by c.take.new.self) c.in-Some-take.callback s.ran.all.items c.add.new.self.all.items c.run_claimed-record.result
-    (s.held.order ∙ ap (λ l. taken_by s.held ++ l) c.in-Some-take.ensures.first) drawn (all_as (recorded c.add.new.self) (and_ran (c.run_claimed-record.result ∷ []) (recorded s.ran)) (c.add.ensures.added ∙ ap (and_ran (c.run_claimed-record.result ∷ [])) c.find_room.ensures.same)) c.run_claimed-record.ensures.given
-
-pub returns-in_default-clause-same : goal.returns-in_default-clause-same
-returns-in_default-clause-same g c = record { part = record { board = refl; seat = same_seat _ }; lane = refl; cpu = refl; blimit = refl; kept = refl }
-
 pub snap-requires : goal.snap-requires
 snap-requires g c = c.in-Some.ensures.safe.0
-
-pub returns-then-snap-seen-clause-same : goal.returns-then-snap-seen-clause-same
-returns-then-snap-seen-clause-same g c = record { part = record { board = refl; seat = same_seat _ }; lane = refl; cpu = refl; blimit = refl; kept = refl }
-
-pub returns-in_default-find_room-clause-same : goal.returns-in_default-find_room-clause-same
-returns-in_default-find_room-clause-same g c = record { part = record { board = refl; seat = same_seat _ }; lane = refl; cpu = refl; blimit = refl; kept = kept_as _ _ c.find_room.ensures.same }
 
 pub try_claim-requires-clause-board : goal.try_claim-requires-clause-board
 try_claim-requires-clause-board g c = let s = c.args.self.now.state in stands (arc_value s.board) c.deref.result.now s.seat c.deref.ensures s.here
@@ -116,9 +72,6 @@ try_claim-requires-clause-rests g c = c.args.self.now.state.lawful.rests
 pub try_claim-requires-clause-small : goal.try_claim-requires-clause-small
 try_claim-requires-clause-small g c = c.in-Some.ensures.safe.1
 
-pub returns-then-not-try_claim-clause-same : goal.returns-then-not-try_claim-clause-same
-returns-then-not-try_claim-clause-same g c = record { part = record { board = refl; seat = c.if-not-try_claim.ensures.same }; lane = refl; cpu = refl; blimit = refl; kept = kept_as _ _ c.find_room.ensures.same }
-
 pub unreachable-requires : goal.unreachable-requires
 unreachable-requires g c = let f = c.in-Some.ensures.first in not_none c.in-Some.first.now f.0 (held_by c.args.self.now.state.held) f.1 c.in_default-take.ensures.first.0
 
@@ -130,9 +83,6 @@ run_claimed-record-requires-clause-who g c κs within = subst MayClaim (sym (c.i
 
 pub run_claimed-record-requires-clause-small : goal.run_claimed-record-requires-clause-small
 run_claimed-record-requires-clause-small g c κs within = c.in-Some-take.ensures.safe.1
-
-pub returns-clause-same : goal.returns-clause-same
-returns-clause-same g c = let s = c.args.self.now.state in record { part = record { board = refl; seat = same_seat_again s.seat c.try_claim.new.seat c.run_claimed-record.new.seat c.if-not-try_claim.ensures.same c.run_claimed-record.ensures.same }; lane = same_lane s.held c.take.new.self c.in-Some-take.ensures.front; cpu = refl; blimit = refl; kept = kept_as (recorded c.add.new.self) (and_ran (c.run_claimed-record.result ∷ []) (recorded s.ran)) (c.add.ensures.added ∙ ap (and_ran (c.run_claimed-record.result ∷ [])) c.find_room.ensures.same) }
 
 pub invariant_of-state : goal.invariant_of-state
 invariant_of-state g c = let s = c.args.self.now.state in record { here = s.here; role = s.role; lawful = s.lawful }
@@ -147,26 +97,84 @@ invariant_of-state-in_default-find_room g c = let s = c.args.self.now.state in r
   lawful = subst (λ (rs : List (Record g.row.J-Receipt.Denot)). IsLawfulHand s.cpu (view s.seat) rs (taken_by s.held)) (sym (all_as _ _ c.find_room.ensures.same)) s.lawful;
 }
 
-pub returns-in_default-clause-sound : goal.returns-in_default-clause-sound
-returns-in_default-clause-sound g c = λ sound. sound
-
-pub returns-then-snap-seen-clause-sound : goal.returns-then-snap-seen-clause-sound
-returns-then-snap-seen-clause-sound g c = λ sound. sound
-
-pub returns-in_default-clause-counts : goal.returns-in_default-clause-counts
-returns-in_default-clause-counts g c = ((λ e. (let f : Empty ≡ Limit = e in cc)), λ e. (let f : Empty ≡ Again = e in cc))
-
-pub returns-then-snap-seen-clause-counts : goal.returns-then-snap-seen-clause-counts
-returns-then-snap-seen-clause-counts g c = ((λ e. (let f : Turn ≡ Limit = e in cc)), λ e. (let f : Turn ≡ Again = e in cc))
-
-pub returns-in_default-find_room-clause-counts : goal.returns-in_default-find_room-clause-counts
-returns-in_default-find_room-clause-counts g c = ((λ e. (let f : Memory ≡ Limit = e in cc)), λ e. (let f : Memory ≡ Again = e in cc))
-
-pub returns-then-not-try_claim-clause-counts : goal.returns-then-not-try_claim-clause-counts
-returns-then-not-try_claim-clause-counts g c = ((λ e. (let f : Turn ≡ Limit = e in cc)), λ e. (let f : Turn ≡ Again = e in cc))
-
 pub first-requires : goal.first-requires
 first-requires g c = let h : FitsInMemory (row.the_row (param 0 g.row.J) (param 1 g.row.J-Receipt)) = assumption in in_struct _ _ _ (in_struct _ _ _ h)
 
 pub take-requires : goal.take-requires
 take-requires g c = let h : FitsInMemory (row.the_row (param 0 g.row.J) (param 1 g.row.J-Receipt)) = assumption in in_struct _ _ _ (in_struct _ _ _ h)
+
+pub returns-in_default : goal.returns-in_default
+returns-in_default g c = record {
+  runs = record {
+    does = record {
+      ran = tt;
+      not = (0, ran_none 0 c.args.seen c.args.self.now.state _ refl refl refl c.requires.seen (steps_none _ _ _ refl), λ n. (c.in_default.ensures.first, omega arith));
+      counts = ((λ e. (let f : Empty ≡ Limit = e in cc)), λ e. (let f : Empty ≡ Again = e in cc));
+    };
+    same = record { part = record { board = refl; seat = same_seat _ }; lane = refl; cpu = refl; blimit = refl; kept = refl };
+    sound = λ sound. sound;
+  };
+}
+
+pub returns-then-snap-seen : goal.returns-then-snap-seen
+returns-then-snap-seen g c = record {
+  runs = record {
+    does = record {
+      ran = tt;
+      not = let f = c.in-Some.ensures.first in
+          (0, ran_none 0 c.args.seen c.args.self.now.state _ refl refl refl c.requires.seen (steps_none _ _ _ refl), λ n. (c.in-Some.first.now, f.0, f.1, inl (omega (arith, c.if-snap-seen.true, c.snap.ensures.value), omega arith)));
+      counts = ((λ e. (let f : Turn ≡ Limit = e in cc)), λ e. (let f : Turn ≡ Again = e in cc));
+    };
+    same = record { part = record { board = refl; seat = same_seat _ }; lane = refl; cpu = refl; blimit = refl; kept = refl };
+    sound = λ sound. sound;
+  };
+}
+
+pub returns-in_default-find_room : goal.returns-in_default-find_room
+returns-in_default-find_room g c = record {
+  runs = record {
+    does = record {
+      ran = tt;
+      not = let f = c.in-Some.ensures.first in
+          (0, ran_none 0 c.args.seen c.args.self.now.state _ refl refl c.find_room.ensures.same c.requires.seen (steps_none _ _ _ refl), λ n. ((c.in-Some.first.now, f.0, f.1, omega (arith, c.if-snap-seen.false, c.snap.ensures.value)), omega arith));
+      counts = ((λ e. (let f : Memory ≡ Limit = e in cc)), λ e. (let f : Memory ≡ Again = e in cc));
+    };
+    same = record { part = record { board = refl; seat = same_seat _ }; lane = refl; cpu = refl; blimit = refl; kept = kept_as _ _ c.find_room.ensures.same };
+    sound = hand_sound_kept g.J.Job.key_of g.J.Job.gives (drawn_by c.args.self.now.state.held) (drawn_by c.args.self.now.state.held) c.args.self.now.state.ran.all.items c.find_room.new.self.all.items refl (all_as _ _ c.find_room.ensures.same);
+  };
+}
+
+pub returns-then-not-try_claim : goal.returns-then-not-try_claim
+returns-then-not-try_claim g c = record {
+  runs = record {
+    does = record {
+      ran = tt;
+      not = let f = c.in-Some.ensures.first in let l = c.if-not-try_claim.ensures.lost refl in
+          (1, ran_none 1 c.args.seen c.args.self.now.state _ refl refl c.find_room.ensures.same (l.1 ∙ c.requires.seen) c.if-not-try_claim.ensures.only, λ n. (c.in-Some.first.now, f.0, f.1, inr (l.2, refl)));
+      counts = ((λ e. (let f : Turn ≡ Limit = e in cc)), λ e. (let f : Turn ≡ Again = e in cc));
+    };
+    same = record { part = record { board = refl; seat = c.if-not-try_claim.ensures.same }; lane = refl; cpu = refl; blimit = refl; kept = kept_as _ _ c.find_room.ensures.same };
+    sound = hand_sound_kept g.J.Job.key_of g.J.Job.gives (drawn_by c.args.self.now.state.held) (drawn_by c.args.self.now.state.held) c.args.self.now.state.ran.all.items c.find_room.new.self.all.items refl (all_as _ _ c.find_room.ensures.same);
+  };
+}
+
+pub returns : goal.returns
+returns g c = record {
+  runs = record {
+    does = record {
+      ran = let s = c.args.self.now.state in let e = c.if-not-try_claim.ensures in let w = e.won refl in let r = c.run_claimed-record.ensures in
+          let drawn : drawn_by c.take.new.self ≡ drawn_by s.held = ap (λ f. drawn_calls f) c.in-Some-take.ensures.front in
+          ran_one c.args.seen s _ c.in-Some-take.callback c.run_claimed-record.result c.in-Some-take.ensures.first drawn (c.add.ensures.added ∙ ap (and_ran (c.run_claimed-record.result ∷ [])) c.find_room.ensures.same) r.record r.ready
+          (r.ends.sights ∙ (w.sights ∙ c.requires.seen))
+          (steps_more (turns_word s.cpu) 1 1 (view s.seat) (view c.try_claim.new.seat) (view c.run_claimed-record.new.seat) e.only
+          (subst (λ (p : ℕ). StepsOnly (turns_word p) 1 (view c.try_claim.new.seat) (view c.run_claimed-record.new.seat)) (ap cpu_of_role (e.same.role ∙ s.role)) r.only));
+      not = tt;
+      counts = tt;
+    };
+    same = let s = c.args.self.now.state in record { part = record { board = refl; seat = same_seat_again s.seat c.try_claim.new.seat c.run_claimed-record.new.seat c.if-not-try_claim.ensures.same c.run_claimed-record.ensures.same }; lane = same_lane s.held c.take.new.self c.in-Some-take.ensures.front; cpu = refl; blimit = refl; kept = kept_as (recorded c.add.new.self) (and_ran (c.run_claimed-record.result ∷ []) (recorded s.ran)) (c.add.ensures.added ∙ ap (and_ran (c.run_claimed-record.result ∷ [])) c.find_room.ensures.same) };
+    sound = let s = c.args.self.now.state in
+        let drawn : drawn_by c.take.new.self ≡ drawn_by s.held = ap (λ f. drawn_calls f) c.in-Some-take.ensures.front in
+        hand_sound_ran g.J.Job.key_of g.J.Job.gives (drawn_by s.held) (drawn_by c.take.new.self) (taken_by s.held) (held_by c.take.new.self) c.in-Some-take.callback s.ran.all.items c.add.new.self.all.items c.run_claimed-record.result
+        (s.held.order ∙ ap (λ l. taken_by s.held ++ l) c.in-Some-take.ensures.first) drawn (all_as (recorded c.add.new.self) (and_ran (c.run_claimed-record.result ∷ []) (recorded s.ran)) (c.add.ensures.added ∙ ap (and_ran (c.run_claimed-record.result ∷ [])) c.find_room.ensures.same)) c.run_claimed-record.ensures.given;
+  };
+}

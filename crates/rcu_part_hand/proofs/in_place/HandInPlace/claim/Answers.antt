@@ -50,19 +50,6 @@ invariant_of-state g c = let s = c.args.self.now.state in let e = c.if-not-try_c
   runs = λ k f. (let x : None ≡ Some k = sym c.requires.rests ∙ f in cc);
 }
 
-pub returns-then-not-try_claim-clause-lost : goal.returns-then-not-try_claim-clause-lost
-returns-then-not-try_claim-clause-lost g c = λ r. let e = c.if-not-try_claim.ensures in let n = c.requires.next r in let k = ap (λ (x : ClaimedCallback). x.number) n.claimed in let l = (e.lost refl).2 in (
-  r,
-  record { part = record { board = refl; seat = e.same }; lane = refl; cpu = refl; blimit = refl; kept = refl },
-  (
-    ran_none 1 c.args.claimed.ready (resting c.args.self.now.state r) _ refl refl refl ((e.lost refl).1 ∙ c.requires.seen) e.only,
-    (n.first, n.rest, n.held, inr (λ e. l (omega (arith, e, k)), refl)),
-  ),
-)
-
-pub returns-then-not-try_claim-clause-sound : goal.returns-then-not-try_claim-clause-sound
-returns-then-not-try_claim-clause-sound g c = λ sound. sound
-
 pub invariant_of-state-2 : goal.invariant_of-state-2
 invariant_of-state-2 g c =
     let s = c.args.self.now.state in let e = c.if-not-try_claim.ensures in let n = c.requires.next c.requires.rests in let x = c.in-Some.callback in
@@ -78,35 +65,53 @@ invariant_of-state-2 g c =
           (record { small = c.requires.small; room = c.requires.room; lawful = law; seen = (let s = won.sights in omega (arith, s, c.requires.seen)) });
     }
 
-pub returns-clause-runs : goal.returns-clause-runs
-returns-clause-runs g c = λ r.
-    let s = c.args.self.now.state in let e = c.if-not-try_claim.ensures in let n = c.requires.next r in let x = c.in-Some.callback in
-    let first = same_first n.first x n.rest (held_by c.take.new.self) (sym n.held ∙ c.in-Some.ensures.first) in
-    let is : c.args.claimed ≡ claimed_as c.args.claimed.ready x = n.claimed ∙ ap (claimed_as c.args.claimed.ready) first in (
-      c.args.claimed,
-      refl,
-      record { part = record { board = refl; seat = e.same }; lane = same_lane s.held c.take.new.self c.in-Some.ensures.front; cpu = refl; blimit = refl; kept = refl },
-      record {
-        first = x;
-        job_is = refl;
-        held = c.in-Some.ensures.first;
-        drawn = ap (λ f. drawn_calls f) c.in-Some.ensures.front;
-        records = refl;
-        claimed = is;
-        over = subst (λ (y : Callback g.row.J.Denot). snap_of y.stamp ≤ c.args.claimed.ready) first n.over;
-        won = subst (λ (k : ℕ). Claims s.cpu k (view s.seat) (view c.try_claim.new.seat)) (ap (λ (y : ClaimedCallback). y.number) is) (e.won refl);
-        steps = e.only;
-      },
-    )
+pub returns-then-not-try_claim : goal.returns-then-not-try_claim
+returns-then-not-try_claim g c = record {
+  claims = record {
+    runs = tt;
+    lost = λ r. let e = c.if-not-try_claim.ensures in let n = c.requires.next r in let k = ap (λ (x : ClaimedCallback). x.number) n.claimed in let l = (e.lost refl).2 in (
+      r,
+      record { part = record { board = refl; seat = e.same }; lane = refl; cpu = refl; blimit = refl; kept = refl },
+      (
+        ran_none 1 c.args.claimed.ready (resting c.args.self.now.state r) _ refl refl refl ((e.lost refl).1 ∙ c.requires.seen) e.only,
+        (n.first, n.rest, n.held, inr (λ e. l (omega (arith, e, k)), refl)),
+      ),
+    );
+    keyed = tt;
+    sound = λ sound. sound;
+  };
+}
 
-pub returns-clause-keyed : goal.returns-clause-keyed
-returns-clause-keyed g c = λ k f.
-    let s = c.args.self.now.state in let n = c.requires.next c.requires.rests in let x = c.in-Some.callback in
-    let first = same_first n.first x n.rest (held_by c.take.new.self) (sym n.held ∙ c.in-Some.ensures.first) in
-    let is : k ≡ claimed_as c.args.claimed.ready x = sym (some_is c.args.claimed k f) ∙ (n.claimed ∙ ap (claimed_as c.args.claimed.ready) first) in
-    let drawn : drawn_by c.take.new.self ≡ drawn_by s.held = ap (λ f. drawn_calls f) c.in-Some.ensures.front in
-    keyed_that_runs g.J.Job.key_of c.args.claimed.ready (drawn_by s.held) (drawn_by c.take.new.self) (taken_by s.held) (held_by c.take.new.self) x k is (s.held.order ∙ ap (λ l. taken_by s.held ++ l) c.in-Some.ensures.first) drawn
-
-pub returns-clause-sound : goal.returns-clause-sound
-returns-clause-sound g c = let s = c.args.self.now.state in
-    hand_sound_kept g.J.Job.key_of g.J.Job.gives (drawn_by s.held) (drawn_by c.take.new.self) s.ran.all.items s.ran.all.items (ap (λ f. drawn_calls f) c.in-Some.ensures.front) refl
+pub returns : goal.returns
+returns g c = record {
+  claims = record {
+    runs = λ r.
+        let s = c.args.self.now.state in let e = c.if-not-try_claim.ensures in let n = c.requires.next r in let x = c.in-Some.callback in
+        let first = same_first n.first x n.rest (held_by c.take.new.self) (sym n.held ∙ c.in-Some.ensures.first) in
+        let is : c.args.claimed ≡ claimed_as c.args.claimed.ready x = n.claimed ∙ ap (claimed_as c.args.claimed.ready) first in (
+          c.args.claimed,
+          refl,
+          record { part = record { board = refl; seat = e.same }; lane = same_lane s.held c.take.new.self c.in-Some.ensures.front; cpu = refl; blimit = refl; kept = refl },
+          record {
+            first = x;
+            job_is = refl;
+            held = c.in-Some.ensures.first;
+            drawn = ap (λ f. drawn_calls f) c.in-Some.ensures.front;
+            records = refl;
+            claimed = is;
+            over = subst (λ (y : Callback g.row.J.Denot). snap_of y.stamp ≤ c.args.claimed.ready) first n.over;
+            won = subst (λ (k : ℕ). Claims s.cpu k (view s.seat) (view c.try_claim.new.seat)) (ap (λ (y : ClaimedCallback). y.number) is) (e.won refl);
+            steps = e.only;
+          },
+        );
+    lost = tt;
+    keyed = λ k f.
+        let s = c.args.self.now.state in let n = c.requires.next c.requires.rests in let x = c.in-Some.callback in
+        let first = same_first n.first x n.rest (held_by c.take.new.self) (sym n.held ∙ c.in-Some.ensures.first) in
+        let is : k ≡ claimed_as c.args.claimed.ready x = sym (some_is c.args.claimed k f) ∙ (n.claimed ∙ ap (claimed_as c.args.claimed.ready) first) in
+        let drawn : drawn_by c.take.new.self ≡ drawn_by s.held = ap (λ f. drawn_calls f) c.in-Some.ensures.front in
+        keyed_that_runs g.J.Job.key_of c.args.claimed.ready (drawn_by s.held) (drawn_by c.take.new.self) (taken_by s.held) (held_by c.take.new.self) x k is (s.held.order ∙ ap (λ l. taken_by s.held ++ l) c.in-Some.ensures.first) drawn;
+    sound = let s = c.args.self.now.state in
+        hand_sound_kept g.J.Job.key_of g.J.Job.gives (drawn_by s.held) (drawn_by c.take.new.self) s.ran.all.items s.ran.all.items (ap (λ f. drawn_calls f) c.in-Some.ensures.front) refl;
+  };
+}

@@ -23,18 +23,18 @@ invariant_of-self g c = let s = c.args.self.now.state in record {
   runs = λ k f. (let x : None ≡ Some k = sym c.requires.rests ∙ f in cc);
 }
 
-pub returns-clause-loads : goal.returns-clause-loads
-returns-clause-loads g c = λ r. let s = c.args.self.now.state in let e = c.fetch.ensures in
-    let f = fetched (c.fetch.result ≡ None) (held_by s.held) (held_by c.fetch.new.self) (drawn_by s.held) (drawn_by c.fetch.new.self) e.held e.drawn in (
-      r,
-      record { part = record { board = refl; seat = same_seat _ }; lane = e.lane; cpu = refl; blimit = refl; kept = refl },
-      record { batch = f.0; drawn = f.1; held = f.2; only = f.3; view = refl; records = refl },
-    )
-
 pub returns-clause-none : goal.returns-clause-none
 returns-clause-none g c = stops_in_place _ _ c.fetch.result (λ e some. (c.fetch.ensures.none some).1) c.fetch.ensures.stops
 
-pub returns-clause-sound : goal.returns-clause-sound
-returns-clause-sound g c = let s = c.args.self.now.state in let e = c.fetch.ensures in
-    let f = fetched (c.fetch.result ≡ None) (held_by s.held) (held_by c.fetch.new.self) (drawn_by s.held) (drawn_by c.fetch.new.self) e.held e.drawn in
-    hand_sound_drawn g.J.Job.key_of g.J.Job.gives (drawn_by s.held) (drawn_by c.fetch.new.self) f.0 s.ran.all.items f.1
+pub returns-clause-loads : goal.returns-clause-loads
+returns-clause-loads g c = record {
+  does = λ r. let s = c.args.self.now.state in let e = c.fetch.ensures in
+      let f = fetched (c.fetch.result ≡ None) (held_by s.held) (held_by c.fetch.new.self) (drawn_by s.held) (drawn_by c.fetch.new.self) e.held e.drawn in (
+        r,
+        record { part = record { board = refl; seat = same_seat _ }; lane = e.lane; cpu = refl; blimit = refl; kept = refl },
+        record { batch = f.0; drawn = f.1; held = f.2; only = f.3; view = refl; records = refl },
+      );
+  sound = let s = c.args.self.now.state in let e = c.fetch.ensures in
+      let f = fetched (c.fetch.result ≡ None) (held_by s.held) (held_by c.fetch.new.self) (drawn_by s.held) (drawn_by c.fetch.new.self) e.held e.drawn in
+      hand_sound_drawn g.J.Job.key_of g.J.Job.gives (drawn_by s.held) (drawn_by c.fetch.new.self) f.0 s.ran.all.items f.1;
+}

@@ -18,11 +18,11 @@ invariant_of-state g c = let s = c.args.self.now.state in let e = c.look_at_numb
 }
 
 pub returns-clause-looks : goal.returns-clause-looks
-returns-clause-looks g c = λ r. let e = c.look_at_number.ensures in (
-  r,
-  record { part = record { board = refl; seat = e.same }; lane = refl; cpu = refl; blimit = refl; kept = refl },
-  record { step = e.view; sight = sym e.sight.0; held = refl; drawn = refl; records = refl },
-)
-
-pub returns-clause-sound : goal.returns-clause-sound
-returns-clause-sound g c = λ sound. sound
+returns-clause-looks g c = record {
+  does = λ r. let e = c.look_at_number.ensures in (
+    r,
+    record { part = record { board = refl; seat = e.same }; lane = refl; cpu = refl; blimit = refl; kept = refl },
+    record { step = e.view; sight = sym e.sight.0; held = refl; drawn = refl; records = refl },
+  );
+  sound = λ sound. sound;
+}

@@ -27,46 +27,6 @@ invariant_of-state g c = let s = c.args.self.now.state in record {
   runs = λ k f. (let x : None ≡ Some k = sym c.requires.rests ∙ f in cc);
 }
 
-pub returns-in_default-clause-keeps : goal.returns-in_default-clause-keeps
-returns-in_default-clause-keeps g c = λ r. (r, record { part = record { board = refl; seat = same_seat _ }; lane = refl; cpu = refl; blimit = refl; kept = refl }, record { view = refl; held = refl; records = refl })
-
-pub returns-in_default-clause-stops : goal.returns-in_default-clause-stops
-returns-in_default-clause-stops g c = λ r. (c.in_default.ensures.first, refl)
-
-pub returns-in_default-clause-counts : goal.returns-in_default-clause-counts
-returns-in_default-clause-counts g c = λ e. (let f : Empty ≡ Limit = e in cc)
-
-pub returns-in_default-clause-sound : goal.returns-in_default-clause-sound
-returns-in_default-clause-sound g c = λ sound. sound
-
-pub returns-then-snap-seen-clause-keeps : goal.returns-then-snap-seen-clause-keeps
-returns-then-snap-seen-clause-keeps g c = λ r. (r, record { part = record { board = refl; seat = same_seat _ }; lane = refl; cpu = refl; blimit = refl; kept = refl }, record { view = refl; held = refl; records = refl })
-
-pub returns-then-snap-seen-clause-stops : goal.returns-then-snap-seen-clause-stops
-returns-then-snap-seen-clause-stops g c = λ r. let f = c.in-Some.ensures.first in
-    (c.in-Some.first.now, f.0, f.1, inl (omega (arith, c.if-snap-seen.true, c.snap.ensures.value), refl))
-
-pub returns-then-snap-seen-clause-counts : goal.returns-then-snap-seen-clause-counts
-returns-then-snap-seen-clause-counts g c = λ e. (let f : Turn ≡ Limit = e in cc)
-
-pub returns-then-snap-seen-clause-sound : goal.returns-then-snap-seen-clause-sound
-returns-then-snap-seen-clause-sound g c = λ sound. sound
-
-pub returns-in_default-find_room-clause-keeps : goal.returns-in_default-find_room-clause-keeps
-returns-in_default-find_room-clause-keeps g c = λ r. (r, record { part = record { board = refl; seat = same_seat _ }; lane = refl; cpu = refl; blimit = refl; kept = kept_as _ _ c.find_room.ensures.same }, record { view = refl; held = refl; records = c.find_room.ensures.same })
-
-pub returns-in_default-find_room-clause-stops : goal.returns-in_default-find_room-clause-stops
-returns-in_default-find_room-clause-stops g c = λ r. let f = c.in-Some.ensures.first in ((c.in-Some.first.now, f.0, f.1, omega (arith, c.if-snap-seen.false, c.snap.ensures.value)), refl)
-
-pub returns-in_default-find_room-clause-counts : goal.returns-in_default-find_room-clause-counts
-returns-in_default-find_room-clause-counts g c = λ e. (let f : Memory ≡ Limit = e in cc)
-
-pub returns-in_default-find_room-clause-sound : goal.returns-in_default-find_room-clause-sound
-returns-in_default-find_room-clause-sound g c = hand_sound_kept g.J.Job.key_of g.J.Job.gives (drawn_by c.args.self.now.state.held) (drawn_by c.args.self.now.state.held) c.args.self.now.state.ran.all.items c.find_room.new.self.all.items refl (all_as _ _ c.find_room.ensures.same)
-
-pub returns-clause-keeps : goal.returns-clause-keeps
-returns-clause-keeps g c = λ r. (r, record { part = record { board = refl; seat = same_seat _ }; lane = refl; cpu = refl; blimit = refl; kept = kept_as _ _ c.find_room.ensures.same }, record { view = refl; held = refl; records = c.find_room.ensures.same })
-
 pub returns-clause-next : goal.returns-clause-next
 returns-clause-next g c = λ r. let f = c.in-Some.ensures.first in
     record { first = c.in-Some.first.now; rest = f.0; held = f.1; claimed = c.of-claimed.ensures; over = omega (arith, c.if-snap-seen.false, c.snap.ensures.value) }
@@ -80,5 +40,39 @@ returns-clause-small g c = rw c.of-claimed.ensures c.in-Some.ensures.safe.1
 pub returns-clause-room : goal.returns-clause-room
 returns-clause-room g c = c.in-Ok.ensures.room
 
-pub returns-clause-sound : goal.returns-clause-sound
-returns-clause-sound g c = hand_sound_kept g.J.Job.key_of g.J.Job.gives (drawn_by c.args.self.now.state.held) (drawn_by c.args.self.now.state.held) c.args.self.now.state.ran.all.items c.find_room.new.self.all.items refl (all_as _ _ c.find_room.ensures.same)
+pub returns-in_default-clause-keeps : goal.returns-in_default-clause-keeps
+returns-in_default-clause-keeps g c = record {
+  does = λ r. (r, record { part = record { board = refl; seat = same_seat _ }; lane = refl; cpu = refl; blimit = refl; kept = refl }, record { view = refl; held = refl; records = refl });
+  sound = λ sound. sound;
+}
+
+pub returns-then-snap-seen-clause-keeps : goal.returns-then-snap-seen-clause-keeps
+returns-then-snap-seen-clause-keeps g c = record {
+  does = λ r. (r, record { part = record { board = refl; seat = same_seat _ }; lane = refl; cpu = refl; blimit = refl; kept = refl }, record { view = refl; held = refl; records = refl });
+  sound = λ sound. sound;
+}
+
+pub returns-in_default-find_room-clause-keeps : goal.returns-in_default-find_room-clause-keeps
+returns-in_default-find_room-clause-keeps g c = record {
+  does = λ r. (r, record { part = record { board = refl; seat = same_seat _ }; lane = refl; cpu = refl; blimit = refl; kept = kept_as _ _ c.find_room.ensures.same }, record { view = refl; held = refl; records = c.find_room.ensures.same });
+  sound = hand_sound_kept g.J.Job.key_of g.J.Job.gives (drawn_by c.args.self.now.state.held) (drawn_by c.args.self.now.state.held) c.args.self.now.state.ran.all.items c.find_room.new.self.all.items refl (all_as _ _ c.find_room.ensures.same);
+}
+
+pub returns-clause-keeps : goal.returns-clause-keeps
+returns-clause-keeps g c = record {
+  does = λ r. (r, record { part = record { board = refl; seat = same_seat _ }; lane = refl; cpu = refl; blimit = refl; kept = kept_as _ _ c.find_room.ensures.same }, record { view = refl; held = refl; records = c.find_room.ensures.same });
+  sound = hand_sound_kept g.J.Job.key_of g.J.Job.gives (drawn_by c.args.self.now.state.held) (drawn_by c.args.self.now.state.held) c.args.self.now.state.ran.all.items c.find_room.new.self.all.items refl (all_as _ _ c.find_room.ensures.same);
+}
+
+pub returns-in_default-clause-stops : goal.returns-in_default-clause-stops
+returns-in_default-clause-stops g c = ((λ r. (c.in_default.ensures.first, refl)), (λ e. (let f : Empty ≡ Limit = e in cc)))
+
+pub returns-then-snap-seen-clause-stops : goal.returns-then-snap-seen-clause-stops
+returns-then-snap-seen-clause-stops g c = (
+  (λ r. let f = c.in-Some.ensures.first in
+      (c.in-Some.first.now, f.0, f.1, inl (omega (arith, c.if-snap-seen.true, c.snap.ensures.value), refl))),
+  (λ e. (let f : Turn ≡ Limit = e in cc)),
+)
+
+pub returns-in_default-find_room-clause-stops : goal.returns-in_default-find_room-clause-stops
+returns-in_default-find_room-clause-stops g c = ((λ r. let f = c.in-Some.ensures.first in ((c.in-Some.first.now, f.0, f.1, omega (arith, c.if-snap-seen.false, c.snap.ensures.value)), refl)), (λ e. (let f : Memory ≡ Limit = e in cc)))
