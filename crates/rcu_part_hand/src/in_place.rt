@@ -318,13 +318,13 @@ impl<J: Job> HandInPlace<J> {
 }
 
 impl<J: Job> HandInPlace<J> {
-    ghost use Rattle.rcu_part_hand.specs.InPlace.{KeepsSoundInPlace, ReadsHalt, StaysResting};
+    ghost use Rattle.rcu_part_hand.specs.InPlace.{KeepingInPlace, ReadsHalt};
 
     /// Whether the runtime was halted.
     pub fn is_halted(&mut self) -> bool
         requires rests { self.old.state.claimed ≡ None }
-        ensures reads { StaysResting (ReadsHalt (from_bool result)) self.old.state self.new.state }
-        ensures sound { KeepsSoundInPlace J.key_of J.gives self.old.state self.new.state }
+        ensures reads { KeepingInPlace (ReadsHalt (from_bool result)) J.key_of J.gives self.old.state
+            self.new.state }
     {
         let state = &mut self.state;
         halted(&state.board, &mut state.seat)

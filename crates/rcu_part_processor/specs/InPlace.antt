@@ -148,6 +148,16 @@ module _ {J R : Type 0} where
   abbrev pub KeepsSoundInPlace : (J → ℕ) → (ℕ → R → Type 0) → ProcessorInPlaceState J R → ProcessorInPlaceState J R → Type 0
   KeepsSoundInPlace key_of gives p q = IsSoundInPlace key_of gives p → IsSoundInPlace key_of gives q
 
+  -- A call that only makes steps on the board, whether a claim runs or not: what they come to, by its views; and it is the same
+  -- processor, which accepts nothing, holds what it held, and knows of jobs what it knew.
+  pub record OnBoard (Does : View → View → Type 0) (key_of : J → ℕ) (gives : ℕ → R → Type 0) (p q : ProcessorInPlaceState J R) : Type 0 where
+    pub does : Does (view_in p) (view_in q)
+    -- the same part of the same open, with the same claim, if one runs
+    pub same : SameInPlace p q
+    -- nothing was accepted, and lists, counts and records are as before
+    pub keeps : KeepsAll p q
+    pub sound : KeepsSoundInPlace key_of gives p q
+
   -- What a call answers and does, whether a claim runs or not.
   pub record CallsAs (moment : ℕ) (kind : Kind) (key_of : J → ℕ) (gives : ℕ → R → Type 0) (job : J) (result : Result Ticket (Refused J)) (p q : ProcessorInPlaceState J R) : Type 0 where
     pub same : SameInPlace p q

@@ -8,7 +8,7 @@ ghost use Rattle.rcu_board.specs.Words.{halt_word};
 ghost use Rattle.rcu_lists.specs.declared.pace.Kind.TheVariants.{Plain, Lazy};
 ghost use Rattle.rcu_numbers.specs.Numbers.{snap_of};
 ghost use Rattle.rcu_part_control.specs.Barriers.{Opens, count_at};
-ghost use Rattle.rcu_part_processor.specs.InPlace.{CallsAs, KeepsAll, KeepsSoundInPlace, SameInPlace, StaysResting, board_in, view_in};
+ghost use Rattle.rcu_part_processor.specs.InPlace.{CallsAs, OnBoard, StaysResting, board_in, view_in};
 ghost use Rattle.rcu_part_processor.specs.Polls.{AsksFor};
 ghost use Rattle.rcu_part_steps.specs.Reports.{Reports};
 
@@ -74,11 +74,8 @@ impl<J: Job> ProcessorInPlace<J> {
     /// Reports a quiescent state, whether or not a claim runs. Answers the number of the grace period that counted it, or
     /// None.
     pub fn quiescent(&mut self) -> Option<u64>
-        ensures same { SameInPlace self.old.state self.new.state }
-        ensures keeps { KeepsAll self.old.state self.new.state }
-        ensures reports { Reports self.old.state.cpu result (view_in self.old.state)
-            (view_in self.new.state) }
-        ensures sound { KeepsSoundInPlace J.key_of J.gives self.old.state self.new.state }
+        ensures reports { OnBoard (Reports self.old.state.cpu result) J.key_of J.gives
+            self.old.state self.new.state }
     {
         let state = &mut self.state;
         let counted = report_quiescent_state(
@@ -96,12 +93,9 @@ impl<J: Job> ProcessorInPlace<J> {
     /// Opens a barrier, as [`Processor::barrier`](crate::Processor::barrier) does.
     pub fn barrier(&mut self) -> Barrier
         requires rests { self.old.state.claimed ≡ None }
-        ensures same { SameInPlace self.old.state self.new.state }
-        ensures keeps { KeepsAll self.old.state self.new.state }
-        ensures opens { Opens (board_in self.old.state).processors result (view_in self.old.state)
-            (view_in self.new.state) }
+        ensures opens { OnBoard (Opens (board_in self.old.state).processors result) J.key_of J.gives
+            self.old.state self.new.state }
         ensures own { count_at result.counts self.new.state.cpu ≡ self.new.state.accepted }
-        ensures sound { KeepsSoundInPlace J.key_of J.gives self.old.state self.new.state }
     {
         let state = &mut self.state;
         open_barrier(&state.board, &mut state.seat)
@@ -111,12 +105,10 @@ impl<J: Job> ProcessorInPlace<J> {
     /// [`poll_state`](ProcessorInPlace::poll_state) takes.
     pub fn start_poll(&mut self) -> u64
         requires rests { self.old.state.claimed ≡ None }
-        ensures same { SameInPlace self.old.state self.new.state }
-        ensures keeps { KeepsAll self.old.state self.new.state }
         ensures cookie { result ≡ snap_of (sight (view_in self.new.state)) }
         ensures asked { StaysResting (AsksFor result) self.old.state self.new.state }
-        ensures later { sight (view_in self.old.state) ≤ sight (view_in self.new.state) }
-        ensures sound { KeepsSoundInPlace J.key_of J.gives self.old.state self.new.state }
+        ensures later { OnBoard (λ v w. sight v ≤ sight w) J.key_of J.gives self.old.state
+            self.new.state }
     {
         let state = &mut self.state;
         let seen = look_at_number(&state.board, &mut state.seat);
@@ -128,12 +120,9 @@ impl<J: Job> ProcessorInPlace<J> {
     /// Whether the grace period of a cookie has ended, by one look.
     pub fn poll_state(&mut self, cookie: u64) -> bool
         requires rests { self.old.state.claimed ≡ None }
-        ensures same { SameInPlace self.old.state self.new.state }
-        ensures keeps { KeepsAll self.old.state self.new.state }
-        ensures looks { view_in self.new.state
-            ≡ looked (sight (view_in self.new.state)) (view_in self.old.state) }
+        ensures looks { OnBoard (λ v w. w ≡ looked (sight w) v) J.key_of J.gives self.old.state
+            self.new.state }
         ensures elapsed { IsTrue result ↔ (cookie ≤ sight (view_in self.new.state)) }
-        ensures sound { KeepsSoundInPlace J.key_of J.gives self.old.state self.new.state }
     {
         let state = &mut self.state;
         let seen = look_at_number(&state.board, &mut state.seat);
@@ -143,11 +132,8 @@ impl<J: Job> ProcessorInPlace<J> {
     /// Whether the runtime was halted.
     pub fn is_halted(&mut self) -> bool
         requires rests { self.old.state.claimed ≡ None }
-        ensures same { SameInPlace self.old.state self.new.state }
-        ensures keeps { KeepsAll self.old.state self.new.state }
-        ensures view { view_in self.new.state
-            ≡ touched halt_word (from_bool result) (view_in self.old.state) }
-        ensures sound { KeepsSoundInPlace J.key_of J.gives self.old.state self.new.state }
+        ensures reads { OnBoard (λ v w. w ≡ touched halt_word (from_bool result) v) J.key_of J.gives
+            self.old.state self.new.state }
     {
         let state = &mut self.state;
         halted(&state.board, &mut state.seat)

@@ -10,7 +10,7 @@ pub barrier-requires : goal.barrier-requires
 barrier-requires c = (job_sends, (receipt_sends, (placed_cpu_fits, rests_in c.args.self.now (none_if c.args.self.now.job (sym c.is_some.ensures ∙ c.if-is_some.false)))))
 
 pub invariant_of-self : goal.invariant_of-self
-invariant_of-self c = record { both = c.args.self.now.both ∙ sym (ap is_some c.barrier.ensures.same.claimed) }
+invariant_of-self c = record { both = c.args.self.now.both ∙ sym (ap is_some c.barrier.ensures.opens.same.claimed) }
 
 pub returns : goal.returns
-returns c = let e = c.barrier.ensures in leaves_resting c.args.self.now.job _ _ (none_if c.args.self.now.job (sym c.is_some.ensures ∙ c.if-is_some.false)) (c.barrier.result, refl, record { kept = record { same = e.same; job = refl; sound = e.sound }; lists = e.keeps; opens = e.opens; own = e.own })
+returns c = let e = c.barrier.ensures in leaves_resting c.args.self.now.job _ _ (none_if c.args.self.now.job (sym c.is_some.ensures ∙ c.if-is_some.false)) (c.barrier.result, refl, record { kept = record { same = e.opens.same; job = refl; sound = e.opens.sound }; lists = e.opens.keeps; opens = e.opens.does; own = e.own })

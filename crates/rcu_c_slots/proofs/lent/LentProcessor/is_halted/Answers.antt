@@ -10,7 +10,7 @@ pub is_halted-requires : goal.is_halted-requires
 is_halted-requires c = (job_sends, (receipt_sends, (placed_cpu_fits, rests_in c.args.self.now (none_if c.args.self.now.job (sym c.is_some.ensures ∙ c.if-is_some.false)))))
 
 pub invariant_of-self : goal.invariant_of-self
-invariant_of-self c = record { both = c.args.self.now.both ∙ sym (ap is_some c.is_halted.ensures.same.claimed) }
+invariant_of-self c = record { both = c.args.self.now.both ∙ sym (ap is_some c.is_halted.ensures.reads.same.claimed) }
 
 pub returns : goal.returns
-returns c = let e = c.is_halted.ensures in leaves_resting c.args.self.now.job _ _ (none_if c.args.self.now.job (sym c.is_some.ensures ∙ c.if-is_some.false)) (c.is_halted.result, refl, record { kept = record { same = e.same; job = refl; sound = e.sound }; lists = e.keeps; reads = e.view })
+returns c = let e = c.is_halted.ensures in leaves_resting c.args.self.now.job _ _ (none_if c.args.self.now.job (sym c.is_some.ensures ∙ c.if-is_some.false)) (c.is_halted.result, refl, record { kept = record { same = e.reads.same; job = refl; sound = e.reads.sound }; lists = e.reads.keeps; reads = e.reads.does })

@@ -10,7 +10,7 @@ pub poll_state-requires : goal.poll_state-requires
 poll_state-requires c = (job_sends, (receipt_sends, (placed_cpu_fits, rests_in c.args.self.now (none_if c.args.self.now.job (sym c.is_some.ensures ∙ c.if-is_some.false)))))
 
 pub invariant_of-self : goal.invariant_of-self
-invariant_of-self c = record { both = c.args.self.now.both ∙ sym (ap is_some c.poll_state.ensures.same.claimed) }
+invariant_of-self c = record { both = c.args.self.now.both ∙ sym (ap is_some c.poll_state.ensures.looks.same.claimed) }
 
 pub returns : goal.returns
-returns c = let e = c.poll_state.ensures in leaves_resting c.args.self.now.job _ _ (none_if c.args.self.now.job (sym c.is_some.ensures ∙ c.if-is_some.false)) (c.poll_state.result, refl, record { kept = record { same = e.same; job = refl; sound = e.sound }; lists = e.keeps; looks = e.looks; over = e.elapsed })
+returns c = let e = c.poll_state.ensures in leaves_resting c.args.self.now.job _ _ (none_if c.args.self.now.job (sym c.is_some.ensures ∙ c.if-is_some.false)) (c.poll_state.result, refl, record { kept = record { same = e.looks.same; job = refl; sound = e.looks.sound }; lists = e.looks.keeps; looks = e.looks.does; over = e.elapsed })

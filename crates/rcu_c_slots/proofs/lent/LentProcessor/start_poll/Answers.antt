@@ -10,7 +10,7 @@ pub start_poll-requires : goal.start_poll-requires
 start_poll-requires c = (job_sends, (receipt_sends, (placed_cpu_fits, rests_in c.args.self.now (none_if c.args.self.now.job (sym c.is_some.ensures ∙ c.if-is_some.false)))))
 
 pub invariant_of-self : goal.invariant_of-self
-invariant_of-self c = record { both = c.args.self.now.both ∙ sym (ap is_some c.start_poll.ensures.same.claimed) }
+invariant_of-self c = record { both = c.args.self.now.both ∙ sym (ap is_some c.start_poll.ensures.later.same.claimed) }
 
 pub returns : goal.returns
-returns c = let e = c.start_poll.ensures in leaves_resting c.args.self.now.job _ _ (none_if c.args.self.now.job (sym c.is_some.ensures ∙ c.if-is_some.false)) (c.start_poll.result, refl, record { kept = record { same = e.same; job = refl; sound = e.sound }; lists = e.keeps; cookie_is = e.cookie; asked = e.asked; later = e.later })
+returns c = let e = c.start_poll.ensures in leaves_resting c.args.self.now.job _ _ (none_if c.args.self.now.job (sym c.is_some.ensures ∙ c.if-is_some.false)) (c.start_poll.result, refl, record { kept = record { same = e.later.same; job = refl; sound = e.later.sound }; lists = e.later.keeps; cookie_is = e.cookie; asked = e.asked; later = e.later.does })

@@ -13,12 +13,14 @@ invariant_of-state g c = let s = c.args.self.now.state in let e = c.halted.ensur
   runs = λ k f. (let x : None ≡ Some k = sym c.requires.rests ∙ f in cc);
 }
 
-pub returns-clause-reads : goal.returns-clause-reads
-returns-clause-reads g c = λ r. let e = c.halted.ensures in (
-  r,
-  record { part = record { board = refl; seat = e.same }; lane = refl; cpu = refl; blimit = refl; kept = refl },
-  record { view = e.view; held = refl; drawn = refl; records = refl },
-)
-
-pub returns-clause-sound : goal.returns-clause-sound
-returns-clause-sound g c = λ sound. sound
+pub returns : goal.returns
+returns g c = record {
+  reads = record {
+    does = λ r. let e = c.halted.ensures in (
+      r,
+      record { part = record { board = refl; seat = e.same }; lane = refl; cpu = refl; blimit = refl; kept = refl },
+      record { view = e.view; held = refl; drawn = refl; records = refl },
+    );
+    sound = λ sound. sound;
+  };
+}

@@ -39,32 +39,28 @@ invariant_of-state-in_default g c = let s = c.args.self.now.state in let e = c.r
   runs = λ k f. let l = s.runs k f in record { below = l.below; room = l.room; lawful = runs_by_tells s.cpu s.accepted _ k _ _ (ran_of s.ran) _ e.tells (e.same.later (arc_value s.board) s.here) l.lawful };
 }
 
-pub returns-in-Some-clause-same : goal.returns-in-Some-clause-same
-returns-in-Some-clause-same g c = record { part = record { part = record { board = refl; seat = c.report_quiescent_state-counted.ensures.same }; lane = refl; cpu = refl; offloadable = refl; limit = refl; blimit = refl; kept = refl }; claimed = refl }
-
-pub returns-in-Some-clause-keeps : goal.returns-in-Some-clause-keeps
-returns-in-Some-clause-keeps g c = record { count = refl; lists = refl; records = refl }
-
-pub returns-in-Some-clause-sound : goal.returns-in-Some-clause-sound
-returns-in-Some-clause-sound g c = λ sound. record { keyed = sound.keyed; given = sound.given }
-
-pub returns-in_default-clause-same : goal.returns-in_default-clause-same
-returns-in_default-clause-same g c = record { part = record { part = record { board = refl; seat = c.report_quiescent_state-counted.ensures.same }; lane = refl; cpu = refl; offloadable = refl; limit = refl; blimit = refl; kept = refl }; claimed = refl }
-
-pub returns-in_default-clause-keeps : goal.returns-in_default-clause-keeps
-returns-in_default-clause-keeps g c = record { count = refl; lists = refl; records = refl }
-
-pub returns-in_default-clause-sound : goal.returns-in_default-clause-sound
-returns-in_default-clause-sound g c = λ sound. record { keyed = sound.keyed; given = sound.given }
-
 pub report_quiescent_state-counted-requires-clause-role : goal.report_quiescent_state-counted-requires-clause-role
 report_quiescent_state-counted-requires-clause-role g c = c.args.self.now.state.role
 
 pub report_quiescent_state-counted-requires-clause-here : goal.report_quiescent_state-counted-requires-clause-here
 report_quiescent_state-counted-requires-clause-here g c = c.args.self.now.state.since.word
 
-pub returns-in-Some-clause-reports : goal.returns-in-Some-clause-reports
-returns-in-Some-clause-reports g c = c.in-Some.ensures.reports
+pub returns-in-Some : goal.returns-in-Some
+returns-in-Some g c = record {
+  reports = record {
+    does = c.in-Some.ensures.reports;
+    same = record { part = record { part = record { board = refl; seat = c.report_quiescent_state-counted.ensures.same }; lane = refl; cpu = refl; offloadable = refl; limit = refl; blimit = refl; kept = refl }; claimed = refl };
+    keeps = record { count = refl; lists = refl; records = refl };
+    sound = λ sound. record { keyed = sound.keyed; given = sound.given };
+  };
+}
 
-pub returns-in_default-clause-reports : goal.returns-in_default-clause-reports
-returns-in_default-clause-reports g c = c.report_quiescent_state-counted.ensures.reports
+pub returns-in_default : goal.returns-in_default
+returns-in_default g c = record {
+  reports = record {
+    does = c.report_quiescent_state-counted.ensures.reports;
+    same = record { part = record { part = record { board = refl; seat = c.report_quiescent_state-counted.ensures.same }; lane = refl; cpu = refl; offloadable = refl; limit = refl; blimit = refl; kept = refl }; claimed = refl };
+    keeps = record { count = refl; lists = refl; records = refl };
+    sound = λ sound. record { keyed = sound.keyed; given = sound.given };
+  };
+}
