@@ -1,6 +1,7 @@
 -- What `call_rcu` and `call_rcu_lazy` do: docs/specification/rules.md, "The calls, step by step".
 use Rattle.std.specs.Prelude.{◌≡◌, ℕ, Result, IfOk, IfErr, IsErr}
 use Rattle.rcu_board.specs.Seats.{SawShut}
+use Rattle.rcu_board.specs.declared.view.View.{View}
 use Rattle.rcu_jobs.specs.declared.answers.Refused.{Refused}
 use Rattle.rcu_jobs.specs.declared.answers.Ticket.{Ticket}
 use Rattle.rcu_lists.specs.declared.pace.Kind.{Kind}
@@ -19,6 +20,17 @@ module _ {J R : Type 0} where
   -- nothing was accepted, and lists and counts are as before
   abbrev pub KeepsAll : ProcessorState J R → ProcessorState J R → Type 0
   KeepsAll p q = AcceptsNone (accepting p) (accepting q)
+
+  -- A call that only makes steps on the board: what they come to, by its views; and it is the same processor, which accepts
+  -- nothing, holds what it held, and knows of jobs what it knew.
+  pub record OnBoard (Does : View → View → Type 0) (key_of : J → ℕ) (gives : ℕ → R → Type 0) (p q : ProcessorState J R) : Type 0 where
+    pub does : Does (view_of p) (view_of q)
+    -- the same part of the same open
+    pub same : SameProcessor p q
+    -- nothing was accepted, and lists, counts and records are as before
+    pub keeps : KeepsAll p q
+    -- what is known of jobs stays known
+    pub sound : KeepsSound key_of gives p q
 
   -- why the job was refused
   abbrev pub IsRefusedAs : J → Refused J → ProcessorState J R → ProcessorState J R → Type 0

@@ -2,8 +2,8 @@
 
 ghost use Rattle.std.specs.Prelude.{◌≡◌};
 ghost use Rattle.rcu_part_control.specs.Barriers.{Opens, count_at};
-ghost use Rattle.rcu_part_processor.specs.Calls.{KeepsAll};
-ghost use Rattle.rcu_part_processor.specs.Processors.{SameProcessor, board_of, view_of, KeepsSound};
+ghost use Rattle.rcu_part_processor.specs.Calls.{OnBoard};
+ghost use Rattle.rcu_part_processor.specs.Processors.{board_of};
 
 use crate::processor::Processor;
 use rcu_board::turn_of;
@@ -14,12 +14,9 @@ impl<J: Job> Processor<J> {
     /// Opens a barrier for what each processor has accepted when its count is read, and then urges every processor to
     /// release its bypass list. Of its own processor each callback is counted that it has accepted.
     pub fn barrier(&mut self) -> Barrier
-        ensures same { SameProcessor self.old.state self.new.state }
-        ensures keeps { KeepsAll self.old.state self.new.state }
-        ensures opens { Opens (board_of self.old.state).processors result (view_of self.old.state)
-            (view_of self.new.state) }
+        ensures opens { OnBoard (Opens (board_of self.old.state).processors result) J.key_of J.gives
+            self.old.state self.new.state }
         ensures own { count_at result.counts self.new.state.cpu ≡ self.new.state.accepted }
-        ensures sound { KeepsSound J.key_of J.gives self.old.state self.new.state }
     {
         let state = &mut self.state;
         open_barrier(&state.board, &mut state.seat)

@@ -29,7 +29,7 @@
 //! - By `Processor::call_rcu`, `call_rcu_lazy` (`ok`, `err`, `refused`, `full`, `sound`), `quiescent`
 //!   (`reports`), `tick` (`ticks`, `fresh`, `local`, `none`, `few`, `sound`), `begin` (`runs`, `stops`,
 //!   `counts`, `keyed`, `sound`), `RunningProcessor::finish` (`finishes`, `sound`), `call_rcu`,
-//!   `call_rcu_lazy`, `quiescent`, `lists`; `barrier` (`opens`, `own`), `left`, `is_halted` (`view`, `keeps`),
+//!   `call_rcu_lazy`, `quiescent`, `lists`; `barrier` (`opens`, `own`), `left`, `is_halted` (`reads`),
 //!   `run`, `lists`, `new`; `ticks_in_two_steps` (`one`, `more`); the ghost fields `lawful` (`IsLawful` and
 //!   `IsRunningProcessor` in specs/Lawful.antt).
 //! - Records that are left are taken out once, in order, and nothing else changes.

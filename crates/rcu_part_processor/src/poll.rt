@@ -4,9 +4,9 @@ ghost use Rattle.std.specs.Prelude.{◌≡◌, ◌≤◌, IsTrue, ◌↔◌};
 ghost use Rattle.rcu_board.specs.Plays.{looked};
 ghost use Rattle.rcu_board.specs.Views.{sight};
 ghost use Rattle.rcu_numbers.specs.Numbers.{snap_of};
-ghost use Rattle.rcu_part_processor.specs.Calls.{KeepsAll};
+ghost use Rattle.rcu_part_processor.specs.Calls.{OnBoard};
 ghost use Rattle.rcu_part_processor.specs.Polls.{AsksFor};
-ghost use Rattle.rcu_part_processor.specs.Processors.{SameProcessor, view_of, KeepsSound};
+ghost use Rattle.rcu_part_processor.specs.Processors.{view_of};
 
 use crate::processor::Processor;
 use rcu_board::need;
@@ -18,12 +18,10 @@ impl<J: Job> Processor<J> {
     /// Asks for a grace period that begins after this call, and answers its cookie, which [`poll_state`](Processor::poll_state)
     /// takes.
     pub fn start_poll(&mut self) -> u64
-        ensures same { SameProcessor self.old.state self.new.state }
-        ensures keeps { KeepsAll self.old.state self.new.state }
         ensures cookie { result ≡ snap_of (sight (view_of self.new.state)) }
         ensures asked { AsksFor result self.old.state self.new.state }
-        ensures later { sight (view_of self.old.state) ≤ sight (view_of self.new.state) }
-        ensures sound { KeepsSound J.key_of J.gives self.old.state self.new.state }
+        ensures later { OnBoard (λ v w. sight v ≤ sight w) J.key_of J.gives self.old.state
+            self.new.state }
     {
         let state = &mut self.state;
         let seen = look_at_number(&state.board, &mut state.seat);
@@ -34,12 +32,9 @@ impl<J: Job> Processor<J> {
 
     /// Whether the grace period of a cookie has ended, by one look.
     pub fn poll_state(&mut self, cookie: u64) -> bool
-        ensures same { SameProcessor self.old.state self.new.state }
-        ensures keeps { KeepsAll self.old.state self.new.state }
-        ensures looks { view_of self.new.state
-            ≡ looked (sight (view_of self.new.state)) (view_of self.old.state) }
+        ensures looks { OnBoard (λ v w. w ≡ looked (sight w) v) J.key_of J.gives self.old.state
+            self.new.state }
         ensures elapsed { IsTrue result ↔ (cookie ≤ sight (view_of self.new.state)) }
-        ensures sound { KeepsSound J.key_of J.gives self.old.state self.new.state }
     {
         let state = &mut self.state;
         let seen = look_at_number(&state.board, &mut state.seat);

@@ -5,8 +5,8 @@ ghost use Rattle.std.specs.Int.{from_bool};
 ghost use Rattle.rcu_board.specs.Plays.{touched};
 ghost use Rattle.rcu_board.specs.Seats.{SawHalt};
 ghost use Rattle.rcu_board.specs.Words.{halt_word};
-ghost use Rattle.rcu_part_processor.specs.Calls.{KeepsAll};
-ghost use Rattle.rcu_part_processor.specs.Processors.{Keeping, SameProcessor, AcceptedStays, AddsRecords, IsSound, view_of, KeepsSound};
+ghost use Rattle.rcu_part_processor.specs.Calls.{OnBoard};
+ghost use Rattle.rcu_part_processor.specs.Processors.{Keeping, SameProcessor, AcceptedStays, AddsRecords, IsSound, view_of};
 
 use crate::processor::Processor;
 use rcu_board::halted;
@@ -18,11 +18,8 @@ use std::sync::Wait;
 impl<J: Job> Processor<J> {
     /// Whether the runtime was halted.
     pub fn is_halted(&mut self) -> bool
-        ensures same { SameProcessor self.old.state self.new.state }
-        ensures keeps { KeepsAll self.old.state self.new.state }
-        ensures view { view_of self.new.state
-            ≡ touched halt_word (from_bool result) (view_of self.old.state) }
-        ensures sound { KeepsSound J.key_of J.gives self.old.state self.new.state }
+        ensures reads { OnBoard (λ v w. w ≡ touched halt_word (from_bool result) v) J.key_of J.gives
+            self.old.state self.new.state }
     {
         let state = &mut self.state;
         halted(&state.board, &mut state.seat)

@@ -127,11 +127,11 @@ pub returns-in-Tick-clause-works : goal.returns-in-Tick-clause-works
 returns-in-Tick-clause-works g c = let e = c.tick.ensures in works_once g.J.Job.key_of g.J.Job.gives c.args.processor.now c.tick.new.self e.same e.sound e.count
 
 pub returns-in-OpenBarrier-clause-works : goal.returns-in-OpenBarrier-clause-works
-returns-in-OpenBarrier-clause-works g c = let e = c.barrier.ensures in works_once g.J.Job.key_of g.J.Job.gives c.args.processor.now c.barrier.new.self e.same e.sound e.keeps.count
+returns-in-OpenBarrier-clause-works g c = let e = c.barrier.ensures.opens in works_once g.J.Job.key_of g.J.Job.gives c.args.processor.now c.barrier.new.self e.same e.sound e.keeps.count
 
 pub returns-in-OpenBarrier-clause-does : goal.returns-in-OpenBarrier-clause-does
-returns-in-OpenBarrier-clause-does g c = let e = c.barrier.ensures in
-    subst (λ s. Does g.J.Job.key_of s (acted.Answers (answer.Opened c.barrier.result)) c.args.processor.now c.barrier.new.self) (sym c.in-OpenBarrier.is) ((e.opens, e.keeps))
+returns-in-OpenBarrier-clause-does g c = let e = c.barrier.ensures.opens in
+    subst (λ s. Does g.J.Job.key_of s (acted.Answers (answer.Opened c.barrier.result)) c.args.processor.now c.barrier.new.self) (sym c.in-OpenBarrier.is) ((e.does, e.keeps))
 
 pub returns-in-PollBarrier-clause-works : goal.returns-in-PollBarrier-clause-works
 returns-in-PollBarrier-clause-works g c = c.poll.ensures.works

@@ -33,14 +33,10 @@ open_barrier-requires-clause-board g c = let s = c.args.self.now.state in stands
 pub open_barrier-requires-clause-who : goal.open_barrier-requires-clause-who
 open_barrier-requires-clause-who g c = subst MayCount (sym c.args.self.now.state.role) tt
 
-pub returns-clause-same : goal.returns-clause-same
-returns-clause-same g c = record { part = record { board = refl; seat = c.open_barrier.ensures.same }; lane = refl; cpu = refl; offloadable = refl; limit = refl; blimit = refl; kept = refl }
-
-pub returns-clause-keeps : goal.returns-clause-keeps
-returns-clause-keeps g c = record { count = refl; lists = refl; records = refl }
-
 pub returns-clause-opens : goal.returns-clause-opens
-returns-clause-opens g c = subst (λ (b : Board). Opens b.processors c.open_barrier.result (view c.args.self.now.state.seat) (view c.open_barrier.new.seat)) c.deref.ensures c.open_barrier.ensures.opens
-
-pub returns-clause-sound : goal.returns-clause-sound
-returns-clause-sound g c = λ sound. record { keyed = sound.keyed; given = sound.given }
+returns-clause-opens g c = record {
+  does = subst (λ (b : Board). Opens b.processors c.open_barrier.result (view c.args.self.now.state.seat) (view c.open_barrier.new.seat)) c.deref.ensures c.open_barrier.ensures.opens;
+  same = record { part = record { board = refl; seat = c.open_barrier.ensures.same }; lane = refl; cpu = refl; offloadable = refl; limit = refl; blimit = refl; kept = refl };
+  keeps = record { count = refl; lists = refl; records = refl };
+  sound = λ sound. record { keyed = sound.keyed; given = sound.given };
+}

@@ -30,14 +30,12 @@ halted-requires-clause-board g c = let s = c.args.self.now.state in stands (arc_
 pub halted-requires-clause-who : goal.halted-requires-clause-who
 halted-requires-clause-who g c = subst MayHalt (sym c.args.self.now.state.role) tt
 
-pub returns-clause-same : goal.returns-clause-same
-returns-clause-same g c = record { part = record { board = refl; seat = c.halted.ensures.same }; lane = refl; cpu = refl; offloadable = refl; limit = refl; blimit = refl; kept = refl }
-
-pub returns-clause-keeps : goal.returns-clause-keeps
-returns-clause-keeps g c = record { count = refl; lists = refl; records = refl }
-
-pub returns-clause-sound : goal.returns-clause-sound
-returns-clause-sound g c = λ sound. record { keyed = sound.keyed; given = sound.given }
-
-pub returns-clause-view : goal.returns-clause-view
-returns-clause-view g c = c.halted.ensures.view
+pub returns : goal.returns
+returns g c = record {
+  reads = record {
+    does = c.halted.ensures.view;
+    same = record { part = record { board = refl; seat = c.halted.ensures.same }; lane = refl; cpu = refl; offloadable = refl; limit = refl; blimit = refl; kept = refl };
+    keeps = record { count = refl; lists = refl; records = refl };
+    sound = λ sound. record { keyed = sound.keyed; given = sound.given };
+  };
+}

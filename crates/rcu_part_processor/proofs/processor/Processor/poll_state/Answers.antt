@@ -26,17 +26,13 @@ invariant_of-state g c = let s = c.args.self.now.state in let e = c.look_at_numb
   lawful = kept_by_tells s.cpu s.accepted _ v w (ran_of s.ran) (holding s.lists) (tells_looked c.look_at_number-seen.result v w s.lawful.stamped e.view) (e.same.later (arc_value s.board) s.here) s.lawful;
 }
 
-pub returns-clause-same : goal.returns-clause-same
-returns-clause-same g c = record { part = record { board = refl; seat = c.look_at_number-seen.ensures.same }; lane = refl; cpu = refl; offloadable = refl; limit = refl; blimit = refl; kept = refl }
-
-pub returns-clause-keeps : goal.returns-clause-keeps
-returns-clause-keeps g c = record { count = refl; lists = refl; records = refl }
-
-pub returns-clause-looks : goal.returns-clause-looks
-returns-clause-looks g c = let e = c.look_at_number-seen.ensures in e.view ∙ ap (λ n. looked n (view c.args.self.now.state.seat)) e.sight.0
-
 pub returns-clause-elapsed : goal.returns-clause-elapsed
 returns-clause-elapsed g c = subst (λ (n : ℕ). IsTrue c.done.result ↔ (c.args.cookie ≤ n)) c.look_at_number-seen.ensures.sight.0 c.done.ensures
 
-pub returns-clause-sound : goal.returns-clause-sound
-returns-clause-sound g c = λ sound. record { keyed = sound.keyed; given = sound.given }
+pub returns-clause-looks : goal.returns-clause-looks
+returns-clause-looks g c = record {
+  does = let e = c.look_at_number-seen.ensures in e.view ∙ ap (λ n. looked n (view c.args.self.now.state.seat)) e.sight.0;
+  same = record { part = record { board = refl; seat = c.look_at_number-seen.ensures.same }; lane = refl; cpu = refl; offloadable = refl; limit = refl; blimit = refl; kept = refl };
+  keeps = record { count = refl; lists = refl; records = refl };
+  sound = λ sound. record { keyed = sound.keyed; given = sound.given };
+}

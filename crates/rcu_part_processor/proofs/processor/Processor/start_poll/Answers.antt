@@ -43,12 +43,6 @@ invariant_of-state g c = let s = c.args.self.now.state in let e = c.look_at_numb
           (never_falls_again _ v u w (e.same.later (arc_value s.board) s.here) (n.same.later (arc_value s.board) (e.same.table ∙ s.here))) s.lawful;
     }
 
-pub returns-clause-same : goal.returns-clause-same
-returns-clause-same g c = record { part = record { board = refl; seat = same_seat_again _ _ _ c.look_at_number-seen.ensures.same c.need.ensures.same }; lane = refl; cpu = refl; offloadable = refl; limit = refl; blimit = refl; kept = refl }
-
-pub returns-clause-keeps : goal.returns-clause-keeps
-returns-clause-keeps g c = record { count = refl; lists = refl; records = refl }
-
 pub returns-clause-cookie : goal.returns-clause-cookie
 returns-clause-cookie g c = let e = c.look_at_number-seen.ensures in let n = c.need.ensures in
     c.snap-cookie.ensures.value ∙ ap snap_of (e.sight.0 ∙ sym (sight_touched needed_word (max c.need.result c.snap-cookie.result) (view c.look_at_number-seen.new.seat) (view c.need.new.seat) (λ z. absurd (omega (arith, z))) n.view))
@@ -60,8 +54,10 @@ returns-clause-asked g c = let s = c.args.self.now.state in let e = c.look_at_nu
 }
 
 pub returns-clause-later : goal.returns-clause-later
-returns-clause-later g c = let s = c.args.self.now.state in let e = c.look_at_number-seen.ensures in let n = c.need.ensures in
-    let a = (e.same.later (arc_value s.board) s.here).board in let b = (n.same.later (arc_value s.board) (e.same.table ∙ s.here)).board in omega arith
-
-pub returns-clause-sound : goal.returns-clause-sound
-returns-clause-sound g c = λ sound. record { keyed = sound.keyed; given = sound.given }
+returns-clause-later g c = record {
+  does = let s = c.args.self.now.state in let e = c.look_at_number-seen.ensures in let n = c.need.ensures in
+      let a = (e.same.later (arc_value s.board) s.here).board in let b = (n.same.later (arc_value s.board) (e.same.table ∙ s.here)).board in omega arith;
+  same = record { part = record { board = refl; seat = same_seat_again _ _ _ c.look_at_number-seen.ensures.same c.need.ensures.same }; lane = refl; cpu = refl; offloadable = refl; limit = refl; blimit = refl; kept = refl };
+  keeps = record { count = refl; lists = refl; records = refl };
+  sound = λ sound. record { keyed = sound.keyed; given = sound.given };
+}
