@@ -41,8 +41,7 @@ pub(crate) fn accept_job<J: Job>(
     requires counted { length (accepted_of (view seat.old)) ≡ accepted.old }
     requires stamped { fresh_of (view seat.old) ≡ None }
     requires few { length (passed_on (holding lists.old)) ≤ accepted.old }
-    ensures same { SameSeat seat.old seat.new }
-    ensures lane { SameRear (rear_of lists.old) (rear_of lists.new) }
+    ensures same { SameSeat seat.old seat.new × SameRear (rear_of lists.old) (rear_of lists.new) }
     ensures ok { IfOk result (λ t.
         Accepts request.moment request.kind (J.key_of request.job) request.job t
         (pieces request.cpu request.limit accepted.old seat.old lists.old)

@@ -63,9 +63,6 @@ returns-clause-ok g c =
       records = refl;
     }
 
-pub returns-clause-lane : goal.returns-clause-lane
-returns-clause-lane g c = c.place.ensures.lane ∙ same_lane c.args.lists.now c.reserve.new.self c.in-Ok.ensures.rear
-
 pub returns-clause-claims : goal.returns-clause-claims
 returns-clause-claims g c = let e = c.in-Some.ensures.enters in (e.claims, e.running)
 
@@ -83,9 +80,6 @@ returns-then-number-limit-clause-err g c = record { count = refl; lists = refl; 
 
 pub returns-then-number-limit-clause-refused : goal.returns-then-number-limit-clause-refused
 returns-then-number-limit-clause-refused g c = let small = c.requires.small in let most = c.if-number-limit.true in (refl, omega arith, refl)
-
-pub returns-in_default-clause-lane : goal.returns-in_default-clause-lane
-returns-in_default-clause-lane g c = same_lane c.args.lists.now c.reserve.new.self c.in_default.ensures.rear
 
 pub returns-in_default-clause-err : goal.returns-in_default-clause-err
 returns-in_default-clause-err g c = record { count = refl; lists = c.in_default.ensures.same; records = refl }
@@ -112,9 +106,6 @@ returns-in_default-clause-keyed g c keyed = subst (λ (h : Holding g.row.J.Denot
 pub accept_and_stamp-requires-clause-small : goal.accept_and_stamp-requires-clause-small
 accept_and_stamp-requires-clause-small g c = let small = c.requires.small in let low = c.if-number-limit.false in omega arith
 
-pub returns-in_default-accept_and_stamp-clause-lane : goal.returns-in_default-accept_and_stamp-clause-lane
-returns-in_default-accept_and_stamp-clause-lane g c = same_lane c.args.lists.now c.reserve.new.self c.in-Ok.ensures.rear
-
 pub returns-in_default-accept_and_stamp-clause-err : goal.returns-in_default-accept_and_stamp-clause-err
 returns-in_default-accept_and_stamp-clause-err g c = record { count = refl; lists = c.in-Ok.ensures.same; records = refl }
 
@@ -137,12 +128,6 @@ returns-in_default-accept_and_stamp-clause-local g c offloadable local = subst (
 
 pub returns-in_default-accept_and_stamp-clause-keyed : goal.returns-in_default-accept_and_stamp-clause-keyed
 returns-in_default-accept_and_stamp-clause-keyed g c keyed = subst (λ (h : Holding g.row.J.Denot). AreKeyed g.J.Job.key_of (passed_on h)) (sym c.in-Ok.ensures.same) keyed
-
-pub returns-then-number-limit-clause-same : goal.returns-then-number-limit-clause-same
-returns-then-number-limit-clause-same g c = same_seat c.args.seat.now
-
-pub returns-then-number-limit-clause-lane : goal.returns-then-number-limit-clause-lane
-returns-then-number-limit-clause-lane g c = refl
 
 pub returns-then-number-limit-clause-closed : goal.returns-then-number-limit-clause-closed
 returns-then-number-limit-clause-closed g c = λ _. refl
@@ -171,9 +156,6 @@ returns-then-number-limit-clause-keyed g c = λ keyed. keyed
 pub reserve-requires : goal.reserve-requires
 reserve-requires g c = assumption
 
-pub returns-in_default-clause-same : goal.returns-in_default-clause-same
-returns-in_default-clause-same g c = same_seat c.args.seat.now
-
 pub returns-in_default-clause-closed : goal.returns-in_default-clause-closed
 returns-in_default-clause-closed g c = λ _. refl
 
@@ -198,9 +180,6 @@ accept_and_stamp-requires-clause-count g c = c.requires.counted
 pub accept_and_stamp-requires-clause-stamped : goal.accept_and_stamp-requires-clause-stamped
 accept_and_stamp-requires-clause-stamped g c = c.requires.stamped
 
-pub returns-in_default-accept_and_stamp-clause-same : goal.returns-in_default-accept_and_stamp-clause-same
-returns-in_default-accept_and_stamp-clause-same g c = c.in_default-accept_and_stamp.ensures.same
-
 pub returns-in_default-accept_and_stamp-clause-closed : goal.returns-in_default-accept_and_stamp-clause-closed
 returns-in_default-accept_and_stamp-clause-closed g c = λ _. refl
 
@@ -210,11 +189,20 @@ returns-in_default-accept_and_stamp-clause-small g c = c.requires.small.0
 pub overflow_add-accepted : goal.overflow_add-accepted
 overflow_add-accepted g c = let small = c.requires.small in let low = c.if-number-limit.false in omega arith
 
-pub returns-clause-same : goal.returns-clause-same
-returns-clause-same g c = c.in-Some.ensures.same
-
 pub returns-clause-closed : goal.returns-clause-closed
 returns-clause-closed g c = λ shut. sym (c.in-Some.ensures.closed shut)
 
 pub returns-clause-small : goal.returns-clause-small
 returns-clause-small g c = let low = c.if-number-limit.false in omega arith
+
+pub returns-then-number-limit-clause-same : goal.returns-then-number-limit-clause-same
+returns-then-number-limit-clause-same g c = (same_seat c.args.seat.now, refl)
+
+pub returns-in_default-clause-same : goal.returns-in_default-clause-same
+returns-in_default-clause-same g c = (same_seat c.args.seat.now, same_lane c.args.lists.now c.reserve.new.self c.in_default.ensures.rear)
+
+pub returns-in_default-accept_and_stamp-clause-same : goal.returns-in_default-accept_and_stamp-clause-same
+returns-in_default-accept_and_stamp-clause-same g c = (c.in_default-accept_and_stamp.ensures.same, same_lane c.args.lists.now c.reserve.new.self c.in-Ok.ensures.rear)
+
+pub returns-clause-same : goal.returns-clause-same
+returns-clause-same g c = (c.in-Some.ensures.same, c.place.ensures.lane ∙ same_lane c.args.lists.now c.reserve.new.self c.in-Ok.ensures.rear)

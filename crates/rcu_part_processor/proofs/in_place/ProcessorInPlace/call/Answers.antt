@@ -19,8 +19,8 @@ use Rattle.rcu_part_processor.proofs.in_place.ProcessorInPlace.call.Goals as goa
 
 pub invariant_of-state : goal.invariant_of-state
 invariant_of-state g c = let s = c.args.self.now.state in let e = c.accept_job.ensures in record {
-  here = e.same.table ∙ s.here;
-  role = e.same.role ∙ s.role;
+  here = e.same.0.table ∙ s.here;
+  role = e.same.0.role ∙ s.role;
   there = s.there;
   bit = s.bit;
   local = e.local s.offloadable s.local;
@@ -50,7 +50,7 @@ accept_job-requires-after_bounds g c κs within =
 pub returns : goal.returns
 returns g c = let s = c.args.self.now.state in let e = c.accept_job.ensures in record {
   calls = record {
-    same = record { part = record { part = record { board = refl; seat = e.same }; lane = e.lane; cpu = refl; offloadable = refl; limit = refl; blimit = refl; kept = refl }; claimed = refl };
+    same = record { part = record { part = record { board = refl; seat = e.same.0 }; lane = e.same.1; cpu = refl; offloadable = refl; limit = refl; blimit = refl; kept = refl }; claimed = refl };
     ok = accepts_with (recorded s.ran) c.args.moment c.args.kind (g.J.Job.key_of c.args.job) c.args.job
         (pieces s.cpu s.limit s.accepted s.seat s.lists) (pieces s.cpu s.limit c.accept_job.new.accepted c.accept_job.new.seat c.accept_job.new.lists) c.accept_job.result e.ok;
     err = accepts_none_with (recorded s.ran)
