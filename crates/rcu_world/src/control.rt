@@ -3,12 +3,12 @@
 ghost use Rattle.rcu_world_law.specs.Events.{is_enabled};
 ghost use Rattle.rcu_world_law.specs.Events.CoreEvent.{Shut};
 ghost use Rattle.rcu_world_law.specs.States.{cpu_at};
-ghost use Rattle.std.specs.Prelude.{◌≡◌, ◌<◌, ◌≤◌, ℕ, true, length, false, IfOk, OnOk, OnErr, Option, None, Some};
+ghost use Rattle.std.specs.Prelude.{◌≡◌, ◌<◌, ◌≤◌, ℕ, true, length, false, IfOk, OnErr, Option, None, Some};
 ghost use Rattle.rcu_numbers.specs.declared.shape.TheConstants.{MOST_PROCESSORS};
-ghost use Rattle.rcu_world.specs.Turns.{AreCounts, IsAtRest, IsBarrierAnswer, Leads, barrier_events, barrier_fault, counts_for, shuts, ticket_fault, upto};
-ghost use Rattle.rcu_world.specs.Views.{state, SameState};
+ghost use Rattle.rcu_world.specs.Turns.{AreCounts, IsAtRest, IsBarrierAnswer, barrier_events, barrier_fault, counts_for, shuts, ticket_fault, upto};
+ghost use Rattle.rcu_world.specs.Views.{state};
 ghost use Rattle.rcu_world.specs.Worlds.{IsWorld};
-ghost use Rattle.rcu_world.specs.Stays.{StaysWorld, LeadsWorld};
+ghost use Rattle.rcu_world.specs.Stays.{LeadsOrNone, LeadsUpto, LeadsWorld};
 
 use crate::events::Event;
 use crate::worlds::World;
@@ -37,19 +37,12 @@ impl<J: Job> World<J> {
     pub fn shut(&mut self) -> Result<Counts, AllocError>
         requires world { IsWorld J.key_of J.gives self.old.core }
         requires rest { IsAtRest (state J.key_of self.old.core) }
-        ensures events { OnOk result
-            (Leads (state J.key_of self.old.core)
-            (upto shuts (length (state J.key_of self.old.core).cpus) (state J.key_of self.old.core))
-            (state J.key_of self.new.core)) }
+        ensures events { LeadsUpto J.key_of J.gives self.old.core
+            (λ w. upto shuts (length w.cpus) w) shuts result self.new.core }
         ensures counts { IfOk result (λ counts.
             AreCounts (state J.key_of self.new.core) counts.n counts.counts) }
-        ensures err { OnErr result
-            ((n : ℕ)
-            × Leads (state J.key_of self.old.core) (upto shuts n (state J.key_of self.old.core))
-            (state J.key_of self.new.core)) }
         ensures err_enabled { OnErr result
             ((cpu : ℕ) × (is_enabled (state J.key_of self.new.core) (Shut cpu) ≡ true)) }
-        ensures stays { StaysWorld J.key_of J.gives self.old.core self.new.core }
     {
         for cpu in 0..self.core.processors.len() {
             self.attempt(Event::Shut { cpu: cpu as u64 })?;
@@ -109,12 +102,8 @@ impl<J: Job> World<J> {
             → (cpu_at (state J.key_of self.old.core) cpu).away ≡ false }
         requires rest { IsAtRest (state J.key_of self.old.core) }
         ensures answer { IsBarrierAnswer (state J.key_of self.old.core) by tickets.now result }
-        ensures events { IfOk result (λ name.
-            Leads (state J.key_of self.old.core)
-            (barrier_events name (length (state J.key_of self.old.core).cpus)
-            (state J.key_of self.old.core)) (state J.key_of self.new.core)) }
-        ensures same { OnErr result (SameState J.key_of self.old.core self.new.core) }
-        ensures stays { StaysWorld J.key_of J.gives self.old.core self.new.core }
+        ensures events { LeadsOrNone J.key_of J.gives self.old.core
+            (λ name w. barrier_events name (length w.cpus) w) result self.new.core }
     {
         if let Some(fault) = self.barrier_fault(by, tickets) {
             return Err(fault);

@@ -1,13 +1,13 @@
 //! The driver's turn, which starts and ends grace periods, and reports for who is away (docs/specification/rules.md, "On the
 //! core" and "Processors away").
 
-ghost use Rattle.std.specs.Prelude.{◌≡◌, ◌%◌, ℕ, true, IfOk, OnOk, OnErr};
+ghost use Rattle.std.specs.Prelude.{◌≡◌, ◌%◌, ℕ, true, IfOk, OnErr};
 ghost use Rattle.rcu_world_law.specs.Events.{is_enabled};
 ghost use Rattle.rcu_world_law.specs.Events.CoreEvent.{Meet};
-ghost use Rattle.rcu_world.specs.Turns.{IsAtRest, Leads, driver_answer, driver_events, end_events, meets, upto};
+ghost use Rattle.rcu_world.specs.Turns.{IsAtRest, driver_answer, driver_events, end_events, meets, upto};
 ghost use Rattle.rcu_world.specs.Views.{state};
 ghost use Rattle.rcu_world.specs.Worlds.{IsWorld};
-ghost use Rattle.rcu_world.specs.Stays.{StaysWorld};
+ghost use Rattle.rcu_world.specs.Stays.{LeadsUpto};
 
 use crate::events::Event;
 use crate::worlds::World;
@@ -22,17 +22,10 @@ impl<J: Job> World<J> {
     /// Want of memory, at one of these. Those before it are reported for.
     fn meet_first(&mut self, processors: u64) -> Result<(), AllocError>
         requires { IsWorld J.key_of J.gives self.old.core }
-        ensures events { OnOk result
-            (Leads (state J.key_of self.old.core)
-            (upto meets processors (state J.key_of self.old.core))
-            (state J.key_of self.new.core)) }
-        ensures err { OnErr result
-            ((n : ℕ)
-            × Leads (state J.key_of self.old.core) (upto meets n (state J.key_of self.old.core))
-            (state J.key_of self.new.core)) }
+        ensures events { LeadsUpto J.key_of J.gives self.old.core (upto meets processors) meets
+            result self.new.core }
         ensures err_enabled { OnErr result
             ((cpu : ℕ) × (is_enabled (state J.key_of self.new.core) (Meet cpu) ≡ true)) }
-        ensures stays { StaysWorld J.key_of J.gives self.old.core self.new.core }
     {
         for cpu in 0..processors {
             self.attempt(Event::Meet { cpu })?;
@@ -44,17 +37,11 @@ impl<J: Job> World<J> {
     fn end_turn(&mut self) -> Result<DriverTurn, AllocError>
         requires world { IsWorld J.key_of J.gives self.old.core }
         requires progress { (state J.key_of self.old.core).number % 4 ≡ 1 }
-        ensures events { OnOk result
-            (Leads (state J.key_of self.old.core) (end_events (state J.key_of self.old.core))
-            (state J.key_of self.new.core)) }
+        ensures events { LeadsUpto J.key_of J.gives self.old.core end_events meets result
+            self.new.core }
         ensures answer { IfOk result (λ turn. turn ≡ driver_answer (state J.key_of self.old.core)) }
-        ensures err { OnErr result
-            ((n : ℕ)
-            × Leads (state J.key_of self.old.core) (upto meets n (state J.key_of self.old.core))
-            (state J.key_of self.new.core)) }
         ensures err_enabled { OnErr result
             ((cpu : ℕ) × (is_enabled (state J.key_of self.new.core) (Meet cpu) ≡ true)) }
-        ensures stays { StaysWorld J.key_of J.gives self.old.core self.new.core }
     {
         let number = self.core.board.number();
         let first = self.core.first_waited();
@@ -74,17 +61,11 @@ impl<J: Job> World<J> {
     pub fn driver_turn(&mut self) -> Result<DriverTurn, AllocError>
         requires world { IsWorld J.key_of J.gives self.old.core }
         requires rest { IsAtRest (state J.key_of self.old.core) }
-        ensures events { OnOk result
-            (Leads (state J.key_of self.old.core) (driver_events (state J.key_of self.old.core))
-            (state J.key_of self.new.core)) }
+        ensures events { LeadsUpto J.key_of J.gives self.old.core driver_events meets result
+            self.new.core }
         ensures answer { IfOk result (λ turn. turn ≡ driver_answer (state J.key_of self.old.core)) }
-        ensures err { OnErr result
-            ((n : ℕ)
-            × Leads (state J.key_of self.old.core) (upto meets n (state J.key_of self.old.core))
-            (state J.key_of self.new.core)) }
         ensures err_enabled { OnErr result
             ((cpu : ℕ) × (is_enabled (state J.key_of self.new.core) (Meet cpu) ≡ true)) }
-        ensures stays { StaysWorld J.key_of J.gives self.old.core self.new.core }
     {
         let number = self.core.board.number();
         if number % 4 != 0 {

@@ -1,6 +1,6 @@
 //! A group's turn (docs/specification/rules.md, "The calls, step by step").
 
-ghost use Rattle.std.specs.Prelude.{◌≡◌, ◌<◌, ◌≤◌, [], length, if◌then◌else◌, true, IfOk, IsOk};
+ghost use Rattle.std.specs.Prelude.{◌≡◌, ◌<◌, ◌≤◌, [], length, if◌then◌else◌, true, IfOk};
 ghost use Rattle.rcu_numbers.specs.declared.shape.TheConstants.{MOST_CALLBACKS};
 ghost use Rattle.rcu_world_law.specs.Events.{is_enabled};
 ghost use Rattle.rcu_world_law.specs.Events.CoreEvent.{Join, LookGroup};
@@ -9,7 +9,7 @@ ghost use Rattle.rcu_world.specs.GroupTurns.{Draws, Gives, IsGroupTurn, Made, Ta
 ghost use Rattle.rcu_world.specs.Turns.{IsAtRest, where_enabled};
 ghost use Rattle.rcu_world.specs.Views.{state};
 ghost use Rattle.rcu_world.specs.Worlds.{IsWorld};
-ghost use Rattle.rcu_world.specs.Stays.{StaysWorld, LeadsWorld, MadeWorld};
+ghost use Rattle.rcu_world.specs.Stays.{LeadsWorld, MadeWorld, TurnsWorld};
 
 use crate::events::Event;
 use crate::groups::{has_member, is_member_of};
@@ -184,15 +184,13 @@ impl<J: Job> World<J> {
         requires world { IsWorld J.key_of J.gives self.old.core }
         requires there { is_enabled (state J.key_of self.old.core) (LookGroup group) ≡ true }
         requires rest { IsAtRest (state J.key_of self.old.core) }
-        ensures events { IfOk result (λ turn.
-            Made (IsGroupTurn group (length (state J.key_of self.old.core).cpus))
-            (state J.key_of self.old.core) (state J.key_of self.new.core) turn.took turn.gave) }
+        ensures events { TurnsWorld J.key_of J.gives self.old.core
+            (λ turn v w. Made (IsGroupTurn group (length v.cpus)) v w turn.took turn.gave) result
+            self.new.core }
         ensures held { IfOk result (λ turn.
             turn.held
             ≡ waiting_upto group (length (state J.key_of self.new.core).cpus)
             (state J.key_of self.new.core)) }
-        ensures ok { IsOk result }
-        ensures stays { StaysWorld J.key_of J.gives self.old.core self.new.core }
     {
         let took = self.take_all(group);
         self.look_group(group);

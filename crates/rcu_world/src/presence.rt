@@ -1,13 +1,13 @@
 //! The calls by which a processor goes away and comes back (docs/specification/rules.md, "Processors away").
 
-ghost use Rattle.std.specs.Prelude.{◌≡◌, ◌<◌, ◌∷◌, [], true, false, length, None, OnOk, OnErr};
+ghost use Rattle.std.specs.Prelude.{◌≡◌, ◌<◌, ◌∷◌, [], true, false, length, None, OnErr};
 ghost use Rattle.rcu_world_law.specs.Events.{is_enabled};
 ghost use Rattle.rcu_world_law.specs.Events.CoreEvent.{Put, Return};
 ghost use Rattle.rcu_world_law.specs.States.{cpu_at};
-ghost use Rattle.rcu_world.specs.Turns.{IsAtRest, Leads, leave_events};
-ghost use Rattle.rcu_world.specs.Views.{state, SameState};
+ghost use Rattle.rcu_world.specs.Turns.{IsAtRest, leave_events};
+ghost use Rattle.rcu_world.specs.Views.{state};
 ghost use Rattle.rcu_world.specs.Worlds.{IsWorld};
-ghost use Rattle.rcu_world.specs.Stays.{StaysWorld, LeadsWorld};
+ghost use Rattle.rcu_world.specs.Stays.{LeadsOrNone, LeadsWorld};
 
 use crate::events::Event;
 use crate::worlds::World;
@@ -36,13 +36,10 @@ impl<J: Job> World<J> {
         requires there { cpu < length (state J.key_of self.old.core).cpus }
         requires here { (cpu_at (state J.key_of self.old.core) cpu).away ≡ false }
         requires rest { IsAtRest (state J.key_of self.old.core) }
-        ensures events { OnOk result
-            (Leads (state J.key_of self.old.core)
-            (leave_events cpu (state J.key_of self.old.core)) (state J.key_of self.new.core)) }
-        ensures err { OnErr result (SameState J.key_of self.old.core self.new.core) }
+        ensures events { LeadsOrNone J.key_of J.gives self.old.core (λ left. leave_events cpu)
+            result self.new.core }
         ensures err_enabled { OnErr result
             (is_enabled (state J.key_of self.old.core) (Put cpu None) ≡ true) }
-        ensures stays { StaysWorld J.key_of J.gives self.old.core self.new.core }
     {
         self.attempt(Event::Put { cpu, moment: None })?;
         self.perform(Event::Leave { cpu });

@@ -9,7 +9,7 @@ ghost use Rattle.rcu_world.specs.Events.{core_event, needs_room};
 ghost use Rattle.rcu_world.specs.Turns.{IsAtRest, Leads, Rooms, hand_events, keeps_rest, look_events, offloadable_events, release_events, run_events, stop_of, switch_answer, switch_events, tick_events, where_enabled, KeepsRest};
 ghost use Rattle.rcu_world.specs.Views.{state, SameState};
 ghost use Rattle.rcu_world.specs.Worlds.{IsWorld};
-ghost use Rattle.rcu_world.specs.Stays.{KeepsWorld, StaysWorld, LeadsWorld};
+ghost use Rattle.rcu_world.specs.Stays.{KeepsWorld, LeadsForSome, LeadsOrNone, LeadsWorld, TurnsWorld};
 
 use crate::events::{Answer, Event};
 use crate::modes::is_set;
@@ -76,16 +76,13 @@ impl<J: Job> World<J> {
         requires there { cpu < length (state J.key_of self.old.core).cpus }
         requires here { (cpu_at (state J.key_of self.old.core) cpu).away ≡ false }
         requires rest { IsAtRest (state J.key_of self.old.core) }
-        ensures events { OnOk result
-            (Leads (state J.key_of self.old.core) (Report cpu ∷ [])
-            (state J.key_of self.new.core)) }
+        ensures events { LeadsOrNone J.key_of J.gives self.old.core (λ counted w. Report cpu ∷ [])
+            result self.new.core }
         ensures number { IfOk result (λ counted.
             counted
             ≡ (if owes (state J.key_of self.old.core) cpu then Some
             (state J.key_of self.old.core).number else None)) }
-        ensures err { OnErr result (SameState J.key_of self.old.core self.new.core) }
         ensures err_owes { OnErr result (owes (state J.key_of self.old.core) cpu ≡ true) }
-        ensures stays { StaysWorld J.key_of J.gives self.old.core self.new.core }
     {
         let counted = if self.core.board.owes(cpu) {
             Some(self.core.board.number())
@@ -123,11 +120,8 @@ impl<J: Job> World<J> {
     fn release(&mut self, cpu: u64, moment: u64)
         requires world { IsWorld J.key_of J.gives self.old.core }
         requires there { cpu < length (state J.key_of self.old.core).cpus }
-        ensures leads { (room : Bool)
-            × Leads (state J.key_of self.old.core)
-            (release_events cpu moment room (state J.key_of self.old.core))
-            (state J.key_of self.new.core) }
-        ensures stays { StaysWorld J.key_of J.gives self.old.core self.new.core }
+        ensures events { LeadsForSome J.key_of J.gives self.old.core
+            (λ (room : Bool). release_events cpu moment room) self.new.core }
     {
         let i = cpu as usize;
         let urged = self.core.processors[i].is_urged();
@@ -143,11 +137,8 @@ impl<J: Job> World<J> {
     fn switch(&mut self, cpu: u64)
         requires world { IsWorld J.key_of J.gives self.old.core }
         requires there { cpu < length (state J.key_of self.old.core).cpus }
-        ensures leads { (pour : Bool) × (room : Bool)
-            × Leads (state J.key_of self.old.core)
-            (switch_events cpu pour room (state J.key_of self.old.core))
-            (state J.key_of self.new.core) }
-        ensures stays { StaysWorld J.key_of J.gives self.old.core self.new.core }
+        ensures events { LeadsForSome J.key_of J.gives self.old.core
+            (λ (rooms : Rooms). switch_events cpu rooms.pour rooms.put_again) self.new.core }
     {
         let i = cpu as usize;
         if !self.core.processors[i].is_switching() {
@@ -164,11 +155,8 @@ impl<J: Job> World<J> {
     fn tick_offloadable(&mut self, cpu: u64, moment: u64)
         requires world { IsWorld J.key_of J.gives self.old.core }
         requires there { cpu < length (state J.key_of self.old.core).cpus }
-        ensures leads { (rooms : Rooms)
-            × Leads (state J.key_of self.old.core)
-            (offloadable_events cpu moment rooms (state J.key_of self.old.core))
-            (state J.key_of self.new.core) }
-        ensures stays { StaysWorld J.key_of J.gives self.old.core self.new.core }
+        ensures events { LeadsForSome J.key_of J.gives self.old.core
+            (λ (rooms : Rooms). offloadable_events cpu moment rooms) self.new.core }
     {
         if !is_set(&self.core.offloadable, cpu as usize) {
             return;
@@ -221,19 +209,15 @@ impl<J: Job> World<J> {
         requires there { cpu < length (state J.key_of self.old.core).cpus }
         requires here { (cpu_at (state J.key_of self.old.core) cpu).away ≡ false }
         requires rest { IsAtRest (state J.key_of self.old.core) }
-        ensures events { IfOk result (λ ticked.
-            (rooms : Rooms)
-            × Leads (state J.key_of self.old.core)
-            (tick_events cpu moment rooms ticked.ran (state J.key_of self.old.core))
-            (state J.key_of self.new.core)) }
+        ensures events { TurnsWorld J.key_of J.gives self.old.core
+            (λ ticked v w. (rooms : Rooms) × Leads v (tick_events cpu moment rooms ticked.ran v) w)
+            result self.new.core }
         ensures stop { IfOk result (λ ticked.
             ticked.stop
             ≡ stop_of Local (state J.key_of self.new.core).shape.blimit ticked.ran
             (cpu_at (state J.key_of self.new.core) cpu)) }
         ensures most { IfOk result (λ ticked.
             ticked.ran ≤ (state J.key_of self.new.core).shape.blimit) }
-        ensures ok { IsOk result }
-        ensures stays { StaysWorld J.key_of J.gives self.old.core self.new.core }
     {
         self.look_own(cpu);
         self.tick_offloadable(cpu, moment);
@@ -245,18 +229,14 @@ impl<J: Job> World<J> {
         requires world { IsWorld J.key_of J.gives self.old.core }
         requires there { is_offloadable (state J.key_of self.old.core) cpu ≡ true }
         requires rest { IsAtRest (state J.key_of self.old.core) }
-        ensures events { IfOk result (λ turn.
-            Leads (state J.key_of self.old.core)
-            (hand_events cpu turn.ran (state J.key_of self.old.core))
-            (state J.key_of self.new.core)) }
+        ensures events { TurnsWorld J.key_of J.gives self.old.core
+            (λ turn v w. Leads v (hand_events cpu turn.ran v) w) result self.new.core }
         ensures stop { IfOk result (λ turn.
             turn.stop
             ≡ stop_of Hand (state J.key_of self.new.core).shape.blimit turn.ran
             (cpu_at (state J.key_of self.new.core) cpu)) }
         ensures most { IfOk result (λ turn.
             turn.ran ≤ (state J.key_of self.new.core).shape.blimit) }
-        ensures ok { IsOk result }
-        ensures stays { StaysWorld J.key_of J.gives self.old.core self.new.core }
     {
         self.perform(Event::LookHand { cpu });
         self.perform(Event::Fetch { cpu });

@@ -8,12 +8,6 @@ use Rattle.rcu_world.specs.Barrings.{barrier}
 use Rattle.rcu_world.proofs.Staying.{stays_by, stays_same, stays_still, stays_then}
 use Rattle.rcu_world.proofs.worlds.World.barrier.Goals as goal
 
-pub returns-clause-events : goal.returns-clause-events
-returns-clause-events g c =
-    let k = subst (λ n. Leads (state g.J.Job.key_of c.attempt.new.self.core) (upto (counts_for c.len-barrier.result) n (state g.J.Job.key_of c.attempt.new.self.core)) (state g.J.Job.key_of c.count_all.new.self.core)) c.attempt.ensures.keeps.len c.count_all.ensures.events.leads in
-    leads_then (where_enabled (Open c.len-barrier.result)) (and_then (upto (counts_for c.len-barrier.result) (length (state g.J.Job.key_of c.args.self.now.core).cpus)) (where_enabled Urge)) _ _ _ c.in-Ok.ensures.leads.1
-    (leads_then (upto (counts_for c.len-barrier.result) (length (state g.J.Job.key_of c.args.self.now.core).cpus)) (where_enabled Urge) _ _ _ k c.perform.ensures.leads.1)
-
 pub returns-clause-answer : goal.returns-clause-answer
 returns-clause-answer g c = (sym c.in_default.ensures, c.len-barrier.ensures ∙ c.args.self.now.core.barriers.ok.0 ∙ sym (length-map c.args.self.now.core.barriers.items barrier))
 
@@ -29,14 +23,8 @@ barrier_fault-requires-after_bounds g c κs within = assumption
 pub returns-in-Some-clause-answer : goal.returns-in-Some-clause-answer
 returns-in-Some-clause-answer g c = inl (sym c.in-Some.ensures)
 
-pub returns-in-Some-clause-same : goal.returns-in-Some-clause-same
-returns-in-Some-clause-same g c = refl
-
 pub returns-in-Err-clause-answer : goal.returns-in-Err-clause-answer
 returns-in-Err-clause-answer g c = inr (sym c.in_default.ensures, refl)
-
-pub returns-in-Err-clause-same : goal.returns-in-Err-clause-same
-returns-in-Err-clause-same g c = c.in-Err.ensures.err
 
 pub attempt-requires-send-J : goal.attempt-requires-send-J
 attempt-requires-send-J g c κs within = c.type_bounds.send-J
@@ -65,11 +53,25 @@ perform-requires-send-J-Receipt g c κs within = c.type_bounds.send-J-Receipt
 pub perform-requires-after_bounds : goal.perform-requires-after_bounds
 perform-requires-after_bounds g c κs within = (assumption, (c.count_all.ensures.events.stays.kept, refl))
 
-pub returns-in-Some-clause-stays : goal.returns-in-Some-clause-stays
-returns-in-Some-clause-stays g c = stays_same c.requires.world
+pub returns-in-Some-clause-events : goal.returns-in-Some-clause-events
+returns-in-Some-clause-events g c = record {
+  leads = tt;
+  same = refl;
+  stays = stays_same c.requires.world;
+}
 
-pub returns-in-Err-clause-stays : goal.returns-in-Err-clause-stays
-returns-in-Err-clause-stays g c = stays_still c.attempt.ensures.keeps c.in-Err.ensures.err
+pub returns-in-Err-clause-events : goal.returns-in-Err-clause-events
+returns-in-Err-clause-events g c = record {
+  leads = tt;
+  same = c.in-Err.ensures.err;
+  stays = stays_still c.attempt.ensures.keeps c.in-Err.ensures.err;
+}
 
-pub returns-clause-stays : goal.returns-clause-stays
-returns-clause-stays g c = stays_then (stays_by c.attempt.ensures.keeps (c.attempt.ensures.rest refl)) (stays_then c.count_all.ensures.events.stays (stays_by c.perform.ensures.keeps (c.perform.ensures.rest refl)))
+pub returns-clause-events : goal.returns-clause-events
+returns-clause-events g c = record {
+  leads = let k = subst (λ n. Leads (state g.J.Job.key_of c.attempt.new.self.core) (upto (counts_for c.len-barrier.result) n (state g.J.Job.key_of c.attempt.new.self.core)) (state g.J.Job.key_of c.count_all.new.self.core)) c.attempt.ensures.keeps.len c.count_all.ensures.events.leads in
+      leads_then (where_enabled (Open c.len-barrier.result)) (and_then (upto (counts_for c.len-barrier.result) (length (state g.J.Job.key_of c.args.self.now.core).cpus)) (where_enabled Urge)) _ _ _ c.in-Ok.ensures.leads.1
+      (leads_then (upto (counts_for c.len-barrier.result) (length (state g.J.Job.key_of c.args.self.now.core).cpus)) (where_enabled Urge) _ _ _ k c.perform.ensures.leads.1);
+  same = tt;
+  stays = stays_then (stays_by c.attempt.ensures.keeps (c.attempt.ensures.rest refl)) (stays_then c.count_all.ensures.events.stays (stays_by c.perform.ensures.keeps (c.perform.ensures.rest refl)));
+}

@@ -7,22 +7,11 @@ use Rattle.rcu_world.proofs.Staying.{stays_by}
 use Rattle.rcu_world.proofs.Wholes.{on_ok_by}
 use Rattle.rcu_world.proofs.worlds.World.driver_turn.Goals as goal
 
-pub returns-then-number-ne0-clause-events : goal.returns-then-number-ne0-clause-events
-returns-then-number-ne0-clause-events g c =
-    let w = state g.J.Job.key_of c.args.self.now.core in
-    on_ok_by _ _ c.end_turn.result (driver_ends w _ (in_progress w c.number-number.result c.number-number.ensures c.if-number-ne0.true c.requires.world.fit.core.board.phase)) c.end_turn.ensures.events
-
 pub returns-then-number-ne0-clause-answer : goal.returns-then-number-ne0-clause-answer
 returns-then-number-ne0-clause-answer g c = c.end_turn.ensures.answer
 
-pub returns-then-number-ne0-clause-err : goal.returns-then-number-ne0-clause-err
-returns-then-number-ne0-clause-err g c = c.end_turn.ensures.err
-
 pub returns-then-number-ne0-clause-err_enabled : goal.returns-then-number-ne0-clause-err_enabled
 returns-then-number-ne0-clause-err_enabled g c = c.end_turn.ensures.err_enabled
-
-pub returns-then-number-ne0-clause-stays : goal.returns-then-number-ne0-clause-stays
-returns-then-number-ne0-clause-stays g c = c.end_turn.ensures.stays
 
 pub returns-then-perform-clause-answer : goal.returns-then-perform-clause-answer
 returns-then-perform-clause-answer g c = answers_started (state g.J.Job.key_of c.args.self.now.core) c.number-number.result c.number-number.ensures c.if-number-ne0.false (sym c.perform.ensures.enabled ∙ c.if-perform.true)
@@ -58,20 +47,31 @@ perform-requires-send-J-Receipt g c κs within = c.type_bounds.send-J-Receipt
 pub perform-requires-after_bounds : goal.perform-requires-after_bounds
 perform-requires-after_bounds g c κs within = (assumption, (c.requires.world, refl))
 
-pub returns-then-perform-clause-events : goal.returns-then-perform-clause-events
-returns-then-perform-clause-events g c = driver_starts (state g.J.Job.key_of c.args.self.now.core) _ c.number-number.result c.number-number.ensures c.if-number-ne0.false c.perform.ensures.leads.1
+pub returns-then-number-ne0-clause-events : goal.returns-then-number-ne0-clause-events
+returns-then-number-ne0-clause-events g c = record {
+  leads = let w = state g.J.Job.key_of c.args.self.now.core in
+      on_ok_by _ _ c.end_turn.result (driver_ends w _ (in_progress w c.number-number.result c.number-number.ensures c.if-number-ne0.true c.requires.world.fit.core.board.phase)) c.end_turn.ensures.events.leads;
+  before = c.end_turn.ensures.events.before;
+  stays = c.end_turn.ensures.events.stays;
+}
 
-pub returns-then-perform-clause-stays : goal.returns-then-perform-clause-stays
-returns-then-perform-clause-stays g c = stays_by c.perform.ensures.keeps (c.perform.ensures.rest refl)
+pub returns-then-perform-clause-events : goal.returns-then-perform-clause-events
+returns-then-perform-clause-events g c = record {
+  leads = driver_starts (state g.J.Job.key_of c.args.self.now.core) _ c.number-number.result c.number-number.ensures c.if-number-ne0.false c.perform.ensures.leads.1;
+  before = tt;
+  stays = stays_by c.perform.ensures.keeps (c.perform.ensures.rest refl);
+}
 
 pub returns-then-number-self-clause-events : goal.returns-then-number-self-clause-events
-returns-then-number-self-clause-events g c = driver_starts (state g.J.Job.key_of c.args.self.now.core) _ c.number-number.result c.number-number.ensures c.if-number-ne0.false c.perform.ensures.leads.1
-
-pub returns-then-number-self-clause-stays : goal.returns-then-number-self-clause-stays
-returns-then-number-self-clause-stays g c = stays_by c.perform.ensures.keeps (c.perform.ensures.rest refl)
+returns-then-number-self-clause-events g c = record {
+  leads = driver_starts (state g.J.Job.key_of c.args.self.now.core) _ c.number-number.result c.number-number.ensures c.if-number-ne0.false c.perform.ensures.leads.1;
+  before = tt;
+  stays = stays_by c.perform.ensures.keeps (c.perform.ensures.rest refl);
+}
 
 pub returns-clause-events : goal.returns-clause-events
-returns-clause-events g c = driver_starts (state g.J.Job.key_of c.args.self.now.core) _ c.number-number.result c.number-number.ensures c.if-number-ne0.false c.perform.ensures.leads.1
-
-pub returns-clause-stays : goal.returns-clause-stays
-returns-clause-stays g c = stays_by c.perform.ensures.keeps (c.perform.ensures.rest refl)
+returns-clause-events g c = record {
+  leads = driver_starts (state g.J.Job.key_of c.args.self.now.core) _ c.number-number.result c.number-number.ensures c.if-number-ne0.false c.perform.ensures.leads.1;
+  before = tt;
+  stays = stays_by c.perform.ensures.keeps (c.perform.ensures.rest refl);
+}

@@ -9,10 +9,6 @@ use Rattle.rcu_world.specs.Views.{state}
 use Rattle.rcu_world.proofs.Staying.{stays_by, stays_then}
 use Rattle.rcu_world.proofs.worlds.World.hand_turn.Goals as goal
 
-pub returns-clause-events : goal.returns-clause-events
-returns-clause-events g c = leads_then (where_enabled (LookHand c.args.cpu)) (and_then (where_enabled (Fetch c.args.cpu)) (λ w. run_events c.args.cpu Hand c.run_some-ran.result.ran)) _ _ _ c.perform.ensures.leads.1
-    (leads_then (where_enabled (Fetch c.args.cpu)) (λ w. run_events c.args.cpu Hand c.run_some-ran.result.ran) _ _ _ c.perform-2.ensures.leads.1 c.run_some-ran.ensures.events.leads)
-
 pub run_some-ran-requires-send-J : goal.run_some-ran-requires-send-J
 run_some-ran-requires-send-J g c κs within = c.type_bounds.send-J
 
@@ -33,5 +29,10 @@ run_some-ran-requires-after_bounds g c κs within =
       ),
     )
 
-pub returns-clause-stays : goal.returns-clause-stays
-returns-clause-stays g c = stays_then (stays_by c.perform.ensures.keeps (c.perform.ensures.rest refl)) (stays_then (stays_by c.perform-2.ensures.keeps (c.perform-2.ensures.rest refl)) c.run_some-ran.ensures.events.stays)
+pub returns-clause-events : goal.returns-clause-events
+returns-clause-events g c = record {
+  ok = refl;
+  made = leads_then (where_enabled (LookHand c.args.cpu)) (and_then (where_enabled (Fetch c.args.cpu)) (λ w. run_events c.args.cpu Hand c.run_some-ran.result.ran)) _ _ _ c.perform.ensures.leads.1
+      (leads_then (where_enabled (Fetch c.args.cpu)) (λ w. run_events c.args.cpu Hand c.run_some-ran.result.ran) _ _ _ c.perform-2.ensures.leads.1 c.run_some-ran.ensures.events.leads);
+  stays = stays_then (stays_by c.perform.ensures.keeps (c.perform.ensures.rest refl)) (stays_then (stays_by c.perform-2.ensures.keeps (c.perform-2.ensures.rest refl)) c.run_some-ran.ensures.events.stays);
+}

@@ -4,7 +4,7 @@ use Rattle.rcu_world_law.specs.Events.CoreEvent.{Meet}
 use Rattle.rcu_world.specs.Turns.{meets, Leads, upto}
 use Rattle.rcu_world.proofs.Leading.{leads_none, leads_upto}
 use Rattle.rcu_world.specs.Views.{state}
-use Rattle.rcu_world.proofs.Wholes.{leads_all, on_err}
+use Rattle.rcu_world.proofs.Wholes.{if_ok_never, leads_all, on_err}
 use Rattle.rcu_world.proofs.Staying.{stays_by, stays_same, stays_still, stays_then}
 use Rattle.rcu_world.proofs.worlds.World.meet_first.Goals as goal
 
@@ -19,23 +19,9 @@ loop-cpu-preserved g c =
       stays = stays_then i.stays (stays_by c.attempt.ensures.keeps (c.attempt.ensures.rest refl));
     }
 
-pub returns-in_err-attempt-clause-err : goal.returns-in_err-attempt-clause-err
-returns-in_err-attempt-clause-err g c =
-    let w = state g.J.Job.key_of c.args.self.now.core in
-    on_err ((n : ℕ) × Leads w (upto meets n w) (state g.J.Job.key_of c.attempt.new.self.core)) _ (c.loop-cpu.cpu, subst (λ s. Leads w (upto meets c.loop-cpu.cpu w) s) (sym c.in_err-attempt.ensures.err) c.loop-cpu.invariant.leads)
-
 pub returns-in_err-attempt-clause-err_enabled : goal.returns-in_err-attempt-clause-err_enabled
 returns-in_err-attempt-clause-err_enabled g c = on_err ((cpu : ℕ) × (is_enabled (state g.J.Job.key_of c.attempt.new.self.core) (Meet cpu) ≡ true)) _
     (c.loop-cpu.cpu, ap (λ w. is_enabled w (Meet c.loop-cpu.cpu)) c.in_err-attempt.ensures.err ∙ c.in_err-attempt.ensures.err_enabled)
-
-pub returns-in_err-attempt-clause-stays : goal.returns-in_err-attempt-clause-stays
-returns-in_err-attempt-clause-stays g c = stays_then c.loop-cpu.invariant.stays (stays_still c.attempt.ensures.keeps c.in_err-attempt.ensures.err)
-
-pub returns-clause-events : goal.returns-clause-events
-returns-clause-events g c = leads_all meets c.loop-cpu.cpu _ _ _ (omega arith) c.loop-cpu.invariant.leads
-
-pub returns-clause-stays : goal.returns-clause-stays
-returns-clause-stays g c = c.loop-cpu.invariant.stays
 
 pub attempt-requires-send-J : goal.attempt-requires-send-J
 attempt-requires-send-J g c κs within = c.type_bounds.send-J
@@ -45,3 +31,18 @@ attempt-requires-send-J-Receipt g c κs within = c.type_bounds.send-J-Receipt
 
 pub attempt-requires-after_bounds : goal.attempt-requires-after_bounds
 attempt-requires-after_bounds g c κs within = (assumption, c.loop-cpu.invariant.stays.kept)
+
+pub returns-in_err-attempt-clause-events : goal.returns-in_err-attempt-clause-events
+returns-in_err-attempt-clause-events g c = record {
+  leads = if_ok_never _ _ c.from_residual.ensures;
+  before = let w = state g.J.Job.key_of c.args.self.now.core in
+      on_err ((n : ℕ) × Leads w (upto meets n w) (state g.J.Job.key_of c.attempt.new.self.core)) _ (c.loop-cpu.cpu, subst (λ s. Leads w (upto meets c.loop-cpu.cpu w) s) (sym c.in_err-attempt.ensures.err) c.loop-cpu.invariant.leads);
+  stays = stays_then c.loop-cpu.invariant.stays (stays_still c.attempt.ensures.keeps c.in_err-attempt.ensures.err);
+}
+
+pub returns-clause-events : goal.returns-clause-events
+returns-clause-events g c = record {
+  leads = leads_all meets c.loop-cpu.cpu _ _ _ (omega arith) c.loop-cpu.invariant.leads;
+  before = tt;
+  stays = c.loop-cpu.invariant.stays;
+}

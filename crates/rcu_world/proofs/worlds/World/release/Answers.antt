@@ -36,20 +36,6 @@ moment_of_tick-late-requires-send-J-Receipt g c κs within = c.type_bounds.send-
 pub moment_of_tick-late-requires-after_bounds : goal.moment_of_tick-late-requires-after_bounds
 moment_of_tick-late-requires-after_bounds g c κs within = fits_there (param 0 g.row.J) (param 1 g.row.J-Receipt) assumption
 
-pub returns-then-not-is_released_in_tick-clause-leads : goal.returns-then-not-is_released_in_tick-clause-leads
-returns-then-not-is_released_in_tick-clause-leads g c = release_skipped c.args.cpu c.args.moment c.is_urged-urged.result _ _
-    (c.is_urged-urged.ensures ∙ ap (λ x. x.urged) (seen_there g.J.Job.key_of c.args.self.now.core c.args.cpu c.index.result.now (subst (λ n. c.args.cpu < n) (length-map c.args.self.now.core.processors.items (seen g.J.Job.key_of)) c.requires.there) c.index.ensures))
-    c.perform.ensures.leads.1
-    (ap (releases_in_tick c.is_urged-urged.result c.args.moment) (sym (seen_there g.J.Job.key_of c.perform.new.self.core c.args.cpu c.index-2.result.now (subst (λ n. c.args.cpu < n) (sym c.perform.ensures.keeps.len ∙ length-map c.perform.new.self.core.processors.items (seen g.J.Job.key_of)) c.requires.there) c.index-2.ensures)) ∙ sym c.is_released_in_tick.ensures ∙ c.if-not-is_released_in_tick.true)
-
-pub returns-clause-leads : goal.returns-clause-leads
-returns-clause-leads g c = release_put c.args.cpu c.args.moment c.is_urged-urged.result c.moment_of_tick-late.result c.put.result _ _ _
-    (c.is_urged-urged.ensures ∙ ap (λ x. x.urged) (seen_there g.J.Job.key_of c.args.self.now.core c.args.cpu c.index.result.now (subst (λ n. c.args.cpu < n) (length-map c.args.self.now.core.processors.items (seen g.J.Job.key_of)) c.requires.there) c.index.ensures))
-    c.perform.ensures.leads.1
-    (ap (releases_in_tick c.is_urged-urged.result c.args.moment) (sym (seen_there g.J.Job.key_of c.perform.new.self.core c.args.cpu c.index-2.result.now (subst (λ n. c.args.cpu < n) (sym c.perform.ensures.keeps.len ∙ length-map c.perform.new.self.core.processors.items (seen g.J.Job.key_of)) c.requires.there) c.index-2.ensures)) ∙ sym c.is_released_in_tick.ensures ∙ c.if-not-is_released_in_tick.false)
-    (c.moment_of_tick-late.ensures ∙ ap (moment_of_tick c.args.moment) (seen_there g.J.Job.key_of c.perform.new.self.core c.args.cpu c.index-3.result.now (subst (λ n. c.args.cpu < n) (sym c.perform.ensures.keeps.len ∙ length-map c.perform.new.self.core.processors.items (seen g.J.Job.key_of)) c.requires.there) c.index-3.ensures))
-    c.put.ensures.events.leads
-
 pub index-requires : goal.index-requires
 index-requires g c = omega (arith, subst (λ n. c.args.cpu < n) (length-map c.args.self.now.core.processors.items (seen g.J.Job.key_of)) c.requires.there, c.args.self.now.core.processors.ok.0)
 
@@ -77,8 +63,20 @@ put-requires-send-J-Receipt g c κs within = c.type_bounds.send-J-Receipt
 pub put-requires-after_bounds : goal.put-requires-after_bounds
 put-requires-after_bounds g c κs within = (assumption, c.perform.ensures.keeps.kept)
 
-pub returns-then-not-is_released_in_tick-clause-stays : goal.returns-then-not-is_released_in_tick-clause-stays
-returns-then-not-is_released_in_tick-clause-stays g c = stays_by c.perform.ensures.keeps (c.perform.ensures.rest refl)
+pub returns-then-not-is_released_in_tick : goal.returns-then-not-is_released_in_tick
+returns-then-not-is_released_in_tick g c =
+    let l = release_skipped c.args.cpu c.args.moment c.is_urged-urged.result _ _
+    (c.is_urged-urged.ensures ∙ ap (λ x. x.urged) (seen_there g.J.Job.key_of c.args.self.now.core c.args.cpu c.index.result.now (subst (λ n. c.args.cpu < n) (length-map c.args.self.now.core.processors.items (seen g.J.Job.key_of)) c.requires.there) c.index.ensures))
+    c.perform.ensures.leads.1
+    (ap (releases_in_tick c.is_urged-urged.result c.args.moment) (sym (seen_there g.J.Job.key_of c.perform.new.self.core c.args.cpu c.index-2.result.now (subst (λ n. c.args.cpu < n) (sym c.perform.ensures.keeps.len ∙ length-map c.perform.new.self.core.processors.items (seen g.J.Job.key_of)) c.requires.there) c.index-2.ensures)) ∙ sym c.is_released_in_tick.ensures ∙ c.if-not-is_released_in_tick.true) in
+    record { events = record { choice = l.0; leads = l.1; stays = stays_by c.perform.ensures.keeps (c.perform.ensures.rest refl) } }
 
-pub returns-clause-stays : goal.returns-clause-stays
-returns-clause-stays g c = stays_then (stays_by c.perform.ensures.keeps (c.perform.ensures.rest refl)) c.put.ensures.events.stays
+pub returns : goal.returns
+returns g c =
+    let l = release_put c.args.cpu c.args.moment c.is_urged-urged.result c.moment_of_tick-late.result c.put.result _ _ _
+    (c.is_urged-urged.ensures ∙ ap (λ x. x.urged) (seen_there g.J.Job.key_of c.args.self.now.core c.args.cpu c.index.result.now (subst (λ n. c.args.cpu < n) (length-map c.args.self.now.core.processors.items (seen g.J.Job.key_of)) c.requires.there) c.index.ensures))
+    c.perform.ensures.leads.1
+    (ap (releases_in_tick c.is_urged-urged.result c.args.moment) (sym (seen_there g.J.Job.key_of c.perform.new.self.core c.args.cpu c.index-2.result.now (subst (λ n. c.args.cpu < n) (sym c.perform.ensures.keeps.len ∙ length-map c.perform.new.self.core.processors.items (seen g.J.Job.key_of)) c.requires.there) c.index-2.ensures)) ∙ sym c.is_released_in_tick.ensures ∙ c.if-not-is_released_in_tick.false)
+    (c.moment_of_tick-late.ensures ∙ ap (moment_of_tick c.args.moment) (seen_there g.J.Job.key_of c.perform.new.self.core c.args.cpu c.index-3.result.now (subst (λ n. c.args.cpu < n) (sym c.perform.ensures.keeps.len ∙ length-map c.perform.new.self.core.processors.items (seen g.J.Job.key_of)) c.requires.there) c.index-3.ensures))
+    c.put.ensures.events.leads in
+    record { events = record { choice = l.0; leads = l.1; stays = stays_then (stays_by c.perform.ensures.keeps (c.perform.ensures.rest refl)) c.put.ensures.events.stays } }

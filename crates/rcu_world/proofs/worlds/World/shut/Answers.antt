@@ -18,17 +18,9 @@ loop-cpu-preserved g c =
       stays = stays_then i.stays (stays_by c.attempt.ensures.keeps (c.attempt.ensures.rest refl));
     }
 
-pub returns-in_err-attempt-clause-err : goal.returns-in_err-attempt-clause-err
-returns-in_err-attempt-clause-err g c =
-    let w = state g.J.Job.key_of c.args.self.now.core in
-    on_err ((n : ℕ) × Leads w (upto shuts n w) (state g.J.Job.key_of c.attempt.new.self.core)) _ (c.loop-cpu.cpu, subst (λ s. Leads w (upto shuts c.loop-cpu.cpu w) s) (sym c.in_err-attempt.ensures.err) c.loop-cpu.invariant.leads)
-
 pub returns-in_err-attempt-clause-err_enabled : goal.returns-in_err-attempt-clause-err_enabled
 returns-in_err-attempt-clause-err_enabled g c = on_err ((cpu : ℕ) × (is_enabled (state g.J.Job.key_of c.attempt.new.self.core) (Shut cpu) ≡ true)) _
     (c.loop-cpu.cpu, ap (λ w. is_enabled w (Shut c.loop-cpu.cpu)) c.in_err-attempt.ensures.err ∙ c.in_err-attempt.ensures.err_enabled)
-
-pub returns-clause-events : goal.returns-clause-events
-returns-clause-events g c = leads_all shuts c.loop-cpu.cpu _ _ _ (omega (arith, length-map c.args.self.now.core.processors.items (seen g.J.Job.key_of), c.args.self.now.core.processors.ok.0)) c.loop-cpu.invariant.leads
 
 pub loop-cpu-init : goal.loop-cpu-init
 loop-cpu-init g c = record { leads = leads_none shuts _; stays = stays_same c.requires.world }
@@ -41,9 +33,6 @@ attempt-requires-send-J-Receipt g c κs within = c.type_bounds.send-J-Receipt
 
 pub attempt-requires-after_bounds : goal.attempt-requires-after_bounds
 attempt-requires-after_bounds g c κs within = (assumption, c.loop-cpu.invariant.stays.kept)
-
-pub returns-in_err-attempt-clause-events : goal.returns-in_err-attempt-clause-events
-returns-in_err-attempt-clause-events g c = if_ok_never _ _ c.from_residual.ensures
 
 pub returns-in_err-attempt-clause-counts : goal.returns-in_err-attempt-clause-counts
 returns-in_err-attempt-clause-counts g c = if_ok_never _ _ c.from_residual.ensures
@@ -60,8 +49,17 @@ counts-requires-after_bounds g c κs within = (assumption, c.loop-cpu.invariant.
 pub returns-clause-counts : goal.returns-clause-counts
 returns-clause-counts g c = c.counts.ensures
 
-pub returns-in_err-attempt-clause-stays : goal.returns-in_err-attempt-clause-stays
-returns-in_err-attempt-clause-stays g c = stays_then c.loop-cpu.invariant.stays (stays_still c.attempt.ensures.keeps c.in_err-attempt.ensures.err)
+pub returns-in_err-attempt-clause-events : goal.returns-in_err-attempt-clause-events
+returns-in_err-attempt-clause-events g c = record {
+  leads = if_ok_never _ _ c.from_residual.ensures;
+  before = let w = state g.J.Job.key_of c.args.self.now.core in
+      on_err ((n : ℕ) × Leads w (upto shuts n w) (state g.J.Job.key_of c.attempt.new.self.core)) _ (c.loop-cpu.cpu, subst (λ s. Leads w (upto shuts c.loop-cpu.cpu w) s) (sym c.in_err-attempt.ensures.err) c.loop-cpu.invariant.leads);
+  stays = stays_then c.loop-cpu.invariant.stays (stays_still c.attempt.ensures.keeps c.in_err-attempt.ensures.err);
+}
 
-pub returns-clause-stays : goal.returns-clause-stays
-returns-clause-stays g c = c.loop-cpu.invariant.stays
+pub returns-clause-events : goal.returns-clause-events
+returns-clause-events g c = record {
+  leads = leads_all shuts c.loop-cpu.cpu _ _ _ (omega (arith, length-map c.args.self.now.core.processors.items (seen g.J.Job.key_of), c.args.self.now.core.processors.ok.0)) c.loop-cpu.invariant.leads;
+  before = tt;
+  stays = c.loop-cpu.invariant.stays;
+}
