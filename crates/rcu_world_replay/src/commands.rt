@@ -1,14 +1,13 @@
 //! The commands of a script: the call that each makes, and the line of its answer.
 
-ghost use Rattle.std.specs.Prelude.{◌<◌, length, IfErr, OnOk, None};
+ghost use Rattle.std.specs.Prelude.{◌<◌, length, None};
 ghost use Rattle.std.specs.Io.KnownBytes.{Appends};
-ghost use Rattle.rcuo_script.specs.Faults.{IsFaultOfOutput};
+ghost use Rattle.rcuo_script.specs.Faults.{Outputs};
 ghost use Rattle.rcu_world.specs.Turns.{IsAtRest};
 ghost use Rattle.rcu_world.specs.Views.{state};
 ghost use Rattle.rcu_world.specs.Worlds.{IsWorld};
 ghost use Rattle.rcu_world_replay.specs.Outcomes.{IsBarrier, IsCall, IsDriver, IsGroup, IsHand, IsLeave, IsPoll, IsQuiet, IsReturn, IsShut, IsSwitch, IsTick, shown, shown_one};
-ghost use Rattle.rcu_world.specs.Stays.{StaysWorld};
-ghost use Rattle.rcu_world_replay.specs.Answers.{AnswersAs};
+ghost use Rattle.rcu_world_replay.specs.Answers.{AnswersAs, TellsAs};
 
 use rcu_jobs::Job;
 use rcu_status::counts;
@@ -22,9 +21,9 @@ use std::io::Write;
 pub fn call<J: Job>(world: &mut World<J>, verb: Verb, cpu: u64, moment: u64, job: J) -> Line
     requires world { IsWorld J.key_of J.gives world.old.core }
     requires rest { IsAtRest (state J.key_of world.old.core) }
-    ensures line { IsCall (state J.key_of world.old.core) verb cpu moment (J.key_of job) result
-        (state J.key_of world.new.core) }
-    ensures stays { StaysWorld J.key_of J.gives world.old.core world.new.core }
+    ensures tells { TellsAs J.key_of J.gives
+        (λ old line new. IsCall old verb cpu moment (J.key_of job) line new) result
+        world.old.core world.new.core }
 {
     if cpu >= world.processors() {
         return Line::no_such(verb, cpu);
@@ -95,9 +94,8 @@ pub fn tick<J: Job>(world: &mut World<J>, cpu: u64, moment: u64) -> Result<Line,
 pub fn leave<J: Job>(world: &mut World<J>, cpu: u64) -> Line
     requires world { IsWorld J.key_of J.gives world.old.core }
     requires rest { IsAtRest (state J.key_of world.old.core) }
-    ensures line { IsLeave (state J.key_of world.old.core) cpu result
-        (state J.key_of world.new.core) }
-    ensures stays { StaysWorld J.key_of J.gives world.old.core world.new.core }
+    ensures tells { TellsAs J.key_of J.gives (λ old line new. IsLeave old cpu line new) result
+        world.old.core world.new.core }
 {
     if cpu >= world.processors() {
         return Line::no_such(Verb::Leave, cpu);
@@ -115,9 +113,8 @@ pub fn leave<J: Job>(world: &mut World<J>, cpu: u64) -> Line
 pub fn come_back<J: Job>(world: &mut World<J>, cpu: u64) -> Line
     requires world { IsWorld J.key_of J.gives world.old.core }
     requires rest { IsAtRest (state J.key_of world.old.core) }
-    ensures line { IsReturn (state J.key_of world.old.core) cpu result
-        (state J.key_of world.new.core) }
-    ensures stays { StaysWorld J.key_of J.gives world.old.core world.new.core }
+    ensures tells { TellsAs J.key_of J.gives (λ old line new. IsReturn old cpu line new) result
+        world.old.core world.new.core }
 {
     if cpu >= world.processors() {
         return Line::no_such(Verb::Return, cpu);
@@ -182,9 +179,8 @@ pub fn hand<J: Job>(world: &mut World<J>, cpu: u64) -> Result<Line, AllocError>
 pub fn switch<J: Job>(world: &mut World<J>, verb: Verb, cpu: u64) -> Line
     requires world { IsWorld J.key_of J.gives world.old.core }
     requires rest { IsAtRest (state J.key_of world.old.core) }
-    ensures line { IsSwitch (state J.key_of world.old.core) verb cpu result
-        (state J.key_of world.new.core) }
-    ensures stays { StaysWorld J.key_of J.gives world.old.core world.new.core }
+    ensures tells { TellsAs J.key_of J.gives (λ old line new. IsSwitch old verb cpu line new) result
+        world.old.core world.new.core }
 {
     let answer = if verb == Verb::Offload {
         world.offload(cpu)
@@ -252,9 +248,8 @@ fn show_one<J: Job, W: Write>(
     writer: &mut W,
 ) -> Result<(), Fault>
     requires { cpu < length (state J.key_of world.now.core).cpus }
-    ensures shows { OnOk result (Appends (W.contents writer.old) (W.contents writer.new)
+    ensures shows { Outputs result (Appends (W.contents writer.old) (W.contents writer.new)
         (shown_one (state J.key_of world.now.core) cpu)) }
-    ensures why { IfErr result IsFaultOfOutput }
 {
     write_lists(alloc, cpu, &world.lists(cpu), writer)?;
     match world.group_lists(cpu) {
@@ -266,9 +261,8 @@ fn show_one<J: Job, W: Write>(
 /// `show`: the lists of each processor, and of its group where it is offloadable.
 pub fn show<J: Job, W: Write>(alloc: Global, world: &World<J>, writer: &mut W) -> Result<(), Fault>
     requires { IsWorld J.key_of J.gives world.now.core }
-    ensures shows { OnOk result (Appends (W.contents writer.old) (W.contents writer.new)
+    ensures shows { Outputs result (Appends (W.contents writer.old) (W.contents writer.new)
         (shown (length (state J.key_of world.now.core).cpus) (state J.key_of world.now.core))) }
-    ensures why { IfErr result IsFaultOfOutput }
 {
     for cpu in 0..world.processors() {
         show_one(alloc, world, cpu, writer)?;

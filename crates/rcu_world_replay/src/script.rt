@@ -1,9 +1,9 @@
 //! The commands of a script, one call of a world each, and the totals.
 
-ghost use Rattle.std.specs.Prelude.{◌≡◌, IfErr, OnOk, count_by, false, vec_len};
+ghost use Rattle.std.specs.Prelude.{◌≡◌, count_by, false, vec_len};
 ghost use Rattle.std.specs.Option.{is_some};
 ghost use Rattle.rcuo_script.specs.Calls.{is_barrier, is_call, is_show};
-ghost use Rattle.rcuo_script.specs.Faults.{IsFaultOfOutput};
+ghost use Rattle.rcuo_script.specs.Faults.{Outputs};
 ghost use Rattle.rcuo_script.specs.Scripts.{PrintsScript, Writes};
 ghost use Rattle.rcu_world_replay.specs.Printed.{IsAnswer, Prints};
 ghost use Rattle.rcu_world_replay.specs.Scripts.{Replays};
@@ -38,9 +38,8 @@ pub fn replay<W: Write>(
     writer: &mut W,
 ) -> Result<(), Fault>
     requires jobs { vec_len jobs ≡ count_by is_call setup.now.script.items }
-    ensures prints { OnOk result (Writes (W.contents writer.old) (W.contents writer.new)
+    ensures prints { Outputs result (Writes (W.contents writer.old) (W.contents writer.new)
         (Replays (λ job. job.key) (Promised 65536) setup.now jobs.items)) }
-    ensures why { IfErr result IsFaultOfOutput }
 {
     let mut world = World::new(alloc, setup.shape)?;
     perform_all(alloc, &mut world, setup, jobs, writer)?;
@@ -61,11 +60,9 @@ fn perform_all<J: Job<Receipt = u64>, W: Write>(
     requires world { IsWorld J.key_of J.gives world.old.core }
     requires rest { IsAtRest (state J.key_of world.old.core) }
     requires jobs { vec_len jobs ≡ count_by is_call setup.now.script.items }
-    ensures prints { OnOk result
-        (Writes (W.contents writer.old) (W.contents writer.new)
+    ensures prints { Outputs result (Writes (W.contents writer.old) (W.contents writer.new)
         (PrintsScript (Prints J.key_of) (state J.key_of world.old.core)
         (state J.key_of world.new.core) setup.now.script.items jobs.items)) }
-    ensures why { IfErr result IsFaultOfOutput }
     ensures kept { IsWorld J.key_of J.gives world.new.core }
 {
     let mut opened = None;
@@ -134,11 +131,9 @@ fn perform<J: Job<Receipt = u64>, W: Write>(
     requires world { IsWorld J.key_of J.gives world.old.core }
     requires rest { IsAtRest (state J.key_of world.old.core) }
     requires job { is_some job ≡ is_call command.now }
-    ensures prints { OnOk result
-        (Writes (W.contents writer.old) (W.contents writer.new) (λ text.
+    ensures prints { Outputs result (Writes (W.contents writer.old) (W.contents writer.new) (λ text.
         Prints J.key_of (state J.key_of world.old.core) opened.old command.now job text
         (state J.key_of world.new.core) opened.new)) }
-    ensures why { IfErr result IsFaultOfOutput }
     ensures stays { StaysWorld J.key_of J.gives world.old.core world.new.core }
 {
     if is_show(command) {

@@ -5,7 +5,7 @@ pub returns-in_default : goal.returns-in_default
 returns-in_default g c = record {
   answers = record {
     line = search rules;
-    stays = c.barrier.ensures.stays;
+    stays = c.barrier.ensures.events.stays;
   };
 }
 
@@ -13,6 +13,6 @@ pub returns : goal.returns
 returns g c = record {
   answers = record {
     line = search rules;
-    stays = c.barrier.ensures.stays;
+    stays = c.barrier.ensures.events.stays;
   };
 }

@@ -6,18 +6,22 @@ use Rattle.rcu_world_replay.proofs.commands.come_back.Goals as goal
 
 pub returns-then-cpu-processors : goal.returns-then-cpu-processors
 returns-then-cpu-processors g c = record {
-  line = subst (λ l. IsReturn (state g.J.Job.key_of c.args.world.now.core) c.args.cpu l (state g.J.Job.key_of c.args.world.now.core)) (sym c.no_such.ensures) (inl (subst (λ n. n ≤ c.args.cpu) c.processors.ensures c.if-cpu-processors.true, refl, refl));
-  stays = stays_same c.requires.world;
+  tells = record {
+    line = subst (λ l. IsReturn (state g.J.Job.key_of c.args.world.now.core) c.args.cpu l (state g.J.Job.key_of c.args.world.now.core)) (sym c.no_such.ensures) (inl (subst (λ n. n ≤ c.args.cpu) c.processors.ensures c.if-cpu-processors.true, refl, refl));
+    stays = stays_same c.requires.world;
+  };
 }
 
 pub returns-then-not-is_away : goal.returns-then-not-is_away
 returns-then-not-is_away g c = record {
-  line = subst (λ l. IsReturn (state g.J.Job.key_of c.args.world.now.core) c.args.cpu l (state g.J.Job.key_of c.args.world.now.core)) (sym c.not_away.ensures) (inr (subst (λ n. c.args.cpu < n) c.processors.ensures c.if-cpu-processors.false, sym c.is_away.ensures ∙ c.if-not-is_away.true, refl, refl));
-  stays = stays_same c.requires.world;
+  tells = record {
+    line = subst (λ l. IsReturn (state g.J.Job.key_of c.args.world.now.core) c.args.cpu l (state g.J.Job.key_of c.args.world.now.core)) (sym c.not_away.ensures) (inr (subst (λ n. c.args.cpu < n) c.processors.ensures c.if-cpu-processors.false, sym c.is_away.ensures ∙ c.if-not-is_away.true, refl, refl));
+    stays = stays_same c.requires.world;
+  };
 }
 
 pub returns : goal.returns
-returns g c = record { line = (refl, c.come_back.ensures.events.leads); stays = c.come_back.ensures.events.stays }
+returns g c = record { tells = record { line = (refl, c.come_back.ensures.events.leads); stays = c.come_back.ensures.events.stays } }
 
 pub processors-requires-send-J : goal.processors-requires-send-J
 processors-requires-send-J g c κs within = c.type_bounds.send-J

@@ -6,7 +6,7 @@ pub returns-in_err-driver_turn : goal.returns-in_err-driver_turn
 returns-in_err-driver_turn g c = record {
   answers = record {
     line = if_ok_never _ _ c.from_residual.ensures;
-    stays = c.driver_turn.ensures.stays;
+    stays = c.driver_turn.ensures.events.stays;
   };
 }
 
@@ -14,6 +14,6 @@ pub returns : goal.returns
 returns g c = record {
   answers = record {
     line = search rules;
-    stays = c.driver_turn.ensures.stays;
+    stays = c.driver_turn.ensures.events.stays;
   };
 }

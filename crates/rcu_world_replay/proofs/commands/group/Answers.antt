@@ -35,14 +35,14 @@ pub returns-in_err-turn : goal.returns-in_err-turn
 returns-in_err-turn g c = record {
   answers = record {
     line = if_ok_never _ _ c.from_residual.ensures;
-    stays = c.group_turn.ensures.stays;
+    stays = c.group_turn.ensures.events.stays;
   };
 }
 
 pub returns : goal.returns
 returns g c = record {
   answers = record {
-    line = (sym c.has_group.ensures ∙ c.if-not-has_group.false, refl, c.in_ok-turn.ensures.events);
-    stays = c.group_turn.ensures.stays;
+    line = (sym c.has_group.ensures ∙ c.if-not-has_group.false, refl, c.in_ok-turn.ensures.events.made);
+    stays = c.group_turn.ensures.events.stays;
   };
 }

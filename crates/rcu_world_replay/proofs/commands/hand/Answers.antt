@@ -59,7 +59,7 @@ pub returns-in_err-turn : goal.returns-in_err-turn
 returns-in_err-turn g c = record {
   answers = record {
     line = search rules;
-    stays = c.hand_turn.ensures.stays;
+    stays = c.hand_turn.ensures.events.stays;
   };
 }
 
@@ -67,6 +67,6 @@ pub returns : goal.returns
 returns g c = record {
   answers = record {
     line = search rules;
-    stays = c.hand_turn.ensures.stays;
+    stays = c.hand_turn.ensures.events.stays;
   };
 }

@@ -6,23 +6,29 @@ use Rattle.rcu_world_replay.proofs.commands.leave.Goals as goal
 
 pub returns-then-cpu-processors : goal.returns-then-cpu-processors
 returns-then-cpu-processors g c = record {
-  line = subst (λ l. IsLeave (state g.J.Job.key_of c.args.world.now.core) c.args.cpu l (state g.J.Job.key_of c.args.world.now.core)) (sym c.no_such.ensures) (inl (inl (subst (λ n. n ≤ c.args.cpu) c.processors.ensures c.if-cpu-processors.true, refl, refl)));
-  stays = stays_same c.requires.world;
+  tells = record {
+    line = subst (λ l. IsLeave (state g.J.Job.key_of c.args.world.now.core) c.args.cpu l (state g.J.Job.key_of c.args.world.now.core)) (sym c.no_such.ensures) (inl (inl (subst (λ n. n ≤ c.args.cpu) c.processors.ensures c.if-cpu-processors.true, refl, refl)));
+    stays = stays_same c.requires.world;
+  };
 }
 
 pub returns-then-is_away : goal.returns-then-is_away
 returns-then-is_away g c = record {
-  line = subst (λ l. IsLeave (state g.J.Job.key_of c.args.world.now.core) c.args.cpu l (state g.J.Job.key_of c.args.world.now.core)) (sym c.away.ensures) (inl (inr (sym c.is_away.ensures ∙ c.if-is_away.true, refl, refl)));
-  stays = stays_same c.requires.world;
+  tells = record {
+    line = subst (λ l. IsLeave (state g.J.Job.key_of c.args.world.now.core) c.args.cpu l (state g.J.Job.key_of c.args.world.now.core)) (sym c.away.ensures) (inl (inr (sym c.is_away.ensures ∙ c.if-is_away.true, refl, refl)));
+    stays = stays_same c.requires.world;
+  };
 }
 
 pub returns-in-Ok : goal.returns-in-Ok
-returns-in-Ok g c = record { line = (refl, c.in-Ok.ensures.events); stays = c.leave.ensures.stays }
+returns-in-Ok g c = record { tells = record { line = (refl, c.in-Ok.ensures.events.leads); stays = c.leave.ensures.events.stays } }
 
 pub returns-in-Err : goal.returns-in-Err
 returns-in-Err g c = record {
-  line = subst (λ l. IsLeave (state g.J.Job.key_of c.args.world.now.core) c.args.cpu l (state g.J.Job.key_of c.leave.new.self.core)) (sym c.no_room.ensures) (inr (c.in-Err.ensures.err_enabled, sym c.is_away.ensures ∙ c.if-is_away.false, refl, c.in-Err.ensures.err));
-  stays = c.leave.ensures.stays;
+  tells = record {
+    line = subst (λ l. IsLeave (state g.J.Job.key_of c.args.world.now.core) c.args.cpu l (state g.J.Job.key_of c.leave.new.self.core)) (sym c.no_room.ensures) (inr (c.in-Err.ensures.err_enabled, sym c.is_away.ensures ∙ c.if-is_away.false, refl, c.in-Err.ensures.events.same));
+    stays = c.leave.ensures.events.stays;
+  };
 }
 
 pub processors-requires-send-J : goal.processors-requires-send-J

@@ -43,7 +43,7 @@ pub returns-in_err-seq : goal.returns-in_err-seq
 returns-in_err-seq g c = record {
   answers = record {
     line = if_ok_never _ _ c.from_residual.ensures;
-    stays = c.quiescent.ensures.stays;
+    stays = c.quiescent.ensures.events.stays;
   };
 }
 
@@ -51,7 +51,7 @@ pub returns-in-Some : goal.returns-in-Some
 returns-in-Some g c = record {
   answers = record {
     line = search rules;
-    stays = c.quiescent.ensures.stays;
+    stays = c.quiescent.ensures.events.stays;
   };
 }
 
@@ -59,7 +59,7 @@ pub returns-in-None : goal.returns-in-None
 returns-in-None g c = record {
   answers = record {
     line = search rules;
-    stays = c.quiescent.ensures.stays;
+    stays = c.quiescent.ensures.events.stays;
   };
 }
 

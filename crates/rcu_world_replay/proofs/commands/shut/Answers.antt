@@ -10,7 +10,7 @@ pub returns-in_err-last : goal.returns-in_err-last
 returns-in_err-last g c = record {
   answers = record {
     line = if_ok_never _ _ c.from_residual.ensures;
-    stays = c.shut.ensures.stays;
+    stays = c.shut.ensures.events.stays;
   };
 }
 
@@ -18,7 +18,7 @@ pub returns-in_err-counts : goal.returns-in_err-counts
 returns-in_err-counts g c = record {
   answers = record {
     line = search rules;
-    stays = c.shut.ensures.stays;
+    stays = c.shut.ensures.events.stays;
   };
 }
 
@@ -28,7 +28,7 @@ returns g c = record {
     line = (
         let new = state g.J.Job.key_of c.shut.new.self.core in
         let counts = c.in_ok-last.ensures.counts in (
-          c.in_ok-last.ensures.events,
+          c.in_ok-last.ensures.events.leads,
           (
             c.in_ok-last.last.counts,
             subst (λ n. AreCounts new n c.in_ok-last.last.counts) counts.all counts,
@@ -36,6 +36,6 @@ returns g c = record {
           ),
         )
         );
-    stays = c.shut.ensures.stays;
+    stays = c.shut.ensures.events.stays;
   };
 }

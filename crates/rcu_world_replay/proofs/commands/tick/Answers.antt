@@ -43,15 +43,15 @@ pub returns-in_err-ticked : goal.returns-in_err-ticked
 returns-in_err-ticked g c = record {
   answers = record {
     line = if_ok_never _ _ c.from_residual.ensures;
-    stays = c.tick.ensures.stays;
+    stays = c.tick.ensures.events.stays;
   };
 }
 
 pub returns : goal.returns
 returns g c = record {
   answers = record {
-    line = (subst (λ n. c.args.cpu < n) c.processors.ensures c.if-cpu-processors.false, sym c.is_away.ensures ∙ c.if-is_away.false, refl, refl, c.in_ok-ticked.ensures.events);
-    stays = c.tick.ensures.stays;
+    line = (subst (λ n. c.args.cpu < n) c.processors.ensures c.if-cpu-processors.false, sym c.is_away.ensures ∙ c.if-is_away.false, refl, refl, c.in_ok-ticked.ensures.events.made);
+    stays = c.tick.ensures.events.stays;
   };
 }
 

@@ -84,35 +84,35 @@ returns-in-Shut-None-clause-answers g c = record {
 pub returns-in-Call-Some-clause-answers : goal.returns-in-Call-Some-clause-answers
 returns-in-Call-Some-clause-answers g c = record {
   line = search rules;
-  stays = c.call.ensures.stays;
+  stays = c.call.ensures.tells.stays;
 }
 
 pub returns-in-Lazy-Some-clause-answers : goal.returns-in-Lazy-Some-clause-answers
 returns-in-Lazy-Some-clause-answers g c = record {
   line = search rules;
-  stays = c.call-in-Lazy-Some.ensures.stays;
+  stays = c.call-in-Lazy-Some.ensures.tells.stays;
 }
 
 pub returns-in-Offload-None-clause-answers : goal.returns-in-Offload-None-clause-answers
 returns-in-Offload-None-clause-answers g c = record {
   line = search rules;
-  stays = c.switch.ensures.stays;
+  stays = c.switch.ensures.tells.stays;
 }
 
 pub returns-in-Deoffload-None-clause-answers : goal.returns-in-Deoffload-None-clause-answers
 returns-in-Deoffload-None-clause-answers g c = record {
   line = search rules;
-  stays = c.switch-in-Deoffload-None.ensures.stays;
+  stays = c.switch-in-Deoffload-None.ensures.tells.stays;
 }
 
 pub returns-in-Leave-None-clause-answers : goal.returns-in-Leave-None-clause-answers
 returns-in-Leave-None-clause-answers g c = record {
   line = search rules;
-  stays = c.leave.ensures.stays;
+  stays = c.leave.ensures.tells.stays;
 }
 
 pub returns-in-Return-None-clause-answers : goal.returns-in-Return-None-clause-answers
 returns-in-Return-None-clause-answers g c = record {
   line = search rules;
-  stays = c.come_back.ensures.stays;
+  stays = c.come_back.ensures.tells.stays;
 }
