@@ -9,8 +9,8 @@
 //! - The text of a whole run is what its commands print, one after another, each call with the next of the
 //!   jobs, and then the totals of what the core's `close` gives.
 //! - By `replay` (`prints`, by `Replays` in `specs/Scripts.antt`), `perform` (`prints`) with its definitions in
-//!   `specs/Printed.antt` and `specs/Outcomes.antt`; each command (`answers`, by `AnswersAs` in
-//!   `specs/Answers.antt`).
+//!   `specs/Printed.antt` and `specs/Outcomes.antt`; each command (`tells`, or `answers` where it may fail: by
+//!   `TellsAs` and `AnswersAs` in `specs/Answers.antt`).
 #![tactic(auto)]
 
 mod commands;

@@ -1,6 +1,8 @@
 -- One item of a list changes, and each stays the part that it was.
 use Rattle.std.specs.Prelude.{ℕ, ◌≡◌, ◌<◌, List, All, length, get_or, set}
 use Rattle.std.specs.List.{AllZip}
+use Rattle.rcu_part_control.specs.Parts.{SameControl}
+use Rattle.rcu_part_control.specs.declared.control.Control.{Control}
 use Rattle.rcu_part_group.specs.Groups.{SameGroup}
 use Rattle.rcu_part_group.specs.declared.group.Group.{Group}
 use Rattle.rcu_part_hand.specs.Hands.{IsSoundHand, SameHand}
@@ -38,3 +40,14 @@ module _ {J R : Type 0} where
   abbrev pub KeepSoundHands : (J → ℕ) → (ℕ → R → Type 0) → List (Hand J R) → List (Hand J R) → Type 0
   KeepSoundHands key_of gives olds news =
       All (λ h. IsSoundHand key_of gives h.state) olds → All (λ h. IsSoundHand key_of gives h.state) news
+
+  -- What a command does to the processors; and each stays the part that it was, and sound.
+  pub record AmongProcessors (key_of : J → ℕ) (gives : ℕ → R → Type 0) (Does : List (ScriptProcessor J R) → List (ScriptProcessor J R) → Type 0) (olds news : List (ScriptProcessor J R)) : Type 0 where
+    pub does : Does olds news
+    pub same : SamePresences olds news
+    pub sound : KeepSound key_of gives olds news
+
+-- What a command does to control, which stays the part that it was.
+pub record OnControl (Does : Control → Control → Type 0) (old new : Control) : Type 0 where
+  pub does : Does old new
+  pub same : SameControl old new

@@ -1,13 +1,13 @@
 //! The commands of a script: the call of a part that each makes, and the line of its answer.
 
-ghost use Rattle.std.specs.Prelude.{◌≡◌, ◌≢◌, ◌<◌, ◌≤◌, All, IfErr, IfNone, IfOk, IfSome, OnOk, vec_capacity, vec_len};
+ghost use Rattle.std.specs.Prelude.{◌≡◌, ◌≢◌, ◌<◌, ◌≤◌, All, IfErr, IfNone, IfOk, IfSome, vec_capacity, vec_len};
 ghost use Rattle.std.specs.List.{insert};
-ghost use Rattle.rcu_part_control.specs.Parts.{control_board, SameControl, SameDriver};
+ghost use Rattle.rcu_part_control.specs.Parts.{control_board, SameDriver};
 ghost use Rattle.rcu_part_processor.specs.Processors.{KeepsSound, SameProcessor};
-ghost use Rattle.rcuo_replay.specs.Changes.{KeepSound, KeepSoundHands, SameGroups, SameHands, SamePresences};
+ghost use Rattle.rcuo_replay.specs.Changes.{AmongProcessors, KeepSoundHands, OnControl, SameGroups, SameHands};
 ghost use Rattle.rcuo_replay.specs.Outcomes.{Calls, CallsOne, IsCall, IsGroup, IsGroupAt, IsHand, IsHandAt, IsLeave, IsOfBoard, IsQuiet, IsReturn, IsTick, OpensBarrier, PollsBarrier, ShownIn, ShowsFrom, ShowsOne, ShutsAll, Switches, TellsOne, TicksOne, TurnsDriver};
 ghost use Rattle.rcuo_replay.specs.Presences.{KeepsPresence};
-ghost use Rattle.rcuo_script.specs.Faults.{IsFaultOfOutput, IsWantOfMemory};
+ghost use Rattle.rcuo_script.specs.Faults.{IsWantOfMemory, Outputs};
 ghost use Rattle.rcuo_script.specs.Scripts.{Writes};
 
 use crate::presence::{Presence, ScriptProcessor, leave_one, lists_of, return_one};
@@ -71,10 +71,8 @@ pub fn call<J: Job>(
     moment: u64,
     job: J,
 ) -> Line
-    ensures line { IsCall J.key_of verb cpu moment job result processors.old.items
-        processors.new.items }
-    ensures same { SamePresences processors.old.items processors.new.items }
-    ensures sound { KeepSound J.key_of J.gives processors.old.items processors.new.items }
+    ensures line { AmongProcessors J.key_of J.gives
+        (IsCall J.key_of verb cpu moment job result) processors.old.items processors.new.items }
 {
     let place = cpu as usize;
     if place >= processors.len() {
@@ -99,9 +97,8 @@ fn quiet_here<J: Job>(processor: &mut ScriptProcessor<J>, cpu: u64) -> Line
 
 /// `quiet`: a report of a quiescent state.
 pub fn quiet<J: Job>(processors: &mut Vec<ScriptProcessor<J>>, cpu: u64) -> Line
-    ensures line { IsQuiet cpu result processors.old.items processors.new.items }
-    ensures same { SamePresences processors.old.items processors.new.items }
-    ensures sound { KeepSound J.key_of J.gives processors.old.items processors.new.items }
+    ensures line { AmongProcessors J.key_of J.gives (IsQuiet cpu result)
+        processors.old.items processors.new.items }
 {
     let place = cpu as usize;
     if place >= processors.len() {
@@ -128,9 +125,8 @@ fn tick_here<J: Job>(processor: &mut ScriptProcessor<J>, cpu: u64, moment: u64) 
 
 /// `tick`: a processor's turn.
 pub fn tick<J: Job>(processors: &mut Vec<ScriptProcessor<J>>, cpu: u64, moment: u64) -> Line
-    ensures line { IsTick cpu moment result processors.old.items processors.new.items }
-    ensures same { SamePresences processors.old.items processors.new.items }
-    ensures sound { KeepSound J.key_of J.gives processors.old.items processors.new.items }
+    ensures line { AmongProcessors J.key_of J.gives (IsTick cpu moment result)
+        processors.old.items processors.new.items }
 {
     let place = cpu as usize;
     if place >= processors.len() {
@@ -157,9 +153,8 @@ fn put_back<J: Job>(
 
 /// `leave`: the processor is away from now on. It is here still where its lane has no room for its bypass list.
 pub fn leave<J: Job>(processors: &mut Vec<ScriptProcessor<J>>, cpu: u64) -> Line
-    ensures line { IsLeave cpu result processors.old.items processors.new.items }
-    ensures same { SamePresences processors.old.items processors.new.items }
-    ensures sound { KeepSound J.key_of J.gives processors.old.items processors.new.items }
+    ensures line { AmongProcessors J.key_of J.gives (IsLeave cpu result)
+        processors.old.items processors.new.items }
 {
     let place = cpu as usize;
     if place >= processors.len() {
@@ -172,9 +167,8 @@ pub fn leave<J: Job>(processors: &mut Vec<ScriptProcessor<J>>, cpu: u64) -> Line
 
 /// `return`: the processor that was away is back.
 pub fn come_back<J: Job>(processors: &mut Vec<ScriptProcessor<J>>, cpu: u64) -> Line
-    ensures line { IsReturn cpu result processors.old.items processors.new.items }
-    ensures same { SamePresences processors.old.items processors.new.items }
-    ensures sound { KeepSound J.key_of J.gives processors.old.items processors.new.items }
+    ensures line { AmongProcessors J.key_of J.gives (IsReturn cpu result)
+        processors.old.items processors.new.items }
 {
     let place = cpu as usize;
     if place >= processors.len() {
@@ -257,8 +251,7 @@ pub fn hand<J: Job>(hands: &mut Vec<Hand<J>>, n: usize, cpu: u64) -> Line
 
 /// `offload` and `deoffload`: asks for the switch.
 pub fn switch(control: &mut Control, verb: Verb, cpu: u64) -> Line
-    ensures line { Switches verb cpu result control.old control.new }
-    ensures same { SameControl control.old control.new }
+    ensures line { OnControl (Switches verb cpu result) control.old control.new }
 {
     let answer = match verb {
         Verb::Offload => control.offload(cpu),
@@ -276,8 +269,8 @@ pub fn switch(control: &mut Control, verb: Verb, cpu: u64) -> Line
 
 /// `barrier`: opens a barrier, in place of the one that was open.
 pub fn barrier(control: &mut Control, opened: &mut Option<Barrier>) -> Line
-    ensures line { OpensBarrier result control.old control.new opened.new }
-    ensures same { SameControl control.old control.new }
+    ensures line { OnControl (λ old new. OpensBarrier result old new opened.new)
+        control.old control.new }
     ensures many { IsOfBoard (control_board control.new) opened.new }
 {
     let Ok(barrier) = control.barrier(&[]) else {
@@ -291,8 +284,8 @@ pub fn barrier(control: &mut Control, opened: &mut Option<Barrier>) -> Line
 /// `poll`: asks whether the barrier that is open has passed. If it has, it is open no longer.
 pub fn poll(control: &mut Control, opened: &mut Option<Barrier>) -> Line
     requires open { IsOfBoard (control_board control.old) opened.old }
-    ensures line { PollsBarrier opened.old result control.old control.new opened.new }
-    ensures same { SameControl control.old control.new }
+    ensures line { OnControl (λ old new. PollsBarrier opened.old result old new opened.new)
+        control.old control.new }
     ensures many { IsOfBoard (control_board control.new) opened.new }
 {
     let Some(mut barrier) = *opened else {
@@ -309,9 +302,9 @@ pub fn poll(control: &mut Control, opened: &mut Option<Barrier>) -> Line
 
 /// `shut`: shuts all processors.
 pub fn shut(alloc: Global, control: &mut Control) -> Result<Line, Fault>
-    ensures line { IfOk result (λ line. ShutsAll line control.old control.new) }
+    ensures line { OnControl (λ old new. IfOk result (λ line. ShutsAll line old new))
+        control.old control.new }
     ensures why { IfErr result IsWantOfMemory }
-    ensures same { SameControl control.old control.new }
 {
     let last = control.shut();
     Ok(Line::Shut(counts(alloc, &last)?))
@@ -337,9 +330,8 @@ fn show_one<J: Job, W: Write>(
     groups: &Vec<Group<J>>,
     writer: &mut W,
 ) -> Result<(), Fault>
-    ensures shows { OnOk result (Writes (W.contents writer.old) (W.contents writer.new)
+    ensures shows { Outputs result (Writes (W.contents writer.old) (W.contents writer.new)
         (ShowsOne cpu processor.now groups.now.items)) }
-    ensures why { IfErr result IsFaultOfOutput }
 {
     write_lists(alloc, cpu, &lists_of(processor), writer)?;
     match shown_in(groups, cpu) {
@@ -355,9 +347,8 @@ pub fn show<J: Job, W: Write>(
     groups: &Vec<Group<J>>,
     writer: &mut W,
 ) -> Result<(), Fault>
-    ensures shows { OnOk result (Writes (W.contents writer.old) (W.contents writer.new)
+    ensures shows { Outputs result (Writes (W.contents writer.old) (W.contents writer.new)
         (ShowsFrom 0 processors.now.items groups.now.items)) }
-    ensures why { IfErr result IsFaultOfOutput }
 {
     for cpu in 0..processors.len() {
         show_one(alloc, cpu as u64, &processors[cpu], groups, writer)?;

@@ -17,7 +17,7 @@
 //! - Then each processor that is away comes back, the parts are closed, and the totals are printed.
 //! - By `replay` (`prints`), by `Replays` in `specs/Scripts.antt`.
 //! - A run ends early for a failed write or for want of memory alone.
-//! - By `replay` (`why`).
+//! - By `replay` (`prints`).
 #![tactic(auto)]
 
 mod commands;

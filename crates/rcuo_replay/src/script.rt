@@ -1,10 +1,10 @@
 //! The commands of a script, one call of a part each, and the totals.
 
-ghost use Rattle.std.specs.Prelude.{◌≡◌, IfErr, IfOk, OnOk, count_by, false, vec_len};
+ghost use Rattle.std.specs.Prelude.{◌≡◌, IfErr, IfOk, count_by, false, vec_len};
 ghost use Rattle.std.specs.Option.{is_some};
 ghost use Rattle.rcu_jobs.specs.Promised.{Promised};
 ghost use Rattle.rcuo_script.specs.Calls.{is_barrier, is_call, is_show};
-ghost use Rattle.rcuo_script.specs.Faults.{IsFaultOfOutput, IsWantOfMemory};
+ghost use Rattle.rcuo_script.specs.Faults.{IsWantOfMemory, Outputs};
 ghost use Rattle.rcuo_script.specs.Scripts.{PrintsScript, Writes};
 ghost use Rattle.rcuo_replay.specs.Printed.{IsAnswer, IsOfParts, Prints};
 ghost use Rattle.rcuo_replay.specs.ScriptParts.{KeepsParts};
@@ -36,9 +36,8 @@ pub fn replay<W: Write>(
     writer: &mut W,
 ) -> Result<(), Fault>
     requires jobs { vec_len jobs ≡ count_by is_call setup.now.script.items }
-    ensures prints { OnOk result (Writes (W.contents writer.old) (W.contents writer.new)
+    ensures prints { Outputs result (Writes (W.contents writer.old) (W.contents writer.new)
         (Replays (λ job. job.key) (Promised 65536) setup.now jobs.items)) }
-    ensures why { IfErr result IsFaultOfOutput }
 {
     let start = open(alloc, &setup.shape.for_parts())?;
     let mut parts = all_here(alloc, start)?;
@@ -59,9 +58,8 @@ fn perform_all<J: Job<Receipt = u64>, W: Write>(
     writer: &mut W,
 ) -> Result<(), Fault>
     requires jobs { vec_len jobs ≡ count_by is_call setup.now.script.items }
-    ensures prints { OnOk result (Writes (W.contents writer.old) (W.contents writer.new)
+    ensures prints { Outputs result (Writes (W.contents writer.old) (W.contents writer.new)
         (PrintsScript (Prints J.key_of) parts.old parts.new setup.now.script.items jobs.items)) }
-    ensures why { IfErr result IsFaultOfOutput }
     ensures kept { KeepsParts J.key_of J.gives parts.old parts.new }
 {
     let mut opened = None;
@@ -84,9 +82,8 @@ fn perform<J: Job<Receipt = u64>, W: Write>(
 ) -> Result<(), Fault>
     requires job { is_some job ≡ is_call command.now }
     requires ours { IsOfParts parts.old opened.old }
-    ensures prints { OnOk result (Writes (W.contents writer.old) (W.contents writer.new)
+    ensures prints { Outputs result (Writes (W.contents writer.old) (W.contents writer.new)
         (λ text. Prints J.key_of parts.old opened.old command.now job text parts.new opened.new)) }
-    ensures why { IfErr result IsFaultOfOutput }
     ensures kept { KeepsParts J.key_of J.gives parts.old parts.new }
     ensures ours { IsOfParts parts.new opened.new }
 {

@@ -6,24 +6,6 @@ use Rattle.rcuo_replay.proofs.commands.call.Goals as goal
 use Rattle.rcu_lemmas.proofs.Zips.{zip_same}
 use Rattle.rcu_lemmas.proofs.Changed.{all_changed, zip_changed}
 
-pub returns-then-place-len-clause-line : goal.returns-then-place-len-clause-line
-returns-then-place-len-clause-line g c = inl (is_past c.args.processors.now.items c.args.cpu _ _ c.len.ensures c.args.processors.now.ok.0 c.if-place-len.true, c.no_such.ensures, refl)
-
-pub returns-then-place-len-clause-same : goal.returns-then-place-len-clause-same
-returns-then-place-len-clause-same g c = zip_same SamePresence same_presence c.args.processors.now.items
-
-pub returns-then-place-len-clause-sound : goal.returns-then-place-len-clause-sound
-returns-then-place-len-clause-sound g c = λ all. all
-
-pub returns-clause-line : goal.returns-clause-line
-returns-clause-line g c = inr (record { x = c.index_mut.result.now; y = c.call_here.new.processor; there = is_there c.args.processors.now.items c.args.cpu _ _ c.len.ensures c.args.processors.now.ok.0 c.if-place-len.false; old = c.index_mut.ensures.value; new = refl; by = c.call_here.ensures.line })
-
-pub returns-clause-same : goal.returns-clause-same
-returns-clause-same g c = zip_changed SamePresence same_presence c.args.processors.now.items c.args.cpu c.index_mut.result.now c.call_here.new.processor (is_there c.args.processors.now.items c.args.cpu _ _ c.len.ensures c.args.processors.now.ok.0 c.if-place-len.false) c.index_mut.ensures.value c.call_here.ensures.kept.same
-
-pub returns-clause-sound : goal.returns-clause-sound
-returns-clause-sound g c = all_changed (IsSoundPresence g.J.Job.key_of g.J.Job.gives) c.args.processors.now.items c.args.cpu c.index_mut.result.now c.call_here.new.processor (is_there c.args.processors.now.items c.args.cpu _ _ c.len.ensures c.args.processors.now.ok.0 c.if-place-len.false) c.index_mut.ensures.value c.call_here.ensures.kept.sound
-
 pub index_mut-requires : goal.index_mut-requires
 index_mut-requires g c = subst (λ n. c.args.cpu < n) c.len.ensures c.if-place-len.false
 
@@ -35,3 +17,21 @@ call_here-requires-send-J-Receipt g c κs within = c.type_bounds.send-J-Receipt
 
 pub call_here-requires-after_bounds : goal.call_here-requires-after_bounds
 call_here-requires-after_bounds g c κs within = assumption
+
+pub returns-then-place-len : goal.returns-then-place-len
+returns-then-place-len g c = record {
+  line = record {
+    does = inl (is_past c.args.processors.now.items c.args.cpu _ _ c.len.ensures c.args.processors.now.ok.0 c.if-place-len.true, c.no_such.ensures, refl);
+    same = zip_same SamePresence same_presence c.args.processors.now.items;
+    sound = λ all. all;
+  };
+}
+
+pub returns : goal.returns
+returns g c = record {
+  line = record {
+    does = inr (record { x = c.index_mut.result.now; y = c.call_here.new.processor; there = is_there c.args.processors.now.items c.args.cpu _ _ c.len.ensures c.args.processors.now.ok.0 c.if-place-len.false; old = c.index_mut.ensures.value; new = refl; by = c.call_here.ensures.line });
+    same = zip_changed SamePresence same_presence c.args.processors.now.items c.args.cpu c.index_mut.result.now c.call_here.new.processor (is_there c.args.processors.now.items c.args.cpu _ _ c.len.ensures c.args.processors.now.ok.0 c.if-place-len.false) c.index_mut.ensures.value c.call_here.ensures.kept.same;
+    sound = all_changed (IsSoundPresence g.J.Job.key_of g.J.Job.gives) c.args.processors.now.items c.args.cpu c.index_mut.result.now c.call_here.new.processor (is_there c.args.processors.now.items c.args.cpu _ _ c.len.ensures c.args.processors.now.ok.0 c.if-place-len.false) c.index_mut.ensures.value c.call_here.ensures.kept.sound;
+  };
+}

@@ -30,16 +30,16 @@ unreachable-requires g c = elim c.in_default.branch [
 ]
 
 pub returns-in-Call-Some-clause-kept : goal.returns-in-Call-Some-clause-kept
-returns-in-Call-Some-clause-kept g c = processors_kept g.J.Job.key_of g.J.Job.gives c.args.parts.now c.call.new.processors c.call.ensures.same c.call.ensures.sound
+returns-in-Call-Some-clause-kept g c = processors_kept g.J.Job.key_of g.J.Job.gives c.args.parts.now c.call.new.processors c.call.ensures.line.same c.call.ensures.line.sound
 
 pub returns-in-Lazy-Some-clause-kept : goal.returns-in-Lazy-Some-clause-kept
-returns-in-Lazy-Some-clause-kept g c = processors_kept g.J.Job.key_of g.J.Job.gives c.args.parts.now c.call-in-Lazy-Some.new.processors c.call-in-Lazy-Some.ensures.same c.call-in-Lazy-Some.ensures.sound
+returns-in-Lazy-Some-clause-kept g c = processors_kept g.J.Job.key_of g.J.Job.gives c.args.parts.now c.call-in-Lazy-Some.new.processors c.call-in-Lazy-Some.ensures.line.same c.call-in-Lazy-Some.ensures.line.sound
 
 pub returns-in-Quiet-None-clause-kept : goal.returns-in-Quiet-None-clause-kept
-returns-in-Quiet-None-clause-kept g c = processors_kept g.J.Job.key_of g.J.Job.gives c.args.parts.now c.quiet.new.processors c.quiet.ensures.same c.quiet.ensures.sound
+returns-in-Quiet-None-clause-kept g c = processors_kept g.J.Job.key_of g.J.Job.gives c.args.parts.now c.quiet.new.processors c.quiet.ensures.line.same c.quiet.ensures.line.sound
 
 pub returns-in-Tick-None-clause-kept : goal.returns-in-Tick-None-clause-kept
-returns-in-Tick-None-clause-kept g c = processors_kept g.J.Job.key_of g.J.Job.gives c.args.parts.now c.tick.new.processors c.tick.ensures.same c.tick.ensures.sound
+returns-in-Tick-None-clause-kept g c = processors_kept g.J.Job.key_of g.J.Job.gives c.args.parts.now c.tick.new.processors c.tick.ensures.line.same c.tick.ensures.line.sound
 
 pub returns-in-Driver-None-clause-kept : goal.returns-in-Driver-None-clause-kept
 returns-in-Driver-None-clause-kept g c = driver_kept g.J.Job.key_of g.J.Job.gives c.args.parts.now c.driver.new.driver c.driver.ensures.same
@@ -51,28 +51,28 @@ pub returns-in-Hand-None-clause-kept : goal.returns-in-Hand-None-clause-kept
 returns-in-Hand-None-clause-kept g c = hands_kept g.J.Job.key_of g.J.Job.gives c.args.parts.now c.hand.new.hands c.hand.ensures.same c.hand.ensures.sound
 
 pub returns-in-Offload-None-clause-kept : goal.returns-in-Offload-None-clause-kept
-returns-in-Offload-None-clause-kept g c = control_kept g.J.Job.key_of g.J.Job.gives c.args.parts.now c.switch.new.control c.switch.ensures.same
+returns-in-Offload-None-clause-kept g c = control_kept g.J.Job.key_of g.J.Job.gives c.args.parts.now c.switch.new.control c.switch.ensures.line.same
 
 pub returns-in-Deoffload-None-clause-kept : goal.returns-in-Deoffload-None-clause-kept
-returns-in-Deoffload-None-clause-kept g c = control_kept g.J.Job.key_of g.J.Job.gives c.args.parts.now c.switch-in-Deoffload-None.new.control c.switch-in-Deoffload-None.ensures.same
+returns-in-Deoffload-None-clause-kept g c = control_kept g.J.Job.key_of g.J.Job.gives c.args.parts.now c.switch-in-Deoffload-None.new.control c.switch-in-Deoffload-None.ensures.line.same
 
 pub returns-in-Barrier-None-clause-kept : goal.returns-in-Barrier-None-clause-kept
-returns-in-Barrier-None-clause-kept g c = control_kept g.J.Job.key_of g.J.Job.gives c.args.parts.now c.barrier.new.control c.barrier.ensures.same
+returns-in-Barrier-None-clause-kept g c = control_kept g.J.Job.key_of g.J.Job.gives c.args.parts.now c.barrier.new.control c.barrier.ensures.line.same
 
 pub returns-in-Poll-None-clause-kept : goal.returns-in-Poll-None-clause-kept
-returns-in-Poll-None-clause-kept g c = control_kept g.J.Job.key_of g.J.Job.gives c.args.parts.now c.poll.new.control c.poll.ensures.same
+returns-in-Poll-None-clause-kept g c = control_kept g.J.Job.key_of g.J.Job.gives c.args.parts.now c.poll.new.control c.poll.ensures.line.same
 
 pub returns-in-Shut-None-clause-kept : goal.returns-in-Shut-None-clause-kept
-returns-in-Shut-None-clause-kept g c = control_kept g.J.Job.key_of g.J.Job.gives c.args.parts.now c.shut.new.control c.shut.ensures.same
+returns-in-Shut-None-clause-kept g c = control_kept g.J.Job.key_of g.J.Job.gives c.args.parts.now c.shut.new.control c.shut.ensures.line.same
 
 pub returns-in-Offload-None-clause-ours : goal.returns-in-Offload-None-clause-ours
-returns-in-Offload-None-clause-ours g c = stays_ours c.args.opened.now (control_board c.args.parts.now.control) (control_board c.switch.new.control) c.switch.ensures.same.board c.requires.ours
+returns-in-Offload-None-clause-ours g c = stays_ours c.args.opened.now (control_board c.args.parts.now.control) (control_board c.switch.new.control) c.switch.ensures.line.same.board c.requires.ours
 
 pub returns-in-Deoffload-None-clause-ours : goal.returns-in-Deoffload-None-clause-ours
-returns-in-Deoffload-None-clause-ours g c = stays_ours c.args.opened.now (control_board c.args.parts.now.control) (control_board c.switch-in-Deoffload-None.new.control) c.switch-in-Deoffload-None.ensures.same.board c.requires.ours
+returns-in-Deoffload-None-clause-ours g c = stays_ours c.args.opened.now (control_board c.args.parts.now.control) (control_board c.switch-in-Deoffload-None.new.control) c.switch-in-Deoffload-None.ensures.line.same.board c.requires.ours
 
 pub returns-in-Shut-None-clause-ours : goal.returns-in-Shut-None-clause-ours
-returns-in-Shut-None-clause-ours g c = stays_ours c.args.opened.now (control_board c.args.parts.now.control) (control_board c.shut.new.control) c.shut.ensures.same.board c.requires.ours
+returns-in-Shut-None-clause-ours g c = stays_ours c.args.opened.now (control_board c.args.parts.now.control) (control_board c.shut.new.control) c.shut.ensures.line.same.board c.requires.ours
 
 pub returns-in-Hand-None-clause-line : goal.returns-in-Hand-None-clause-line
 returns-in-Hand-None-clause-line g c =
@@ -86,7 +86,7 @@ returns-in-Shut-None-clause-line g c =
     let old = c.args.parts.now in
     IfOk-weaker c.shut.result (λ line. IsShut (control_board old.control).processors line (control_view old.control) (control_view c.shut.new.control))
     (λ line. IsAnswer g.J.Job.key_of old c.args.opened.now c.args.command.now c.args.job line (record old { control = c.shut.new.control }) c.args.opened.now)
-    (λ line is. subst (λ x. IsAnswer g.J.Job.key_of old c.args.opened.now x c.args.job line (record old { control = c.shut.new.control }) c.args.opened.now) (sym c.in-Shut-None.is-0) (is, refl)) c.shut.ensures.line
+    (λ line is. subst (λ x. IsAnswer g.J.Job.key_of old c.args.opened.now x c.args.job line (record old { control = c.shut.new.control }) c.args.opened.now) (sym c.in-Shut-None.is-0) (is, refl)) c.shut.ensures.line.does
 
 pub call-requires-send-J : goal.call-requires-send-J
 call-requires-send-J g c κs within = c.type_bounds.send-J
@@ -130,7 +130,7 @@ unreachable-unreachable g c = c.unreachable.result
 pub returns-in-Call-Some-clause-line : goal.returns-in-Call-Some-clause-line
 returns-in-Call-Some-clause-line g c = let old = c.args.parts.now in let new = record old { processors = c.call.new.processors } in
     subst (λ x. IsAnswer g.J.Job.key_of old c.args.opened.now x c.args.job c.call.result new c.args.opened.now) (sym c.in-Call-Some.is-0)
-    (subst (λ j. IsCallAnswer g.J.Job.key_of verb.Call c.in-Call-Some.cpu c.in-Call-Some.moment j c.call.result old new) (sym c.in-Call-Some.is-1) (c.call.ensures.line, refl))
+    (subst (λ j. IsCallAnswer g.J.Job.key_of verb.Call c.in-Call-Some.cpu c.in-Call-Some.moment j c.call.result old new) (sym c.in-Call-Some.is-1) (c.call.ensures.line.does, refl))
 
 pub returns-in-Call-Some-clause-barrier : goal.returns-in-Call-Some-clause-barrier
 returns-in-Call-Some-clause-barrier g c = λ _. refl
@@ -141,7 +141,7 @@ returns-in-Call-Some-clause-ours g c = c.requires.ours
 pub returns-in-Lazy-Some-clause-line : goal.returns-in-Lazy-Some-clause-line
 returns-in-Lazy-Some-clause-line g c = let old = c.args.parts.now in let new = record old { processors = c.call-in-Lazy-Some.new.processors } in
     subst (λ x. IsAnswer g.J.Job.key_of old c.args.opened.now x c.args.job c.call-in-Lazy-Some.result new c.args.opened.now) (sym c.in-Lazy-Some.is-0)
-    (subst (λ j. IsCallAnswer g.J.Job.key_of verb.Lazy c.in-Lazy-Some.cpu c.in-Lazy-Some.moment j c.call-in-Lazy-Some.result old new) (sym c.in-Lazy-Some.is-1) (c.call-in-Lazy-Some.ensures.line, refl))
+    (subst (λ j. IsCallAnswer g.J.Job.key_of verb.Lazy c.in-Lazy-Some.cpu c.in-Lazy-Some.moment j c.call-in-Lazy-Some.result old new) (sym c.in-Lazy-Some.is-1) (c.call-in-Lazy-Some.ensures.line.does, refl))
 
 pub returns-in-Lazy-Some-clause-barrier : goal.returns-in-Lazy-Some-clause-barrier
 returns-in-Lazy-Some-clause-barrier g c = λ _. refl
@@ -151,7 +151,7 @@ returns-in-Lazy-Some-clause-ours g c = c.requires.ours
 
 pub returns-in-Quiet-None-clause-line : goal.returns-in-Quiet-None-clause-line
 returns-in-Quiet-None-clause-line g c = let old = c.args.parts.now in subst (λ x. IsAnswer g.J.Job.key_of old c.args.opened.now x c.args.job c.quiet.result (record old { processors = c.quiet.new.processors }) c.args.opened.now)
-    (sym c.in-Quiet-None.is-0) (c.quiet.ensures.line, refl)
+    (sym c.in-Quiet-None.is-0) (c.quiet.ensures.line.does, refl)
 
 pub returns-in-Quiet-None-clause-barrier : goal.returns-in-Quiet-None-clause-barrier
 returns-in-Quiet-None-clause-barrier g c = λ _. refl
@@ -161,7 +161,7 @@ returns-in-Quiet-None-clause-ours g c = c.requires.ours
 
 pub returns-in-Tick-None-clause-line : goal.returns-in-Tick-None-clause-line
 returns-in-Tick-None-clause-line g c = let old = c.args.parts.now in subst (λ x. IsAnswer g.J.Job.key_of old c.args.opened.now x c.args.job c.tick.result (record old { processors = c.tick.new.processors }) c.args.opened.now)
-    (sym c.in-Tick-None.is-0) (c.tick.ensures.line, refl)
+    (sym c.in-Tick-None.is-0) (c.tick.ensures.line.does, refl)
 
 pub returns-in-Tick-None-clause-barrier : goal.returns-in-Tick-None-clause-barrier
 returns-in-Tick-None-clause-barrier g c = λ _. refl
@@ -197,28 +197,28 @@ returns-in-Hand-None-clause-ours g c = c.requires.ours
 
 pub returns-in-Offload-None-clause-line : goal.returns-in-Offload-None-clause-line
 returns-in-Offload-None-clause-line g c = let old = c.args.parts.now in subst (λ x. IsAnswer g.J.Job.key_of old c.args.opened.now x c.args.job c.switch.result (record old { control = c.switch.new.control }) c.args.opened.now)
-    (sym c.in-Offload-None.is-0) (c.switch.ensures.line, refl)
+    (sym c.in-Offload-None.is-0) (c.switch.ensures.line.does, refl)
 
 pub returns-in-Offload-None-clause-barrier : goal.returns-in-Offload-None-clause-barrier
 returns-in-Offload-None-clause-barrier g c = λ _. refl
 
 pub returns-in-Deoffload-None-clause-line : goal.returns-in-Deoffload-None-clause-line
 returns-in-Deoffload-None-clause-line g c = let old = c.args.parts.now in subst (λ x. IsAnswer g.J.Job.key_of old c.args.opened.now x c.args.job c.switch-in-Deoffload-None.result (record old { control = c.switch-in-Deoffload-None.new.control }) c.args.opened.now)
-    (sym c.in-Deoffload-None.is-0) (c.switch-in-Deoffload-None.ensures.line, refl)
+    (sym c.in-Deoffload-None.is-0) (c.switch-in-Deoffload-None.ensures.line.does, refl)
 
 pub returns-in-Deoffload-None-clause-barrier : goal.returns-in-Deoffload-None-clause-barrier
 returns-in-Deoffload-None-clause-barrier g c = λ _. refl
 
 pub returns-in-Barrier-None-clause-line : goal.returns-in-Barrier-None-clause-line
 returns-in-Barrier-None-clause-line g c = let old = c.args.parts.now in subst (λ x. IsAnswer g.J.Job.key_of old c.args.opened.now x c.args.job c.barrier.result (record old { control = c.barrier.new.control }) c.barrier.new.opened)
-    (sym c.in-Barrier-None.is-0) (c.barrier.ensures.line, refl)
+    (sym c.in-Barrier-None.is-0) (c.barrier.ensures.line.does, refl)
 
 pub returns-in-Barrier-None-clause-ours : goal.returns-in-Barrier-None-clause-ours
 returns-in-Barrier-None-clause-ours g c = c.barrier.ensures.many
 
 pub returns-in-Poll-None-clause-line : goal.returns-in-Poll-None-clause-line
 returns-in-Poll-None-clause-line g c = let old = c.args.parts.now in subst (λ x. IsAnswer g.J.Job.key_of old c.args.opened.now x c.args.job c.poll.result (record old { control = c.poll.new.control }) c.poll.new.opened)
-    (sym c.in-Poll-None.is-0) (c.poll.ensures.line, refl)
+    (sym c.in-Poll-None.is-0) (c.poll.ensures.line.does, refl)
 
 pub returns-in-Poll-None-clause-ours : goal.returns-in-Poll-None-clause-ours
 returns-in-Poll-None-clause-ours g c = c.poll.ensures.many
@@ -227,11 +227,11 @@ pub returns-in-Shut-None-clause-barrier : goal.returns-in-Shut-None-clause-barri
 returns-in-Shut-None-clause-barrier g c = λ _. refl
 
 pub returns-in-Leave-None-clause-kept : goal.returns-in-Leave-None-clause-kept
-returns-in-Leave-None-clause-kept g c = processors_kept g.J.Job.key_of g.J.Job.gives c.args.parts.now c.leave.new.processors c.leave.ensures.same c.leave.ensures.sound
+returns-in-Leave-None-clause-kept g c = processors_kept g.J.Job.key_of g.J.Job.gives c.args.parts.now c.leave.new.processors c.leave.ensures.line.same c.leave.ensures.line.sound
 
 pub returns-in-Leave-None-clause-line : goal.returns-in-Leave-None-clause-line
 returns-in-Leave-None-clause-line g c = let old = c.args.parts.now in subst (λ x. IsAnswer g.J.Job.key_of old c.args.opened.now x c.args.job c.leave.result (record old { processors = c.leave.new.processors }) c.args.opened.now)
-    (sym c.in-Leave-None.is-0) (c.leave.ensures.line, refl)
+    (sym c.in-Leave-None.is-0) (c.leave.ensures.line.does, refl)
 
 pub returns-in-Leave-None-clause-barrier : goal.returns-in-Leave-None-clause-barrier
 returns-in-Leave-None-clause-barrier g c = λ _. refl
@@ -246,11 +246,11 @@ pub leave-requires-after_bounds : goal.leave-requires-after_bounds
 leave-requires-after_bounds g c κs within = assumption
 
 pub returns-in-Return-None-clause-kept : goal.returns-in-Return-None-clause-kept
-returns-in-Return-None-clause-kept g c = processors_kept g.J.Job.key_of g.J.Job.gives c.args.parts.now c.come_back.new.processors c.come_back.ensures.same c.come_back.ensures.sound
+returns-in-Return-None-clause-kept g c = processors_kept g.J.Job.key_of g.J.Job.gives c.args.parts.now c.come_back.new.processors c.come_back.ensures.line.same c.come_back.ensures.line.sound
 
 pub returns-in-Return-None-clause-line : goal.returns-in-Return-None-clause-line
 returns-in-Return-None-clause-line g c = let old = c.args.parts.now in subst (λ x. IsAnswer g.J.Job.key_of old c.args.opened.now x c.args.job c.come_back.result (record old { processors = c.come_back.new.processors }) c.args.opened.now)
-    (sym c.in-Return-None.is-0) (c.come_back.ensures.line, refl)
+    (sym c.in-Return-None.is-0) (c.come_back.ensures.line.does, refl)
 
 pub returns-in-Return-None-clause-barrier : goal.returns-in-Return-None-clause-barrier
 returns-in-Return-None-clause-barrier g c = λ _. refl

@@ -23,10 +23,15 @@ close-requires-clause-parts g c κs = (
   ),
 )
 
-pub returns-clause-prints : goal.returns-clause-prints
-returns-clause-prints g c = let setup = c.args.setup.now in let jobs = c.args.jobs.items in let start = c.in_ok-start.start in let first = c.in_ok-parts.parts in let end = c.perform_all.new.parts in let back = c.in_ok-back.back in let closed = c.in-Ok.closed in
-    let sound = back_sound (λ job. job.key) (Promised 65536) start first end back c.in_ok-parts.ensures c.perform_all.ensures.kept c.in_ok-back.ensures.back c.in_ok-back.ensures.kept c.in_ok-start.ensures.sound in
-    writes_then (PrintsScript (Prints (λ job. job.key)) first end setup.script.items jobs) (Replays (λ job. job.key) (Promised 65536) setup jobs)
-    (g.W.Write.contents c.args.writer.now) (g.W.Write.contents c.perform_all.new.writer) (g.W.Write.contents c.write_totals.new.writer) c.write_totals.result (whole_totals true closed)
-    (λ lines prints. record { start = start; shape = c.for_parts.result; of_setup = c.for_parts.ensures; opened = c.in_ok-start.ensures.opened; first = first; here = c.in_ok-parts.ensures; lines = lines; end = end; prints = prints; last = back; back = c.in_ok-back.ensures.back; closed = closed; closes = c.in-Ok.ensures.closes sound; whole = refl })
-    c.in_ok-perform_all.ensures.prints c.write_totals.ensures.writes
+pub returns : goal.returns
+returns g c = record {
+  prints = record {
+    written = let setup = c.args.setup.now in let jobs = c.args.jobs.items in let start = c.in_ok-start.start in let first = c.in_ok-parts.parts in let end = c.perform_all.new.parts in let back = c.in_ok-back.back in let closed = c.in-Ok.closed in
+        let sound = back_sound (λ job. job.key) (Promised 65536) start first end back c.in_ok-parts.ensures c.perform_all.ensures.kept c.in_ok-back.ensures.back c.in_ok-back.ensures.kept c.in_ok-start.ensures.sound in
+        writes_then (PrintsScript (Prints (λ job. job.key)) first end setup.script.items jobs) (Replays (λ job. job.key) (Promised 65536) setup jobs)
+        (g.W.Write.contents c.args.writer.now) (g.W.Write.contents c.perform_all.new.writer) (g.W.Write.contents c.write_totals.new.writer) c.write_totals.result (whole_totals true closed)
+        (λ lines prints. record { start = start; shape = c.for_parts.result; of_setup = c.for_parts.ensures; opened = c.in_ok-start.ensures.opened; first = first; here = c.in_ok-parts.ensures; lines = lines; end = end; prints = prints; last = back; back = c.in_ok-back.ensures.back; closed = closed; closes = c.in-Ok.ensures.closes sound; whole = refl })
+        c.in_ok-perform_all.ensures.prints.written c.write_totals.ensures.writes;
+    why = c.write_totals.ensures.why;
+  };
+}
