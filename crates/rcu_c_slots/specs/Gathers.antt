@@ -13,7 +13,7 @@ use Rattle.rcu_c_slots.specs.declared.part.Lent.{Lent}
 use Rattle.rcu_c_slots.specs.declared.part.Opening.{Opening}
 use Rattle.rcu_c_slots.specs.declared.part.Part.{Part}
 use Rattle.rcu_c_slots.specs.declared.part.PartKind.{PartKind}
-use Rattle.rcu_c_slots.specs.declared.part.Part.TheVariants.{Closed, Closing, Control, Driver, Group, Hand, Processor}
+use Rattle.rcu_c_slots.specs.declared.part.Part.TheVariants.{Closed, Closing, Control, Driver, Group, Hand, Nothing, Processor}
 use Rattle.rcu_c_slots.specs.declared.part.PartKind.TheVariants as kind
 use Rattle.rcu_c_slots.specs.declared.slot.PartSlots.{PartSlots}
 use Rattle.rcu_c_slots.specs.declared.slot.Slot.{Slot}
@@ -151,6 +151,25 @@ pub record StayRead (old new : PartSlots) : Type 0 where
   pub groups_stay : sections_in new.groups ≡ sections_in old.groups
   pub hands_stay : sections_in new.hands ≡ sections_in old.hands
 
+-- A slot has what it had; the part in it is exchanged for this one, in the same box; or it is empty. And as many read sections of
+-- it are open as were.
+pub record StaysSlot (old new : Slot) : Type 0 where
+  pub held : new.held.part.value ≡ old.held.part.value
+  pub reading : new.reading ≡ old.reading
+
+pub record KeepsSlot (part : Part) (old new : Slot) : Type 0 where
+  pub box : Keeps part old.held.part.value new.held.part.value
+  pub reading : new.reading ≡ old.reading
+
+pub record EmptiesSlot (old new : Slot) : Type 0 where
+  pub empty : new.held.part.value ≡ None
+  pub reading : new.reading ≡ old.reading
+
+-- All slots of a kind are empty, and of each as many read sections are open as were.
+pub record EmptiesEach (old new : List Slot) : Type 0 where
+  pub empty : lents_in new ≡ []
+  pub sections : sections_in new ≡ sections_in old
+
 -- No read section is open.
 abbrev pub AreUnread : List Slot → Type 0
 AreUnread slots = All (λ s. s.reading ≡ 0) slots
@@ -176,6 +195,11 @@ pub record StayHeld (old new : PartSlots) : Type 0 where
   pub groups_stay : held_in new.groups ≡ held_in old.groups
   pub hands_stay : held_in new.hands ≡ held_in old.hands
 
+-- The same, and of each slot as many read sections are open as were.
+pub record StaySlots (old new : PartSlots) : Type 0 where
+  pub held : StayHeld old new
+  pub sections : StayRead old new
+
 -- ---- what close does
 
 -- All slots are empty but control's.
@@ -184,6 +208,12 @@ pub record AreEmptied (slots : PartSlots) : Type 0 where
   pub processors_are : lents_in slots.processors ≡ []
   pub groups_are : lents_in slots.groups ≡ []
   pub hands_are : lents_in slots.hands ≡ []
+
+-- All parts leave their slots, but the box of control's stays. Of each slot as many read sections are open as were.
+pub record EmptiesAll (old new : PartSlots) : Type 0 where
+  pub emptied : AreEmptied new
+  pub control : Keeps Nothing old.control.held.part.value new.control.held.part.value
+  pub sections : StayRead old new
 
 -- Parts were closed: control's slot has what is left of them, of which all is true that `close` promises.
 pub record HasClosed (parts : ForeignParts) (control : Slot) : Type 0 where
@@ -218,3 +248,8 @@ pub record ClosesAgain (result : Result (Unit {0}) Fault) (old new : Slot) : Typ
 -- A close that isn't made changes no slot.
 abbrev pub RefusesClose : Result (Unit {0}) Fault → PartSlots → PartSlots → Type 0
 RefusesClose result old new = IsErr result × StayHeld old new
+
+-- A close of parts that are in their slots is made, or isn't. Of each slot as many read sections are open as were.
+pub record ClosesFirst (result : Result (Unit {0}) Fault) (old new : PartSlots) : Type 0 where
+  pub closes : Closes result old new ⊎ RefusesClose result old new
+  pub sections : StayRead old new

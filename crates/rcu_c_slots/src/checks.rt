@@ -1,7 +1,7 @@
 //! What close tests of slots before it takes anything.
 
 ghost use Rattle.std.specs.Prelude.{◌≡◌, IfErr, IfOk, IfSome, IfNone, None, is_some};
-ghost use Rattle.rcu_c_slots.specs.Gathers.{AreChecked, AreUnread, BelongsAt, IsInPlace, IsOfOpen, held_in, sections_in};
+ghost use Rattle.rcu_c_slots.specs.Gathers.{AreChecked, AreUnread, BelongsAt, IsInPlace, IsOfOpen, StaysSlot, held_in, sections_in};
 ghost use Rattle.rcu_c_slots.specs.Parts.{kind_of};
 ghost use Rattle.rcu_c_slots.specs.Refusals.{IsMisplaced, RefusesEach, RefusesSlot};
 
@@ -44,11 +44,10 @@ pub(crate) fn check_one(
     at: u64,
     kind: PartKind,
 ) -> Result<bool, Fault>
-    ensures stays { slot.new.held.part.value ≡ slot.old.held.part.value }
+    ensures stays { StaysSlot slot.old slot.new }
     ensures full { IfOk result (λ full. full ≡ is_some slot.old.held.part.value) }
     ensures kind { IfOk result (λ _. IfSome slot.old.held.part.value (λ l. kind_of l.part ≡ kind)) }
     ensures place { IfOk result (λ _. IsInPlace opening at slot.old.held.part.value) }
-    ensures reading { slot.new.reading ≡ slot.old.reading }
     ensures err { IfErr result (λ _.
         slot.old.reading ≡ 0 → IfSome slot.old.held.part.value (BelongsAt opening at kind) → ⊥) }
     ensures unread { IfOk result (λ _. slot.old.reading ≡ 0) }
@@ -107,8 +106,7 @@ pub(crate) fn check_each(
 impl Slot {
     /// The open and the kind of the slot's part, if there is one.
     pub(crate) fn peek(&mut self, alloc: Global) -> Option<(Opening, PartKind)>
-        ensures stays { self.new.held.part.value ≡ self.old.held.part.value }
-        ensures reading { self.new.reading ≡ self.old.reading }
+        ensures stays { StaysSlot self.old self.new }
         ensures none { IfNone result (self.old.held.part.value ≡ None) }
         ensures some { IfSome result (λ t. IsOfOpen t.0 t.1 self.old.held.part.value) }
     {

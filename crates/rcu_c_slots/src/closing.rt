@@ -2,7 +2,7 @@
 
 ghost use Rattle.std.specs.Prelude.{◌≡◌, ◌⊎◌, [], IfErr, IfOk};
 ghost use Rattle.std.specs.Vec.{vec_capacity};
-ghost use Rattle.rcu_c_slots.specs.Gathers.{AreEmptied, AreHeld, AreOfTheOpen, AreReady, CanClose, CanTryClose, Closes, ClosesAgain, OwesAgain, ComesTo, HasKind, HasPart, IsAllThere, IsThere, Keeps, RefusesClose, StayHeld, StayRead};
+ghost use Rattle.rcu_c_slots.specs.Gathers.{AreHeld, AreOfTheOpen, AreReady, CanClose, CanTryClose, Closes, ClosesAgain, ClosesFirst, OwesAgain, ComesTo, EmptiesAll, HasKind, HasPart, IsAllThere, IsThere, KeepsSlot, RefusesClose, StaySlots, StaysSlot, StayRead};
 ghost use Rattle.rcu_c_slots.specs.Refusals.{IsWhyNotClosed, RefusesAll, RefusesFirst, RefusesOwn};
 ghost use Rattle.rcu_c_slots.specs.declared.fault.Fault.TheVariants.{Memory};
 ghost use Rattle.rcu_c_slots.specs.declared.part.Part.TheVariants as part;
@@ -54,13 +54,12 @@ fn check_there(
     opening: Opening,
     kind: PartKind,
 ) -> Result<(), Fault>
-    ensures stays { slot.new.held.part.value ≡ slot.old.held.part.value }
+    ensures stays { StaysSlot slot.old slot.new }
     ensures there { IfOk result (λ _. IsThere opening kind slot.old.held.part.value) }
     ensures err { IfErr result (λ _.
         slot.old.reading ≡ 0 → IsThere opening kind slot.old.held.part.value → ⊥) }
     ensures unread { IfOk result (λ _. slot.old.reading ≡ 0) }
     ensures why { IfErr result (λ fault. RefusesOwn opening kind fault slot.old) }
-    ensures reading { slot.new.reading ≡ slot.old.reading }
 {
     match check_one(alloc, slot, opening, 0, kind) {
         Ok(true) => Ok(()),
@@ -75,8 +74,7 @@ fn check_there(
 ///
 /// They aren't. Nothing has changed.
 fn check_all(alloc: Global, slots: &mut PartSlots, opening: Opening) -> Result<(), Fault>
-    ensures stay { StayHeld slots.old slots.new }
-    ensures sections { StayRead slots.old slots.new }
+    ensures stay { StaySlots slots.old slots.new }
     ensures ready { IfOk result (λ _. AreReady opening slots.new) }
     ensures err { IfErr result (λ _. IsAllThere opening slots.old → ⊥) }
     ensures there { IfOk result (λ _. IsAllThere opening slots.old) }
@@ -120,8 +118,7 @@ fn check_all(alloc: Global, slots: &mut PartSlots, opening: Opening) -> Result<(
 fn take_control(alloc: Global, slot: &mut Slot) -> Control
     requires there { HasKind kind.Control slot.old.held.part.value }
     ensures takes { HasPart (part.Control result) slot.old.held.part.value }
-    ensures keeps { Keeps part.Nothing slot.old.held.part.value slot.new.held.part.value }
-    ensures reading { slot.new.reading ≡ slot.old.reading }
+    ensures keeps { KeepsSlot part.Nothing slot.old slot.new }
 {
     match take_part(alloc, slot) {
         Part::Control(control) => control,
@@ -143,10 +140,7 @@ fn take_all(
     requires groups { vec_capacity room.groups ≡ opening.groups }
     requires hands { vec_capacity room.hands ≡ opening.hands }
     ensures held { AreHeld opening result slots.old }
-    ensures emptied { AreEmptied slots.new }
-    ensures keeps { Keeps part.Nothing slots.old.control.held.part.value
-        slots.new.control.held.part.value }
-    ensures sections { StayRead slots.old slots.new }
+    ensures emptied { EmptiesAll slots.old slots.new }
 {
     let Reserved {
         mut processors,
@@ -208,11 +202,10 @@ fn close_again(alloc: Global, slot: &mut Slot, closing: Closing<ForeignJob>) -> 
 /// Closes the parts of an open, if all are in their slots.
 fn close_first(alloc: Global, slots: &mut PartSlots, opening: Opening) -> Result<(), Fault>
     requires owed { AreOfTheOpen slots.old }
-    ensures closes { Closes result slots.old slots.new ⊎ RefusesClose result slots.old slots.new }
+    ensures closes { ClosesFirst result slots.old slots.new }
     ensures memory { IsAllThere opening slots.old → IfErr result (λ fault. fault ≡ Memory) }
     ensures there { IfOk result (λ _. IsAllThere opening slots.old) }
     ensures why { IfErr result (λ fault. RefusesFirst opening fault slots.old) }
-    ensures sections { StayRead slots.old slots.new }
 {
     if let Err(fault) = check_all(alloc, slots, opening) {
         return Err(fault);

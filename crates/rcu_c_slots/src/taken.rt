@@ -2,7 +2,7 @@
 
 ghost use Rattle.std.specs.Prelude.{◌≡◌, ◌≢◌, ◌≤◌, None, IfSome, All, [], length, map};
 ghost use Rattle.std.specs.Vec.{vec_capacity};
-ghost use Rattle.rcu_c_slots.specs.Gathers.{HasKind, HasPart, Keeps, TakesOut, lents_in, parts_in, sections_in};
+ghost use Rattle.rcu_c_slots.specs.Gathers.{EmptiesEach, EmptiesSlot, HasKind, HasPart, KeepsSlot, TakesOut, lents_in, parts_in};
 ghost use Rattle.rcu_c_slots.specs.Parts.{kind_of};
 ghost use Rattle.rcu_c_slots.specs.Processors.{lent_processor};
 ghost use Rattle.rcu_c_slots.specs.Runs.{lent_hand};
@@ -20,8 +20,7 @@ use std::mem::replace;
 fn take_processor(alloc: Global, slot: &mut Slot) -> Option<Processor<ForeignJob>>
     requires kind { IfSome slot.old.held.part.value (λ l. kind_of l.part ≡ kind.Processor) }
     ensures takes { TakesOut (λ x. part.Processor (lent_processor x)) result slot.old.held.part.value }
-    ensures empty { slot.new.held.part.value ≡ None }
-    ensures reading { slot.new.reading ≡ slot.old.reading }
+    ensures empties { EmptiesSlot slot.old slot.new }
 {
     let Some(boxed) = slot.take(alloc) else {
         return None;
@@ -42,8 +41,7 @@ pub(crate) fn take_processors(
     requires none { out.old.items ≡ [] }
     requires room { length (lents_in slots.old) ≤ vec_capacity out.old }
     ensures took { map (λ x. part.Processor (lent_processor x)) out.new.items ≡ parts_in slots.old }
-    ensures empty { lents_in slots.new ≡ [] }
-    ensures sections { sections_in slots.new ≡ sections_in slots.old }
+    ensures empties { EmptiesEach slots.old slots.new }
 {
     for place in 0..slots.len() {
         if let Some(processor) = take_processor(alloc, &mut slots[place]) {
@@ -56,8 +54,7 @@ pub(crate) fn take_processors(
 fn take_group(alloc: Global, slot: &mut Slot) -> Option<Group<ForeignJob>>
     requires kind { IfSome slot.old.held.part.value (λ l. kind_of l.part ≡ kind.Group) }
     ensures takes { TakesOut (λ x. part.Group x) result slot.old.held.part.value }
-    ensures empty { slot.new.held.part.value ≡ None }
-    ensures reading { slot.new.reading ≡ slot.old.reading }
+    ensures empties { EmptiesSlot slot.old slot.new }
 {
     let Some(boxed) = slot.take(alloc) else {
         return None;
@@ -74,8 +71,7 @@ pub(crate) fn take_groups(alloc: Global, slots: &mut [Slot], out: &mut Vec<Group
     requires none { out.old.items ≡ [] }
     requires room { length (lents_in slots.old) ≤ vec_capacity out.old }
     ensures took { map (λ x. part.Group x) out.new.items ≡ parts_in slots.old }
-    ensures empty { lents_in slots.new ≡ [] }
-    ensures sections { sections_in slots.new ≡ sections_in slots.old }
+    ensures empties { EmptiesEach slots.old slots.new }
 {
     for place in 0..slots.len() {
         if let Some(group) = take_group(alloc, &mut slots[place]) {
@@ -88,8 +84,7 @@ pub(crate) fn take_groups(alloc: Global, slots: &mut [Slot], out: &mut Vec<Group
 fn take_hand(alloc: Global, slot: &mut Slot) -> Option<Hand<ForeignJob>>
     requires kind { IfSome slot.old.held.part.value (λ l. kind_of l.part ≡ kind.Hand) }
     ensures takes { TakesOut (λ x. part.Hand (lent_hand x)) result slot.old.held.part.value }
-    ensures empty { slot.new.held.part.value ≡ None }
-    ensures reading { slot.new.reading ≡ slot.old.reading }
+    ensures empties { EmptiesSlot slot.old slot.new }
 {
     let Some(boxed) = slot.take(alloc) else {
         return None;
@@ -106,8 +101,7 @@ pub(crate) fn take_hands(alloc: Global, slots: &mut [Slot], out: &mut Vec<Hand<F
     requires none { out.old.items ≡ [] }
     requires room { length (lents_in slots.old) ≤ vec_capacity out.old }
     ensures took { map (λ x. part.Hand (lent_hand x)) out.new.items ≡ parts_in slots.old }
-    ensures empty { lents_in slots.new ≡ [] }
-    ensures sections { sections_in slots.new ≡ sections_in slots.old }
+    ensures empties { EmptiesEach slots.old slots.new }
 {
     for place in 0..slots.len() {
         if let Some(hand) = take_hand(alloc, &mut slots[place]) {
@@ -120,8 +114,7 @@ pub(crate) fn take_hands(alloc: Global, slots: &mut [Slot], out: &mut Vec<Hand<F
 pub(crate) fn take_driver(alloc: Global, slot: &mut Slot) -> Driver
     requires there { HasKind kind.Driver slot.old.held.part.value }
     ensures takes { HasPart (part.Driver result) slot.old.held.part.value }
-    ensures empty { slot.new.held.part.value ≡ None }
-    ensures reading { slot.new.reading ≡ slot.old.reading }
+    ensures empties { EmptiesSlot slot.old slot.new }
 {
     let Some(boxed) = slot.take(alloc) else {
         unreachable!()
@@ -136,8 +129,7 @@ pub(crate) fn take_driver(alloc: Global, slot: &mut Slot) -> Driver
 pub(crate) fn take_part(alloc: Global, slot: &mut Slot) -> Part
     requires there { slot.old.held.part.value ≢ None }
     ensures takes { HasPart result slot.old.held.part.value }
-    ensures keeps { Keeps part.Nothing slot.old.held.part.value slot.new.held.part.value }
-    ensures reading { slot.new.reading ≡ slot.old.reading }
+    ensures keeps { KeepsSlot part.Nothing slot.old slot.new }
 {
     let Some(mut boxed) = slot.take(alloc) else {
         unreachable!()
@@ -150,8 +142,7 @@ pub(crate) fn take_part(alloc: Global, slot: &mut Slot) -> Part
 /// Puts a part into the box of control's slot.
 pub(crate) fn put_part(alloc: Global, slot: &mut Slot, whole: Part)
     requires there { HasPart part.Nothing slot.old.held.part.value }
-    ensures keeps { Keeps whole slot.old.held.part.value slot.new.held.part.value }
-    ensures reading { slot.new.reading ≡ slot.old.reading }
+    ensures keeps { KeepsSlot whole slot.old slot.new }
 {
     let Some(mut boxed) = slot.take(alloc) else {
         unreachable!()

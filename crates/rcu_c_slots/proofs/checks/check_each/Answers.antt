@@ -12,15 +12,15 @@ use Rattle.rcu_c_slots.proofs.checks.check_each.Goals as goal
 
 pub returns-in-Err-clause-stay : goal.returns-in-Err-clause-stay
 returns-in-Err-clause-stay c = let l = c.loop-place in
-    map-set_same (λ (s : Slot). s.held.part.value) l.slots l.place c.check_one.new.slot c.index-slots-place.result c.check_one.ensures.stays ∙ l.invariant.0.same
+    map-set_same (λ (s : Slot). s.held.part.value) l.slots l.place c.check_one.new.slot c.index-slots-place.result c.check_one.ensures.stays.held ∙ l.invariant.0.same
 
 pub loop-place-preserved : goal.loop-place-preserved
 loop-place-preserved c = let l = c.loop-place in let d = c.index-slots-place.result in let after = c.check_one.new.slot in (
   subst (λ n. IsCheckedTo c.args.opening c.args.kind (l.place + 1) (l.found + n) (held_in c.args.slots.now) (held_in (set l.slots l.place after))) (sym (c.from-found.ensures ∙ counted (get_or l.slots l.place d).held.part.value c.in-Ok.ensures.full))
-      (checked_more c.args.opening c.args.kind l.place l.found (held_in c.args.slots.now) l.slots d after (omega (arith, l.auto.slots, c.loop-place-test.true)) c.check_one.ensures.stays l.invariant.0 c.in-Ok.ensures.place c.in-Ok.ensures.kind),
-  λ unread. All-set (λ (s : Slot). s.reading ≡ 0) l.slots l.place after (c.check_one.ensures.reading ∙ All-get_or (λ (s : Slot). s.reading ≡ 0) l.slots l.place d (omega (arith, l.auto.slots, c.loop-place-test.true)) (l.invariant.1 unread)) (l.invariant.1 unread),
+      (checked_more c.args.opening c.args.kind l.place l.found (held_in c.args.slots.now) l.slots d after (omega (arith, l.auto.slots, c.loop-place-test.true)) c.check_one.ensures.stays.held l.invariant.0 c.in-Ok.ensures.place c.in-Ok.ensures.kind),
+  λ unread. All-set (λ (s : Slot). s.reading ≡ 0) l.slots l.place after (c.check_one.ensures.stays.reading ∙ All-get_or (λ (s : Slot). s.reading ≡ 0) l.slots l.place d (omega (arith, l.auto.slots, c.loop-place-test.true)) (l.invariant.1 unread)) (l.invariant.1 unread),
   unread_more l.place c.args.slots.now l.slots d after (omega (arith, l.auto.slots, c.loop-place-test.true)) c.in-Ok.ensures.unread l.invariant.2,
-  sections_after l.place c.args.slots.now l.slots d after c.check_one.ensures.reading l.invariant.3,
+  sections_after l.place c.args.slots.now l.slots d after c.check_one.ensures.stays.reading l.invariant.3,
 )
 
 pub returns-in-Err-clause-err : goal.returns-in-Err-clause-err
@@ -78,7 +78,7 @@ returns-clause-checked c = let l = c.loop-place in
 
 pub returns-in-Err-clause-sections : goal.returns-in-Err-clause-sections
 returns-in-Err-clause-sections c = let l = c.loop-place in
-    sections_after l.place c.args.slots.now l.slots c.index-slots-place.result c.check_one.new.slot c.check_one.ensures.reading l.invariant.3
+    sections_after l.place c.args.slots.now l.slots c.index-slots-place.result c.check_one.new.slot c.check_one.ensures.stays.reading l.invariant.3
 
 pub returns-then-found-many-clause-sections : goal.returns-then-found-many-clause-sections
 returns-then-found-many-clause-sections c = c.loop-place.invariant.3

@@ -12,9 +12,6 @@ returns-then-slot-ne0-clause-err c = λ unread belongs. c.if-slot-ne0.true unrea
 pub returns-then-slot-ne0-clause-why : goal.returns-then-slot-ne0-clause-why
 returns-then-slot-ne0-clause-why c = inl (refl, c.if-slot-ne0.true)
 
-pub returns-in_default-clause-stays : goal.returns-in_default-clause-stays
-returns-in_default-clause-stays c = c.take.ensures.empty ∙ sym c.in_default.ensures.none
-
 pub returns-in_default-clause-full : goal.returns-in_default-clause-full
 returns-in_default-clause-full c = sym (ap is_some c.in_default.ensures.none)
 
@@ -24,14 +21,8 @@ returns-in_default-clause-kind c = subst (λ held. IfSome held (λ l. kind_of l.
 pub returns-in_default-clause-place : goal.returns-in_default-clause-place
 returns-in_default-clause-place c = subst (λ held. IsInPlace c.args.opening c.args.at held) (sym c.in_default.ensures.none) tt
 
-pub returns-in-Ok-clause-stays : goal.returns-in-Ok-clause-stays
-returns-in-Ok-clause-stays c = c.put.ensures.full ∙ sym c.in-Some.ensures.taken
-
 pub returns-in-Ok-clause-full : goal.returns-in-Ok-clause-full
 returns-in-Ok-clause-full c = sym (ap is_some c.in-Some.ensures.taken)
-
-pub returns-in-Err-clause-stays : goal.returns-in-Err-clause-stays
-returns-in-Err-clause-stays c = c.put.ensures.full ∙ sym c.in-Some.ensures.taken
 
 pub returns-in-Err-clause-err : goal.returns-in-Err-clause-err
 returns-in-Err-clause-err c = let a = c.args in λ unread belongs. c.in-Err.ensures.err
@@ -46,3 +37,15 @@ returns-in-Ok-clause-kind c = subst (λ held. IfSome held (λ l. kind_of l.part 
 pub returns-in-Ok-clause-place : goal.returns-in-Ok-clause-place
 returns-in-Ok-clause-place c = let a = c.args in
     subst (λ held. IsInPlace a.opening a.at held) (sym c.in-Some.ensures.taken) (subst (λ (l : Lent). (l.opening ≡ a.opening) × (l.at ≡ a.at)) c.deref.ensures c.in-Ok.ensures.place)
+
+pub returns-in_default-clause-stays : goal.returns-in_default-clause-stays
+returns-in_default-clause-stays c = record { held = c.take.ensures.empty ∙ sym c.in_default.ensures.none; reading = c.take.ensures.reading }
+
+pub returns-in-Ok-clause-stays : goal.returns-in-Ok-clause-stays
+returns-in-Ok-clause-stays c = record { held = c.put.ensures.full ∙ sym c.in-Some.ensures.taken; reading = c.put.ensures.reading ∙ c.take.ensures.reading }
+
+pub returns-in-Err-clause-stays : goal.returns-in-Err-clause-stays
+returns-in-Err-clause-stays c = record { held = c.put.ensures.full ∙ sym c.in-Some.ensures.taken; reading = c.put.ensures.reading ∙ c.take.ensures.reading }
+
+pub returns-then-slot-ne0-clause-stays : goal.returns-then-slot-ne0-clause-stays
+returns-then-slot-ne0-clause-stays c = record { held = refl; reading = refl }

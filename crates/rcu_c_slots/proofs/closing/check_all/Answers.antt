@@ -5,17 +5,11 @@ use Rattle.rcu_c_slots.specs.declared.slot.PartSlots.{PartSlots}
 use Rattle.rcu_c_slots.proofs.Ready.{all_there_by, not_all_there_by, ready_by, refuses_by}
 use Rattle.rcu_c_slots.proofs.closing.check_all.Goals as goal
 
-pub returns-in-Err-clause-stay : goal.returns-in-Err-clause-stay
-returns-in-Err-clause-stay c = record { control_stays = c.check_there.ensures.stays; driver_stays = refl; processors_stay = refl; groups_stay = refl; hands_stay = refl }
-
 pub returns-in-Err-clause-err : goal.returns-in-Err-clause-err
 returns-in-Err-clause-err c = λ t. c.in-Err.ensures.err t.control_unread t.ready.control_is
 
 pub returns-in-Err-clause-why : goal.returns-in-Err-clause-why
 returns-in-Err-clause-why c = inl c.in-Err.ensures.why
-
-pub returns-in-Err-check_there-clause-stay : goal.returns-in-Err-check_there-clause-stay
-returns-in-Err-check_there-clause-stay c = record { control_stays = c.check_there.ensures.stays; driver_stays = c.check_there-2.ensures.stays; processors_stay = refl; groups_stay = refl; hands_stay = refl }
 
 pub returns-in-Err-check_there-clause-err : goal.returns-in-Err-check_there-clause-err
 returns-in-Err-check_there-clause-err c = λ t. c.in-Err-check_there.ensures.err t.driver_unread t.ready.driver_is
@@ -23,17 +17,11 @@ returns-in-Err-check_there-clause-err c = λ t. c.in-Err-check_there.ensures.err
 pub returns-in-Err-check_there-clause-why : goal.returns-in-Err-check_there-clause-why
 returns-in-Err-check_there-clause-why c = inr (inl c.in-Err-check_there.ensures.why)
 
-pub returns-in-Err-check_each-clause-stay : goal.returns-in-Err-check_each-clause-stay
-returns-in-Err-check_each-clause-stay c = record { control_stays = c.check_there.ensures.stays; driver_stays = c.check_there-2.ensures.stays; processors_stay = c.check_each.ensures.stay; groups_stay = refl; hands_stay = refl }
-
 pub returns-in-Err-check_each-clause-err : goal.returns-in-Err-check_each-clause-err
 returns-in-Err-check_each-clause-err c = λ t. c.in-Err-check_each.ensures.err t.processors_unread t.ready.processors_are
 
 pub returns-in-Err-check_each-clause-why : goal.returns-in-Err-check_each-clause-why
 returns-in-Err-check_each-clause-why c = inr (inr (inl c.in-Err-check_each.ensures.why))
-
-pub returns-in-Err-check_each-2-clause-stay : goal.returns-in-Err-check_each-2-clause-stay
-returns-in-Err-check_each-2-clause-stay c = record { control_stays = c.check_there.ensures.stays; driver_stays = c.check_there-2.ensures.stays; processors_stay = c.check_each.ensures.stay; groups_stay = c.check_each-2.ensures.stay; hands_stay = refl }
 
 pub returns-in-Err-check_each-2-clause-err : goal.returns-in-Err-check_each-2-clause-err
 returns-in-Err-check_each-2-clause-err c = λ t. c.in-Err-check_each-2.ensures.err t.groups_unread t.ready.groups_are
@@ -41,21 +29,12 @@ returns-in-Err-check_each-2-clause-err c = λ t. c.in-Err-check_each-2.ensures.e
 pub returns-in-Err-check_each-2-clause-why : goal.returns-in-Err-check_each-2-clause-why
 returns-in-Err-check_each-2-clause-why c = inr (inr (inr (inl c.in-Err-check_each-2.ensures.why)))
 
-pub returns-clause-stay : goal.returns-clause-stay
-returns-clause-stay c = record {
-  control_stays = c.check_there.ensures.stays;
-  driver_stays = c.check_there-2.ensures.stays;
-  processors_stay = c.check_each.ensures.stay;
-  groups_stay = c.check_each-2.ensures.stay;
-  hands_stay = c.check_each-3.ensures.stay;
-}
-
 pub returns-clause-ready : goal.returns-clause-ready
 returns-clause-ready c =
     let new : PartSlots = record { control = c.check_there.new.slot; driver = c.check_there-2.new.slot; processors = c.check_each.new.slots; groups = c.check_each-2.new.slots; hands = c.check_each-3.new.slots } in
     let stay : StayHeld c.args.slots.now new = record {
-      control_stays = c.check_there.ensures.stays;
-      driver_stays = c.check_there-2.ensures.stays;
+      control_stays = c.check_there.ensures.stays.held;
+      driver_stays = c.check_there-2.ensures.stays.held;
       processors_stay = c.check_each.ensures.stay;
       groups_stay = c.check_each-2.ensures.stay;
       hands_stay = c.check_each-3.ensures.stay;
@@ -75,17 +54,38 @@ returns-clause-there c =
 pub returns-clause-why : goal.returns-clause-why
 returns-clause-why c = refuses_by c.args.opening c.args.slots.now c.check_each-3.result c.check_each-3.ensures.why
 
-pub returns-in-Err-clause-sections : goal.returns-in-Err-clause-sections
-returns-in-Err-clause-sections c = record { control_stays = c.check_there.ensures.reading; driver_stays = refl; processors_stay = refl; groups_stay = refl; hands_stay = refl }
+pub returns-in-Err-clause-stay : goal.returns-in-Err-clause-stay
+returns-in-Err-clause-stay c = record {
+  held = record { control_stays = c.check_there.ensures.stays.held; driver_stays = refl; processors_stay = refl; groups_stay = refl; hands_stay = refl };
+  sections = record { control_stays = c.check_there.ensures.stays.reading; driver_stays = refl; processors_stay = refl; groups_stay = refl; hands_stay = refl };
+}
 
-pub returns-in-Err-check_there-clause-sections : goal.returns-in-Err-check_there-clause-sections
-returns-in-Err-check_there-clause-sections c = record { control_stays = c.check_there.ensures.reading; driver_stays = c.check_there-2.ensures.reading; processors_stay = refl; groups_stay = refl; hands_stay = refl }
+pub returns-in-Err-check_there-clause-stay : goal.returns-in-Err-check_there-clause-stay
+returns-in-Err-check_there-clause-stay c = record {
+  held = record { control_stays = c.check_there.ensures.stays.held; driver_stays = c.check_there-2.ensures.stays.held; processors_stay = refl; groups_stay = refl; hands_stay = refl };
+  sections = record { control_stays = c.check_there.ensures.stays.reading; driver_stays = c.check_there-2.ensures.stays.reading; processors_stay = refl; groups_stay = refl; hands_stay = refl };
+}
 
-pub returns-in-Err-check_each-clause-sections : goal.returns-in-Err-check_each-clause-sections
-returns-in-Err-check_each-clause-sections c = record { control_stays = c.check_there.ensures.reading; driver_stays = c.check_there-2.ensures.reading; processors_stay = c.check_each.ensures.sections; groups_stay = refl; hands_stay = refl }
+pub returns-in-Err-check_each-clause-stay : goal.returns-in-Err-check_each-clause-stay
+returns-in-Err-check_each-clause-stay c = record {
+  held = record { control_stays = c.check_there.ensures.stays.held; driver_stays = c.check_there-2.ensures.stays.held; processors_stay = c.check_each.ensures.stay; groups_stay = refl; hands_stay = refl };
+  sections = record { control_stays = c.check_there.ensures.stays.reading; driver_stays = c.check_there-2.ensures.stays.reading; processors_stay = c.check_each.ensures.sections; groups_stay = refl; hands_stay = refl };
+}
 
-pub returns-in-Err-check_each-2-clause-sections : goal.returns-in-Err-check_each-2-clause-sections
-returns-in-Err-check_each-2-clause-sections c = record { control_stays = c.check_there.ensures.reading; driver_stays = c.check_there-2.ensures.reading; processors_stay = c.check_each.ensures.sections; groups_stay = c.check_each-2.ensures.sections; hands_stay = refl }
+pub returns-in-Err-check_each-2-clause-stay : goal.returns-in-Err-check_each-2-clause-stay
+returns-in-Err-check_each-2-clause-stay c = record {
+  held = record { control_stays = c.check_there.ensures.stays.held; driver_stays = c.check_there-2.ensures.stays.held; processors_stay = c.check_each.ensures.stay; groups_stay = c.check_each-2.ensures.stay; hands_stay = refl };
+  sections = record { control_stays = c.check_there.ensures.stays.reading; driver_stays = c.check_there-2.ensures.stays.reading; processors_stay = c.check_each.ensures.sections; groups_stay = c.check_each-2.ensures.sections; hands_stay = refl };
+}
 
-pub returns-clause-sections : goal.returns-clause-sections
-returns-clause-sections c = record { control_stays = c.check_there.ensures.reading; driver_stays = c.check_there-2.ensures.reading; processors_stay = c.check_each.ensures.sections; groups_stay = c.check_each-2.ensures.sections; hands_stay = c.check_each-3.ensures.sections }
+pub returns-clause-stay : goal.returns-clause-stay
+returns-clause-stay c = record {
+  held = record {
+    control_stays = c.check_there.ensures.stays.held;
+    driver_stays = c.check_there-2.ensures.stays.held;
+    processors_stay = c.check_each.ensures.stay;
+    groups_stay = c.check_each-2.ensures.stay;
+    hands_stay = c.check_each-3.ensures.stay;
+  };
+  sections = record { control_stays = c.check_there.ensures.stays.reading; driver_stays = c.check_there-2.ensures.stays.reading; processors_stay = c.check_each.ensures.sections; groups_stay = c.check_each-2.ensures.sections; hands_stay = c.check_each-3.ensures.sections };
+}

@@ -5,28 +5,13 @@ use Rattle.rcu_c_slots.proofs.Ready.{closes_there, memory_alone, refuses_first}
 use Rattle.rcu_c_slots.proofs.closing.close_first.Goals as goal
 
 pub close_parts-requires-clause-owed : goal.close_parts-requires-clause-owed
-close_parts-requires-clause-owed c = c.requires.owed.first c.args.opening c.take_all-parts.result (held_back c.check_all.ensures.stay c.take_all-parts.ensures.held)
-
-pub returns-clause-closes : goal.returns-clause-closes
-returns-clause-closes c = let e = c.take_all-parts.ensures.emptied in inl (record {
-  opening = c.args.opening;
-  parts = c.take_all-parts.result;
-  held = held_back c.check_all.ensures.stay c.take_all-parts.ensures.held;
-  emptied = record { driver_is = e.driver_is; processors_are = e.processors_are; groups_are = e.groups_are; hands_are = e.hands_are };
-  comes_to = c.close_parts.ensures.closes;
-})
+close_parts-requires-clause-owed c = c.requires.owed.first c.args.opening c.take_all-parts.result (held_back c.check_all.ensures.stay.held c.take_all-parts.ensures.held)
 
 pub returns-in-Err-clause-why : goal.returns-in-Err-clause-why
 returns-in-Err-clause-why c = inl c.in-Err.ensures.why
 
-pub returns-in-Err-clause-closes : goal.returns-in-Err-clause-closes
-returns-in-Err-clause-closes c = inr (refl, c.check_all.ensures.stay)
-
 pub returns-in-Err-clause-memory : goal.returns-in-Err-clause-memory
 returns-in-Err-clause-memory c = λ there. absurd (c.in-Err.ensures.err there)
-
-pub returns-in_default-find_room-clause-closes : goal.returns-in_default-find_room-clause-closes
-returns-in_default-find_room-clause-closes c = inr (refl, c.check_all.ensures.stay)
 
 pub returns-in_default-find_room-clause-memory : goal.returns-in_default-find_room-clause-memory
 returns-in_default-find_room-clause-memory c = λ there. refl
@@ -50,7 +35,7 @@ pub take_all-parts-requires-clause-hands : goal.take_all-parts-requires-clause-h
 take_all-parts-requires-clause-hands c = c.in-Ok.ensures.hands
 
 pub close_parts-requires-clause-there : goal.close_parts-requires-clause-there
-close_parts-requires-clause-there c = let kept = c.take_all-parts.ensures.keeps in (_, kept.2, refl)
+close_parts-requires-clause-there c = let kept = c.take_all-parts.ensures.emptied.control in (_, kept.2, refl)
 
 pub returns-clause-memory : goal.returns-clause-memory
 returns-clause-memory c = λ there. memory_alone c.take_all-parts.result c.close_parts.new.slot c.close_parts.result c.close_parts.ensures.closes
@@ -61,17 +46,32 @@ returns-clause-there c = closes_there c.args.opening c.args.slots.now c.close_pa
 pub returns-clause-why : goal.returns-clause-why
 returns-clause-why c = refuses_first c.args.opening c.args.slots.now c.take_all-parts.result c.close_parts.new.slot c.close_parts.result c.in_default.ensures.there c.close_parts.ensures.closes
 
-pub returns-in-Err-clause-sections : goal.returns-in-Err-clause-sections
-returns-in-Err-clause-sections c = c.check_all.ensures.sections
+pub returns-clause-closes : goal.returns-clause-closes
+returns-clause-closes c = record {
+  closes = let e = c.take_all-parts.ensures.emptied.emptied in inl (record {
+    opening = c.args.opening;
+    parts = c.take_all-parts.result;
+    held = held_back c.check_all.ensures.stay.held c.take_all-parts.ensures.held;
+    emptied = record { driver_is = e.driver_is; processors_are = e.processors_are; groups_are = e.groups_are; hands_are = e.hands_are };
+    comes_to = c.close_parts.ensures.closes;
+  });
+  sections = let checked = c.check_all.ensures.stay.sections in let took = c.take_all-parts.ensures.emptied.sections in record {
+    control_stays = c.close_parts.ensures.reading ∙ took.control_stays ∙ checked.control_stays;
+    driver_stays = took.driver_stays ∙ checked.driver_stays;
+    processors_stay = took.processors_stay ∙ checked.processors_stay;
+    groups_stay = took.groups_stay ∙ checked.groups_stay;
+    hands_stay = took.hands_stay ∙ checked.hands_stay;
+  };
+}
 
-pub returns-in_default-find_room-clause-sections : goal.returns-in_default-find_room-clause-sections
-returns-in_default-find_room-clause-sections c = c.check_all.ensures.sections
+pub returns-in-Err-clause-closes : goal.returns-in-Err-clause-closes
+returns-in-Err-clause-closes c = record {
+  closes = inr (refl, c.check_all.ensures.stay.held);
+  sections = c.check_all.ensures.stay.sections;
+}
 
-pub returns-clause-sections : goal.returns-clause-sections
-returns-clause-sections c = let checked = c.check_all.ensures.sections in let took = c.take_all-parts.ensures.sections in record {
-  control_stays = c.close_parts.ensures.reading ∙ took.control_stays ∙ checked.control_stays;
-  driver_stays = took.driver_stays ∙ checked.driver_stays;
-  processors_stay = took.processors_stay ∙ checked.processors_stay;
-  groups_stay = took.groups_stay ∙ checked.groups_stay;
-  hands_stay = took.hands_stay ∙ checked.hands_stay;
+pub returns-in_default-find_room-clause-closes : goal.returns-in_default-find_room-clause-closes
+returns-in_default-find_room-clause-closes c = record {
+  closes = inr (refl, c.check_all.ensures.stay.held);
+  sections = c.check_all.ensures.stay.sections;
 }

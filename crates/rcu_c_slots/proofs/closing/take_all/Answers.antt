@@ -56,20 +56,18 @@ returns-clause-held c = let ready = c.requires.ready in let slots = c.args.slots
 
 pub returns-clause-emptied : goal.returns-clause-emptied
 returns-clause-emptied c = record {
-  driver_is = c.take_driver-driver.ensures.empty;
-  processors_are = c.take_processors.ensures.empty;
-  groups_are = c.take_groups.ensures.empty;
-  hands_are = c.take_hands.ensures.empty;
-}
-
-pub returns-clause-keeps : goal.returns-clause-keeps
-returns-clause-keeps c = c.take_control-control.ensures.keeps
-
-pub returns-clause-sections : goal.returns-clause-sections
-returns-clause-sections c = record {
-  control_stays = c.take_control-control.ensures.reading;
-  driver_stays = c.take_driver-driver.ensures.reading;
-  processors_stay = c.take_processors.ensures.sections;
-  groups_stay = c.take_groups.ensures.sections;
-  hands_stay = c.take_hands.ensures.sections;
+  emptied = record {
+    driver_is = c.take_driver-driver.ensures.empties.empty;
+    processors_are = c.take_processors.ensures.empties.empty;
+    groups_are = c.take_groups.ensures.empties.empty;
+    hands_are = c.take_hands.ensures.empties.empty;
+  };
+  control = c.take_control-control.ensures.keeps.box;
+  sections = record {
+    control_stays = c.take_control-control.ensures.keeps.reading;
+    driver_stays = c.take_driver-driver.ensures.empties.reading;
+    processors_stay = c.take_processors.ensures.empties.sections;
+    groups_stay = c.take_groups.ensures.empties.sections;
+    hands_stay = c.take_hands.ensures.empties.sections;
+  };
 }

@@ -25,14 +25,14 @@ push_reserved-requires c = let l = c.loop-place in
 pub loop-place-preserved : goal.loop-place-preserved
 loop-place-preserved c = let l = c.loop-place in let d = c.index-slots-place.result in let after = c.take_hand.new.slot in elim c.match-take_hand.branch [
   | in-Some w ↦ (
-    taken_more (λ x. part.Hand (lent_hand x)) l.place (held_in c.args.slots.now) l.slots d after l.out.items c.match-take_hand.out.items w.in-Some.hand (omega (arith, l.auto.slots, c.loop-place-test.true)) c.take_hand.ensures.empty w.in-Some.ensures.takes (ap (λ v. v.items) w.out-is ∙ w.push_reserved.ensures.items) l.invariant.0,
+    taken_more (λ x. part.Hand (lent_hand x)) l.place (held_in c.args.slots.now) l.slots d after l.out.items c.match-take_hand.out.items w.in-Some.hand (omega (arith, l.auto.slots, c.loop-place-test.true)) c.take_hand.ensures.empties.empty w.in-Some.ensures.takes (ap (λ v. v.items) w.out-is ∙ w.push_reserved.ensures.items) l.invariant.0,
     ap vec_capacity w.out-is ∙ (w.push_reserved.ensures.capacity ∙ l.invariant.1),
-    sections_after l.place c.args.slots.now l.slots d after c.take_hand.ensures.reading l.invariant.2,
+    sections_after l.place c.args.slots.now l.slots d after c.take_hand.ensures.empties.reading l.invariant.2,
   )
   | in_default w ↦ (
-    rw w.out-is (taken_nothing (λ x. part.Hand (lent_hand x)) l.place (held_in c.args.slots.now) l.slots d after l.out.items (omega (arith, l.auto.slots, c.loop-place-test.true)) c.take_hand.ensures.empty w.in_default.ensures.takes l.invariant.0),
+    rw w.out-is (taken_nothing (λ x. part.Hand (lent_hand x)) l.place (held_in c.args.slots.now) l.slots d after l.out.items (omega (arith, l.auto.slots, c.loop-place-test.true)) c.take_hand.ensures.empties.empty w.in_default.ensures.takes l.invariant.0),
     ap vec_capacity w.out-is ∙ l.invariant.1,
-    sections_after l.place c.args.slots.now l.slots d after c.take_hand.ensures.reading l.invariant.2,
+    sections_after l.place c.args.slots.now l.slots d after c.take_hand.ensures.empties.reading l.invariant.2,
   )
 ]
 
@@ -43,9 +43,9 @@ pub returns-clause-took : goal.returns-clause-took
 returns-clause-took c = let l = c.loop-place in let long = length-map l.slots (λ (s : Slot). s.held.part.value) in
     taken_all (λ x. part.Hand (lent_hand x)) l.place (held_in c.args.slots.now) (held_in l.slots) l.out.items (omega (arith, long, l.auto.slots, c.loop-place-test.false)) l.invariant.0
 
-pub returns-clause-empty : goal.returns-clause-empty
-returns-clause-empty c = let l = c.loop-place in let long = length-map l.slots (λ (s : Slot). s.held.part.value) in
-    empty_all (λ x. part.Hand (lent_hand x)) l.place (held_in c.args.slots.now) (held_in l.slots) l.out.items (omega (arith, long, l.auto.slots, c.loop-place-test.false)) l.invariant.0
-
-pub returns-clause-sections : goal.returns-clause-sections
-returns-clause-sections c = c.loop-place.invariant.2
+pub returns-clause-empties : goal.returns-clause-empties
+returns-clause-empties c = record {
+  empty = let l = c.loop-place in let long = length-map l.slots (λ (s : Slot). s.held.part.value) in
+      empty_all (λ x. part.Hand (lent_hand x)) l.place (held_in c.args.slots.now) (held_in l.slots) l.out.items (omega (arith, long, l.auto.slots, c.loop-place-test.false)) l.invariant.0;
+  sections = c.loop-place.invariant.2;
+}
