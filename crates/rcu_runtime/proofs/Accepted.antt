@@ -10,8 +10,8 @@ use Rattle.rcu_part_processor.specs.declared.processor.Processor.{Processor}
 use Rattle.rcu_parts.specs.OneOpen.{AreOfOneOpen, Parts, processors_in}
 use Rattle.rcu_runtime.specs.Calls.{AcceptsJob, GivesBack, OnProcessor, RefusesJob}
 use Rattle.rcu_runtime.specs.Faults.{given_back}
-use Rattle.rcu_runtime.specs.Runtimes.{Continues, accepted_in}
-use Rattle.rcu_runtime.proofs.Wholes.{called_accepted, called_continues, called_count, called_on, with_processor}
+use Rattle.rcu_runtime.specs.Runtimes.{accepted_in}
+use Rattle.rcu_runtime.proofs.Wholes.{called_accepted, called_count, called_on, with_processor}
 
 module _ {J R : Type 0} where
   -- what the processor's call says of its answer
@@ -29,20 +29,16 @@ module _ {J R : Type 0} where
     accepted_ok (Ok t) one a =
         let few = p.state.small in
         let below : p.state.accepted ≢ p.state.limit = λ e. (let z : false ≡ true = (a.full e).1 in cc) in
-        called_on old parts seen k n p q there many is (AcceptsJob moment kind key job t) one (record { accepts = a.ok; room = omega (arith, few, below) })
+        let more : p.state.accepted ≤ q.state.accepted = (let h = a.ok.count in omega (arith, h)) in
+        called_on old parts seen k n p q there many is (AcceptsJob moment kind key job t) one a.same more (record { accepts = a.ok; room = omega (arith, few, below) })
     accepted_ok (Err x) one a = tt
 
     pub accepted_err : (r : Result Ticket (Refused J)) → AreOfOneOpen parts → Answers moment kind key job r p q
         → IfErr (given_back r) (λ fault. GivesBack k job fault old (with_processor parts k q))
     accepted_err (Ok t) one a = tt
-    accepted_err (Err x) one a = called_on old parts seen k n p q there many is (RefusesJob job x) one (record { why = a.refused; keeps = a.err; full = λ e. (a.full e).0 })
-
-    more_accepted : (r : Result Ticket (Refused J)) → Answers moment kind key job r p q → p.state.accepted ≤ q.state.accepted
-    more_accepted (Ok t) a = let h = a.ok.count in omega (arith, h)
-    more_accepted (Err x) a = let h = a.err.count in omega (arith, h)
-
-    pub accepted_continues : (r : Result Ticket (Refused J)) → Answers moment kind key job r p q → AreOfOneOpen parts → Continues old (with_processor parts k q)
-    accepted_continues r a one = called_continues old parts seen k n p q there many is a.same (more_accepted r a) one
+    accepted_err (Err x) one a =
+        let more : p.state.accepted ≤ q.state.accepted = (let h = a.err.count in omega (arith, h)) in
+        called_on old parts seen k n p q there many is (RefusesJob job x) one a.same more (record { why = a.refused; keeps = a.err; full = λ e. (a.full e).0 })
 
     pub accepted_one : (r : Result Ticket (Refused J)) → Answers moment kind key job r p q → IfOk (given_back r) (λ _. accepted_in (with_processor parts k q) ≡ accepted_in old + 1)
     accepted_one (Ok t) a = let h = a.ok.count in omega (arith, h, called_accepted old parts seen k n p q there many is)

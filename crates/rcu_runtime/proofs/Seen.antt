@@ -1,11 +1,13 @@
 -- What is seen of one processor of a runtime.
-use Rattle.std.proofs.Common.{◌≡◌, ℕ, ◌+◌, ◌-◌, ◌<◌, ◌≤◌, ◌∙◌, length, get_or, All, arith, ap, subst, refl}
+use Rattle.std.proofs.Common.{◌≡◌, ℕ, ◌+◌, ◌-◌, ◌<◌, ◌≤◌, ◌∙◌, Result, Ok, Err, IsErr, length, get_or, All, arith, ap, subst, sym, refl}
+use Rattle.std.specs.Prelude.{IsErrAnd}
 use Rattle.std.proofs.lemmas.List.Elements.{All-get_or}
 use Rattle.std.specs.Vec.{vec_len}
 use Rattle.rcu_part_processor.specs.declared.processor.Processor.{Processor}
 use Rattle.rcu_parts.specs.OneOpen.{AreOfOneOpen, Parts, processors_in}
-use Rattle.rcu_runtime.specs.Calls.{FindsNone, IsNone, OfProcessor}
-use Rattle.rcu_runtime.proofs.Wholes.{is_processor}
+use Rattle.rcu_runtime.specs.Calls.{AnswersOf, FindsNone, IsNone, OfProcessor}
+use Rattle.rcu_runtime.specs.declared.fault.NoProcessor.{NoProcessor}
+use Rattle.rcu_runtime.proofs.Wholes.{is_processor, leaves_all}
 
 module _ {J R : Type 0} where
   pub of_processor : (old parts : Parts J R) → parts ≡ old → (k n : ℕ) (p : Processor J R) → k < n → n ≡ length (processors_in old) → p ≡ get_or (processors_in parts) k p → AreOfOneOpen parts → OfProcessor k (λ q. q ≡ p) old
@@ -55,4 +57,9 @@ module _ {J R : Type 0} where
   is_none parts k n low many = record { named = refl; none = subst (λ (m : ℕ). m ≤ k) many low }
 
   pub finds_none : (parts : Parts J R) (k n : ℕ) → n ≤ k → n ≡ length (processors_in parts) → FindsNone k (record { cpu = k }) parts parts
-  finds_none parts k n low many = record { is = is_none parts k n low many; stays = refl }
+  finds_none parts k n low many = record { is = is_none parts k n low many; leaves = leaves_all parts parts refl }
+
+  -- the fault of a look that `?` hands on
+  pub none_answers : {A : Type 0} (r : Result A NoProcessor) (e : NoProcessor) (k : ℕ) (Says : A → Processor J R → Type 0) (parts : Parts J R) → IsErr r × IsErrAnd r (λ x. x ≡ e) → IsNone k e parts → AnswersOf k r Says parts
+  none_answers (Ok x) e k Says parts is none = absurd (let z = is.0 in cc)
+  none_answers (Err x) e k Says parts is none = subst (λ fault. IsNone k fault parts) (sym is.1) none

@@ -25,6 +25,7 @@ use Rattle.rcu_parts.specs.Drained.{HasNoneBack}
 use Rattle.rcu_parts.specs.OneOpen.{AreOfOneOpen, AreProcessorsFrom, Parts, hands_in, parts_board, processors_in}
 use Rattle.rcu_parts.specs.SameParts.{AreSameParts}
 use Rattle.rcu_runtime.specs.Calls.{AsksOnce, OnControl, Opens, Polls}
+use Rattle.rcu_runtime.proofs.Wholes.{continues_again}
 use Rattle.rcu_runtime.specs.Runtimes.{Continues}
 use Rattle.rcu_runtime.specs.Settled.{HasPassed, HasRunAll, IsCounted}
 use Rattle.std.proofs.lemmas.List.Elements.{All-cons, All-head, All-map, All-nil, All-tail}
@@ -51,6 +52,8 @@ module _ {J R : Type 0} where
     groups = polls.groups ∙ opens.groups;
     hands = polls.hands ∙ opens.hands;
     driver = polls.driver ∙ opens.driver;
+    continues = continues_again old between new opens.continues polls.continues;
+    none = polls.none ∙ opens.none;
   }
 
   -- a runtime that went on has as many processors

@@ -23,7 +23,7 @@ use Rattle.rcu_parts.proofs.KeptWhole.{whole_stays}
 use Rattle.rcu_parts.proofs.StaySame.{stay_same}
 use Rattle.rcu_parts.specs.OneOpen.{AreOfOneOpen, AreProcessorsFrom, AreSoundParts, Parts, groups_in, hands_in, parts_board, processors_in}
 use Rattle.rcu_parts.specs.SameParts.{AreSameParts}
-use Rattle.rcu_runtime.specs.Calls.{IsProcessor, OnControl, OnProcessor, ReportsOnce}
+use Rattle.rcu_runtime.specs.Calls.{IsProcessor, LeavesAll, OnControl, OnProcessor, ReportsOnce}
 use Rattle.rcu_runtime.specs.Passing.{KeepsProcessor, PassesGroup, PassesHand, PassesTick}
 use Rattle.rcu_runtime.specs.Runtimes.{Continues, IsWhole, accepted_in}
 use Rattle.rcu_runtime.specs.Turns.{GroupTurns, HandTurns, ReportsAndTicks, Ticks}
@@ -95,8 +95,12 @@ module _ {J R : Type 0} where
   continues_same : (old new : Parts J R) → AreOfOneOpen old → AreSameParts old new → accepted_in old ≤ accepted_in new → Continues old new
   continues_same old new one same more = record { same = same; accepted = more; drained = λ d. (d.0, stays_drained d.0 old new same one d.1) }
 
-  continues_along : (old new : Parts J R) → new ≡ old → Continues old new
+  pub continues_along : (old new : Parts J R) → new ≡ old → Continues old new
   continues_along old new e = subst (Continues old) (sym e) (continues_itself old)
+
+  -- nothing changed
+  pub leaves_all : (old new : Parts J R) → new ≡ old → LeavesAll old new
+  leaves_all old new e = record { stays = e; continues = continues_along old new e; none = ap (λ (x : Parts J R). accepted_in x) e }
 
   -- ---- what a runtime keeps
 
@@ -147,7 +151,7 @@ module _ {J R : Type 0} where
         let here = ap (λ (x : Processor J R). x.state.accepted) c.is in
         omega (arith, new_is, sum, here)
 
-    pub continues_changed : SameProcessor p.state q.state → p.state.accepted ≤ q.state.accepted → AreOfOneOpen old → Continues old new
+    continues_changed : SameProcessor p.state q.state → p.state.accepted ≤ q.state.accepted → AreOfOneOpen old → Continues old new
     continues_changed same more one = continues_same old new one (same_changed same) (omega (arith, accepted_changed, more))
 
     pub whole_changed : (key_of : J → ℕ) (gives : ℕ → R → Type 0) (limit : ℕ) → SameProcessor p.state q.state → (IsSound key_of gives p.state → IsSound key_of gives q.state)
@@ -158,8 +162,8 @@ module _ {J R : Type 0} where
           hands = subst (λ hs. All (λ h. IsSoundHand key_of gives h.state) hs.items) (sym c.hands) s.hands;
         }) whole
 
-    pub on_processor : (Does : ProcessorState J R → ProcessorState J R → Type 0) → AreOfOneOpen old → Does p.state q.state → OnProcessor k Does old new
-    on_processor Does one does = record {
+    pub on_processor : (Does : ProcessorState J R → ProcessorState J R → Type 0) → AreOfOneOpen old → SameProcessor p.state q.state → p.state.accepted ≤ q.state.accepted → Does p.state q.state → OnProcessor k Does old new
+    on_processor Does one same more does = record {
       before = p;
       after = q;
       is = is_processor k old p one c.there c.is;
@@ -169,6 +173,7 @@ module _ {J R : Type 0} where
       hands = c.hands;
       driver = c.driver;
       control = c.control;
+      continues = continues_changed same more one;
     }
 
   -- ---- a call of one processor, in the words of the code: the parts are seen as `old`
@@ -187,20 +192,14 @@ module _ {J R : Type 0} where
         → IsWhole key_of gives limit parts → IsWhole key_of gives limit (with_processor parts k q)
     called_whole key_of gives limit same sound whole = whole_changed k p q parts (with_processor parts k q) changes key_of gives limit same sound whole
 
-    pub called_continues : SameProcessor p.state q.state → p.state.accepted ≤ q.state.accepted → AreOfOneOpen parts → Continues old (with_processor parts k q)
-    called_continues same more one = subst (λ (x : Parts J R). Continues x (with_processor parts k q)) seen (continues_changed k p q parts (with_processor parts k q) changes same more one)
-
-    pub called_on : (Does : ProcessorState J R → ProcessorState J R → Type 0) → AreOfOneOpen parts → Does p.state q.state → OnProcessor k Does old (with_processor parts k q)
-    called_on Does one does = subst (λ (x : Parts J R). OnProcessor k Does x (with_processor parts k q)) seen (on_processor k p q parts (with_processor parts k q) changes Does one does)
+    pub called_on : (Does : ProcessorState J R → ProcessorState J R → Type 0) → AreOfOneOpen parts → SameProcessor p.state q.state → p.state.accepted ≤ q.state.accepted → Does p.state q.state → OnProcessor k Does old (with_processor parts k q)
+    called_on Does one same more does = subst (λ (x : Parts J R). OnProcessor k Does x (with_processor parts k q)) seen (on_processor k p q parts (with_processor parts k q) changes Does one same more does)
 
     pub called_accepted : accepted_in (with_processor parts k q) + p.state.accepted ≡ accepted_in old + q.state.accepted
     called_accepted = subst (λ (x : Parts J R). accepted_in (with_processor parts k q) + p.state.accepted ≡ accepted_in x + q.state.accepted) seen (accepted_changed k p q parts (with_processor parts k q) changes)
 
     pub called_count : q.state.accepted ≡ p.state.accepted → accepted_in (with_processor parts k q) ≡ accepted_in old
     called_count same = omega (arith, called_accepted, same)
-
-  pub seen_count : (old parts : Parts J R) → parts ≡ old → accepted_in parts ≡ accepted_in old
-  seen_count old parts seen = ap (λ (x : Parts J R). accepted_in x) seen
 
   -- ---- a call of control or the driver
 
@@ -213,11 +212,9 @@ module _ {J R : Type 0} where
   pub steered_whole : (key_of : J → ℕ) (gives : ℕ → R → Type 0) (limit : ℕ) (parts : Parts J R) (d : Control) → SameControl parts.control d → IsWhole key_of gives limit parts → IsWhole key_of gives limit (with_control parts d)
   steered_whole key_of gives limit parts d same whole = whole_kept key_of gives limit parts (with_control parts d) (steered_same parts d same) (λ s. record { processors = s.processors; hands = s.hands }) whole
 
-  pub steered_continues : (old parts : Parts J R) (d : Control) → parts ≡ old → SameControl parts.control d → AreOfOneOpen parts → Continues old (with_control parts d)
-  steered_continues old parts d seen same one = subst (λ (x : Parts J R). Continues x (with_control parts d)) seen (continues_same parts (with_control parts d) one (steered_same parts d same) (omega arith))
-
-  pub steered_on : (Does : Control → Control → Type 0) (old parts : Parts J R) (d : Control) → parts ≡ old → Does parts.control d → OnControl Does old (with_control parts d)
-  steered_on Does old parts d seen does = subst (λ (x : Parts J R). OnControl Does x (with_control parts d)) seen (record { does = does; processors = refl; groups = refl; hands = refl; driver = refl })
+  pub steered_on : (Does : Control → Control → Type 0) (old parts : Parts J R) (d : Control) → parts ≡ old → SameControl parts.control d → AreOfOneOpen parts → Does parts.control d → OnControl Does old (with_control parts d)
+  steered_on Does old parts d seen same one does = subst (λ (x : Parts J R). OnControl Does x (with_control parts d)) seen
+      (record { does = does; processors = refl; groups = refl; hands = refl; driver = refl; continues = continues_same parts (with_control parts d) one (steered_same parts d same) (omega arith); none = refl })
 
   -- ---- turns
 
@@ -276,11 +273,11 @@ module _ {J R : Type 0} where
           hands = all_along (λ (h : Hand J R). IsSoundHand key_of gives h.state) HandStays (λ h i k. k.sound) (hands_in old) (hands_in new) t.hands s.hands;
         }) whole
 
-    pub turned_count : (old parts new : Parts J R) → parts ≡ old → Turned parts new → accepted_in new ≡ accepted_in old
-    turned_count old parts new seen t = counts_stay (processors_in parts) (processors_in new) t.processors ∙ ap (λ (x : Parts J R). accepted_in x) seen
+    pub turned_count : (old new : Parts J R) → Turned old new → accepted_in new ≡ accepted_in old
+    turned_count old new t = counts_stay (processors_in old) (processors_in new) t.processors
 
-    pub turned_continues : (old parts new : Parts J R) → parts ≡ old → Turned parts new → AreOfOneOpen parts → Continues old new
-    turned_continues old parts new seen t one = subst (λ (x : Parts J R). Continues x new) seen (continues_same parts new one (turned_same parts new t) (let count = turned_count parts parts new refl t in omega (arith, count)))
+    pub turned_continues : (old new : Parts J R) → Turned old new → AreOfOneOpen old → Continues old new
+    turned_continues old new t one = continues_same old new one (turned_same old new t) (let count = turned_count old new t in omega (arith, count))
 
 -- ---- what stands for lists of turns
 

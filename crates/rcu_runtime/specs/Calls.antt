@@ -1,6 +1,6 @@
 -- What a call of one part does to a runtime: that part did what its own call says, and all others are as they were.
-use Rattle.std.specs.Prelude.{◌≡◌, ℕ, ◌<◌, ◌≤◌, List, [], Option, Result, length, get_or, set}
-use Rattle.std.specs.declared.result.Result.TheVariants.{Ok}
+use Rattle.std.specs.Prelude.{◌≡◌, ◌≢◌, ℕ, ◌<◌, ◌≤◌, List, [], Option, Result, length, get_or, set}
+use Rattle.std.specs.declared.result.Result.TheVariants.{Ok, Err}
 use Rattle.rcu_part_control.specs.Barriers.{OpensBy, PollsBy}
 use Rattle.rcu_part_control.specs.Control.{Shuts, SwitchesBy}
 use Rattle.rcu_part_control.specs.Parts.{control_board, control_view}
@@ -20,7 +20,8 @@ use Rattle.rcu_part_processor.specs.Processors.{view_of}
 use Rattle.rcu_part_processor.specs.declared.processor.Processor.{Processor}
 use Rattle.rcu_part_processor.specs.declared.processor.ProcessorState.{ProcessorState}
 use Rattle.rcu_part_steps.specs.Reports.{Reports}
-use Rattle.rcu_parts.specs.OneOpen.{Parts, processors_in}
+use Rattle.rcu_parts.specs.OneOpen.{Parts, parts_board, processors_in}
+use Rattle.rcu_runtime.specs.Runtimes.{Continues, accepted_in}
 use Rattle.rcu_runtime.specs.declared.fault.NoProcessor.{NoProcessor}
 use Rattle.rcu_runtime.specs.declared.fault.NotCalled.{NotCalled}
 use Rattle.rcu_runtime.specs.declared.fault.NotCalled.TheVariants as not_called
@@ -43,7 +44,12 @@ module _ {J R : Type 0} where
     pub named : fault.cpu ≡ k
     pub none : length (processors_in parts) ≤ k
 
-  -- A call did this to processor k, and all other parts are as they were.
+  -- What a look at processor k answers: this is so of it, or there is none.
+  abbrev pub AnswersOf : {A : Type 0} → ℕ → Result A NoProcessor → (A → Processor J R → Type 0) → Parts J R → Type 0
+  AnswersOf k (Ok answer) Says parts = OfProcessor k (Says answer) parts
+  AnswersOf k (Err fault) Says parts = IsNone k fault parts
+
+  -- A call did this to processor k; all other parts are as they were, and the runtime goes on as the same one.
   pub record OnProcessor (k : ℕ) (Does : ProcessorState J R → ProcessorState J R → Type 0) (old new : Parts J R) : Type 0 where
     pub before : Processor J R
     pub after : Processor J R
@@ -54,19 +60,34 @@ module _ {J R : Type 0} where
     pub hands : new.hands ≡ old.hands
     pub driver : new.driver ≡ old.driver
     pub control : new.control ≡ old.control
+    pub continues : Continues old new
+
+  -- Nothing changed, so the runtime goes on as the same one, and no callback more is accepted.
+  pub record LeavesAll (old new : Parts J R) : Type 0 where
+    pub stays : new ≡ old
+    pub continues : Continues old new
+    pub none : accepted_in new ≡ accepted_in old
 
   -- There is no processor k, and nothing changed.
   pub record FindsNone (k : ℕ) (fault : NoProcessor) (old new : Parts J R) : Type 0 where
     pub is : IsNone k fault old
-    pub stays : new ≡ old
+    pub leaves : LeavesAll old new
 
-  -- A call did this to control, and all other parts are as they were.
+  -- A barrier of these counts is of another runtime, since it counts another number of processors, and nothing changed.
+  pub record FindsOther (counts : Counts) (old new : Parts J R) : Type 0 where
+    pub number : counts.n ≢ (parts_board old).processors
+    pub leaves : LeavesAll old new
+
+  -- A call did this to control; all other parts are as they were, and the runtime goes on as the same one, which has accepted no
+  -- callback more.
   pub record OnControl (Does : Control → Control → Type 0) (old new : Parts J R) : Type 0 where
     pub does : Does old.control new.control
     pub processors : new.processors ≡ old.processors
     pub groups : new.groups ≡ old.groups
     pub hands : new.hands ≡ old.hands
     pub driver : new.driver ≡ old.driver
+    pub continues : Continues old new
+    pub none : accepted_in new ≡ accepted_in old
 
   -- ---- what a processor's calls do to it
 

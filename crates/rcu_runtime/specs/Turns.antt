@@ -21,6 +21,7 @@ use Rattle.rcu_part_processor.specs.declared.processor.ProcessorState.{Processor
 use Rattle.rcu_part_steps.specs.Stops.{StopsInTime}
 use Rattle.rcu_parts.specs.OneOpen.{Parts, groups_in, hands_in, processors_in}
 use Rattle.rcu_runtime.specs.Calls.{ReportsOnce}
+use Rattle.rcu_runtime.specs.Runtimes.{Continues, accepted_in}
 
 -- a turn of the driver
 abbrev pub Drives : DriverTurn → Driver → Driver → Type 0
@@ -61,6 +62,8 @@ module _ {J R : Type 0} where
     pub again : answer.stop ≡ Again → (hand_held h.state ≡ []) × (answer.ran ≡ 0)
     pub fresh : tally (hand_view i.state) board_word ≡ tally (hand_view h.state) board_word + 1
 
+  -- After each of these turns the runtime goes on as the same one, and no callback more is accepted.
+
   -- Each processor reported and ticked, and all other parts are as they were.
   pub record TurnsProcessors (moment : ℕ) (old new : Parts J R) : Type 0 where
     pub processors : AllZip (ReportsAndTicks moment) (processors_in old) (processors_in new)
@@ -68,6 +71,8 @@ module _ {J R : Type 0} where
     pub hands : new.hands ≡ old.hands
     pub driver : new.driver ≡ old.driver
     pub control : new.control ≡ old.control
+    pub continues : Continues old new
+    pub none : accepted_in new ≡ accepted_in old
 
   -- Each group made a turn, and all other parts are as they were.
   pub record TurnsGroups (old new : Parts J R) : Type 0 where
@@ -76,6 +81,8 @@ module _ {J R : Type 0} where
     pub hands : new.hands ≡ old.hands
     pub driver : new.driver ≡ old.driver
     pub control : new.control ≡ old.control
+    pub continues : Continues old new
+    pub none : accepted_in new ≡ accepted_in old
 
   -- Each hand made a turn, and all other parts are as they were.
   pub record TurnsHands (old new : Parts J R) : Type 0 where
@@ -84,6 +91,8 @@ module _ {J R : Type 0} where
     pub groups : new.groups ≡ old.groups
     pub driver : new.driver ≡ old.driver
     pub control : new.control ≡ old.control
+    pub continues : Continues old new
+    pub none : accepted_in new ≡ accepted_in old
 
   -- The driver made a turn, and all other parts are as they were.
   pub record TurnsDriver (answer : DriverTurn) (old new : Parts J R) : Type 0 where
@@ -92,6 +101,8 @@ module _ {J R : Type 0} where
     pub groups : new.groups ≡ old.groups
     pub hands : new.hands ≡ old.hands
     pub control : new.control ≡ old.control
+    pub continues : Continues old new
+    pub none : accepted_in new ≡ accepted_in old
 
   -- Each processor reported and ticked, and each group, each hand and the driver made a turn.
   pub record TurnsAll (moment : ℕ) (answer : DriverTurn) (old new : Parts J R) : Type 0 where
@@ -100,3 +111,5 @@ module _ {J R : Type 0} where
     pub hands : AllZip HandTurns (hands_in old) (hands_in new)
     pub driver : Drives answer old.driver new.driver
     pub control : new.control ≡ old.control
+    pub continues : Continues old new
+    pub none : accepted_in new ≡ accepted_in old

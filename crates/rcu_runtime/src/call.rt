@@ -9,7 +9,7 @@ use rcu_parts::{AllParts, Group, Hand, Processor};
 
 impl<J: Job> Whole<AllParts<Processor<J>, Group<J>, Hand<J>>> {
     ghost use Rattle.rcu_runtime.specs.Calls.{AcceptsLazy, AcceptsPlain, GivesBack, OnProcessor};
-    ghost use Rattle.rcu_runtime.specs.Runtimes.{Continues, accepted_in};
+    ghost use Rattle.rcu_runtime.specs.Runtimes.{accepted_in};
 
     /// Accepts a job by processor `p`. It runs once each processor has reported after that. An offloaded processor's call
     /// carries a moment, by which it holds callbacks back to release several together.
@@ -19,7 +19,6 @@ impl<J: Job> Whole<AllParts<Processor<J>, Group<J>, Hand<J>>> {
     /// The job comes back, and nothing is accepted: refusal 6 where there is no such processor, 4 at the limit, 2 for want of
     /// memory, 3 where the runtime was shut.
     pub fn call_rcu(&mut self, p: u64, moment: u64, job: J) -> Result<Ticket, NotCalled<J>>
-        ensures continues { Continues self.old self.new }
         ensures ok { IfOk result (λ t.
             OnProcessor p (AcceptsPlain moment (J.key_of job) job t) self.old self.new) }
         ensures err { IfErr result (λ fault. GivesBack p job fault self.old self.new) }
@@ -38,7 +37,6 @@ impl<J: Job> Whole<AllParts<Processor<J>, Group<J>, Hand<J>>> {
     ///
     /// As `call_rcu`.
     pub fn call_rcu_lazy(&mut self, p: u64, moment: u64, job: J) -> Result<Ticket, NotCalled<J>>
-        ensures continues { Continues self.old self.new }
         ensures ok { IfOk result (λ t.
             OnProcessor p (AcceptsLazy moment (J.key_of job) job t) self.old self.new) }
         ensures err { IfErr result (λ fault. GivesBack p job fault self.old self.new) }

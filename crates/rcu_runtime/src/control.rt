@@ -1,6 +1,6 @@
 //! What control does: switches, barriers, and the end of acceptance.
 
-ghost use Rattle.std.specs.Prelude.{◌≡◌, ◌≢◌, IfErr, IfOk};
+ghost use Rattle.std.specs.Prelude.{◌≡◌, IfErr, IfOk};
 
 use crate::fault::OtherBarrier;
 use crate::whole::Whole;
@@ -9,8 +9,7 @@ use rcu_parts::{AllParts, Barrier, Group, Hand, Processor};
 
 impl<J: Job> Whole<AllParts<Processor<J>, Group<J>, Hand<J>>> {
     ghost use Rattle.rcu_parts.specs.OneOpen.{parts_board};
-    ghost use Rattle.rcu_runtime.specs.Calls.{OnControl, Opens, Polls, ShutsAll, Switches};
-    ghost use Rattle.rcu_runtime.specs.Runtimes.{Continues, accepted_in};
+    ghost use Rattle.rcu_runtime.specs.Calls.{FindsOther, OnControl, Opens, Polls, ShutsAll, Switches};
 
     /// Asks that processor `p` be offloaded, which its next tick heeds.
     ///
@@ -18,9 +17,7 @@ impl<J: Job> Whole<AllParts<Processor<J>, Group<J>, Hand<J>>> {
     ///
     /// Refusal 6 where there is no such processor, then refusal 5 where it isn't offloadable. Nothing is asked for.
     pub fn offload(&mut self, p: u64) -> Result<(), SwitchFault>
-        ensures continues { Continues self.old self.new }
         ensures asks { OnControl (Switches p 1 result) self.old self.new }
-        ensures none { accepted_in self.new ≡ accepted_in self.old }
     {
         self.parts.control.offload(p)
     }
@@ -31,9 +28,7 @@ impl<J: Job> Whole<AllParts<Processor<J>, Group<J>, Hand<J>>> {
     ///
     /// As [`offload`](Runtime::offload).
     pub fn deoffload(&mut self, p: u64) -> Result<(), SwitchFault>
-        ensures continues { Continues self.old self.new }
         ensures asks { OnControl (Switches p 0 result) self.old self.new }
-        ensures none { accepted_in self.new ≡ accepted_in self.old }
     {
         self.parts.control.deoffload(p)
     }
@@ -46,9 +41,7 @@ impl<J: Job> Whole<AllParts<Processor<J>, Group<J>, Hand<J>>> {
     /// The first fault in the order of the tickets: refusal 6 where there is no such processor, refusal 7 where its count isn't
     /// above the ticket's number, so that it gave no such ticket.
     pub fn barrier(&mut self, tickets: &[Ticket]) -> Result<Barrier, BarrierFault>
-        ensures continues { Continues self.old self.new }
         ensures opens { OnControl (Opens tickets.now result) self.old self.new }
-        ensures none { accepted_in self.new ≡ accepted_in self.old }
     {
         self.parts.control.barrier(tickets)
     }
@@ -59,14 +52,11 @@ impl<J: Job> Whole<AllParts<Processor<J>, Group<J>, Hand<J>>> {
     ///
     /// The barrier counts another number of processors than this runtime has.
     pub fn poll(&mut self, barrier: &Barrier) -> Result<Option<Passed>, OtherBarrier>
-        ensures continues { Continues self.old self.new }
         ensures ok { IfOk result (λ passed.
             OnControl (Polls barrier.now.counts passed) self.old self.new) }
         ensures number { IfOk result (λ _.
             barrier.now.counts.n ≡ (parts_board self.old).processors) }
-        ensures err { IfErr result (λ _. barrier.now.counts.n ≢ (parts_board self.old).processors) }
-        ensures stays { IfErr result (λ _. self.new ≡ self.old) }
-        ensures none { accepted_in self.new ≡ accepted_in self.old }
+        ensures err { IfErr result (λ _. FindsOther barrier.now.counts self.old self.new) }
     {
         if barrier.counts.n != self.parts.control.processors() {
             return Err(OtherBarrier);
@@ -77,9 +67,7 @@ impl<J: Job> Whole<AllParts<Processor<J>, Group<J>, Hand<J>>> {
 
     /// Ends acceptance: each call from now on is refused. Answers how many callbacks each processor accepted.
     pub fn shut(&mut self) -> Counts
-        ensures continues { Continues self.old self.new }
         ensures shuts { OnControl (ShutsAll result) self.old self.new }
-        ensures none { accepted_in self.new ≡ accepted_in self.old }
     {
         self.parts.control.shut()
     }

@@ -22,13 +22,13 @@
 //! - Once it was drained, that is shut and past a barrier for all that was accepted, it stays so.
 //! - At the end as many ran or are handed back as were accepted, none is handed back where it was drained or
 //!   all that was accepted has run, and each receipt is given for its record's key.
-//! - By `open` (`opened`, `none`), `call_rcu`, `call_rcu_lazy` (`continues`, `ok`, `err`, `one`, `none`),
-//!   `quiescent`, `tick` (`ok`, `err`), `turn_all`, `turn_hands` (`turns`), `offload`, `deoffload` (`asks`),
-//!   `barrier` (`opens`), `poll` (`ok`, `number`, `err`), `left` (`ok`), `shut` (`shuts`), `drain` (`drained`,
-//!   `turns`), `turn_until_passed` (`passed`, `why`, `turns`), `has_run_all` (`run`, `asks`), `close`, `again`
-//!   (`closes`, `none_lost`, `receipts`, `drained`, `left`), `close_or_drop` (`run`, and those of `close`),
-//!   `drain_and_close` (`closes`, `none_back`, `fault`), `AnyFault` (`from_gives`), `continues_again`
-//!   (`again`), `take_apart` (`parts`, `whole`), `put_together`.
+//! - By `open` (`opened`, `none`), `call_rcu`, `call_rcu_lazy` (`ok`, `err`, `one`, `none`), `quiescent`,
+//!   `tick` (`ok`, `err`, `none`), `turn_all`, `turn_hands` (`turns`), `offload`, `deoffload` (`asks`),
+//!   `barrier` (`opens`), `poll` (`ok`, `number`, `err`), `left` (`counts`), `shut` (`shuts`), `drain`
+//!   (`drained`, `turns`), `turn_until_passed` (`passed`, `why`, `turns`), `has_run_all` (`run`, `asks`),
+//!   `close`, `again` (`closes`, `none_lost`, `receipts`, `drained`, `left`), `close_or_drop` (`run`, and those
+//!   of `close`), `drain_and_close` (`closes`, `none_back`, `fault`), `AnyFault` (`from_gives`),
+//!   `continues_again` (`again`), `take_apart` (`parts`, `whole`), `put_together`.
 #![tactic(auto)]
 
 mod any_fault;

@@ -1,6 +1,6 @@
 //! What is seen of a runtime, and read sections.
 
-ghost use Rattle.std.specs.Prelude.{◌≡◌, ◌+◌, ◌<◌, ◌≤◌, IfErr, IfOk, length};
+ghost use Rattle.std.specs.Prelude.{◌≡◌, ◌+◌, ◌<◌, IfErr, IfOk, length};
 
 use crate::fault::NoProcessor;
 use crate::whole::Whole;
@@ -11,7 +11,7 @@ impl<J: Job> Whole<AllParts<Processor<J>, Group<J>, Hand<J>>> {
     ghost use Rattle.rcu_part_lists.specs.ProcessorLists.{cpu_lists};
     ghost use Rattle.rcu_part_processor.specs.Processors.{lists_of};
     ghost use Rattle.rcu_parts.specs.OneOpen.{processors_in};
-    ghost use Rattle.rcu_runtime.specs.Calls.{IsNone, OfProcessor};
+    ghost use Rattle.rcu_runtime.specs.Calls.{AnswersOf, IsNone};
 
     /// How many processors there are.
     pub fn processors(&self) -> u64
@@ -22,8 +22,7 @@ impl<J: Job> Whole<AllParts<Processor<J>, Group<J>, Hand<J>>> {
 
     /// Processor `p`.
     pub(crate) fn processor(&self, p: u64) -> Result<&Processor<J>, NoProcessor>
-        ensures ok { IfOk result (λ processor. OfProcessor p (λ q. q ≡ processor.now) self.now) }
-        ensures err { IfErr result (λ fault. IsNone p fault self.now) }
+        ensures finds { AnswersOf p result (λ processor q. q ≡ processor.now) self.now }
     {
         if p >= self.processors() {
             return Err(NoProcessor { cpu: p });
@@ -50,9 +49,8 @@ impl<J: Job> Whole<AllParts<Processor<J>, Group<J>, Hand<J>>> {
     ///
     /// There is no such processor.
     pub fn lists(&self, p: u64) -> Result<Lists, NoProcessor>
-        ensures ok { IfOk result (λ lists.
-            OfProcessor p (λ q. lists ≡ cpu_lists q.state.accepted (lists_of q.state)) self.now) }
-        ensures err { IfErr result (λ fault. IsNone p fault self.now) }
+        ensures shows { AnswersOf p result
+            (λ lists q. lists ≡ cpu_lists q.state.accepted (lists_of q.state)) self.now }
     {
         Ok(self.processor(p)?.lists())
     }
@@ -63,8 +61,7 @@ impl<J: Job> Whole<AllParts<Processor<J>, Group<J>, Hand<J>>> {
     ///
     /// There is no such processor.
     pub fn accepted(&self, p: u64) -> Result<u64, NoProcessor>
-        ensures ok { IfOk result (λ count. OfProcessor p (λ q. count ≡ q.state.accepted) self.now) }
-        ensures err { IfErr result (λ fault. IsNone p fault self.now) }
+        ensures counts { AnswersOf p result (λ count q. count ≡ q.state.accepted) self.now }
     {
         Ok(self.processor(p)?.accepted())
     }
@@ -75,9 +72,8 @@ impl<J: Job> Whole<AllParts<Processor<J>, Group<J>, Hand<J>>> {
     ///
     /// There is no such processor.
     pub fn left(&self, p: u64) -> Result<u64, NoProcessor>
-        ensures ok { IfOk result (λ left.
-            OfProcessor p (λ q. left + q.state.accepted ≡ q.state.limit) self.now) }
-        ensures err { IfErr result (λ fault. IsNone p fault self.now) }
+        ensures counts { AnswersOf p result
+            (λ left q. left + q.state.accepted ≡ q.state.limit) self.now }
     {
         Ok(self.limit - self.processor(p)?.accepted())
     }

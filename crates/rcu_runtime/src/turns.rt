@@ -40,7 +40,7 @@ fn turn_each_hand<J: Job>(hands: &mut Vec<Hand<J>>)
 
 impl<J: Job> Whole<AllParts<Processor<J>, Group<J>, Hand<J>>> {
     ghost use Rattle.rcu_runtime.specs.Calls.{FindsNone, OnProcessor, ReportsOnce};
-    ghost use Rattle.rcu_runtime.specs.Runtimes.{Continues, accepted_in};
+    ghost use Rattle.rcu_runtime.specs.Runtimes.{accepted_in};
     ghost use Rattle.rcu_runtime.specs.Turns.{Ticks, TurnsAll, TurnsDriver, TurnsGroups, TurnsHands, TurnsProcessors};
 
     /// Reports a quiescent state of processor `p`. Answers the number of the grace period that counted it, or None.
@@ -49,7 +49,6 @@ impl<J: Job> Whole<AllParts<Processor<J>, Group<J>, Hand<J>>> {
     ///
     /// There is no such processor.
     pub fn quiescent(&mut self, p: u64) -> Result<Option<u64>, NoProcessor>
-        ensures continues { Continues self.old self.new }
         ensures ok { IfOk result (λ counted.
             OnProcessor p (ReportsOnce counted) self.old self.new) }
         ensures err { IfErr result (λ fault. FindsNone p fault self.old self.new) }
@@ -67,7 +66,6 @@ impl<J: Job> Whole<AllParts<Processor<J>, Group<J>, Hand<J>>> {
     ///
     /// There is no such processor.
     pub fn tick(&mut self, p: u64, moment: u64) -> Result<Ticked, NoProcessor>
-        ensures continues { Continues self.old self.new }
         ensures ok { IfOk result (λ ticked. OnProcessor p (Ticks moment ticked) self.old self.new) }
         ensures err { IfErr result (λ fault. FindsNone p fault self.old self.new) }
         ensures none { accepted_in self.new ≡ accepted_in self.old }
@@ -80,45 +78,35 @@ impl<J: Job> Whole<AllParts<Processor<J>, Group<J>, Hand<J>>> {
 
     /// Each processor reports a quiescent state, and ticks.
     pub fn turn_processors(&mut self, moment: u64)
-        ensures continues { Continues self.old self.new }
         ensures turns { TurnsProcessors moment self.old self.new }
-        ensures none { accepted_in self.new ≡ accepted_in self.old }
     {
         turn_each_processor(&mut self.parts.processors, moment);
     }
 
     /// A turn of each group: it takes what offloaded processors released, and gives what is done to their hands.
     pub fn turn_groups(&mut self)
-        ensures continues { Continues self.old self.new }
         ensures turns { TurnsGroups self.old self.new }
-        ensures none { accepted_in self.new ≡ accepted_in self.old }
     {
         turn_each_group(&mut self.parts.groups);
     }
 
     /// A turn of each hand: it runs what the group gave it, at most `blimit` callbacks.
     pub fn turn_hands(&mut self)
-        ensures continues { Continues self.old self.new }
         ensures turns { TurnsHands self.old self.new }
-        ensures none { accepted_in self.new ≡ accepted_in self.old }
     {
         turn_each_hand(&mut self.parts.hands);
     }
 
     /// A turn of the driver: it starts a grace period where one is needed, or ends the one in progress.
     pub fn turn_driver(&mut self) -> DriverTurn
-        ensures continues { Continues self.old self.new }
         ensures turns { TurnsDriver result self.old self.new }
-        ensures none { accepted_in self.new ≡ accepted_in self.old }
     {
         self.parts.driver.turn()
     }
 
     /// One turn of every part: each processor reports and ticks, then come the groups, the hands and the driver.
     pub fn turn_all(&mut self, moment: u64) -> DriverTurn
-        ensures continues { Continues self.old self.new }
         ensures turns { TurnsAll moment result self.old self.new }
-        ensures none { accepted_in self.new ≡ accepted_in self.old }
     {
         let parts = &mut self.parts;
         turn_each_processor(&mut parts.processors, moment);

@@ -1,6 +1,6 @@
 //! Waiting, by turns of all parts, until what was accepted has run.
 
-ghost use Rattle.std.specs.Prelude.{◌≡◌, All, IfErr, IfOk, IsTrue};
+ghost use Rattle.std.specs.Prelude.{All, IfErr, IfOk, IsTrue};
 ghost use Rattle.rcu_runtime.specs.Settled.{IsCounted};
 
 use crate::any_fault::AnyFault;
@@ -35,7 +35,6 @@ fn counts_all<J: Job>(processors: &Vec<Processor<J>>, counts: &Counts) -> bool
 impl<J: Job> Whole<AllParts<Processor<J>, Group<J>, Hand<J>>> {
     ghost use Rattle.rcu_parts.specs.OneOpen.{parts_board};
     ghost use Rattle.rcu_runtime.specs.Calls.{AsksOnce, OnControl};
-    ghost use Rattle.rcu_runtime.specs.Runtimes.{Continues, accepted_in};
     ghost use Rattle.rcu_runtime.specs.Settled.{HasPassed, HasRunAll, IsWhyNotPassed};
     ghost use Rattle.rcu_runtime.specs.Waits.{TurnsUntilPassed};
 
@@ -51,12 +50,10 @@ impl<J: Job> Whole<AllParts<Processor<J>, Group<J>, Hand<J>>> {
         moment: u64,
         turns: u64,
     ) -> Result<Passed, AnyFault>
-        ensures continues { Continues self.old self.new }
         ensures passed { IfOk result (λ passed. HasPassed barrier.now.counts passed self.new) }
         ensures why { IfErr result
             (IsWhyNotPassed barrier.now.counts.n (parts_board self.old).processors) }
         ensures turns { TurnsUntilPassed moment turns barrier.now.counts result self.old self.new }
-        ensures none { accepted_in self.new ≡ accepted_in self.old }
     {
         for _made in 0..turns {
             match self.poll(barrier) {
@@ -75,10 +72,8 @@ impl<J: Job> Whole<AllParts<Processor<J>, Group<J>, Hand<J>>> {
 
     /// Whether all that was accepted so far has run: a barrier for it passes at once. Makes no turn.
     pub fn has_run_all(&mut self) -> bool
-        ensures continues { Continues self.old self.new }
         ensures run { IsTrue result → HasRunAll self.new }
         ensures asks { OnControl AsksOnce self.old self.new }
-        ensures none { accepted_in self.new ≡ accepted_in self.old }
     {
         let Ok(barrier) = self.barrier(&[]) else {
             unreachable!()

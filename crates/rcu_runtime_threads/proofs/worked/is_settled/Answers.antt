@@ -35,7 +35,7 @@ pub returns-in-AtOnce-clause-drained : goal.returns-in-AtOnce-clause-drained
 returns-in-AtOnce-clause-drained g c = λ asked. absurd (let e = c.in-AtOnce.is in cc)
 
 pub returns-in-AfterBarrier-clause-continues : goal.returns-in-AfterBarrier-clause-continues
-returns-in-AfterBarrier-clause-continues g c = c.has_run_all.ensures.continues
+returns-in-AfterBarrier-clause-continues g c = c.has_run_all.ensures.asks.continues
 
 pub returns-in-AfterBarrier-clause-at_once : goal.returns-in-AfterBarrier-clause-at_once
 returns-in-AfterBarrier-clause-at_once g c = λ asked. absurd (let e = c.in-AfterBarrier.is in cc)
@@ -47,7 +47,7 @@ pub returns-in-AfterBarrier-clause-drained : goal.returns-in-AfterBarrier-clause
 returns-in-AfterBarrier-clause-drained g c = λ asked. absurd (let e = c.in-AfterBarrier.is in cc)
 
 pub returns-in-Drained-clause-continues : goal.returns-in-Drained-clause-continues
-returns-in-Drained-clause-continues g c = c.drain.ensures.continues
+returns-in-Drained-clause-continues g c = c.drain.ensures.turns.continues
 
 pub returns-in-Drained-clause-at_once : goal.returns-in-Drained-clause-at_once
 returns-in-Drained-clause-at_once g c = λ asked. absurd (let e = c.in-Drained.is in cc)

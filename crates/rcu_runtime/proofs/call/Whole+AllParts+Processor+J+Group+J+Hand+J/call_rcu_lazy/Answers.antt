@@ -1,18 +1,12 @@
 use Rattle.std.proofs.Common.{refl}
 use Rattle.rcu_lists.specs.declared.pace.Kind.TheVariants.{Lazy}
-use Rattle.rcu_runtime.proofs.Accepted.{accepted_continues, accepted_err, accepted_none, accepted_ok, accepted_one}
-use Rattle.rcu_runtime.proofs.Wholes.{called_whole, continues_itself}
+use Rattle.rcu_runtime.proofs.Accepted.{accepted_err, accepted_none, accepted_ok, accepted_one}
+use Rattle.rcu_runtime.proofs.Wholes.{called_whole}
 use Rattle.rcu_runtime.proofs.Seen.{finds_none, in_vec}
 use Rattle.rcu_runtime.proofs.call.Whole+AllParts+Processor+J+Group+J+Hand+J.call_rcu_lazy.Goals as goal
 
-pub returns-then-p-processors-clause-continues : goal.returns-then-p-processors-clause-continues
-returns-then-p-processors-clause-continues g c = continues_itself c.args.self.now
-
 pub invariant_of-self : goal.invariant_of-self
 invariant_of-self g c = called_whole c.args.self.now c.self.inside.parts c.self.view_is c.args.p c.processors.result c.index_mut.result.now c.call_rcu_lazy.new.self c.if-p-processors.false c.processors.ensures c.index_mut.ensures.value g.J.Job.key_of g.J.Job.gives c.self.inside.limit c.call_rcu_lazy.ensures.calls.same c.call_rcu_lazy.ensures.calls.sound c.self.invariant
-
-pub returns-clause-continues : goal.returns-clause-continues
-returns-clause-continues g c = accepted_continues c.args.self.now c.self.inside.parts c.self.view_is c.args.p c.processors.result c.index_mut.result.now c.call_rcu_lazy.new.self c.if-p-processors.false c.processors.ensures c.index_mut.ensures.value c.args.moment Lazy (g.J.Job.key_of c.args.job) c.args.job c.call_rcu_lazy.result (record { same = c.call_rcu_lazy.ensures.calls.same; ok = c.call_rcu_lazy.ensures.calls.ok; err = c.call_rcu_lazy.ensures.calls.err; refused = c.call_rcu_lazy.ensures.calls.refused; full = c.call_rcu_lazy.ensures.calls.full }) c.self.invariant.close.one
 
 pub returns-clause-ok : goal.returns-clause-ok
 returns-clause-ok g c = rw c.given_back.ensures (accepted_ok c.args.self.now c.self.inside.parts c.self.view_is c.args.p c.processors.result c.index_mut.result.now c.call_rcu_lazy.new.self c.if-p-processors.false c.processors.ensures c.index_mut.ensures.value c.args.moment Lazy (g.J.Job.key_of c.args.job) c.args.job c.call_rcu_lazy.result c.self.invariant.close.one (record { same = c.call_rcu_lazy.ensures.calls.same; ok = c.call_rcu_lazy.ensures.calls.ok; err = c.call_rcu_lazy.ensures.calls.err; refused = c.call_rcu_lazy.ensures.calls.refused; full = c.call_rcu_lazy.ensures.calls.full }))

@@ -3,11 +3,8 @@ use Rattle.rcu_runtime.proofs.Drains.{never_refused, opened_for}
 use Rattle.rcu_runtime.proofs.Wholes.{continues_again}
 use Rattle.rcu_runtime.proofs.drain.Whole+AllParts+Processor+J+Group+J+Hand+J.shut_and_open.Goals as goal
 
-pub returns-clause-continues : goal.returns-clause-continues
-returns-clause-continues g c = continues_again c.args.self.now c.shut.new.self c.barrier.new.self c.shut.ensures.continues c.barrier.ensures.continues
-
 pub returns-clause-shut : goal.returns-clause-shut
-returns-clause-shut g c = opened_for c.shut.result c.in-Ok.barrier c.args.self.now c.shut.new.self c.barrier.new.self c.shut.ensures.shuts c.shut.ensures.continues.same c.in-Ok.ensures.opens c.barrier.ensures.continues.same
+returns-clause-shut g c = opened_for c.shut.result c.in-Ok.barrier c.args.self.now c.shut.new.self c.barrier.new.self c.shut.ensures.shuts c.shut.ensures.shuts.continues.same c.in-Ok.ensures.opens c.in-Ok.ensures.opens.continues.same
 
 pub shut-requires-send-J : goal.shut-requires-send-J
 shut-requires-send-J g c κs within = c.type_bounds.send-J
@@ -30,8 +27,12 @@ barrier-requires-after_bounds g c κs within = assumption
 pub unreachable-requires : goal.unreachable-requires
 unreachable-requires g c = never_refused c.in_default.field-0 c.shut.new.self c.barrier.new.self c.in_default.ensures.opens
 
-pub returns-clause-none : goal.returns-clause-none
-returns-clause-none g c = c.barrier.ensures.none ∙ c.shut.ensures.none
-
 pub returns-clause-begins : goal.returns-clause-begins
-returns-clause-begins g c = record { finals = c.shut.result; shut = c.shut.new.self; shuts = c.shut.ensures.shuts; opens = c.in-Ok.ensures.opens }
+returns-clause-begins g c = record {
+  finals = c.shut.result;
+  shut = c.shut.new.self;
+  shuts = c.shut.ensures.shuts;
+  opens = c.in-Ok.ensures.opens;
+  continues = continues_again c.args.self.now c.shut.new.self c.barrier.new.self c.shut.ensures.shuts.continues c.in-Ok.ensures.opens.continues;
+  none = c.in-Ok.ensures.opens.none ∙ c.shut.ensures.shuts.none;
+}

@@ -5,7 +5,7 @@ pub returns-in-Ok-clause-none_back : goal.returns-in-Ok-clause-none_back
 returns-in-Ok-clause-none_back g c = c.in-Ok.ensures.drained (c.if-not-drain.ensures.drained refl)
 
 pub returns-in-Ok-clause-closes : goal.returns-in-Ok-clause-closes
-returns-in-Ok-clause-closes g c = record { ended = c.drain.new.self; continues = c.drain.ensures.continues; drains = c.if-not-drain.ensures.turns; closes = c.in-Ok.ensures.closes }
+returns-in-Ok-clause-closes g c = record { ended = c.drain.new.self; continues = c.drain.ensures.turns.continues; drains = c.if-not-drain.ensures.turns; closes = c.in-Ok.ensures.closes }
 
 pub returns-then-not-drain-clause-fault : goal.returns-then-not-drain-clause-fault
 returns-then-not-drain-clause-fault g c = (c.drain.new.self, c.if-not-drain.ensures.turns)
@@ -50,7 +50,7 @@ pub close_or_drop-requires-after_bounds : goal.close_or_drop-requires-after_boun
 close_or_drop-requires-after_bounds g c κs within = assumption
 
 pub returns-in-Ok-clause-none_lost : goal.returns-in-Ok-clause-none_lost
-returns-in-Ok-clause-none_lost g c = c.in-Ok.ensures.none_lost ∙ c.drain.ensures.none
+returns-in-Ok-clause-none_lost g c = c.in-Ok.ensures.none_lost ∙ c.drain.ensures.turns.none
 
 pub returns-in-Ok-clause-receipts : goal.returns-in-Ok-clause-receipts
 returns-in-Ok-clause-receipts g c = c.in-Ok.ensures.receipts

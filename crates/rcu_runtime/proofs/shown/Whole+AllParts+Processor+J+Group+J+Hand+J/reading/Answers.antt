@@ -16,7 +16,7 @@ pub returns-in_err-processor-clause-there : goal.returns-in_err-processor-clause
 returns-in_err-processor-clause-there g c = if_ok_never _ _ c.from_residual.ensures
 
 pub returns-in_err-processor-clause-err : goal.returns-in_err-processor-clause-err
-returns-in_err-processor-clause-err g c = on_fault _ c.in_err-processor.field-0.0 (λ fault. IsNone c.args.p fault c.args.self.now) c.from_residual.ensures c.in_err-processor.ensures.err
+returns-in_err-processor-clause-err g c = on_fault _ c.in_err-processor.field-0.0 (λ fault. IsNone c.args.p fault c.args.self.now) c.from_residual.ensures c.in_err-processor.ensures.finds
 
 pub reading-requires-send-J : goal.reading-requires-send-J
 reading-requires-send-J g c κs within = c.type_bounds.send-J
@@ -28,4 +28,4 @@ pub reading-requires-after_bounds : goal.reading-requires-after_bounds
 reading-requires-after_bounds g c κs within = assumption
 
 pub returns-clause-there : goal.returns-clause-there
-returns-clause-there g c = c.in_ok-processor.ensures.ok.is.there
+returns-clause-there g c = c.in_ok-processor.ensures.finds.is.there

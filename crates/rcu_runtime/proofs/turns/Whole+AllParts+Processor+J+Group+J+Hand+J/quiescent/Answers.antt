@@ -1,20 +1,14 @@
 use Rattle.std.proofs.Common.{arith, refl}
 use Rattle.rcu_runtime.specs.Calls.{ReportsOnce}
-use Rattle.rcu_runtime.proofs.Wholes.{called_continues, called_count, called_on, called_whole, continues_itself}
+use Rattle.rcu_runtime.proofs.Wholes.{called_count, called_on, called_whole}
 use Rattle.rcu_runtime.proofs.Seen.{finds_none, in_vec}
 use Rattle.rcu_runtime.proofs.turns.Whole+AllParts+Processor+J+Group+J+Hand+J.quiescent.Goals as goal
-
-pub returns-then-p-processors-clause-continues : goal.returns-then-p-processors-clause-continues
-returns-then-p-processors-clause-continues g c = continues_itself c.args.self.now
 
 pub invariant_of-self : goal.invariant_of-self
 invariant_of-self g c = called_whole c.args.self.now c.self.inside.parts c.self.view_is c.args.p c.processors.result c.index_mut.result.now c.quiescent.new.self c.if-p-processors.false c.processors.ensures c.index_mut.ensures.value g.J.Job.key_of g.J.Job.gives c.self.inside.limit c.quiescent.ensures.same c.quiescent.ensures.sound c.self.invariant
 
-pub returns-clause-continues : goal.returns-clause-continues
-returns-clause-continues g c = called_continues c.args.self.now c.self.inside.parts c.self.view_is c.args.p c.processors.result c.index_mut.result.now c.quiescent.new.self c.if-p-processors.false c.processors.ensures c.index_mut.ensures.value c.quiescent.ensures.same (let h = c.quiescent.ensures.keeps.count in omega (arith, h)) c.self.invariant.close.one
-
 pub returns-clause-ok : goal.returns-clause-ok
-returns-clause-ok g c = called_on c.args.self.now c.self.inside.parts c.self.view_is c.args.p c.processors.result c.index_mut.result.now c.quiescent.new.self c.if-p-processors.false c.processors.ensures c.index_mut.ensures.value (ReportsOnce c.quiescent.result) c.self.invariant.close.one (record { reports = c.quiescent.ensures.reports; keeps = c.quiescent.ensures.keeps })
+returns-clause-ok g c = called_on c.args.self.now c.self.inside.parts c.self.view_is c.args.p c.processors.result c.index_mut.result.now c.quiescent.new.self c.if-p-processors.false c.processors.ensures c.index_mut.ensures.value (ReportsOnce c.quiescent.result) c.self.invariant.close.one c.quiescent.ensures.same (let h = c.quiescent.ensures.keeps.count in omega (arith, h)) (record { reports = c.quiescent.ensures.reports; keeps = c.quiescent.ensures.keeps })
 
 pub returns-clause-none : goal.returns-clause-none
 returns-clause-none g c = called_count c.args.self.now c.self.inside.parts c.self.view_is c.args.p c.processors.result c.index_mut.result.now c.quiescent.new.self c.if-p-processors.false c.processors.ensures c.index_mut.ensures.value c.quiescent.ensures.keeps.count

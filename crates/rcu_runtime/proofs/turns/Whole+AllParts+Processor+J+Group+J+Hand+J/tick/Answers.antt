@@ -1,20 +1,14 @@
 use Rattle.std.proofs.Common.{arith, refl}
 use Rattle.rcu_runtime.specs.Turns.{Ticks}
-use Rattle.rcu_runtime.proofs.Wholes.{called_continues, called_count, called_on, called_whole, continues_itself}
+use Rattle.rcu_runtime.proofs.Wholes.{called_count, called_on, called_whole}
 use Rattle.rcu_runtime.proofs.Seen.{finds_none, in_vec}
 use Rattle.rcu_runtime.proofs.turns.Whole+AllParts+Processor+J+Group+J+Hand+J.tick.Goals as goal
-
-pub returns-then-p-processors-clause-continues : goal.returns-then-p-processors-clause-continues
-returns-then-p-processors-clause-continues g c = continues_itself c.args.self.now
 
 pub invariant_of-self : goal.invariant_of-self
 invariant_of-self g c = called_whole c.args.self.now c.self.inside.parts c.self.view_is c.args.p c.processors.result c.index_mut.result.now c.tick.new.self c.if-p-processors.false c.processors.ensures c.index_mut.ensures.value g.J.Job.key_of g.J.Job.gives c.self.inside.limit c.tick.ensures.same c.tick.ensures.sound c.self.invariant
 
-pub returns-clause-continues : goal.returns-clause-continues
-returns-clause-continues g c = called_continues c.args.self.now c.self.inside.parts c.self.view_is c.args.p c.processors.result c.index_mut.result.now c.tick.new.self c.if-p-processors.false c.processors.ensures c.index_mut.ensures.value c.tick.ensures.same (let h = c.tick.ensures.count in omega (arith, h)) c.self.invariant.close.one
-
 pub returns-clause-ok : goal.returns-clause-ok
-returns-clause-ok g c = called_on c.args.self.now c.self.inside.parts c.self.view_is c.args.p c.processors.result c.index_mut.result.now c.tick.new.self c.if-p-processors.false c.processors.ensures c.index_mut.ensures.value (Ticks c.args.moment c.tick.result) c.self.invariant.close.one (record { ticks = c.tick.ensures.ticks; few = c.tick.ensures.few; first = c.tick.ensures.first; fresh = c.tick.ensures.fresh; local = c.tick.ensures.local; none = c.tick.ensures.none })
+returns-clause-ok g c = called_on c.args.self.now c.self.inside.parts c.self.view_is c.args.p c.processors.result c.index_mut.result.now c.tick.new.self c.if-p-processors.false c.processors.ensures c.index_mut.ensures.value (Ticks c.args.moment c.tick.result) c.self.invariant.close.one c.tick.ensures.same (let h = c.tick.ensures.count in omega (arith, h)) (record { ticks = c.tick.ensures.ticks; few = c.tick.ensures.few; first = c.tick.ensures.first; fresh = c.tick.ensures.fresh; local = c.tick.ensures.local; none = c.tick.ensures.none })
 
 pub returns-clause-none : goal.returns-clause-none
 returns-clause-none g c = called_count c.args.self.now c.self.inside.parts c.self.view_is c.args.p c.processors.result c.index_mut.result.now c.tick.new.self c.if-p-processors.false c.processors.ensures c.index_mut.ensures.value c.tick.ensures.count

@@ -1,19 +1,13 @@
 use Rattle.std.proofs.Common.{refl}
 use Rattle.rcu_runtime.proofs.AllTurns.{all_turned, turns_all}
-use Rattle.rcu_runtime.proofs.Wholes.{turned_continues, turned_count, turned_whole}
+use Rattle.rcu_runtime.proofs.Wholes.{turned_whole}
 use Rattle.rcu_runtime.proofs.turns.Whole+AllParts+Processor+J+Group+J+Hand+J.turn_all.Goals as goal
 
 pub invariant_of-self : goal.invariant_of-self
 invariant_of-self g c = turned_whole g.J.Job.key_of g.J.Job.gives c.self.inside.limit c.self.inside.parts _ (all_turned g.J.Job.key_of g.J.Job.gives c.self.inside.parts _ c.args.moment c.turn_each_processor.ensures c.turn_each_group.ensures c.turn_each_hand.ensures c.turn.ensures.same refl) c.self.invariant
 
-pub returns-clause-continues : goal.returns-clause-continues
-returns-clause-continues g c = turned_continues g.J.Job.key_of g.J.Job.gives c.args.self.now c.self.inside.parts _ c.self.view_is (all_turned g.J.Job.key_of g.J.Job.gives c.self.inside.parts _ c.args.moment c.turn_each_processor.ensures c.turn_each_group.ensures c.turn_each_hand.ensures c.turn.ensures.same refl) c.self.invariant.close.one
-
-pub returns-clause-turns : goal.returns-clause-turns
-returns-clause-turns g c = turns_all g.J.Job.key_of g.J.Job.gives c.args.self.now c.self.inside.parts _ c.self.view_is c.args.moment c.turn.result c.turn_each_processor.ensures c.turn_each_group.ensures c.turn_each_hand.ensures c.turn.ensures.turn refl
-
-pub returns-clause-none : goal.returns-clause-none
-returns-clause-none g c = turned_count g.J.Job.key_of g.J.Job.gives c.args.self.now c.self.inside.parts (record { processors = c.turn_each_processor.new.processors; driver = c.turn.new.self; groups = c.turn_each_group.new.groups; hands = c.turn_each_hand.new.hands; control = c.self.inside.parts.control }) c.self.view_is (all_turned g.J.Job.key_of g.J.Job.gives c.self.inside.parts _ c.args.moment c.turn_each_processor.ensures c.turn_each_group.ensures c.turn_each_hand.ensures c.turn.ensures.same refl)
+pub returns : goal.returns
+returns g c = record { turns = turns_all g.J.Job.key_of g.J.Job.gives c.args.self.now c.self.inside.parts _ c.self.view_is (all_turned g.J.Job.key_of g.J.Job.gives c.self.inside.parts _ c.args.moment c.turn_each_processor.ensures c.turn_each_group.ensures c.turn_each_hand.ensures c.turn.ensures.same refl) c.self.invariant.close.one c.args.moment c.turn.result c.turn_each_processor.ensures c.turn_each_group.ensures c.turn_each_hand.ensures c.turn.ensures.turn refl }
 
 pub turn_each_processor-requires-send-J : goal.turn_each_processor-requires-send-J
 turn_each_processor-requires-send-J g c κs within = c.type_bounds.send-J

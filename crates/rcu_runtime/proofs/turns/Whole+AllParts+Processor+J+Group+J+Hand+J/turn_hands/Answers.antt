@@ -1,19 +1,13 @@
 use Rattle.std.proofs.Common.{refl}
 use Rattle.rcu_runtime.proofs.AllTurns.{turns_hands}
-use Rattle.rcu_runtime.proofs.Wholes.{cpus_itself, driver_itself, groups_itself, hands_stay, seen_count, turned_continues, turned_whole}
+use Rattle.rcu_runtime.proofs.Wholes.{cpus_itself, driver_itself, groups_itself, hands_stay, turned_whole}
 use Rattle.rcu_runtime.proofs.turns.Whole+AllParts+Processor+J+Group+J+Hand+J.turn_hands.Goals as goal
 
 pub invariant_of-self : goal.invariant_of-self
 invariant_of-self g c = turned_whole g.J.Job.key_of g.J.Job.gives c.self.inside.limit c.self.inside.parts _ (record { processors = cpus_itself g.J.Job.key_of g.J.Job.gives c.self.inside.parts.processors.items; groups = groups_itself c.self.inside.parts.groups.items; hands = hands_stay g.J.Job.key_of g.J.Job.gives _ _ c.turn_each_hand.ensures; driver = driver_itself c.self.inside.parts.driver; control = refl }) c.self.invariant
 
-pub returns-clause-continues : goal.returns-clause-continues
-returns-clause-continues g c = turned_continues g.J.Job.key_of g.J.Job.gives c.args.self.now c.self.inside.parts _ c.self.view_is (record { processors = cpus_itself g.J.Job.key_of g.J.Job.gives c.self.inside.parts.processors.items; groups = groups_itself c.self.inside.parts.groups.items; hands = hands_stay g.J.Job.key_of g.J.Job.gives _ _ c.turn_each_hand.ensures; driver = driver_itself c.self.inside.parts.driver; control = refl }) c.self.invariant.close.one
-
-pub returns-clause-turns : goal.returns-clause-turns
-returns-clause-turns g c = turns_hands g.J.Job.key_of g.J.Job.gives c.args.self.now c.self.inside.parts _ c.self.view_is c.turn_each_hand.ensures refl refl refl refl
-
-pub returns-clause-none : goal.returns-clause-none
-returns-clause-none g c = seen_count c.args.self.now c.self.inside.parts c.self.view_is
+pub returns : goal.returns
+returns g c = record { turns = turns_hands g.J.Job.key_of g.J.Job.gives c.args.self.now c.self.inside.parts _ c.self.view_is (record { processors = cpus_itself g.J.Job.key_of g.J.Job.gives c.self.inside.parts.processors.items; groups = groups_itself c.self.inside.parts.groups.items; hands = hands_stay g.J.Job.key_of g.J.Job.gives _ _ c.turn_each_hand.ensures; driver = driver_itself c.self.inside.parts.driver; control = refl }) c.self.invariant.close.one c.turn_each_hand.ensures refl refl refl refl }
 
 pub turn_each_hand-requires-send-J : goal.turn_each_hand-requires-send-J
 turn_each_hand-requires-send-J g c κs within = c.type_bounds.send-J
