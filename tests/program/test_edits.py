@@ -155,6 +155,23 @@ class Ends(unittest.TestCase):
         self.assertEqual(edits_program().end_of("fmt", "rcu_part_hand", said).name, "UNKNOWN")
 
 
+class Mentions(unittest.TestCase):
+    """`mentions`: whether a text may call a function, by how it is named."""
+
+    def test_a_method(self):
+        mentions = edits_program().mentions
+        for text in ("self.new()", "Hand::new(1)", "Self::new(1)"):
+            self.assertTrue(mentions(text, "Hand::new"), text)
+        for text in ("Vec::new(1)", "let new = 1;", "self.newest()"):
+            self.assertFalse(mentions(text, "Hand::new"), text)
+
+    def test_a_function_of_a_module(self):
+        mentions = edits_program().mentions
+        for text in ("look(1)", "turn::look(1)", "map(look)"):
+            self.assertTrue(mentions(text, "turn::look"), text)
+        self.assertFalse(mentions("self.look(1)", "turn::look"))
+
+
 class Rounds(unittest.TestCase):
     """`round_of`: the first that is left, and others of functions that don't name each other."""
 
