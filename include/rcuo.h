@@ -121,7 +121,7 @@ static inline const char *rcuo_strerror(enum rcuo_answer answer) {
 
 /* A place for one part of a runtime. Opaque; all zero it is empty. */
 struct rcuo_slot {
-    bool full;
+    uint64_t full;
     void *part;
     uint64_t reading;
     uint64_t filling[5];

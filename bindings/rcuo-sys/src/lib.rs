@@ -93,8 +93,8 @@ pub const RCUO_NOT_AWAY: rcuo_answer = 22;
 #[repr(C)]
 #[derive(Clone, Copy, Debug)]
 pub struct rcuo_slot {
-    /// Whether it has a part.
-    pub full: bool,
+    /// 1 where it has a part, else 0.
+    pub full: u64,
     part: *mut c_void,
     reading: u64,
     filling: [u64; 5],
@@ -102,7 +102,7 @@ pub struct rcuo_slot {
 
 impl rcuo_slot {
     /// A slot without a part.
-    pub const EMPTY: rcuo_slot = rcuo_slot { full: false, part: ptr::null_mut(), reading: 0, filling: [0; 5] };
+    pub const EMPTY: rcuo_slot = rcuo_slot { full: 0, part: ptr::null_mut(), reading: 0, filling: [0; 5] };
 }
 
 /// The slots of a runtime.

@@ -366,7 +366,7 @@ impl Slots {
 impl Drop for Slots {
     fn drop(&mut self) {
         // A runtime all of whose parts were dropped: the jobs that didn't run are dropped too.
-        if self.slots.get_mut().control.full {
+        if self.slots.get_mut().control.full != 0 {
             // SAFETY: each handle has the slots, so there is none.
             let _ = unsafe { self.close() };
         }
@@ -500,7 +500,7 @@ impl fmt::Debug for Closed {
 
 /// The places whose slots are full.
 fn full(slots: &[ffi::rcuo_slot]) -> PlaceSet {
-    slots.iter().enumerate().filter(|(_, slot)| slot.full).map(|(at, _)| at).collect()
+    slots.iter().enumerate().filter(|(_, slot)| slot.full != 0).map(|(at, _)| at).collect()
 }
 
 /// Opens a runtime.

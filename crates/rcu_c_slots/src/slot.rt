@@ -2,6 +2,7 @@
 
 ghost use Rattle.std.specs.Prelude.{◌≡◌, ◌≢◌, true, false, None, Some, IfSome, IfNone, is_some};
 ghost use Rattle.std.specs.Coded.{coded_option};
+ghost use Rattle.std.specs.Int.{from_bool};
 ghost use Rattle.std.specs.declared.option.Option.{Option};
 ghost use Rattle.rcu_c_slots.specs.Holding.{holds};
 ghost use Rattle.rcu_c_slots.specs.contracts.part.Lent.{the_row as lent_row};
@@ -73,13 +74,14 @@ pub fn may_change_threads(lent: &Box<Lent, Global>, slots: &PartSlots) {
     is_send(slots);
 }
 
-/// A boxed part by its pointer, or nothing, and which of the two.
+/// A boxed part by its pointer, or nothing, and which of the two: 1 or 0, in a word of its own, since a flag of one byte has a call
+/// carry the seven bytes behind it too.
 #[repr(C)]
 #[derive(Drop)]
 pub struct HeldPart {
-    full: bool,
+    full: u64,
     pub part: LoosePart,
-    ghost fits: { full ≡ is_some part.value },
+    ghost fits: { full ≡ from_bool (is_some part.value) },
 }
 
 /// A place for a part, which the program keeps. All zero it is empty.
@@ -102,11 +104,11 @@ impl Slot {
         ensures reading { self.new.reading ≡ self.old.reading }
     {
         let empty = HeldPart {
-            full: false,
+            full: 0,
             part: LoosePart::empty(alloc),
         };
         let HeldPart { full, part } = replace(&mut self.held, empty);
-        if !full {
+        if full == 0 {
             return None;
         }
         Some(part.into_loose().into_box())
@@ -118,7 +120,7 @@ impl Slot {
         ensures reading { self.new.reading ≡ self.old.reading }
     {
         self.held = HeldPart {
-            full: true,
+            full: 1,
             part: LoosePart::of(Loose::of(lent)),
         };
     }
@@ -128,7 +130,7 @@ impl Slot {
         ensures full { result ≡ true → self.now.held.part.value ≢ None }
         ensures empty { result ≡ false → self.now.held.part.value ≡ None }
     {
-        self.held.full
+        self.held.full != 0
     }
 }
 

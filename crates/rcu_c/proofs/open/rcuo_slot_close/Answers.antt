@@ -1,4 +1,4 @@
-use Rattle.std.proofs.Common.{◌≡◌, refl, sym, ◌∙◌, arith}
+use Rattle.std.proofs.Common.{◌≡◌, refl, sym, ap, inr, ◌∙◌, arith}
 use Rattle.std.specs.declared.result.Result.TheVariants.{Ok, Err}
 use Rattle.rcu_c_slots.specs.Faults.{fault_number}
 use Rattle.rcu_c_slots.specs.declared.fault.Fault.{Fault}
@@ -37,3 +37,6 @@ returns-in-Err-clause-tells c = record { result = Err c.in-Err.fault; does = c.i
 
 pub returns-in-Err-clause-there : goal.returns-in-Err-clause-there
 returns-in-Err-clause-there c = λ done. absurd (no_fault c.in-Err.fault (sym c.number.ensures ∙ done))
+
+pub returns-in-Err-clause-memory : goal.returns-in-Err-clause-memory
+returns-in-Err-clause-memory c = λ there. inr (c.number.ensures ∙ ap fault_number (c.in-Err.ensures.memory there))
