@@ -1,6 +1,8 @@
 -- What the turn calls of the tests ask of a core, and how they leave it.
-use Rattle.std.specs.Prelude.{ℕ, ◌<◌, length}
-use Rattle.rcu_world.specs.Turns.{IsAtRest}
+use Rattle.std.specs.Prelude.{ℕ, ◌<◌, List, OnOk, Result, length}
+use Rattle.rcu_world_law.specs.Events.{CoreEvent}
+use Rattle.rcu_world_law.specs.States.{State}
+use Rattle.rcu_world.specs.Turns.{IsAtRest, Leads}
 use Rattle.rcu_world.specs.Views.{state}
 use Rattle.rcu_world.specs.Worlds.{IsWorld}
 use Rattle.rcu_world.specs.declared.cores.Core.{Core}
@@ -10,3 +12,8 @@ pub record IsResting {J R : Type 0} (key_of : J → ℕ) (gives : ℕ → R → 
   pub world : IsWorld key_of gives c
   pub rest : IsAtRest (state key_of c)
   pub there : 0 < length (state key_of c).cpus
+
+-- A step of a test leaves the core at rest; where it succeeds, it made these events.
+pub record RestsAfter {J R E : Type 0} (key_of : J → ℕ) (gives : ℕ → R → Type 0) (events : State → List CoreEvent) (result : Result (Unit {0}) E) (old new : Core J R) : Type 0 where
+  pub resting : IsResting key_of gives new
+  pub leads : OnOk result (Leads (state key_of old) (events (state key_of old)) (state key_of new))

@@ -1,9 +1,11 @@
 //! Turn calls of a core at rest, of its processor 0, each with the answer that a test wants of it.
 
-ghost use Rattle.std.specs.Prelude.{◌≡◌, false, OnOk};
+ghost use Rattle.std.specs.Prelude.{◌≡◌, ◌∷◌, [], false, OnOk};
+ghost use Rattle.rcu_world_law.specs.Events.CoreEvent.{Report, Return};
 ghost use Rattle.rcu_world_law.specs.States.{cpu_at};
+ghost use Rattle.rcu_world.specs.Turns.{driver_events, leave_events};
 ghost use Rattle.rcu_world.specs.Views.{state};
-ghost use Rattle.test_world.specs.Resting.{IsResting};
+ghost use Rattle.test_world.specs.Resting.{IsResting, RestsAfter};
 
 use rcu_jobs::{DriverTurn, Job, Ticket};
 use rcu_world::World;
@@ -23,7 +25,8 @@ pub(crate) fn expect_here<J: Job>(world: &World<J>, cpu: u64) -> Result<(), Fail
 // Processor 0 leaves.
 pub(crate) fn leave<J: Job>(world: &mut World<J>) -> Result<(), Fail>
     requires { IsResting J.key_of J.gives world.old.core }
-    ensures { IsResting J.key_of J.gives world.new.core }
+    ensures { RestsAfter J.key_of J.gives (leave_events 0) result world.old.core
+        world.new.core }
 {
     if world.is_away(0) {
         return Err(Fail::from("away"));
@@ -35,7 +38,8 @@ pub(crate) fn leave<J: Job>(world: &mut World<J>) -> Result<(), Fail>
 // Processor 0 comes back.
 pub(crate) fn come_back<J: Job>(world: &mut World<J>) -> Result<(), Fail>
     requires { IsResting J.key_of J.gives world.old.core }
-    ensures { IsResting J.key_of J.gives world.new.core }
+    ensures { RestsAfter J.key_of J.gives (λ w. Return 0 ∷ []) result world.old.core
+        world.new.core }
 {
     if !world.is_away(0) {
         return Err(Fail::from("here"));
@@ -83,7 +87,8 @@ pub(crate) fn drive<J: Job>(
     turn: DriverTurn,
 ) -> Result<(), Fail>
     requires { IsResting J.key_of J.gives world.old.core }
-    ensures { IsResting J.key_of J.gives world.new.core }
+    ensures { RestsAfter J.key_of J.gives driver_events result world.old.core
+        world.new.core }
 {
     let turned = world.driver_turn()?;
     assert_eq!(rt; turned, turn);
@@ -97,7 +102,8 @@ pub(crate) fn report<J: Job>(
     counted: Option<u64>,
 ) -> Result<(), Fail>
     requires { IsResting J.key_of J.gives world.old.core }
-    ensures { IsResting J.key_of J.gives world.new.core }
+    ensures { RestsAfter J.key_of J.gives (λ w. Report 0 ∷ []) result world.old.core
+        world.new.core }
 {
     if world.is_away(0) {
         return Err(Fail::from("away"));
