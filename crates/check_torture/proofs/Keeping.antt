@@ -7,7 +7,8 @@ use Rattle.rcu_part_processor.specs.declared.away.AwayState.{AwayState}
 use Rattle.check_torture.specs.declared.retire.Retire.{Retire}
 use Rattle.rcu_part_processor.proofs.TickRuns.{same_processor, same_processor_again}
 use Rattle.check_torture.specs.Ends.{CpuKeeps}
-use Rattle.check_torture.specs.Kept.{Cpu, Keeps}
+use Rattle.check_torture.specs.Kept.{Cpu, Keeps, SteersOn}
+use Rattle.check_torture.specs.declared.steerer.Steerer.{Steerer}
 use Rattle.check_torture.specs.Retired.{IsVersion, version_of}
 
 -- nothing was done
@@ -55,3 +56,11 @@ keeps_if_ok (Err e) P p q same sound one h = tt
 pub keeps_if_err : {T E : Type 0} (r : Result T E) (P : E → Type 0) (p q : Cpu) → SameProcessor p.state q.state → (IsSound version_of IsVersion p.state → IsSound version_of IsVersion q.state) → ((e : E) → P e → q.state.accepted ≡ p.state.accepted) → IfErr r P → IfErr r (λ _. Keeps 0 0 p q)
 keeps_if_err (Ok t) P p q same sound none h = tt
 keeps_if_err (Err e) P p q same sound none h = keeps_count 0 p q same sound (none e h)
+
+-- control steered on, and then did so again
+pub steers_again : (a b c : Steerer) → SteersOn a b → SteersOn b c → SteersOn a c
+steers_again a b c h k = record {
+  steers = same_again _ _ _ _ _ _ h.steers k.steers;
+  drained = k.drained ∙ h.drained;
+  many = k.many ∙ h.many;
+}

@@ -7,7 +7,7 @@ use Rattle.rcu_lists.specs.declared.pace.Kind.TheVariants.{Plain, Lazy}
 use Rattle.rcu_part_processor.specs.Calls.{IsAccepted}
 use Rattle.rcu_part_processor.specs.Processors.{view_of}
 use Rattle.rcu_part_steps.specs.Reports.{Reports}
-use Rattle.check_torture.specs.Kept.{Cpu}
+use Rattle.check_torture.specs.Kept.{Cpu, GoesOn}
 use Rattle.check_torture.specs.Retired.{version_of}
 use Rattle.check_torture.specs.Sums.{sum_up}
 use Rattle.check_torture.specs.declared.acts.Actor.{Actor}
@@ -38,14 +38,34 @@ pub record CallsOnce (job : Retire) (old new : Actor) : Type 0 where
 abbrev pub one_barrier : Counters → Counters
 one_barrier c = record c { barriers = sum_up c.barriers 1 }
 
--- Its processor made one report, and the thread's count rose by one where that was counted.
-pub record ReportsOnce (old new : Actor) : Type 0 where
-  pub counted : Option ℕ
-  pub reports : Reports old.processor.state.cpu counted (view_of old.processor.state) (view_of new.processor.state)
-  pub told : new.counters.reports ≡ sum_up old.counters.reports (from_bool (is_some counted))
-
 -- It is of the same processor, at the same moment, with as many calls left of a burst.
 pub record StaysInPlace (old new : Actor) : Type 0 where
   pub cpu : new.cpu ≡ old.cpu
   pub moment : new.moment ≡ old.moment
   pub burst : new.burst ≡ old.burst
+
+-- The thread goes on, and no key more is counted, so its processor accepted nothing.
+pub record ActsBeside (old new : Actor) : Type 0 where
+  pub goes_on : GoesOn old new
+  pub keys : new.keys ≡ old.keys
+
+-- It counted an accepted call of this kind, and nothing else.
+pub record CountsCall (kind : Kind) (old new : Actor) : Type 0 where
+  pub counted : new.counters ≡ one_call kind old.counters
+  pub stays : new.processor ≡ old.processor
+  pub beside : ActsBeside old new
+  pub place : StaysInPlace old new
+
+-- It counted a barrier more that was opened, and nothing else.
+pub record CountsBarrier (old new : Actor) : Type 0 where
+  pub counted : new.counters ≡ one_barrier old.counters
+  pub beside : ActsBeside old new
+  pub place : StaysInPlace old new
+
+-- Its processor made one report, the thread's count rose by one where that was counted, and nothing else was done.
+pub record ReportsOnce (old new : Actor) : Type 0 where
+  pub counted : Option ℕ
+  pub reports : Reports old.processor.state.cpu counted (view_of old.processor.state) (view_of new.processor.state)
+  pub told : new.counters.reports ≡ sum_up old.counters.reports (from_bool (is_some counted))
+  pub beside : ActsBeside old new
+  pub place : StaysInPlace old new

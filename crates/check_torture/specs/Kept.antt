@@ -30,3 +30,9 @@ GoesOn old new = Keeps (length old.keys.items) (length new.keys.items) old.proce
 -- what control's acts keep
 abbrev pub Steers : Steerer → Steerer → Type 0
 Steers old new = SameControl old.control new.control
+
+-- what they keep that are no drain: no drain is counted
+pub record SteersOn (old new : Steerer) : Type 0 where
+  pub steers : Steers old new
+  pub drained : new.counters.drained ≡ old.counters.drained
+  pub many : new.processors ≡ old.processors

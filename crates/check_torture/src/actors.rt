@@ -2,6 +2,7 @@
 
 ghost use Rattle.std.specs.Prelude.{◌≡◌, ◌≢◌, ◌+◌, ◌/◌, ◌%◌, ◌<◌, ◌≤◌, ◌↔◌, [], length, IfOk, IfSome, IsTrue, None, vec_len};
 ghost use Rattle.std.specs.List.{AllZip};
+ghost use Rattle.check_torture.specs.Acts.{ActsBeside};
 ghost use Rattle.check_torture.specs.Endings.{place_of, more_of};
 ghost use Rattle.check_torture.specs.Kept.{GoesOn, Keeps};
 
@@ -141,7 +142,7 @@ impl Actor {
 
     /// Goes on without calls until all processors have accepted their shares; but not for ever.
     fn await_others(&mut self)
-        ensures { GoesOn self.old self.new }
+        ensures { ActsBeside self.old self.new }
     {
         for _ in 0..MOST_ACTS {
             if self.is_last() {

@@ -1,7 +1,7 @@
 //! What a processor's thread does: random calls, read sections, reports, ticks and barriers.
 
 ghost use Rattle.std.specs.Prelude.{IfErr, IfOk, IfSome, IsTrue, None, Some, ◌≡◌, ◌+◌, ◌<◌, ◌↔◌, [], length};
-ghost use Rattle.check_torture.specs.Acts.{CallsAs, CallsOnce, ReportsOnce, StaysInPlace, one_barrier, one_call};
+ghost use Rattle.check_torture.specs.Acts.{ActsBeside, CallsAs, CallsOnce, CountsBarrier, CountsCall, ReportsOnce};
 ghost use Rattle.check_torture.specs.Kept.{Accepts, GoesOn, Keeps};
 ghost use Rattle.check_torture.specs.Left.{IsCount};
 ghost use Rattle.check_torture.specs.Sums.{one_current, one_freed, one_removed};
@@ -209,11 +209,7 @@ impl Actor {
 
     /// Counts a callback that was accepted.
     fn accepted(&mut self, ticket: Ticket, kind: Kind)
-        ensures goes_on { GoesOn self.old self.new }
-        ensures keys { self.new.keys ≡ self.old.keys }
-        ensures stays { self.new.processor ≡ self.old.processor }
-        ensures counted { self.new.counters ≡ one_call kind self.old.counters }
-        ensures place { StaysInPlace self.old self.new }
+        ensures { CountsCall kind self.old self.new }
     {
         let accepted = ticket.number.saturating_add(1);
         self.shared.accept(self.cpu, accepted);
@@ -272,9 +268,7 @@ impl Actor {
 
     /// A report.
     fn report(&mut self)
-        ensures goes_on { GoesOn self.old self.new }
-        ensures place { StaysInPlace self.old self.new }
-        ensures reports { ReportsOnce self.old self.new }
+        ensures { ReportsOnce self.old self.new }
     {
         let counted = self.processor.quiescent().is_some();
         self.counters.reports = self.counters.reports.saturating_add(u64::from(counted));
@@ -282,9 +276,7 @@ impl Actor {
 
     /// Opens a barrier, and leaves it to control to poll it.
     pub(crate) fn open_barrier(&mut self)
-        ensures goes_on { GoesOn self.old self.new }
-        ensures place { StaysInPlace self.old self.new }
-        ensures counted { self.new.counters ≡ one_barrier self.old.counters }
+        ensures { CountsBarrier self.old self.new }
     {
         let barrier = self.processor.barrier();
         let counted = counts_own(&barrier, self.cpu, self.processor.accepted());
@@ -295,8 +287,7 @@ impl Actor {
 
     /// The processor is away for a while, and back.
     pub(crate) fn away_for_a_while(self) -> Actor
-        ensures goes_on { GoesOn self result }
-        ensures keys { result.keys ≡ self.keys }
+        ensures { ActsBeside self result }
     {
         let Actor {
             processor,
@@ -324,7 +315,7 @@ impl Actor {
 
     /// Something other than a call.
     pub(crate) fn act(&mut self)
-        ensures { GoesOn self.old self.new }
+        ensures { ActsBeside self.old self.new }
     {
         self.moment = self.moment.saturating_add(self.chance.below(PACE));
         if self.chance.once_in(BARRIERS) {

@@ -18,10 +18,9 @@
 //! - Of words that are refused, want of memory is said as that, and every other error as it is.
 //! - That each check notes its flaw is tested.
 //! - By `drive` (`Keeps`), `run_to_end` (`ClosesSame`), `are_numbered`, `are_ready`, `are_given`, `are_keyed`,
-//!   `counts_own`, `saw`, `Actor::call` (`accepted`, `once`), `report` (`reports`, `place`), `open_barrier`
-//!   (`counted`, `place`), `drain` (`told`, `stays`, `many`), `Plan::ending`, `Plan::share` (`first`,
-//!   `others`), `Plan::shape`, `Counters::add`, `line`, the conversion of clap's error into a `Refusal`
-//!   (`from_gives`: `Refuses` in specs/Words.antt).
+//!   `counts_own`, `saw`, `Actor::call` (`accepted`, `once`), `report`, `open_barrier`, `drain` (`told`, `stays`,
+//!   `many`), `Plan::ending`, `Plan::share` (`first`, `others`), `Plan::shape`, `Counters::add`, `line`, the
+//!   conversion of clap's error into a `Refusal` (`from_gives`: `Refuses` in specs/Words.antt).
 #![tactic(auto)]
 
 ghost use Rattle.std.specs.Prelude.{◌≡◌};

@@ -2,7 +2,7 @@
 
 ghost use Rattle.std.specs.Prelude.{◌≡◌, IfSome, true, false};
 ghost use Rattle.rcu_part_control.specs.Parts.{control_board};
-ghost use Rattle.check_torture.specs.Kept.{Steers};
+ghost use Rattle.check_torture.specs.Kept.{Steers, SteersOn};
 ghost use Rattle.check_torture.specs.Sums.{sum_up};
 
 use crate::chance::Chance;
@@ -63,7 +63,7 @@ fn keep_counts(passes: &mut Vec<Vec<u64>>, counts: &Counts) {
 impl Steerer {
     /// Asks for a switch of some processor, which isn't done where that isn't offloadable.
     fn switch(&mut self)
-        ensures { Steers self.old self.new }
+        ensures { SteersOn self.old self.new }
     {
         let p = self.chance.below(self.processors.max(1));
         let asked = if self.chance.once_in(2) {
@@ -80,7 +80,7 @@ impl Steerer {
     /// Polls a barrier some times. Where it passes, what it counted has to have run.
     fn poll(&mut self, clock: &impl Clock, barrier: Barrier)
         requires open { (control_board self.old.control).processors ≡ barrier.counts.n }
-        ensures { Steers self.old self.new }
+        ensures { SteersOn self.old self.new }
     {
         let mut barrier = barrier;
         for _ in 0..self.chance.below(POLLS) {
@@ -97,11 +97,9 @@ impl Steerer {
     /// Opens a barrier with the last ticket of each processor. None for want of memory, or where it is refused, which is a
     /// flaw.
     fn open_barrier(&mut self, alloc: Global) -> Option<Barrier>
-        ensures steers { Steers self.old self.new }
+        ensures steers { SteersOn self.old self.new }
         ensures open { IfSome result (λ b.
             (control_board self.new.control).processors ≡ b.counts.n) }
-        ensures drained { self.new.counters.drained ≡ self.old.counters.drained }
-        ensures many { self.new.processors ≡ self.old.processors }
     {
         let tickets = self.shared.tickets(alloc).ok()?;
         let Ok(barrier) = self.control.barrier(tickets.as_slice()) else {
@@ -116,7 +114,7 @@ impl Steerer {
 
     /// A barrier of control's own, and then one that a processor opened.
     fn pass_barriers(&mut self, clock: &impl Clock, alloc: Global)
-        ensures { Steers self.old self.new }
+        ensures { SteersOn self.old self.new }
     {
         let Some(own) = self.open_barrier(alloc) else {
             return;
@@ -132,7 +130,7 @@ impl Steerer {
 
     /// Random acts until all processors have accepted their shares.
     fn steer<R: Wait + Clock>(&mut self, rt: &R, alloc: Global)
-        ensures { Steers self.old self.new }
+        ensures { SteersOn self.old self.new }
     {
         for _ in rt.forever() {
             if self.shared.have_arrived() {

@@ -9,11 +9,11 @@ returns-in-Ok-call_as-clause-goes_on c =
     let one = c.in-Ok-call_as.ensures.accepted in
     let more : length c.push_reserved.new.self.items ≡ length c.args.self.now.keys.items + 1 =
     ap length c.push_reserved.ensures.items ∙ length_push _ _ ∙ ap (λ items. length items + 1) c.reserve.ensures.items in
-    keeps_again _ _ _ _ _ _ (keeps_one _ _ _ _ one.same one.sound (omega (arith, one.pace)) more) c.accepted.ensures.goes_on
+    keeps_again _ _ _ _ _ _ (keeps_one _ _ _ _ one.same one.sound (omega (arith, one.pace)) more) c.accepted.ensures.beside.goes_on
 
 pub returns-in-Ok-call_as-clause-accepted : goal.returns-in-Ok-call_as-clause-accepted
 returns-in-Ok-call_as-clause-accepted c = λ is.
-    ap (λ keys. length keys.items) c.accepted.ensures.keys
+    ap (λ keys. length keys.items) c.accepted.ensures.beside.keys
     ∙ (ap length c.push_reserved.ensures.items ∙ length_push _ _ ∙ ap (λ items. length items + 1) c.reserve.ensures.items)
 
 pub returns-in-Ok-call_as-clause-once : goal.returns-in-Ok-call_as-clause-once

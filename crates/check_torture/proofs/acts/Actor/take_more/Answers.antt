@@ -5,7 +5,7 @@ pub returns-then-more-eq0 : goal.returns-then-more-eq0
 returns-then-more-eq0 c = keeps_none _ _
 
 pub loop-init : goal.loop-init
-loop-init c = c.await_others.ensures
+loop-init c = c.await_others.ensures.goes_on
 
 pub loop-preserved : goal.loop-preserved
 loop-preserved c = keeps_again _ _ _ _ _ _ c.loop.invariant c.round-called.ensures
