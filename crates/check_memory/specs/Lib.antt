@@ -1,4 +1,5 @@
 pub mod Answers
+pub mod Asks
 pub mod Driven
 pub mod Ends
 pub mod Shows

@@ -2,6 +2,7 @@
 //! refused a growth is made once more.
 
 ghost use Rattle.std.specs.Prelude.{◌≡◌, true};
+ghost use Rattle.check_memory.specs.Asks.{MakesOnce};
 ghost use Rattle.check_memory.specs.Ends.{accepted_in};
 ghost use Rattle.check_memory.specs.Shows.{lists_of, number_of};
 ghost use Rattle.check_memory.specs.Works.{callback_key};
@@ -100,7 +101,7 @@ impl Progress {
     /// Makes one call, and checks what stands after it.
     fn make_once<M: Machine>(&mut self, machine: &mut M, action: Action) -> Result<Step, Broken>
         requires { M.holds machine.old }
-        ensures holds { M.holds machine.new }
+        ensures once { MakesOnce M.holds action result machine.new self.old self.new }
     {
         let before = shown(machine)?;
         self.moment = self.moment.wrapping_add(match action {

@@ -1,7 +1,7 @@
 //! The scenario of the core.
 
 ghost use Rattle.std.specs.Prelude.{IfOk};
-ghost use Rattle.check_memory.specs.Driven.{IsDrivenWorld};
+ghost use Rattle.check_memory.specs.Driven.{IsDrivenWorld, LeavesDriven};
 ghost use Rattle.check_memory.specs.Works.{IsOwnKey, key_of_work};
 ghost use Rattle.rcu_world.specs.Worlds.{IsWorld};
 
@@ -89,7 +89,7 @@ fn make_at(world: &mut World<Work>, cpu: Cpu, action: Action, moment: u64, key: 
 /// A turn of the only group.
 fn turn_group(world: &mut World<Work>) -> Answer
     requires { IsDrivenWorld world.old }
-    ensures { IsDrivenWorld world.new }
+    ensures { LeavesDriven Growth.GroupJoin result world.new }
 {
     if !world.has_group(1) {
         return Answer::Other;
@@ -103,7 +103,7 @@ fn turn_group(world: &mut World<Work>) -> Answer
 /// A turn of the only hand.
 fn turn_hand(world: &mut World<Work>) -> Answer
     requires { IsDrivenWorld world.old }
-    ensures { IsDrivenWorld world.new }
+    ensures { LeavesDriven Growth.HandRecord result world.new }
 {
     if !world.has_hand(1) {
         return Answer::Other;
@@ -120,7 +120,7 @@ fn turn_hand(world: &mut World<Work>) -> Answer
 /// A turn of the driver.
 fn drive(world: &mut World<Work>) -> Answer
     requires { IsDrivenWorld world.old }
-    ensures { IsDrivenWorld world.new }
+    ensures { LeavesDriven Growth.DriverTurn result world.new }
 {
     match world.driver_turn() {
         Ok(_) => Answer::Done,
@@ -131,7 +131,7 @@ fn drive(world: &mut World<Work>) -> Answer
 /// Shuts both processors.
 fn shut(world: &mut World<Work>) -> Answer
     requires { IsDrivenWorld world.old }
-    ensures { IsDrivenWorld world.new }
+    ensures { LeavesDriven Growth.Shut result world.new }
 {
     match world.shut() {
         Ok(counts) => Answer::Shut(counts),
