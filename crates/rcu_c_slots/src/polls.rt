@@ -20,7 +20,8 @@ impl LentProcessor {
 
     /// Whether the grace period of a cookie has ended, unless a callback runs.
     fn poll_state(&mut self, cookie: u64) -> Result<bool, Fault>
-        ensures { WhereRests self.old.job (Answers (PollsStateOne cookie)) result self.old self.new }
+        ensures { WhereRests self.old.job (Answers (PollsStateOne cookie)) result self.old
+            self.new }
     {
         if self.job.is_some() {
             return Err(Fault::Running);

@@ -19,7 +19,8 @@ use std::mem::replace;
 /// Takes a processor out of its slot, if there is one.
 fn take_processor(alloc: Global, slot: &mut Slot) -> Option<Processor<ForeignJob>>
     requires kind { IfSome slot.old.held.part.value (λ l. kind_of l.part ≡ kind.Processor) }
-    ensures takes { TakesOut (λ x. part.Processor (lent_processor x)) result slot.old.held.part.value }
+    ensures takes { TakesOut (λ x. part.Processor (lent_processor x)) result
+        slot.old.held.part.value }
     ensures empties { EmptiesSlot slot.old slot.new }
 {
     let Some(boxed) = slot.take(alloc) else {

@@ -117,7 +117,8 @@ impl<J: Drop> Places<J> {
     fn move_first(&mut self, to: &mut Places<J>)
         requires some { 1 ≤ length (places_items self.old) }
         requires room { BlockRoom to.old 1 }
-        ensures moved { places_items to.new ≡ places_items to.old ++ take 1 (places_items self.old) }
+        ensures moved { places_items to.new ≡ places_items to.old ++ take 1
+            (places_items self.old) }
         ensures left_room { (k : ℕ) → BlockRoom to.old (k + 1) → BlockRoom to.new k }
         ensures left { places_items self.new ≡ drop 1 (places_items self.old) }
     {

@@ -215,7 +215,8 @@ impl<J: Job> HandInPlace<J> {
         ensures stops { IfErr result (λ stop.
             StaysResting (StopsHand stop) self.old.state self.new.state) }
         ensures counts { IfErr result (λ stop. stop ≢ Limit) }
-        ensures keyed { IfOk result (λ job. IfRunning (λ h. IsKeyed J.key_of h job) self.new.state) }
+        ensures keyed { IfOk result
+            (λ job. IfRunning (λ h. IsKeyed J.key_of h job) self.new.state) }
         ensures sound { KeepsSoundInPlace J.key_of J.gives self.old.state self.new.state }
     {
         let seen = self.look();
@@ -278,7 +279,8 @@ impl<J: Job> HandInPlace<J> {
     fn pass_on(&mut self, receipt: J::Receipt) -> J
         requires runs { self.old.state.claimed ≢ None }
         requires followed { IfRunning IsFollowed self.old.state }
-        ensures goes_on { GoesOn J.key_of J.gives receipt (Ok result) self.old.state self.new.state }
+        ensures goes_on { GoesOn J.key_of J.gives receipt (Ok result) self.old.state
+            self.new.state }
         ensures keyed { IfRunning (λ h. IsKeyed J.key_of h result) self.new.state }
     {
         let state = &mut self.state;
@@ -307,7 +309,8 @@ impl<J: Job> HandInPlace<J> {
         requires runs { self.old.state.claimed ≢ None }
         ensures goes_on { GoesOn J.key_of J.gives receipt result self.old.state self.new.state }
         ensures counts { IfErr result (λ stop. stop ≢ Limit) }
-        ensures keyed { IfOk result (λ job. IfRunning (λ h. IsKeyed J.key_of h job) self.new.state) }
+        ensures keyed { IfOk result
+            (λ job. IfRunning (λ h. IsKeyed J.key_of h job) self.new.state) }
     {
         if self.is_followed() {
             return Ok(self.pass_on(receipt));
@@ -323,8 +326,8 @@ impl<J: Job> HandInPlace<J> {
     /// Whether the runtime was halted.
     pub fn is_halted(&mut self) -> bool
         requires rests { self.old.state.claimed ≡ None }
-        ensures reads { KeepingInPlace (ReadsHalt (from_bool result)) J.key_of J.gives self.old.state
-            self.new.state }
+        ensures reads { KeepingInPlace (ReadsHalt (from_bool result)) J.key_of J.gives
+            self.old.state self.new.state }
     {
         let state = &mut self.state;
         halted(&state.board, &mut state.seat)

@@ -18,7 +18,8 @@ impl<J: Job> Processor<J> {
     /// The job comes back, and nothing is accepted: refusal 4 at the limit, refusal 2 for want of memory, refusal 3 where
     /// the processor was shut.
     pub fn call_rcu(&mut self, moment: u64, job: J) -> Result<Ticket, Refused<J>>
-        ensures calls { CallsAs moment Plain J.key_of J.gives job result self.old.state self.new.state }
+        ensures calls { CallsAs moment Plain J.key_of J.gives job result self.old.state
+            self.new.state }
     {
         self.call(moment, Kind::Plain, job)
     }
@@ -29,14 +30,16 @@ impl<J: Job> Processor<J> {
     ///
     /// As `call_rcu`.
     pub fn call_rcu_lazy(&mut self, moment: u64, job: J) -> Result<Ticket, Refused<J>>
-        ensures calls { CallsAs moment Lazy J.key_of J.gives job result self.old.state self.new.state }
+        ensures calls { CallsAs moment Lazy J.key_of J.gives job result self.old.state
+            self.new.state }
     {
         self.call(moment, Kind::Lazy, job)
     }
 
     // Accepts a job of either kind.
     fn call(&mut self, moment: u64, kind: Kind, job: J) -> Result<Ticket, Refused<J>>
-        ensures calls { CallsAs moment kind J.key_of J.gives job result self.old.state self.new.state }
+        ensures calls { CallsAs moment kind J.key_of J.gives job result self.old.state
+            self.new.state }
     {
         let state = &mut self.state;
         let request = Request {

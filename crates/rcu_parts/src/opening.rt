@@ -125,7 +125,8 @@ fn open_hands<J: Job>(
         (arc_value board.now).processors) }
     ensures fronts { IfOk result (λ t. fronts_of t.0.items ≡ fronts.items) }
     ensures empty { IfOk result (λ t. All IsEmptyGroupMember t.0.items) }
-    ensures hands { IfOk result (λ t. AreFirstHands shape.now kept (arc_value board.now) t.1.items) }
+    ensures hands { IfOk result
+        (λ t. AreFirstHands shape.now kept (arc_value board.now) t.1.items) }
     ensures lanes { IfOk result (λ t. AllZip HasHand t.0.items t.1.items) }
 {
     let mut group_members = VecDeque::new(alloc);
