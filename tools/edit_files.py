@@ -1,4 +1,5 @@
 """The files of edits: what each changes in its crate, and the function whose proof has to fail then."""
+import functools
 import re
 
 # Where the edits of a crate stand: those that `rt ci` tries over the whole crate, those that the gate tries by function, and those
@@ -55,6 +56,7 @@ class Edit:
             return str(fault)
         return ""
 
+    @functools.cached_property
     def function(self):
         """The function whose proof has to fail, as the checker names it or by the end of that name: what a line `function:`
         says, or else the one in which the old texts stand. An empty text where no function, or several, have one."""
@@ -72,6 +74,7 @@ class Edit:
         return found.pop() if len(found) == 1 else ""
 
 
+    @functools.cached_property
     def body(self):
         """The text of the functions in which its old texts stand, and its new texts: all that these functions may call."""
         texts = {place: (self.folder / place).read_text(encoding="utf-8") for place, _, _ in self.pairs}

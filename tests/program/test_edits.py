@@ -105,19 +105,19 @@ class Reads(unittest.TestCase):
 
     def test_the_function_of_its_text(self):
         edit = self.edit("file: src/turn.rt", "old: by + 1", "new: by + 2")
-        self.assertEqual((edit.fault(), edit.function()), ("", "Hand::look"))
-        self.assertIn("by + 2", edit.body())
+        self.assertEqual((edit.fault(), edit.function), ("", "Hand::look"))
+        self.assertIn("by + 2", edit.body)
 
     def test_an_import_beside_it(self):
         edit = self.edit("file: src/turn.rt", "old: use crate::hand::Hand;", "new: use crate::hand::{Hand, Fault};", "old: by + 1", "new: by")
-        self.assertEqual(edit.function(), "Hand::look")
+        self.assertEqual(edit.function, "Hand::look")
 
     def test_several_functions_or_none(self):
         two = self.edit("file: src/turn.rt", "old: by + 1", "new: by", "old: self.look(1)", "new: self.look(2)")
-        self.assertEqual(two.function(), "")
-        self.assertEqual(self.edit("file: specs/Turns.antt", "old: turns = 1", "new: turns = 2").function(), "")
+        self.assertEqual(two.function, "")
+        self.assertEqual(self.edit("file: specs/Turns.antt", "old: turns = 1", "new: turns = 2").function, "")
         said = self.edit("function: Hand::turn", "file: specs/Turns.antt", "old: turns = 1", "new: turns = 2")
-        self.assertEqual(said.function(), "Hand::turn")
+        self.assertEqual(said.function, "Hand::turn")
 
     def test_what_cannot_be_applied(self):
         self.assertIn("0 times", self.edit("file: src/turn.rt", "old: by + 9", "new: by").fault())
@@ -177,7 +177,7 @@ class Rounds(unittest.TestCase):
 
     class Edit:
         def __init__(self, function, body):
-            self.function, self.body = lambda: function, lambda: body
+            self.function, self.body = function, body
 
     def test_rounds(self):
         turn, again, look = self.Edit("Hand::turn", "self.look()"), self.Edit("Hand::turn", "self.look()"), self.Edit("Hand::look", "1")
