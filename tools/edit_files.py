@@ -119,7 +119,7 @@ def type_of(head):
     trait = re.sub(r"^(?:\w+::)+", "", trait.strip())
     if trait == "Drop":
         return words[0]
-    return "".join(it for it in [*words, *words_of(trait)] if it not in free)
+    return "".join(it[:1].upper() + it[1:] for it in [*words, *words_of(trait)] if it not in free)
 
 
 def module_of(place):

@@ -42,6 +42,12 @@ impl fmt::Display for Fault {
     }
 }
 
+impl From<io::Error> for Fault {
+    fn from(error: io::Error) -> Fault {
+        Fault::Read
+    }
+}
+
 impl<J: Job> Drop for Hand<J> {
     fn drop(self) {
         let Hand { state: _ } = self;
@@ -72,6 +78,7 @@ class Names(unittest.TestCase):
 
     def test_a_trait(self):
         self.assertEqual(self.name_at("        2\n"), "FaultDisplay::fmt")
+        self.assertEqual(self.name_at("Fault::Read"), "FaultFromIoError::from")
         self.assertEqual(self.name_at("let Hand { state"), "Hand::drop")
 
     def test_a_type_with_arguments(self):
