@@ -2,9 +2,8 @@
 import functools
 import re
 
-# Where the edits of a crate stand: those that `rt ci` tries over the whole crate, those that the gate tries by function, and those
-# that it leaves out.
-BY_CRATE, BY_FUNCTION, LEFT_OUT = KINDS = ("must-fail", "gate-edits", "more-edits")
+# Where the edits of a crate stand: those that the gate tries, and those that it leaves out.
+TRIED, LEFT_OUT = KINDS = ("gate-edits", "more-edits")
 FUNCTION = re.compile(r"^(?P<in> *)(?:pub(?:\(\w+\))? )?(?:const |unsafe |extern \S+ )*fn (?P<name>\w+)")
 BLOCK = re.compile(r"^(?P<in> *)(?:pub )?(?:unsafe )?(?P<kind>impl|trait)\b(?P<of>.*)$")
 

@@ -168,7 +168,7 @@ def edits_page():
         "",
         "For those who ask whether a contract says what it seems to.",
         "Each edit turns what a function or a definition means, and the prover must refuse it: its name says what it makes wrong.",
-        "The gate tries those of `must-fail/` and `gate-edits/`, and `tools/edits` those of `more-edits/` too.",
+        "The gate tries those of `gate-edits/`, and `tools/edits` those of `more-edits/` too.",
         "This page is made by `make docs` from the edit files: their lines `promise:`, `clause:` and `wrong body:`.",
         "",
         *wrong_bodies(all_edits),
@@ -244,7 +244,7 @@ def totals_table():
     there = lambda pattern: len(list(ROOT.glob(pattern)))
     rows = {
         "crates, each proved from nothing": len(crates.read()),
-        "edits that the gate has the prover refuse": there("crates/*/must-fail/*.edit") + there("crates/*/gate-edits/*.edit"),
+        "edits that the gate has the prover refuse": there("crates/*/gate-edits/*.edit"),
         "edits that `tools/edits` has beside these": there("crates/*/more-edits/*.edit"),
         "tests in Rattle, each proved and run": count(TEST, sources),
         "replays, each over the parts and over the core": there("tests/replays/*/"),

@@ -180,7 +180,7 @@ class Mentions(unittest.TestCase):
 
 
 class Rounds(unittest.TestCase):
-    """`round_of`: the first that is left, and others of functions that don't name each other."""
+    """`round_of`: the first that is left, and others of functions that don't name each other; `shares_of`: those that share a copy."""
 
     class Edit:
         def __init__(self, function, body):
@@ -193,6 +193,13 @@ class Rounds(unittest.TestCase):
         self.assertEqual(round_of([turn, again, look, other, none]), [turn, other])
         self.assertEqual(round_of([again, look, none]), [again])
         self.assertEqual(round_of([none, look]), [none])
+
+    def test_shares(self):
+        program = edits_program()
+        look, cpu, alone = self.Edit("Hand::look", "1"), self.Edit("Hand::cpu", "2"), [self.Edit("", "") for _ in range(program.MANY + 1)]
+        self.assertEqual(program.shares_of([alone[0], look, cpu]), [[look, cpu], [alone[0]]])
+        self.assertEqual([len(it) for it in program.shares_of(alone)], [program.MANY, 1])
+        self.assertEqual(program.shares_of([]), [])
 
 
 if __name__ == "__main__":
