@@ -72,6 +72,10 @@ class Edit:
         found.discard("")
         return found.pop() if len(found) == 1 else ""
 
+    @property
+    def turns_code(self):
+        """Whether all that it turns is code: what else it turns, a definition say, other functions' proofs may rest on too."""
+        return all(place.startswith("src/") for place, _, _ in self.pairs)
 
     @functools.cached_property
     def body(self):

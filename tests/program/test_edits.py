@@ -124,7 +124,7 @@ class Reads(unittest.TestCase):
         self.assertEqual(two.function, "")
         self.assertEqual(self.edit("file: specs/Turns.antt", "old: turns = 1", "new: turns = 2").function, "")
         said = self.edit("function: Hand::turn", "file: specs/Turns.antt", "old: turns = 1", "new: turns = 2")
-        self.assertEqual(said.function, "Hand::turn")
+        self.assertEqual((said.function, said.turns_code, two.turns_code), ("Hand::turn", False, True))
 
     def test_what_cannot_be_applied(self):
         self.assertIn("0 times", self.edit("file: src/turn.rt", "old: by + 9", "new: by").fault())
@@ -183,16 +183,17 @@ class Rounds(unittest.TestCase):
     """`round_of`: the first that is left, and others of functions that don't name each other; `shares_of`: those that share a copy."""
 
     class Edit:
-        def __init__(self, function, body):
-            self.function, self.body = function, body
+        def __init__(self, function, body, turns_code=True):
+            self.function, self.body, self.turns_code = function, body, turns_code
 
     def test_rounds(self):
         turn, again, look = self.Edit("Hand::turn", "self.look()"), self.Edit("Hand::turn", "self.look()"), self.Edit("Hand::look", "1")
-        other, none = self.Edit("Hand::cpu", "2"), self.Edit("", "")
+        other, none, defines = self.Edit("Hand::cpu", "2"), self.Edit("", ""), self.Edit("Hand::ran", "", turns_code=False)
         round_of = edits_program().round_of
-        self.assertEqual(round_of([turn, again, look, other, none]), [turn, other])
+        self.assertEqual(round_of([turn, again, look, other, none, defines]), [turn, other])
         self.assertEqual(round_of([again, look, none]), [again])
         self.assertEqual(round_of([none, look]), [none])
+        self.assertEqual(round_of([defines, look]), [defines])
 
     def test_shares(self):
         program = edits_program()
