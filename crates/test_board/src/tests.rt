@@ -1,6 +1,6 @@
 //! The steps on a board, by the seats that may make them, in one thread and in several.
 
-ghost use Rattle.std.specs.Prelude.{◌≡◌, ◌+◌, ◌-◌, ◌*◌, ◌<◌, ◌≤◌, None, [], ◌∷◌, length, IfSome, IsTrue, true, false};
+ghost use Rattle.std.specs.Prelude.{◌≡◌, ◌+◌, ◌-◌, ◌*◌, ◌<◌, ◌≤◌, None, [], ◌∷◌, length, IfOk, IfSome, IsTrue, true, false};
 ghost use Rattle.std.specs.Thread.{IsSync};
 ghost use Rattle.rcu_numbers.specs.Words.{owes_of};
 ghost use Rattle.rcu_board.specs.Plays.{all_seats};
@@ -17,9 +17,29 @@ use rcu_board::{
 };
 use rcu_numbers::{LAST_NUMBER, MOST_CALLS, PartsShape, ProcessorSet, Shape};
 use rcu_part_steps::report_quiescent_state;
+use std::fmt::Debug;
+use std::process::Abort;
 use std::test::Fail;
 use std::thread;
 use std::thread::Threads;
+
+/// What was found is what is wanted, of what is named.
+pub(crate) fn expect<T: PartialEq + Debug + Drop>(
+    rt: &impl Abort,
+    what: &str,
+    found: T,
+    wanted: T,
+) {
+    assert_eq!(rt; found, wanted, "{what}");
+}
+
+/// The seats of a list are of these, in order.
+fn expect_roles(rt: &impl Abort, seats: &[Seat], wanted: &[Role]) {
+    expect(rt, "how many", seats.len(), wanted.len());
+    for (seat, role) in seats.iter().zip(wanted.iter()) {
+        expect(rt, "whose", seat.role(), *role);
+    }
+}
 
 #[test]
 fn seats_of_a_shape(rt: HostRuntime) -> Result<(), Fail> {
@@ -28,18 +48,18 @@ fn seats_of_a_shape(rt: HostRuntime) -> Result<(), Fail> {
         .expect(&rt, "within the limits")
         .for_parts();
     let (board, seats) = open_board(rt.alloc(), &shape)?;
-    assert_eq!(rt; board.processors(), 6);
-    assert!(rt; board.is_offloadable(1) && !board.is_offloadable(2));
-    assert_eq!(rt; seats.processors.len(), 6);
-    assert_eq!(rt; seats.hands.len(), 3);
-    assert_eq!(rt; seats.groups.len(), 2);
-    let mut hands = seats.hands.into_iter();
-    assert_eq!(rt; hands.next().map(|seat| seat.role()), Some(Role::Hand(1)));
-    assert_eq!(rt; hands.next().map(|seat| seat.role()), Some(Role::Hand(4)));
-    assert_eq!(rt; hands.next().map(|seat| seat.role()), Some(Role::Hand(5)));
-    let mut groups = seats.groups.into_iter();
-    assert_eq!(rt; groups.next().map(|seat| seat.role()), Some(Role::Group(0)));
-    assert_eq!(rt; groups.next().map(|seat| seat.role()), Some(Role::Group(2)));
+    let offloadable = (board.is_offloadable(1), board.is_offloadable(2));
+    let processors = (board.processors(), seats.processors.len());
+    expect(
+        &rt,
+        "processors",
+        (processors, offloadable),
+        ((6, 6), (true, false)),
+    );
+    let hands = [Role::Hand(1), Role::Hand(4), Role::Hand(5)];
+    expect_roles(&rt, seats.hands.as_slice(), &hands);
+    let groups = [Role::Group(0), Role::Group(2)];
+    expect_roles(&rt, seats.groups.as_slice(), &groups);
     Ok(())
 }
 
@@ -51,10 +71,20 @@ fn seats_of_the_largest_shape(rt: HostRuntime) -> Result<(), Fail> {
         "within the limits",
     );
     let (board, seats) = open_board(rt.alloc(), &shape)?;
-    assert_eq!(rt; (board.processors(), urge_words(&board)), (1024, 16));
-    assert!(rt; board.is_offloadable(1023) && !board.is_offloadable(1024));
-    assert_eq!(rt; (seats.processors.len(), seats.hands.len()), (1024, 1024));
-    assert_eq!(rt; seats.groups.len(), 16);
+    let offloadable = (board.is_offloadable(1023), board.is_offloadable(1024));
+    let seated = [
+        seats.processors.len(),
+        seats.hands.len(),
+        seats.groups.len(),
+    ];
+    let words = (board.processors(), urge_words(&board));
+    expect(
+        &rt,
+        "seated",
+        (seated, words),
+        ([1024, 1024, 16], (1024, 16)),
+    );
+    expect(&rt, "offloadable", offloadable, (true, false));
     Ok(())
 }
 
@@ -168,20 +198,20 @@ fn be_processor(board: &Board, mut seat: Seat) -> Done
 }
 
 /// Claims and finishes the numbers below `count`, each once. Answers how many of these claims were won.
-pub(crate) fn run_all(board: &Board, mut seat: Seat, count: u64) -> (Seat, u64)
-    requires board { AtBoard board.now seat }
-    requires who { MayClaim seat.role }
-    requires rests { (view seat).running ≡ [] }
+pub(crate) fn run_all(board: &Board, seat: &mut Seat, count: u64) -> u64
+    requires board { AtBoard board.now seat.old }
+    requires who { MayClaim seat.old.role }
+    requires rests { (view seat.old).running ≡ [] }
     requires small { count ≤ CALLS }
-    ensures same { StaysSeat seat result.0 }
-    ensures rests { (view result.0).running ≡ [] }
-    ensures few { result.1 ≤ count }
+    ensures same { StaysSeat seat.old seat.new }
+    ensures rests { (view seat.new).running ≡ [] }
+    ensures few { result ≤ count }
 {
     let mut won = 0;
     for number in 0..count {
-        won += run_one(board, &mut seat, number);
+        won += run_one(board, seat, number);
     }
-    (seat, won)
+    won
 }
 
 /// Whether the driver sees of every processor that it passed the grace period `seq`.
@@ -311,7 +341,11 @@ fn run_both<R: Threads + Sync>(
             requires { AtBoard board.now hand × MayClaim hand.role × ((view hand).running ≡ []) }
             ensures { StaysSeat hand result.0 × ((view result.0).running ≡ [])
                 × (result.1 ≤ CALLS) }
-        { run_all(board, hand, CALLS) },
+        {
+            let mut hand = hand;
+            let won = run_all(board, &mut hand, CALLS);
+            (hand, won)
+        },
     )
 }
 
@@ -415,6 +449,30 @@ pub(crate) fn take_apart(shape: &PartsShape, board: &Board, seats: Seats) -> Opt
     })
 }
 
+/// A board for one processor, which is offloadable, and its seats.
+pub(crate) fn one_of_each(rt: &HostRuntime) -> Result<(Board, OneOfEach), Fail>
+    ensures some { IfOk result (λ t. 0 < t.0.processors) }
+    ensures processor { IfOk result (λ t. IsNewProcessor t.0 0 t.1.processor) }
+    ensures hand { IfOk result (λ t.
+        AtBoard t.0 t.1.hand × MayClaim t.1.hand.role × ((view t.1.hand).running ≡ [])
+        × ((view t.1.hand).weight ≡ 1)) }
+    ensures group { IfOk result (λ t.
+        AtBoard t.0 t.1.group × ((view t.1.group).running ≡ [])
+        × ((view t.1.group).weight ≡ 1)) }
+    ensures driver { IfOk result (λ t.
+        IsNew t.0 Role.Driver (all_seats - 4) true false [] t.1.driver) }
+    ensures control { IfOk result (λ t. IsNew t.0 Role.Control 1 false true [] t.1.control) }
+{
+    let shape = Shape::new(1, 1, 1, 10, 16, 1000)
+        .ok_or("within the limits")?
+        .for_parts();
+    let (board, seats) = open_board(rt.alloc(), &shape)?;
+    let Some(parts) = take_apart(&shape, &board, seats) else {
+        return Err(Fail::from("one seat of each kind"));
+    };
+    Ok((board, parts))
+}
+
 /// The seats, but those of groups, of a board for two processors, which are both offloadable.
 #[derive(Drop)]
 pub(crate) struct TwoOfEach {
@@ -470,6 +528,32 @@ pub(crate) fn take_two_apart(shape: &PartsShape, board: &Board, seats: Seats) ->
         driver,
         control,
     })
+}
+
+/// A board for two processors, which are both offloadable, and its seats, but those of groups.
+pub(crate) fn two_of_each(rt: &HostRuntime) -> Result<(Board, TwoOfEach), Fail>
+    ensures processors { IfOk result (λ t. t.0.processors ≡ 2) }
+    ensures first { IfOk result (λ t. IsNewProcessor t.0 0 t.1.first) }
+    ensures second { IfOk result (λ t. IsNewProcessor t.0 1 t.1.second) }
+    ensures first_hand { IfOk result (λ t.
+        AtBoard t.0 t.1.first_hand × MayClaim t.1.first_hand.role
+        × ((view t.1.first_hand).running ≡ [])) }
+    ensures second_hand { IfOk result (λ t.
+        AtBoard t.0 t.1.second_hand × MayClaim t.1.second_hand.role
+        × ((view t.1.second_hand).running ≡ [])) }
+    ensures driver { IfOk result (λ t.
+        AtBoard t.0 t.1.driver × (t.1.driver.role ≡ Role.Driver)) }
+    ensures control { IfOk result (λ t.
+        AtBoard t.0 t.1.control × (t.1.control.role ≡ Role.Control)) }
+{
+    let shape = Shape::new(2, 0b11, 1, 10, 16, 1000)
+        .ok_or("within the limits")?
+        .for_parts();
+    let (board, seats) = open_board(rt.alloc(), &shape)?;
+    let Some(two) = take_two_apart(&shape, &board, seats) else {
+        return Err(Fail::from("two seats of each kind"));
+    };
+    Ok((board, two))
 }
 
 /// Runs each seat but the group's in a thread of its own, makes all one, and looks.
@@ -530,30 +614,32 @@ fn run_parts<R: Threads + Sync>(rt: &R, board: &Board, parts: OneOfEach) -> Outc
     }
 }
 
+impl Outcome {
+    /// All loads agree with what the threads did.
+    fn expect(&self, rt: &impl Abort) {
+        let LastLoads {
+            number,
+            accepts,
+            turns,
+            reports,
+        } = self.last;
+        expect(rt, "shut", self.shut, self.accepted);
+        let last = [accepts, turns, reports].map(|word| (word / 2, word % 2));
+        // it is here, and passed the last grace period that has ended
+        let wanted = [(self.accepted, 1), (self.won, 0), (self.passed, 0)];
+        expect(rt, "last words", last, wanted);
+        // it reported in each that it passed
+        let reported = self.passed / 4 + self.passed % 4;
+        expect(rt, "reports", self.reports, reported);
+        expect(rt, "ended", number / 4 <= self.reports, true);
+    }
+}
+
 #[test]
 fn four_threads_on_one_board(rt: HostRuntime) -> Result<(), Fail> {
-    let shape = Shape::new(1, 1, 1, 10, 16, 1000)
-        .expect(&rt, "within the limits")
-        .for_parts();
-    let (board, seats) = open_board(rt.alloc(), &shape)?;
-    let parts = take_apart(&shape, &board, seats).expect(&rt, "one seat of each kind");
+    let (board, parts) = one_of_each(&rt)?;
     let outcome = run_parts(&rt, &board, parts);
-    assert_eq!(rt; outcome.shut, outcome.accepted);
-    assert_eq!(rt;
-        (outcome.last.accepts / 2, outcome.last.accepts % 2),
-        (outcome.accepted, 1)
-    );
-    assert_eq!(rt;
-        (outcome.last.turns / 2, outcome.last.turns % 2),
-        (outcome.won, 0)
-    );
-    // it is here, passed the last grace period that has ended, and reported in each that it passed
-    assert_eq!(rt;
-        (outcome.last.reports / 2, outcome.last.reports % 2),
-        (outcome.passed, 0)
-    );
-    assert!(rt; outcome.last.number / 4 <= outcome.reports);
-    assert_eq!(rt; outcome.reports, outcome.passed / 4 + outcome.passed % 4);
+    outcome.expect(&rt);
     Ok(())
 }
 
@@ -567,53 +653,53 @@ struct Answers {
 }
 
 /// Makes each step on the words of switches, urging and needs once, with the steps that read it before and after.
-fn make_each_step(board: &Board, parts: OneOfEach) -> Answers
+fn make_each_step(board: &Board, parts: &mut OneOfEach) -> Answers
     requires some { 0 < board.now.processors }
-    requires processor { AtBoard board.now parts.processor
-        × (parts.processor.role ≡ Role.Processor 0) }
-    requires driver { AtBoard board.now parts.driver × (parts.driver.role ≡ Role.Driver) }
-    requires control { AtBoard board.now parts.control × (parts.control.role ≡ Role.Control) }
+    requires processor { AtBoard board.now parts.old.processor
+        × (parts.old.processor.role ≡ Role.Processor 0) }
+    requires driver { AtBoard board.now parts.old.driver × (parts.old.driver.role ≡ Role.Driver) }
+    requires control { AtBoard board.now parts.old.control
+        × (parts.old.control.role ≡ Role.Control) }
     requires hears { owes_of board.now.offloadable 0 ≡ 1 }
 {
     let OneOfEach {
-        mut processor,
-        hand: _,
-        group: _,
-        mut driver,
-        mut control,
+        processor,
+        driver,
+        control,
+        ..
     } = parts;
-    let first = asked(board, &mut processor);
-    ask(board, &mut control, 0, false);
-    let asked = (first, asked(board, &mut processor));
-    urge(board, &mut control, 0);
-    let first = heard(board, &mut processor);
-    let heard = (first, heard(board, &mut processor));
-    let first = halted(board, &mut driver);
-    halt(board, &mut control);
-    let halted = (first, halted(board, &mut driver));
-    need(board, &mut processor, 8);
-    let first = needed(board, &mut driver);
-    need(board, &mut processor, 4);
+    let first = asked(board, processor);
+    ask(board, control, 0, false);
+    let asked = (first, asked(board, processor));
+    urge(board, control, 0);
+    let first = heard(board, processor);
+    let heard = (first, heard(board, processor));
+    let first = halted(board, driver);
+    halt(board, control);
+    let halted = (first, halted(board, driver));
+    need(board, processor, 8);
+    let first = needed(board, driver);
+    need(board, processor, 4);
     Answers {
         asked,
         heard,
         halted,
-        needed: (first, needed(board, &mut driver)),
+        needed: (first, needed(board, driver)),
     }
 }
 
 #[test]
 fn told_and_heard(rt: HostRuntime) -> Result<(), Fail> {
-    let shape = Shape::new(1, 1, 1, 10, 16, 1000)
-        .expect(&rt, "within the limits")
-        .for_parts();
-    let (board, seats) = open_board(rt.alloc(), &shape)?;
-    let parts = take_apart(&shape, &board, seats).expect(&rt, "one seat of each kind");
+    let (board, mut parts) = one_of_each(&rt)?;
     assert!(rt; board.is_offloadable(0));
-    let answers = make_each_step(&board, parts);
-    assert_eq!(rt; answers.asked, (true, false));
-    assert_eq!(rt; answers.heard, (true, false));
-    assert_eq!(rt; answers.halted, (false, true));
-    assert_eq!(rt; answers.needed, (8, 8));
+    let found = make_each_step(&board, &mut parts);
+    let told = [found.asked, found.heard, found.halted];
+    let wanted = [(true, false), (true, false), (false, true)];
+    expect(
+        &rt,
+        "asked, heard, halted",
+        (told, found.needed),
+        (wanted, (8, 8)),
+    );
     Ok(())
 }

@@ -3,6 +3,7 @@
 ghost use Rattle.std.specs.Prelude.{◌≡◌, IfOk};
 ghost use Rattle.rcu_part_control.specs.Parts.{driver_board, control_board};
 
+use crate::tests::expect;
 use rcu_board::{Seats, open_board};
 use rcu_jobs::{BarrierFault, Counts, DriverTurn, SwitchFault, Ticket};
 use rcu_numbers::Shape;
@@ -35,43 +36,65 @@ fn two_parts(alloc: Global) -> Result<(Driver, Control), AllocError>
     Ok((driver, control))
 }
 
+/// Control alone.
+fn control_of_two(alloc: Global) -> Result<Control, AllocError>
+    ensures two { IfOk result (λ control. (control_board control).processors ≡ 2) }
+{
+    let (_driver, control) = two_parts(alloc)?;
+    Ok(control)
+}
+
 #[test]
 fn switches_are_asked_for(rt: HostRuntime) -> Result<(), Fail> {
-    let (_driver, mut control) = two_parts(rt.alloc())?;
-    assert_eq!(rt; control.offload(0), Ok(()));
-    assert_eq!(rt; control.deoffload(0), Ok(()));
-    assert_eq!(rt; control.offload(1), Err(SwitchFault::NotOffloadable(1)));
-    assert_eq!(rt; control.deoffload(2), Err(SwitchFault::NoProcessor(2)));
+    let mut control = control_of_two(rt.alloc())?;
+    let answers = [
+        control.offload(0),
+        control.deoffload(0),
+        control.offload(1),
+        control.deoffload(2),
+    ];
+    let not_offloadable = Err(SwitchFault::NotOffloadable(1));
+    let nowhere = Err(SwitchFault::NoProcessor(2));
+    expect(
+        &rt,
+        "answers",
+        answers,
+        [Ok(()), Ok(()), not_offloadable, nowhere],
+    );
     Ok(())
 }
 
 #[test]
 fn barrier_tests_its_tickets_in_order(rt: HostRuntime) -> Result<(), Fail> {
-    let (_driver, mut control) = two_parts(rt.alloc())?;
+    let mut control = control_of_two(rt.alloc())?;
     let ahead = Ticket { cpu: 1, number: 0 };
     let nowhere = Ticket { cpu: 2, number: 0 };
-    let fault = BarrierFault::Ahead { cpu: 1, count: 0 };
-    assert_eq!(rt; control.barrier(&[ahead, nowhere]), Err(fault));
-    assert_eq!(rt;
-        control.barrier(&[nowhere, ahead]),
-        Err(BarrierFault::NoProcessor(2))
-    );
+    let first = control.barrier(&[ahead, nowhere]).err();
+    let second = control.barrier(&[nowhere, ahead]).err();
+    let early = BarrierFault::Ahead { cpu: 1, count: 0 };
+    let missing = BarrierFault::NoProcessor(2);
+    expect(&rt, "faults", [first, second], [Some(early), Some(missing)]);
     let Ok(mut barrier) = control.barrier(&[]) else {
         return Err(Fail::from(AllocError));
     };
-    assert!(rt; barrier.poll(&mut control).is_some());
-    assert_eq!(rt; barrier.wait(&rt, &mut control).counts, Counts::new(2));
+    expect(&rt, "passed", barrier.poll(&mut control).is_some(), true);
+    expect(
+        &rt,
+        "counts",
+        barrier.wait(&rt, &mut control).counts,
+        Counts::new(2),
+    );
     Ok(())
 }
 
 #[test]
 fn driver_runs_until_halted(rt: HostRuntime) -> Result<(), Fail> {
     let (mut driver, mut control) = two_parts(rt.alloc())?;
-    assert_eq!(rt; driver.turn(), DriverTurn::Idle);
-    assert!(rt; !driver.is_halted());
-    assert_eq!(rt; control.shut(), Counts::new(2));
-    assert_eq!(rt; control.shut(), Counts::new(2));
+    let before = (driver.turn(), driver.is_halted());
+    expect(&rt, "turn, halted", before, (DriverTurn::Idle, false));
+    let counts = [control.shut(), control.shut()];
+    expect(&rt, "counts", counts, [Counts::new(2); 2]);
     let (mut driver, _) = thread::join(&rt, || driver.run(&rt), || control.finish());
-    assert!(rt; driver.is_halted());
+    expect(&rt, "halted", driver.is_halted(), true);
     Ok(())
 }

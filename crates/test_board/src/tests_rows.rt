@@ -7,13 +7,12 @@ ghost use Rattle.rcu_board.specs.Seats.{view, AtBoard};
 ghost use Rattle.rcu_board.specs.declared.board.Role.{Role};
 
 use crate::tests::{
-    OneOfEach, TwoOfEach, accept_one, drive, report_one, run_all, take_apart, take_two_apart,
+    TwoOfEach, accept_one, drive, expect, one_of_each, report_one, run_all, two_of_each,
 };
 use rcu_board::{
-    Board, Claimed, Seat, accept, claim, come_back, finish, leave, look, meet, open_board,
-    shut_one, sighted, turn_of,
+    Board, Claimed, Seat, accept, claim, come_back, finish, leave, look, meet, shut_one, sighted,
+    turn_of,
 };
-use rcu_numbers::Shape;
 use std::test::Fail;
 
 /// What the steps of two processors and the driver answered, in order.
@@ -28,151 +27,115 @@ struct GracePeriod {
     last: u64,
 }
 
-fn one_grace_period(board: &Board, two: TwoOfEach) -> GracePeriod
-    requires first { IsNewProcessor board.now 0 two.first }
-    requires second { IsNewProcessor board.now 1 two.second }
-    requires driver { AtBoard board.now two.driver × (two.driver.role ≡ Role.Driver) }
+fn one_grace_period(board: &Board, two: &mut TwoOfEach) -> GracePeriod
+    requires first { IsNewProcessor board.now 0 two.old.first }
+    requires second { IsNewProcessor board.now 1 two.old.second }
+    requires driver { AtBoard board.now two.old.driver × (two.old.driver.role ≡ Role.Driver) }
 {
-    let TwoOfEach {
-        mut first,
-        mut second,
-        first_hand: _,
-        second_hand: _,
-        mut driver,
-        control: _,
-    } = two;
-    let started = drive(board, &mut driver);
-    let passed = report_one(board, &mut first, 0, 0);
+    let started = drive(board, &mut two.driver);
+    let passed = report_one(board, &mut two.first, 0, 0);
     GracePeriod {
         started,
         first: passed,
-        ended_early: drive(board, &mut driver),
-        again: report_one(board, &mut first, 0, passed),
-        second: report_one(board, &mut second, 1, 0),
-        ended: drive(board, &mut driver),
-        last: look(board, &mut first),
+        ended_early: drive(board, &mut two.driver),
+        again: report_one(board, &mut two.first, 0, passed),
+        second: report_one(board, &mut two.second, 1, 0),
+        ended: drive(board, &mut two.driver),
+        last: look(board, &mut two.first),
     }
 }
 
 #[test]
 fn three_seats(rt: HostRuntime) -> Result<(), Fail> {
-    let shape = Shape::new(2, 0b11, 1, 10, 16, 1000)
-        .expect(&rt, "within the limits")
-        .for_parts();
-    let (board, seats) = open_board(rt.alloc(), &shape)?;
-    let two = take_two_apart(&shape, &board, seats).expect(&rt, "two seats of each kind");
-    let seen = one_grace_period(&board, two);
-    assert!(rt; seen.started);
-    assert!(rt; !seen.ended_early);
-    assert_eq!(rt; (seen.first, seen.again, seen.second), (1, 1, 1));
-    assert!(rt; seen.ended);
-    assert_eq!(rt; seen.last, 4);
+    let (board, mut two) = two_of_each(&rt)?;
+    let seen = one_grace_period(&board, &mut two);
+    let steps = (seen.started, seen.ended_early, seen.ended);
+    let numbers = (seen.first, seen.again, seen.second, seen.last);
+    expect(
+        &rt,
+        "one period",
+        (steps, numbers),
+        ((true, false, true), (1, 1, 1, 4)),
+    );
     Ok(())
 }
 
-/// What the driver met of a processor that is away, and that came back; and which grace period it then says it passed.
-#[derive(Clone, Copy)]
-struct Meeting {
-    seen: u64,
-    met: bool,
-    met_again: bool,
-    passed: u64,
-    here: Result<(), u64>,
-}
+/// What the driver saw of a processor that is away, and which grace period it passed when it came back; whether it was met, and
+/// met again; and what meeting it answers once it is back.
+type Meeting = ((u64, u64), (bool, bool), Result<(), u64>);
 
 /// A processor leaves, is met in grace period 1, is back, and isn't met in the next one.
-fn meet_one(board: &Board, mut processor: Seat, mut driver: Seat) -> Option<Meeting>
-    requires processor { IsNewProcessor board.now 0 processor }
-    requires driver { AtBoard board.now driver × (driver.role ≡ Role.Driver) }
+fn meet_one(board: &Board, processor: &mut Seat, driver: &mut Seat) -> Option<Meeting>
+    requires processor { IsNewProcessor board.now 0 processor.old }
+    requires driver { AtBoard board.now driver.old × (driver.old.role ≡ Role.Driver) }
     requires some { 0 < board.now.processors }
 {
-    leave(board, &mut processor, 0);
-    if !drive(board, &mut driver) || look(board, &mut driver) != 1 {
+    leave(board, processor, 0);
+    if !drive(board, driver) || look(board, driver) != 1 {
         return None;
     }
-    let seen = sighted(board, &mut driver, 0);
-    let met = meet(board, &mut driver, 0, 0, 1).is_ok();
-    let met_again = meet(board, &mut driver, 0, 0, 1).is_ok();
-    let passed = come_back(board, &mut processor);
-    if !drive(board, &mut driver) || !drive(board, &mut driver) || look(board, &mut driver) != 5 {
+    let seen = sighted(board, driver, 0);
+    let met = meet(board, driver, 0, 0, 1).is_ok();
+    let met_again = meet(board, driver, 0, 0, 1).is_ok();
+    let passed = come_back(board, processor);
+    if !drive(board, driver) || !drive(board, driver) || look(board, driver) != 5 {
         return None;
     }
-    Some(Meeting {
-        seen,
-        met,
-        met_again,
-        passed,
-        here: meet(board, &mut driver, 0, 1, 5),
-    })
+    let here = meet(board, driver, 0, 1, 5);
+    Some(((seen, passed), (met, met_again), here))
 }
 
 #[test]
 fn away_is_met(rt: HostRuntime) -> Result<(), Fail> {
-    let shape = Shape::new(1, 1, 1, 10, 16, 1000)
-        .expect(&rt, "within the limits")
-        .for_parts();
-    let (board, seats) = open_board(rt.alloc(), &shape)?;
-    let OneOfEach {
-        processor,
-        driver,
-        ..
-    } = take_apart(&shape, &board, seats).expect(&rt, "one seat of each kind");
-    let meeting = meet_one(&board, processor, driver).expect(&rt, "three grace periods begin");
-    assert_eq!(rt; meeting.seen, 1);
-    assert_eq!(rt; (meeting.met, meeting.met_again), (true, false));
-    assert_eq!(rt; (meeting.passed, meeting.here), (1, Err(2)));
+    let (board, mut parts) = one_of_each(&rt)?;
+    let meeting = meet_one(&board, &mut parts.processor, &mut parts.driver);
+    expect(
+        &rt,
+        "meeting",
+        meeting,
+        Some(((1, 1), (true, false), Err(2))),
+    );
     Ok(())
 }
 
 /// The turn word as it was found after each step of a processor and its hand, from turn 5 on; None where a claim was won
 /// out of its turn, or lost in it.
-fn turns_of_two(board: &Board, processor: Seat, mut hand: Seat) -> Option<(u64, u64, u64, u64, u64)>
-    requires processor { AtBoard board.now processor × (processor.role ≡ Role.Processor 0)
-        × ((view processor).running ≡ []) }
-    requires hand { AtBoard board.now hand × MayClaim hand.role × ((view hand).running ≡ []) }
+fn turns_of_two(board: &Board, processor: &mut Seat, hand: &mut Seat) -> Option<[u64; 5]>
+    requires processor { AtBoard board.now processor.old × (processor.old.role ≡ Role.Processor 0)
+        × ((view processor.old).running ≡ []) }
+    requires hand { AtBoard board.now hand.old × MayClaim hand.old.role
+        × ((view hand.old).running ≡ []) }
     requires some { 0 < board.now.processors }
 {
-    let (mut processor, _won) = run_all(board, processor, 5);
-    let before = turn_of(board, &mut processor, 0);
-    let Claimed::Won = claim(board, &mut hand, 5) else {
+    run_all(board, processor, 5);
+    let before = turn_of(board, processor, 0);
+    let Claimed::Won = claim(board, hand, 5) else {
         return None;
     };
-    let Claimed::Not(other) = claim(board, &mut processor, 6) else {
+    let Claimed::Not(other) = claim(board, processor, 6) else {
         return None;
     };
-    finish(board, &mut hand);
-    let between = turn_of(board, &mut processor, 0);
-    let Claimed::Won = claim(board, &mut processor, 6) else {
+    finish(board, hand);
+    let between = turn_of(board, processor, 0);
+    let Claimed::Won = claim(board, processor, 6) else {
         return None;
     };
-    let running = turn_of(board, &mut processor, 0);
-    finish(board, &mut processor);
-    Some((
+    let running = turn_of(board, processor, 0);
+    finish(board, processor);
+    Some([
         before,
         other,
         between,
         running,
-        turn_of(board, &mut processor, 0),
-    ))
+        turn_of(board, processor, 0),
+    ])
 }
 
 #[test]
 fn turn_word_claims(rt: HostRuntime) -> Result<(), Fail> {
-    let shape = Shape::new(1, 1, 1, 10, 16, 1000)
-        .expect(&rt, "within the limits")
-        .for_parts();
-    let (board, seats) = open_board(rt.alloc(), &shape)?;
-    let OneOfEach {
-        processor,
-        hand,
-        ..
-    } = take_apart(&shape, &board, seats).expect(&rt, "one seat of each kind");
-    let (before, other, between, running, last) = turns_of_two(&board, processor, hand).expect(
-        &rt,
-        "each claim in its turn alone",
-    );
-    assert_eq!(rt; (before, other), (10, 11));
-    assert_eq!(rt; (between, running, last), (12, 13, 14));
+    let (board, mut parts) = one_of_each(&rt)?;
+    let turns = turns_of_two(&board, &mut parts.processor, &mut parts.hand);
+    expect(&rt, "turns", turns, Some([10, 11, 12, 13, 14]));
     Ok(())
 }
 
@@ -180,36 +143,24 @@ fn turn_word_claims(rt: HostRuntime) -> Result<(), Fail> {
 /// second try was answered; None where the first was refused.
 fn accept_around_shut(
     board: &Board,
-    mut processor: Seat,
-    mut control: Seat,
+    processor: &mut Seat,
+    control: &mut Seat,
 ) -> Option<(u64, Option<u64>)>
-    requires processor { IsNewProcessor board.now 0 processor }
-    requires control { AtBoard board.now control × (control.role ≡ Role.Control) }
+    requires processor { IsNewProcessor board.now 0 processor.old }
+    requires control { AtBoard board.now control.old × (control.old.role ≡ Role.Control) }
     requires some { 0 < board.now.processors }
 {
-    if !accept_one(board, &mut processor, 0, 0) {
+    if !accept_one(board, processor, 0, 0) {
         return None;
     }
-    let count = shut_one(board, &mut control, 0);
-    Some((count, accept(board, &mut processor, 1, 1)))
+    let count = shut_one(board, control, 0);
+    Some((count, accept(board, processor, 1, 1)))
 }
 
 #[test]
 fn accept_after_shut(rt: HostRuntime) -> Result<(), Fail> {
-    let shape = Shape::new(1, 1, 1, 10, 16, 1000)
-        .expect(&rt, "within the limits")
-        .for_parts();
-    let (board, seats) = open_board(rt.alloc(), &shape)?;
-    let OneOfEach {
-        processor,
-        control,
-        ..
-    } = take_apart(&shape, &board, seats).expect(&rt, "one seat of each kind");
-    let (count, refused) = accept_around_shut(&board, processor, control).expect(
-        &rt,
-        "accepted before the shut",
-    );
-    assert_eq!(rt; count, 1);
-    assert_eq!(rt; refused, None);
+    let (board, mut parts) = one_of_each(&rt)?;
+    let answers = accept_around_shut(&board, &mut parts.processor, &mut parts.control);
+    expect(&rt, "count, refused", answers, Some((1, None)));
     Ok(())
 }

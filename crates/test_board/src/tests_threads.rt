@@ -9,9 +9,8 @@ ghost use Rattle.test_board.specs.Stays.{StaysSeat};
 ghost use Rattle.rcu_board.specs.Seats.{view, AtBoard, MayHear, accepted_of, fresh_of};
 ghost use Rattle.rcu_board.specs.declared.board.Role.{Role};
 
-use crate::tests::{TwoOfEach, accept_one, take_two_apart};
-use rcu_board::{Board, Claimed, Seat, claim, finish, heard, open_board, turn_of, urge};
-use rcu_numbers::Shape;
+use crate::tests::{TwoOfEach, accept_one, expect, two_of_each};
+use rcu_board::{Board, Claimed, Seat, claim, finish, heard, turn_of, urge};
 use std::sync::Wait;
 use std::test::Fail;
 use std::thread;
@@ -36,14 +35,8 @@ fn accept_all(board: &Board, mut seat: Seat, p: u64, count: u64) -> u64
 
 #[test]
 fn two_accepting_threads(rt: HostRuntime) -> Result<(), Fail> {
-    let shape = Shape::new(2, 0b11, 1, 10, 16, 1000)
-        .expect(&rt, "within the limits")
-        .for_parts();
-    let (board, seats) = open_board(rt.alloc(), &shape)?;
-    let TwoOfEach { first, second, .. } = take_two_apart(&shape, &board, seats).expect(
-        &rt,
-        "two seats of each kind",
-    );
+    let (board, two) = two_of_each(&rt)?;
+    let TwoOfEach { first, second, .. } = two;
     let shared = &board;
     let accepted = thread::join(
         &rt,
@@ -54,7 +47,7 @@ fn two_accepting_threads(rt: HostRuntime) -> Result<(), Fail> {
             requires { IsNewProcessor shared.now 1 second }
         { accept_all(shared, second, 1, 1000) },
     );
-    assert_eq!(rt; accepted, (1000, 1000));
+    expect(&rt, "accepted", accepted, (1000, 1000));
     Ok(())
 }
 
@@ -160,17 +153,16 @@ fn share_both<R: Threads + Wait + Sync>(rt: &R, board: &Board, two: TwoOfEach) -
 // Only a processor and its hand may claim its turns, so four threads claim the turns of two processors.
 #[test]
 fn each_turn_once_in_four_threads(rt: HostRuntime) -> Result<(), Fail> {
-    let shape = Shape::new(2, 0b11, 1, 10, 16, 1000)
-        .expect(&rt, "within the limits")
-        .for_parts();
-    let (board, seats) = open_board(rt.alloc(), &shape)?;
-    let two = take_two_apart(&shape, &board, seats).expect(&rt, "two seats of each kind");
+    let (board, two) = two_of_each(&rt)?;
     let (first, second, mut control) = share_both(&rt, &board, two);
     let sum = TURNS * (TURNS - 1) / 2;
-    assert_eq!(rt; (first.count, first.sum), (TURNS, sum));
-    assert_eq!(rt; (second.count, second.sum), (TURNS, sum));
-    assert_eq!(rt; turn_of(&board, &mut control, 0), 2 * TURNS);
-    assert_eq!(rt; turn_of(&board, &mut control, 1), 2 * TURNS);
+    let turns = (
+        turn_of(&board, &mut control, 0),
+        turn_of(&board, &mut control, 1),
+    );
+    let wins = [(first.count, first.sum), (second.count, second.sum), turns];
+    let wanted = [(TURNS, sum), (TURNS, sum), (2 * TURNS, 2 * TURNS)];
+    expect(&rt, "wins, turns", wins, wanted);
     Ok(())
 }
 
@@ -218,11 +210,7 @@ fn urge_across<R: Threads + Wait + Sync>(rt: &R, board: &Board, first: Seat, con
 
 #[test]
 fn urged_in_one_thread_and_heard_in_another(rt: HostRuntime) -> Result<(), Fail> {
-    let shape = Shape::new(2, 0b11, 1, 10, 16, 1000)
-        .expect(&rt, "within the limits")
-        .for_parts();
-    let (board, seats) = open_board(rt.alloc(), &shape)?;
-    let two = take_two_apart(&shape, &board, seats).expect(&rt, "two seats of each kind");
+    let (board, two) = two_of_each(&rt)?;
     assert!(rt; board.is_offloadable(0) && board.is_offloadable(1));
     let TwoOfEach {
         first,
@@ -231,8 +219,8 @@ fn urged_in_one_thread_and_heard_in_another(rt: HostRuntime) -> Result<(), Fail>
         ..
     } = two;
     let mut first = urge_across(&rt, &board, first, control);
-    assert!(rt; !heard(&board, &mut first));
-    assert!(rt; heard(&board, &mut second));
-    assert!(rt; !heard(&board, &mut second));
+    let again = heard(&board, &mut first);
+    let other = (heard(&board, &mut second), heard(&board, &mut second));
+    expect(&rt, "heard", (again, other), (false, (true, false)));
     Ok(())
 }
