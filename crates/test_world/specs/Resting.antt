@@ -14,6 +14,6 @@ pub record IsResting {J R : Type 0} (key_of : J → ℕ) (gives : ℕ → R → 
   pub there : 0 < length (state key_of c).cpus
 
 -- A step of a test leaves the core at rest; where it succeeds, it made these events.
-pub record RestsAfter {J R E : Type 0} (key_of : J → ℕ) (gives : ℕ → R → Type 0) (events : State → List CoreEvent) (result : Result (Unit {0}) E) (old new : Core J R) : Type 0 where
+pub record RestsAfter {J R A E : Type 0} (key_of : J → ℕ) (gives : ℕ → R → Type 0) (events : State → List CoreEvent) (result : Result A E) (old new : Core J R) : Type 0 where
   pub resting : IsResting key_of gives new
   pub leads : OnOk result (Leads (state key_of old) (events (state key_of old)) (state key_of new))

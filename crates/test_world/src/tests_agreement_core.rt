@@ -1,12 +1,13 @@
 //! What the core leaves agrees with what its `close` answers; and an answer that was tampered with is refused.
 
-use crate::rounds::{PROCESSORS, all_events, key_of};
+use crate::rounds::{Numbered, PROCESSORS, after_rounds, key_of};
+use crate::steps::expect;
 use rcu_agreement_checker::{Account, accounts_of, agrees, witness};
-use rcu_numbers::Shape;
-use rcu_world::World;
+use rcu_jobs::Closed;
 use rcu_world_checker::{Kind, is_closed, many_of};
 use rcu_world_law::marks::Mark;
 use std::alloc::{AllocError, Global};
+use std::process::Abort;
 use std::test::Fail;
 
 // How many rounds a run has.
@@ -47,21 +48,30 @@ struct Remains {
     counts: Vec<Vec<u64>>,
 }
 
-// What so many rounds leave.
-fn run_rounds(alloc: Global) -> Result<Remains, Fail> {
-    let shape = Shape::new(PROCESSORS, 0b110, 3, 10, 4, 100).ok_or("no shape")?;
-    let mut world = World::new(alloc, shape)?;
-    world.run(all_events(alloc, ROUNDS)?).ok().ok_or("no room")?;
-    let Ok((history, closed)) = world.close() else {
-        return Err(Fail::from("no room"));
-    };
-    let accounts = accounts_of(alloc, accepted_keys(alloc)?.as_slice(), &closed)?;
+// What is left, by the core's history and its answer.
+fn remains_of(
+    alloc: Global,
+    history: Vec<Mark>,
+    closed: &Closed<Numbered>,
+) -> Result<Remains, AllocError> {
+    let keys = accepted_keys(alloc)?;
+    let accounts = accounts_of(alloc, keys.as_slice(), closed)?;
     let counts = barrier_counts(alloc, history.as_slice())?;
     Ok(Remains {
         history,
         accounts,
         counts,
     })
+}
+
+// What so many rounds leave.
+fn run_rounds(alloc: Global) -> Result<Remains, Fail> {
+    let (world, _events) = after_rounds(alloc, ROUNDS)?;
+    let Ok((history, closed)) = world.close() else {
+        return Err(Fail::from("no room"));
+    };
+    let left = remains_of(alloc, history, &closed)?;
+    Ok(left)
 }
 
 // By whom an answer is refused.
@@ -88,67 +98,90 @@ impl Remains {
         })
     }
 
+    // The answer is refused by these.
+    fn expect(&self, rt: &impl Abort, alloc: Global, wanted: Refused) -> Result<(), Fail> {
+        expect(rt, "refused", self.refused(alloc)?, wanted);
+        Ok(())
+    }
+
     // The account of processor 1.
     fn account(&mut self) -> Result<&mut Account, Fail> {
         Ok(self.accounts.get_mut(1).ok_or("no account")?)
+    }
+
+    // Two of its records change places.
+    fn swap_records(&mut self, rt: &impl Abort) -> Result<(), Fail> {
+        let ran = &mut self.account()?.ran;
+        assert!(rt; ran.len() > 2);
+        ran.swap(1, 2);
+        Ok(())
+    }
+
+    // A record comes before the report that it waits for.
+    fn ready_at_once(&mut self) -> Result<(), Fail> {
+        let own = self.account()?;
+        let stamp = own.stamps.first().copied().ok_or("no stamp")?;
+        *own.readies.first_mut().ok_or("no record")? = stamp;
+        Ok(())
+    }
+
+    // The last barrier counts all that was accepted.
+    fn count_all(&mut self) -> Result<(), Fail> {
+        let accepted = self.account()?.keys.len() as u64;
+        let counts = self.counts.last_mut().ok_or("no barrier")?;
+        *counts.get_mut(1).ok_or("no count")? = accepted;
+        Ok(())
     }
 }
 
 #[test]
 fn the_core_agrees(rt: HostRuntime) -> Result<(), Fail> {
     let left = run_rounds(rt.alloc())?;
-    let none = Refused {
+    expect(&rt, "barriers", left.counts.len(), ROUNDS as usize);
+    let wanted = Refused {
         own: false,
         witness: false,
         closed: false,
     };
-    assert_eq!(rt; left.refused(rt.alloc())?, none);
-    assert_eq!(rt; left.counts.len(), ROUNDS as usize);
-    Ok(())
+    left.expect(&rt, rt.alloc(), wanted)
 }
 
 #[test]
 fn two_records_swapped(rt: HostRuntime) -> Result<(), Fail> {
     let mut left = run_rounds(rt.alloc())?;
-    let ran = &mut left.account()?.ran;
-    assert!(rt; ran.len() > 2);
-    ran.swap(1, 2);
+    left.swap_records(&rt)?;
     let wanted = Refused {
         own: true,
         witness: false,
         closed: true,
     };
-    assert_eq!(rt; left.refused(rt.alloc())?, wanted);
-    Ok(())
+    left.expect(&rt, rt.alloc(), wanted)
 }
 
 #[test]
 fn a_job_dropped(rt: HostRuntime) -> Result<(), Fail> {
     let mut left = run_rounds(rt.alloc())?;
-    assert!(rt; left.account()?.back.pop().is_some());
+    let dropped = left.account()?.back.pop();
+    expect(&rt, "dropped", dropped.is_some(), true);
     let wanted = Refused {
         own: true,
         witness: false,
         closed: true,
     };
-    assert_eq!(rt; left.refused(rt.alloc())?, wanted);
-    Ok(())
+    left.expect(&rt, rt.alloc(), wanted)
 }
 
 #[test]
 fn a_record_before_its_report(rt: HostRuntime) -> Result<(), Fail> {
     let mut left = run_rounds(rt.alloc())?;
-    let own = left.account()?;
-    let stamp = own.stamps.first().copied().ok_or("no stamp")?;
-    *own.readies.first_mut().ok_or("no record")? = stamp;
+    left.ready_at_once()?;
     // (the core's own history still agrees: a smaller sight says less)
     let wanted = Refused {
         own: false,
         witness: false,
         closed: true,
     };
-    assert_eq!(rt; left.refused(rt.alloc())?, wanted);
-    Ok(())
+    left.expect(&rt, rt.alloc(), wanted)
 }
 
 // A history in which the first mark of this kind stands one place earlier.
@@ -165,29 +198,26 @@ fn one_earlier(history: &mut [Mark], wanted: Mark) -> bool {
 #[test]
 fn a_barrier_that_passed_early(rt: HostRuntime) -> Result<(), Fail> {
     let mut left = run_rounds(rt.alloc())?;
-    assert!(rt; one_earlier(left.history.as_mut_slice(), Mark::Passed(0)));
-    assert!(rt; !is_closed(PROCESSORS, left.history.as_slice()));
+    let found = one_earlier(left.history.as_mut_slice(), Mark::Passed(0));
+    let closed = is_closed(PROCESSORS, left.history.as_slice());
+    expect(&rt, "found, closed", (found, closed), (true, false));
     let wanted = Refused {
         own: true,
         witness: false,
         closed: false,
     };
-    assert_eq!(rt; left.refused(rt.alloc())?, wanted);
-    Ok(())
+    left.expect(&rt, rt.alloc(), wanted)
 }
 
 #[test]
 fn a_barrier_that_passed_over_a_job(rt: HostRuntime) -> Result<(), Fail> {
     let mut left = run_rounds(rt.alloc())?;
-    let accepted = left.account()?.keys.len() as u64;
-    let counts = left.counts.last_mut().ok_or("no barrier")?;
-    *counts.get_mut(1).ok_or("no count")? = accepted;
+    left.count_all()?;
     // (the witness lets it open before the job was accepted, whose stamp nobody knows)
     let wanted = Refused {
         own: true,
         witness: true,
         closed: false,
     };
-    assert_eq!(rt; left.refused(rt.alloc())?, wanted);
-    Ok(())
+    left.expect(&rt, rt.alloc(), wanted)
 }

@@ -1,11 +1,12 @@
 //! What the core's own runs leave is lawful, and closed at the end; and no longer closed where a mark of it is left out.
 
-use crate::rounds::{PROCESSORS, all_events};
-use rcu_numbers::Shape;
-use rcu_world::World;
+use crate::rounds::{Numbered, PROCESSORS, after_rounds};
+use crate::steps::expect;
+use rcu_jobs::Closed;
 use rcu_world_checker::{is_closed, is_lawful};
 use rcu_world_law::marks::Mark;
 use std::alloc::{AllocError, Global};
+use std::process::Abort;
 use std::test::Fail;
 
 // A history without the mark at a place.
@@ -31,25 +32,34 @@ fn needs_each(alloc: Global, history: &[Mark]) -> Result<bool, AllocError> {
     Ok(true)
 }
 
+// A history is closed, but not without the mark of any one callback.
+fn expect_closed(rt: &impl Abort, alloc: Global, history: &[Mark]) -> Result<(), Fail> {
+    let all = is_closed(PROCESSORS, history);
+    let each = needs_each(alloc, history)?;
+    expect(rt, "closed", (all, each), (true, true));
+    Ok(())
+}
+
+// A run is one in which all kinds of mark stand.
+fn expect_all_kinds(rt: &impl Abort, history: &[Mark], closed: &Closed<Numbered>) {
+    let ran = closed.ran.iter().map(|records| records.len()).min();
+    let back = closed.back.iter().map(|jobs| jobs.len()).min();
+    let passed = history.iter().any(|mark| matches!(mark, Mark::Passed(_)));
+    let all = (ran > Some(1), back > Some(0), passed);
+    expect(rt, "ran, back, passed", all, (true, true, true));
+}
+
 #[test]
 fn what_the_core_leaves(rt: HostRuntime) -> Result<(), Fail> {
-    let shape = Shape::new(PROCESSORS, 0b110, 3, 10, 4, 100).ok_or("no shape")?;
-    let mut world = World::new(rt.alloc(), shape)?;
-    let events = all_events(rt.alloc(), 6)?;
-    let answers = world.run(events).ok().ok_or("no room")?;
-    assert!(rt; answers.len() > 300);
-    assert!(rt; is_lawful(PROCESSORS, world.history()));
-    assert!(rt; !is_closed(PROCESSORS, world.history()));
+    let (world, events) = after_rounds(rt.alloc(), 6)?;
+    let history = world.history();
+    let lawful = is_lawful(PROCESSORS, history);
+    let found = (events > 300, lawful, is_closed(PROCESSORS, history));
+    expect(&rt, "many, lawful, closed", found, (true, true, false));
     let Ok((marks, closed)) = world.close() else {
         return Err(Fail::from("no room"));
     };
-    assert!(rt; is_closed(PROCESSORS, marks.as_slice()));
-    assert!(rt; needs_each(rt.alloc(), marks.as_slice())?);
-    // (the run is one in which all kinds of mark stand)
-    let ran = closed.ran.iter().map(|records| records.len());
-    let back = closed.back.iter().map(|jobs| jobs.len());
-    assert!(rt; ran.min().ok_or("no processor")? > 1);
-    assert!(rt; back.min().ok_or("no processor")? > 0);
-    assert!(rt; marks.iter().any(|mark| matches!(mark, Mark::Passed(_))));
+    expect_closed(&rt, rt.alloc(), marks.as_slice())?;
+    expect_all_kinds(&rt, marks.as_slice(), &closed);
     Ok(())
 }

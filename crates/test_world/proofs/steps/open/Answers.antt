@@ -1,0 +1,5 @@
+use Rattle.test_world.proofs.AtRest.{rests}
+use Rattle.test_world.proofs.steps.open.Goals as goal
+
+pub returns : goal.returns
+returns g c = rests g.J.Job.key_of g.J.Job.gives c.args.world.now.core c.barrier.new.self.core c.requires c.barrier.ensures.events.stays
