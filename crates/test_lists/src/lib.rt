@@ -4,6 +4,8 @@
 #![tactic(auto)]
 
 #[cfg(test)]
+mod same;
+#[cfg(test)]
 mod tests_blocks;
 #[cfg(test)]
 mod tests_lists;

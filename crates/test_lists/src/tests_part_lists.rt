@@ -4,12 +4,13 @@ ghost use Rattle.std.specs.Prelude.{◌≡◌, ◌≤◌, length};
 ghost use Rattle.rcu_part_lists.specs.ProcessorLists.{holding, passed_on};
 ghost use Rattle.rcu_part_lists.specs.Limits.{AreBelow};
 
+use crate::same::assert_same;
 use rcu_jobs::{Callback, Lists, Mode};
 use rcu_lanes::{Draw, Front, ruled_lane};
 use rcu_lists::{Kind, Parcel};
 use rcu_part_lists::{LaneLimits, ProcessorLists};
 use std::alloc::Global;
-use std::test::Fail;
+use std::process::Abort;
 
 /// The most calls of a test.
 const MOST_CALLS: u64 = 1000;
@@ -26,19 +27,17 @@ struct Row {
 }
 
 impl Row {
-    fn new(alloc: Global, qhimark: u64) -> Option<Row> {
-        let Ok((front, rear)) = ruled_lane(alloc) else {
-            return None;
-        };
-        let processor_lists = ProcessorLists::new(alloc, rear, true, qhimark).ok()?;
-        Some(Row {
+    fn new(rt: &impl Abort, alloc: Global, qhimark: u64) -> Row {
+        let (front, rear) = ruled_lane(alloc).expect(rt, "a lane");
+        let processor_lists = ProcessorLists::new(alloc, rear, true, qhimark);
+        Row {
             front,
             called: 0,
-            processor_lists,
-        })
+            processor_lists: processor_lists.expect(rt, "memory"),
+        }
     }
 
-    /// One call more.
+    /// One call more, where there is room for it.
     fn call(&mut self, moment: u64, kind: Kind) -> Option<()> {
         let number = self.called;
         if MOST_CALLS <= number {
@@ -108,94 +107,78 @@ impl Row {
 }
 
 #[test]
-fn bypass_17(rt: HostRuntime) -> Result<(), Fail> {
-    let mut row = Row::new(rt.alloc(), 10000).expect(&rt, "lists");
+fn bypass_17(rt: HostRuntime) {
+    let mut row = Row::new(&rt, rt.alloc(), 10000);
     row.call_often(17, 5).expect(&rt, "17 calls");
-    assert_eq!(rt; row.bypass(), 1);
+    assert_same(&rt, row.bypass(), 1);
     row.call(6, Kind::Plain).expect(&rt, "a call");
-    assert_eq!(rt; row.bypass(), 0);
-    assert_eq!(rt; row.batches(), 17);
-    Ok(())
+    assert_same(&rt, (row.bypass(), row.batches()), (0, 17));
 }
 
 #[test]
-fn bypass_qhimark(rt: HostRuntime) -> Result<(), Fail> {
-    let mut row = Row::new(rt.alloc(), 3).expect(&rt, "lists");
-    row.call_often(16, 5).expect(&rt, "16 calls");
-    assert_eq!(rt; row.bypass(), 0);
-    row.call_often(2, 5).expect(&rt, "two calls");
-    assert_eq!(rt; row.bypass(), 2);
-    row.call(5, Kind::Plain).expect(&rt, "a call");
-    assert_eq!(rt; row.bypass(), 0);
-    row.call(5, Kind::Plain).expect(&rt, "a call");
-    assert_eq!(rt; row.bypass(), 1);
-    Ok(())
+fn bypass_qhimark(rt: HostRuntime) {
+    let mut row = Row::new(&rt, rt.alloc(), 3);
+    for (calls, held) in [(16, 0), (2, 2), (1, 0), (1, 1)] {
+        row.call_often(calls, 5).expect(&rt, "calls");
+        assert_same(&rt, row.bypass(), held);
+    }
 }
 
 #[test]
-fn lazy_ten(rt: HostRuntime) -> Result<(), Fail> {
-    let mut row = Row::new(rt.alloc(), 10000).expect(&rt, "lists");
+fn lazy_ten(rt: HostRuntime) {
+    let mut row = Row::new(&rt, rt.alloc(), 10000);
     row.call(5, Kind::Lazy).expect(&rt, "a call");
     row.call(6, Kind::Lazy).expect(&rt, "a call");
     row.release(14, false, false);
-    assert_eq!(rt; row.bypass(), 2);
+    assert_same(&rt, row.bypass(), 2);
     row.release(15, false, false);
-    assert_eq!(rt; row.bypass(), 0);
-    assert_eq!(rt; row.batches(), 1);
-    Ok(())
+    assert_same(&rt, (row.bypass(), row.batches()), (0, 1));
 }
 
 #[test]
-fn lazy_then_plain(rt: HostRuntime) -> Result<(), Fail> {
-    let mut row = Row::new(rt.alloc(), 10000).expect(&rt, "lists");
-    row.call(5, Kind::Plain).expect(&rt, "a call");
+fn lazy_then_plain(rt: HostRuntime) {
+    let mut row = Row::new(&rt, rt.alloc(), 10000);
+    for (kind, held) in [(Kind::Plain, 0), (Kind::Lazy, 1), (Kind::Plain, 0)] {
+        row.call(5, kind).expect(&rt, "a call");
+        assert_same(&rt, row.bypass(), held);
+    }
+    assert_same(&rt, row.batches(), 2);
+}
+
+#[test]
+fn lazy_urged(rt: HostRuntime) {
+    let mut row = Row::new(&rt, rt.alloc(), 10000);
     row.call(5, Kind::Lazy).expect(&rt, "a call");
-    assert_eq!(rt; row.bypass(), 1);
-    row.call(5, Kind::Plain).expect(&rt, "a call");
-    assert_eq!(rt; row.bypass(), 0);
-    assert_eq!(rt; row.batches(), 2);
-    Ok(())
+    for (urged, held) in [(false, 1), (true, 0)] {
+        row.release(5, false, urged);
+        assert_same(&rt, row.bypass(), held);
+    }
 }
 
 #[test]
-fn lazy_urged(rt: HostRuntime) -> Result<(), Fail> {
-    let mut row = Row::new(rt.alloc(), 10000).expect(&rt, "lists");
-    row.call(5, Kind::Lazy).expect(&rt, "a call");
-    row.release(5, false, false);
-    assert_eq!(rt; row.bypass(), 1);
-    row.release(5, false, true);
-    assert_eq!(rt; row.bypass(), 0);
-    Ok(())
-}
-
-#[test]
-fn lazy_deoffload(rt: HostRuntime) -> Result<(), Fail> {
-    let mut row = Row::new(rt.alloc(), 10000).expect(&rt, "lists");
+fn lazy_deoffload(rt: HostRuntime) {
+    let mut row = Row::new(&rt, rt.alloc(), 10000);
     row.call(5, Kind::Lazy).expect(&rt, "a call");
     row.switch(false);
-    assert_eq!(rt; row.processor_lists.mode(), Mode::Offloaded);
+    assert_same(&rt, row.processor_lists.mode(), Mode::Offloaded);
     row.release(5, true, false);
     row.switch(false);
-    assert_eq!(rt; row.processor_lists.mode(), Mode::Deoffloading);
-    row.settle(1);
-    assert_eq!(rt; row.processor_lists.mode(), Mode::Deoffloading);
-    row.settle(2);
-    assert_eq!(rt; row.processor_lists.mode(), Mode::Local);
-    Ok(())
+    assert_same(&rt, row.processor_lists.mode(), Mode::Deoffloading);
+    for (turn, mode) in [(1, Mode::Deoffloading), (2, Mode::Local)] {
+        row.settle(turn);
+        assert_same(&rt, row.processor_lists.mode(), mode);
+    }
 }
 
 #[test]
-fn switch_and_pour(rt: HostRuntime) -> Result<(), Fail> {
-    let mut row = Row::new(rt.alloc(), 10000).expect(&rt, "lists");
+fn switch_and_pour(rt: HostRuntime) {
+    let mut row = Row::new(&rt, rt.alloc(), 10000);
     row.switch(false);
     row.settle(0);
-    assert_eq!(rt; row.processor_lists.mode(), Mode::Local);
+    assert_same(&rt, row.processor_lists.mode(), Mode::Local);
     row.call_often(4, 5).expect(&rt, "four calls");
-    assert_eq!(rt; row.bare(), 4);
+    assert_same(&rt, row.bare(), 4);
     row.switch(true);
-    assert_eq!(rt; row.processor_lists.mode(), Mode::Offloaded);
-    assert_eq!(rt; row.bare(), 0);
-    assert_eq!(rt; row.bypass(), 0);
-    assert_eq!(rt; row.batches(), 1);
-    Ok(())
+    assert_same(&rt, row.processor_lists.mode(), Mode::Offloaded);
+    assert_same(&rt, (row.bare(), row.bypass(), row.batches()), (0, 0, 1));
 }

@@ -1,10 +1,11 @@
 //! Two lists of records merged by their numbers.
 
+use crate::same::assert_same;
 use rcu_jobs::Record;
 use rcu_part_order::{Kept, Records, merge_records};
 use std::alloc::{AllocError, Global};
 use std::collections::VecDeque;
-use std::test::Fail;
+use std::process::Abort;
 
 fn record(number: u64) -> Record<u64> {
     Record {
@@ -16,70 +17,74 @@ fn record(number: u64) -> Record<u64> {
     }
 }
 
-#[test]
-fn records_of_both_by_their_numbers(rt: HostRuntime) -> Result<(), Fail> {
-    let own = vec![in rt.alloc(); record(0), record(3)]?;
-    let hands = vec![in rt.alloc(); record(1), record(2), record(4)]?;
-    let room = Vec::with_capacity(rt.alloc(), 5)?;
-    let all = merge_records(VecDeque::from(own), VecDeque::from(hands), room);
-    assert_eq!(rt; all.len(), 5);
-    for (number, record) in (0u64..).zip(all.as_slice()) {
-        assert_eq!(rt; record.number, number);
-        assert_eq!(rt; record.key, number ^ 1024);
+// That these are the records of these numbers.
+fn assert_numbers(rt: &impl Abort, all: &[Record<u64>], numbers: &[u64]) {
+    assert_same(rt, all.len(), numbers.len());
+    for (number, record) in numbers.iter().zip(all) {
+        assert_same(rt, (record.number, record.key), (*number, *number ^ 1024));
     }
-    Ok(())
 }
 
 #[test]
-fn records_with_gaps_by_their_numbers(rt: HostRuntime) -> Result<(), Fail> {
-    let own = vec![in rt.alloc(); record(7), record(1000000)]?;
-    let hands = vec![in rt.alloc(); record(3), record(9)]?;
-    let room = Vec::with_capacity(rt.alloc(), 4)?;
+fn records_of_both_by_their_numbers(rt: HostRuntime) {
+    let own = vec![in rt.alloc(); record(0), record(3)].expect(&rt, "memory");
+    let hands = vec![in rt.alloc(); record(1), record(2), record(4)].expect(&rt, "memory");
+    let room = Vec::with_capacity(rt.alloc(), 5).expect(&rt, "memory");
     let all = merge_records(VecDeque::from(own), VecDeque::from(hands), room);
-    let numbers = [3, 7, 9, 1000000];
-    assert_eq!(rt; all.len(), 4);
-    for (number, record) in numbers.into_iter().zip(all.as_slice()) {
-        assert_eq!(rt; record.number, number);
-    }
-    Ok(())
+    assert_numbers(&rt, all.as_slice(), &[0, 1, 2, 3, 4]);
 }
 
-/// What `records` answers for two that ran, a take, and one that ran after it.
-fn take_after_two(
-    alloc: Global,
-    mut records: Records<u64>,
-) -> Result<(usize, usize, usize, usize), AllocError> {
-    for number in 0..2 {
-        records.find_room()?;
-        records.add(record(number));
-    }
-    let taken = records.take(alloc);
+#[test]
+fn records_with_gaps_by_their_numbers(rt: HostRuntime) {
+    let own = vec![in rt.alloc(); record(7), record(1000000)].expect(&rt, "memory");
+    let hands = vec![in rt.alloc(); record(3), record(9)].expect(&rt, "memory");
+    let room = Vec::with_capacity(rt.alloc(), 4).expect(&rt, "memory");
+    let all = merge_records(VecDeque::from(own), VecDeque::from(hands), room);
+    assert_numbers(&rt, all.as_slice(), &[3, 7, 9, 1000000]);
+}
+
+// Adds the record of this number.
+fn add(records: &mut Records<u64>, number: u64) -> Result<(), AllocError> {
     records.find_room()?;
-    records.add(record(2));
+    records.add(record(number));
+    Ok(())
+}
+
+// For two that ran, a take, and one that ran after it: how many were taken, ran, are left, and are left at the end.
+fn take_after_two(rt: &impl Abort, alloc: Global, kept: Kept) -> (usize, usize, usize, usize) {
+    let mut records = Records::new(alloc, kept);
+    for number in 0..2 {
+        add(&mut records, number).expect(rt, "memory");
+    }
+    let taken = records.take(alloc).len();
+    add(&mut records, 2).expect(rt, "memory");
     let (ran, left) = (records.len(), records.records_left());
-    Ok((taken.len(), ran, left, records.into_left().len()))
+    (taken, ran, left, records.into_left().len())
 }
 
 #[test]
-fn all_are_kept(rt: HostRuntime) -> Result<(), Fail> {
-    let alloc = rt.alloc();
-    let records = Records::new(alloc, Kept::Whole);
-    assert!(rt; take_after_two(alloc, records)? == (0, 3, 3, 3));
-    Ok(())
+fn all_are_kept(rt: HostRuntime) {
+    assert_same(
+        &rt,
+        take_after_two(&rt, rt.alloc(), Kept::Whole),
+        (0, 3, 3, 3),
+    );
 }
 
 #[test]
-fn those_that_are_left_are_kept(rt: HostRuntime) -> Result<(), Fail> {
-    let alloc = rt.alloc();
-    let records = Records::new(alloc, Kept::Rest);
-    assert!(rt; take_after_two(alloc, records)? == (2, 3, 1, 1));
-    Ok(())
+fn those_that_are_left_are_kept(rt: HostRuntime) {
+    assert_same(
+        &rt,
+        take_after_two(&rt, rt.alloc(), Kept::Rest),
+        (2, 3, 1, 1),
+    );
 }
 
 #[test]
-fn none_is_kept(rt: HostRuntime) -> Result<(), Fail> {
-    let alloc = rt.alloc();
-    let records = Records::new(alloc, Kept::Nothing);
-    assert!(rt; take_after_two(alloc, records)? == (0, 3, 0, 0));
-    Ok(())
+fn none_is_kept(rt: HostRuntime) {
+    assert_same(
+        &rt,
+        take_after_two(&rt, rt.alloc(), Kept::Nothing),
+        (0, 3, 0, 0),
+    );
 }

@@ -1,4 +1,4 @@
-use Rattle.std.proofs.Common.{◌≡◌, ℕ, [], ◌∷◌, ◌++◌, ◌∙◌, ap, refl, arith}
+use Rattle.std.proofs.Common.{ℕ, [], ◌∷◌, ◌++◌, ◌∙◌, ap, refl, arith}
 use Rattle.rcu_part_lists.specs.ProcessorLists.{Holding, holding, passed_on}
 use Rattle.test_lists.proofs.Rows.{below-pushed, longer}
 use Rattle.rcu_jobs.specs.declared.callback.Callback.{Callback}
