@@ -7,6 +7,8 @@
 #[cfg(test)]
 mod opening;
 #[cfg(test)]
+mod same;
+#[cfg(test)]
 mod tests;
 #[cfg(test)]
 mod tests_away;

@@ -1,6 +1,6 @@
 //! The parts of a runtime, turn by turn.
 
-ghost use Rattle.std.specs.Prelude.{◌≡◌, [], ◌∷◌, IfOk, IfSome};
+ghost use Rattle.std.specs.Prelude.{◌≡◌, [], ◌∷◌};
 ghost use Rattle.rcu_board.specs.Opened.{AreNew, IsNewHand, IsNewProcessor, is_offloadable};
 ghost use Rattle.rcu_board.specs.Roles.{MayNeed, cpu_of_role};
 ghost use Rattle.rcu_board.specs.Seats.{view, AtBoard};
@@ -9,27 +9,26 @@ ghost use Rattle.rcu_board.specs.Frames.{IsBare};
 ghost use Rattle.rcu_lanes.specs.Ends.{items_put};
 ghost use Rattle.rcu_part_processor.specs.Opened.{IsEmpty};
 
-use crate::opening::{AllOfOne, one_processor, open_one};
+use crate::opening::{Work, call, call_lazy, job, open_local, open_offloaded};
+use crate::same::assert_same;
 use rcu_board::{Board, Role, Seat, Seats, need, open_board};
-use rcu_jobs::{BoxedJob, HandTurn, Lists, Mode, Refused, Stop, Ticked, Ticket};
+use rcu_jobs::{HandTurn, Lists, Mode, Refused, Stop, Ticked, Ticket};
 use rcu_lanes::{Rear, ruled_lane};
 use rcu_lists::Parcel;
 use rcu_numbers::{PartsShape, Shape};
 use rcu_part_control::{Control, Driver};
 use rcu_part_lists::{Held, LaneLimits, ProcessorLists};
 use rcu_parts::{Hand, Kept, Processor};
-use std::alloc::{AllocError, Global};
+use std::alloc::Global;
+use std::process::Abort;
 use std::sync::Arc;
-use std::test::Fail;
 
 /// The one seat of a list.
-fn only(mut seats: Vec<Seat>) -> Option<Seat>
-    ensures { IfSome result (λ seat. seats.items ≡ seat ∷ []) }
+fn only(rt: &impl Abort, mut seats: Vec<Seat>) -> Seat
+    ensures { seats.items ≡ result ∷ [] }
 {
-    if seats.len() != 1 {
-        return None;
-    }
-    seats.pop()
+    assert!(rt; seats.len() == 1);
+    seats.pop().expect(rt, "a seat")
 }
 
 /// Seats of a board for one offloadable processor.
@@ -41,16 +40,13 @@ struct OneOfEach {
     driver: Seat,
 }
 
-fn take_apart(shape: &PartsShape, board: &Board, seats: Seats) -> Option<OneOfEach>
+fn take_apart(rt: &impl Abort, shape: &PartsShape, board: &Board, seats: Seats) -> OneOfEach
     requires { AreNew shape.now board.now seats }
-    ensures processor { IfSome result (λ parts. IsNewProcessor board.now 0 parts.processor) }
-    ensures hand { IfSome result (λ parts.
-        IsNewHand board.now (cpu_of_role parts.hand.role) parts.hand) }
-    ensures group { IfSome result (λ parts.
-        AtBoard board.now parts.group × MayNeed parts.group.role) }
-    ensures driver { IfSome result (λ parts.
-        AtBoard board.now parts.driver × (parts.driver.role ≡ Role.Driver)
-        × IsBare (view parts.driver)) }
+    ensures processor { IsNewProcessor board.now 0 result.processor }
+    ensures hand { IsNewHand board.now (cpu_of_role result.hand.role) result.hand }
+    ensures group { AtBoard board.now result.group × MayNeed result.group.role }
+    ensures driver { AtBoard board.now result.driver × (result.driver.role ≡ Role.Driver)
+        × IsBare (view result.driver) }
 {
     let Seats {
         processors,
@@ -59,42 +55,59 @@ fn take_apart(shape: &PartsShape, board: &Board, seats: Seats) -> Option<OneOfEa
         driver,
         control: _,
     } = seats;
-    Some(OneOfEach {
-        processor: only(processors)?,
-        hand: only(hands)?,
-        group: only(groups)?,
+    OneOfEach {
+        processor: only(rt, processors),
+        hand: only(rt, hands),
+        group: only(rt, groups),
         driver,
-    })
+    }
 }
 
 /// The lists of processor 0, which has accepted nothing.
 fn no_lists(
+    rt: &impl Abort,
     alloc: Global,
     board: &Board,
-    rear: Rear<Parcel<BoxedJob<0>>, LaneLimits>,
+    rear: Rear<Parcel<Work>, LaneLimits>,
     qhimark: u64,
-) -> Result<ProcessorLists<BoxedJob<0>>, AllocError>
+) -> ProcessorLists<Work>
     requires { items_put rear ≡ [] }
-    ensures { IfOk result (IsEmpty (is_offloadable board.now.offloadable 0)) }
+    ensures { IsEmpty (is_offloadable board.now.offloadable 0) result }
 {
-    ProcessorLists::new(alloc, rear, board.is_offloadable(0), qhimark)
+    ProcessorLists::new(alloc, rear, board.is_offloadable(0), qhimark).expect(rt, "memory")
 }
 
-pub(crate) fn job(alloc: Global, key: u64) -> Result<BoxedJob<0>, AllocError> {
-    Ok(BoxedJob::new(key, Box::new(alloc, move || key)?))
+/// The tickets of a plain call and of a lazy one.
+fn plain_and_lazy(alloc: Global, processor: &mut Processor<Work>) -> [Option<Ticket>; 2] {
+    let plain = call(alloc, processor, 1, 7);
+    [plain, call_lazy(alloc, processor, 1, 8)]
+}
+
+/// The tickets of the first two calls.
+const TWO_TICKETS: [Option<Ticket>; 2] = [
+    Some(Ticket { cpu: 0, number: 0 }),
+    Some(Ticket { cpu: 0, number: 1 }),
+];
+
+/// Whether a call is refused at the limit, and by which number.
+fn third_call(alloc: Global, processor: &mut Processor<Work>) -> Option<(bool, u64)> {
+    let refused = processor.call_rcu(1, job(alloc, 9)?).err()?;
+    Some((matches!(&refused, Refused::Limit(_)), refused.number()))
 }
 
 #[test]
-fn local_processor_accepts_up_to_its_limit(rt: HostRuntime) -> Result<(), Fail> {
-    let alloc = rt.alloc();
-    let mut processor = one_processor(alloc, false).expect(&rt, "a processor");
-    let first = processor.call_rcu(1, job(alloc, 7)?).ok();
-    assert_eq!(rt; first, Some(Ticket { cpu: 0, number: 0 }));
-    let second = processor.call_rcu_lazy(1, job(alloc, 8)?).ok();
-    assert_eq!(rt; second, Some(Ticket { cpu: 0, number: 1 }));
-    let third = processor.call_rcu(1, job(alloc, 9)?);
-    assert!(rt; matches!(&third, Err(Refused::Limit(_))));
-    assert_eq!(rt; third.err().map(|refused| refused.number()), Some(4));
+fn local_processor_accepts_up_to_its_limit(rt: HostRuntime) {
+    let mut all = open_local(&rt, rt.alloc(), 10, 2);
+    assert_same(
+        &rt,
+        plain_and_lazy(rt.alloc(), &mut all.processor),
+        TWO_TICKETS,
+    );
+    assert_same(
+        &rt,
+        third_call(rt.alloc(), &mut all.processor),
+        Some((true, 4)),
+    );
     let shown = Lists::Cpu {
         mode: Mode::Local,
         accepted: 2,
@@ -102,18 +115,22 @@ fn local_processor_accepts_up_to_its_limit(rt: HostRuntime) -> Result<(), Fail> 
         lengths: [0, 0, 0, 2],
         numbers: [0, 0],
     };
-    assert_eq!(rt; processor.lists(), shown);
-    assert_eq!(rt; processor.quiescent(), None);
-    let _reading = processor.reading();
-    Ok(())
+    assert_same(
+        &rt,
+        (all.processor.lists(), all.processor.quiescent()),
+        (shown, None),
+    );
+    let _reading = all.processor.reading();
 }
 
 #[test]
-fn offloaded_processor_holds_a_lazy_call_back(rt: HostRuntime) -> Result<(), Fail> {
-    let alloc = rt.alloc();
-    let mut processor = one_processor(alloc, true).expect(&rt, "a processor");
-    assert!(rt; processor.call_rcu(1, job(alloc, 7)?).is_ok());
-    assert!(rt; processor.call_rcu_lazy(1, job(alloc, 8)?).is_ok());
+fn offloaded_processor_holds_a_lazy_call_back(rt: HostRuntime) {
+    let mut all = open_offloaded(&rt, rt.alloc(), 10, 16, 2);
+    assert_same(
+        &rt,
+        plain_and_lazy(rt.alloc(), &mut all.processor),
+        TWO_TICKETS,
+    );
     let shown = Lists::Cpu {
         mode: Mode::Offloaded,
         accepted: 2,
@@ -121,102 +138,88 @@ fn offloaded_processor_holds_a_lazy_call_back(rt: HostRuntime) -> Result<(), Fai
         lengths: [0, 0, 0, 0],
         numbers: [0, 0],
     };
-    assert_eq!(rt; processor.lists(), shown);
-    Ok(())
+    assert_same(&rt, all.processor.lists(), shown);
 }
 
-/// A grace period of one processor, whose hand draws from the processor's own lane: what its turns answered, before a
-/// call, after it, and after the grace period.
-fn run_by_hand(alloc: Global) -> Option<[HandTurn; 3]> {
-    let shape = Shape::new(1, 1, 1, 10, 16, 2)?.for_parts();
-    let Ok((board, seats)) = open_board(alloc, &shape) else {
-        return None;
-    };
-    let parts = take_apart(&shape, &board, seats)?;
+/// A processor, its hand, which draws from the processor's own lane, and the driver.
+struct ByHand {
+    processor: Processor<Work>,
+    hand: Hand<Work>,
+    driver: Driver,
+}
+
+impl Drop for ByHand {
+    fn drop(self) {
+        let ByHand {
+            processor: _,
+            hand: _,
+            driver: _,
+        } = self;
+    }
+}
+
+/// The parts of one processor, made of their seats. The group asked for grace period 4.
+fn made_by_hand(rt: &impl Abort, alloc: Global) -> ByHand {
+    let shape = Shape::new(1, 1, 1, 10, 16, 2)
+        .expect(rt, "a shape")
+        .for_parts();
+    let (board, seats) = open_board(alloc, &shape).expect(rt, "a board");
     let OneOfEach {
         processor,
         hand,
         mut group,
         driver,
-    } = parts;
-    let Role::Hand(cpu) = hand.role() else {
-        return None;
-    };
+    } = take_apart(rt, &shape, &board, seats);
     need(&board, &mut group, 4);
-    let Ok(board) = Arc::new(alloc, board) else {
-        return None;
+    let Role::Hand(cpu) = hand.role() else {
+        panic!(rt; "another role");
     };
-    let Ok((front, rear)) = ruled_lane(alloc) else {
-        return None;
-    };
+    let (front, rear) = ruled_lane(alloc).expect(rt, "a lane");
+    let lists = no_lists(rt, alloc, &board, rear, shape.qhimark);
+    let board = Arc::new(alloc, board).expect(rt, "memory");
+    let drivers = Arc::try_clone(&board).expect(rt, "a board");
+    let hands = Arc::try_clone(&board).expect(rt, "a board");
     let held = Held::new(alloc, front);
-    let Ok(lists) = no_lists(alloc, &board, rear, shape.qhimark) else {
-        return None;
-    };
-    let mut driver = Driver::new(Arc::try_clone(&board).ok()?, driver);
-    let mut hand: Hand<BoxedJob<0>> = Hand::new(
-        alloc,
-        &shape,
-        Arc::try_clone(&board).ok()?,
-        hand,
-        cpu,
-        held,
-        Kept::Whole,
-    );
-    let mut processor = Processor::new(alloc, &shape, board, processor, 0, lists, Kept::Whole);
-    let before = hand.turn();
-    processor.call_rcu(1, job(alloc, 7).ok()?).ok()?;
-    let early = hand.turn();
-    driver.turn();
-    processor.quiescent();
-    driver.turn();
-    Some([before, early, hand.turn()])
+    ByHand {
+        driver: Driver::new(drivers, driver),
+        hand: Hand::new(alloc, &shape, hands, hand, cpu, held, Kept::Whole),
+        processor: Processor::new(alloc, &shape, board, processor, 0, lists, Kept::Whole),
+    }
+}
+
+/// What the hand's turns answered, before a call, after it, and after its grace period.
+fn turns_by_hand(alloc: Global, parts: &mut ByHand) -> Option<[HandTurn; 3]> {
+    let before = parts.hand.turn();
+    call(alloc, &mut parts.processor, 1, 7)?;
+    let early = parts.hand.turn();
+    parts.driver.turn();
+    parts.processor.quiescent();
+    parts.driver.turn();
+    Some([before, early, parts.hand.turn()])
 }
 
 #[test]
-fn hand_runs_after_the_grace_period(rt: HostRuntime) -> Result<(), Fail> {
-    let turns = run_by_hand(rt.alloc()).expect(&rt, "three turns");
-    let empty = HandTurn {
-        ran: 0,
-        stop: Stop::Empty,
-    };
-    let early = HandTurn {
-        ran: 0,
-        stop: Stop::Turn,
-    };
-    let ran = HandTurn {
-        ran: 1,
-        stop: Stop::Empty,
-    };
-    assert_eq!(rt; turns, [empty, early, ran]);
-    Ok(())
+fn hand_runs_after_the_grace_period(rt: HostRuntime) {
+    let turn = |ran, stop| HandTurn { ran, stop };
+    let mut parts = made_by_hand(&rt, rt.alloc());
+    let turns = [
+        turn(0, Stop::Empty),
+        turn(0, Stop::Turn),
+        turn(1, Stop::Empty),
+    ];
+    assert_same(&rt, turns_by_hand(rt.alloc(), &mut parts), Some(turns));
 }
 
-/// A Local processor, which accepts three callbacks and runs two of them at most in a tick, and the driver.
-fn with_driver(alloc: Global) -> Option<(Processor<BoxedJob<0>>, Driver)> {
-    let AllOfOne {
-        processor,
-        driver,
-        ..
-    } = open_one(alloc, false, 2, 16, 3)?;
-    Some((processor, driver))
-}
-
-/// A Local processor's tick before and after a grace period: it runs what it accepted, in order, at most `blimit`.
-fn tick_by_hand(alloc: Global) -> Option<[Ticked; 4]> {
-    let (mut processor, mut driver) = with_driver(alloc)?;
-    ticks_of(alloc, &mut processor, &mut driver)
-}
-
-// (of its own, so that what fails here drops no parts)
+/// What a Local processor's ticks answered that runs at most two callbacks in each: before a grace period, and after it,
+/// which it runs in order.
 fn ticks_of(
     alloc: Global,
-    processor: &mut Processor<BoxedJob<0>>,
+    processor: &mut Processor<Work>,
     driver: &mut Driver,
 ) -> Option<[Ticked; 4]> {
-    processor.call_rcu(1, job(alloc, 7).ok()?).ok()?;
-    processor.call_rcu(1, job(alloc, 8).ok()?).ok()?;
-    processor.call_rcu(1, job(alloc, 9).ok()?).ok()?;
+    for key in 7..10 {
+        call(alloc, processor, 1, key)?;
+    }
     let early = processor.tick(1);
     driver.turn();
     processor.quiescent();
@@ -227,52 +230,30 @@ fn ticks_of(
 }
 
 #[test]
-fn local_processor_runs_in_its_tick(rt: HostRuntime) -> Result<(), Fail> {
-    let ticks = tick_by_hand(rt.alloc()).expect(&rt, "four ticks");
-    let none = Ticked {
-        ran: 0,
-        stop: Stop::Empty,
-    };
-    let full = Ticked {
-        ran: 2,
-        stop: Stop::Limit,
-    };
-    let last = Ticked {
-        ran: 1,
-        stop: Stop::Empty,
-    };
-    assert_eq!(rt; ticks, [none, full, last, none]);
-    Ok(())
+fn local_processor_runs_in_its_tick(rt: HostRuntime) {
+    let ticked = |ran, stop| Ticked { ran, stop };
+    let mut all = open_local(&rt, rt.alloc(), 2, 3);
+    let ticks = [
+        ticked(0, Stop::Empty),
+        ticked(2, Stop::Limit),
+        ticked(1, Stop::Empty),
+        ticked(0, Stop::Empty),
+    ];
+    assert_same(
+        &rt,
+        ticks_of(rt.alloc(), &mut all.processor, &mut all.driver),
+        Some(ticks),
+    );
 }
 
-/// The only processor of a runtime, which accepts `limit` callbacks at most, and control.
-pub(crate) fn with_control(
+/// What an offloaded processor shows with a lazy call, once it is asked off, and asked on again: it releases its bypass list
+/// in the tick, and the mode is Deoffloading until the hand has run what went over the lane.
+fn switched(
     alloc: Global,
-    offloadable: bool,
-    limit: u64,
-) -> Option<(Processor<BoxedJob<0>>, Control)> {
-    let AllOfOne {
-        processor,
-        control,
-        ..
-    } = open_one(alloc, offloadable, 10, 16, limit)?;
-    Some((processor, control))
-}
-
-/// An offloaded processor with a lazy call is asked off: it releases its bypass list in the tick, and the mode is
-/// Deoffloading until the hand has run what went over the lane.
-fn leave_by_hand(alloc: Global) -> Option<[Lists; 3]> {
-    let (mut processor, mut control) = with_control(alloc, true, 3)?;
-    answers_of(alloc, &mut processor, &mut control)
-}
-
-// (of its own, as `ticks_of`)
-fn answers_of(
-    alloc: Global,
-    processor: &mut Processor<BoxedJob<0>>,
+    processor: &mut Processor<Work>,
     control: &mut Control,
 ) -> Option<[Lists; 3]> {
-    processor.call_rcu_lazy(1, job(alloc, 7).ok()?).ok()?;
+    call_lazy(alloc, processor, 1, 7)?;
     processor.tick(1);
     let held = processor.lists();
     control.deoffload(0).ok()?;
@@ -284,8 +265,8 @@ fn answers_of(
 }
 
 #[test]
-fn processor_leaves_as_it_is_asked(rt: HostRuntime) -> Result<(), Fail> {
-    let shown = leave_by_hand(rt.alloc()).expect(&rt, "three answers");
+fn processor_leaves_as_it_is_asked(rt: HostRuntime) {
+    let mut all = open_offloaded(&rt, rt.alloc(), 10, 16, 3);
     let lists = |mode, bypass| Lists::Cpu {
         mode,
         accepted: 1,
@@ -293,8 +274,14 @@ fn processor_leaves_as_it_is_asked(rt: HostRuntime) -> Result<(), Fail> {
         lengths: [0, 0, 0, 0],
         numbers: [0, 0],
     };
-    assert_eq!(rt; shown[0], lists(Mode::Offloaded, 1));
-    assert_eq!(rt; shown[1], lists(Mode::Deoffloading, 0));
-    assert_eq!(rt; shown[2], lists(Mode::Offloaded, 0));
-    Ok(())
+    let shown = [
+        lists(Mode::Offloaded, 1),
+        lists(Mode::Deoffloading, 0),
+        lists(Mode::Offloaded, 0),
+    ];
+    assert_same(
+        &rt,
+        switched(rt.alloc(), &mut all.processor, &mut all.control),
+        Some(shown),
+    );
 }

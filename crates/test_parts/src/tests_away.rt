@@ -1,28 +1,38 @@
 //! Processors that are away, and grace periods without a callback.
 
-use crate::tests::job;
-use rcu_jobs::{BoxedJob, DriverTurn};
+use crate::opening::{Work, call};
+use crate::same::assert_same;
+use rcu_jobs::DriverTurn;
 use rcu_numbers::Shape;
-use rcu_parts::{Driver, Parts, Processor, open};
+use rcu_parts::{AllParts, Away, Driver, Processor, open};
 use std::alloc::Global;
-use std::test::Fail;
+use std::process::Abort;
 
-/// Two Local processors, and the driver.
-fn two_processors(
-    alloc: Global,
-) -> Option<(Processor<BoxedJob<0>>, Processor<BoxedJob<0>>, Driver)> {
-    let shape = Shape::new(2, 0, 1, 10, 16, 10)?;
-    let Ok(parts) = open(alloc, &shape.for_parts()) else {
-        return None;
-    };
-    let Parts {
+/// Two Local processors, of which the second is away, and the driver.
+#[derive(Drop)]
+struct OneAway {
+    here: Processor<Work>,
+    away: Away<Work>,
+    driver: Driver,
+}
+
+fn one_away(rt: &impl Abort, alloc: Global) -> OneAway {
+    let shape = Shape::new(2, 0, 1, 10, 16, 10)
+        .expect(rt, "a shape")
+        .for_parts();
+    let AllParts {
         mut processors,
         driver,
-        ..
-    } = parts;
-    let second = processors.pop()?;
-    let first = processors.pop()?;
-    Some((first, second, driver))
+        groups: _,
+        hands: _,
+        control: _,
+    } = open(alloc, &shape).expect(rt, "memory");
+    let second = processors.pop().expect(rt, "the second");
+    OneAway {
+        here: processors.pop().expect(rt, "the first"),
+        away: second.leave().ok().expect(rt, "one that left"),
+        driver,
+    }
 }
 
 /// What a grace period beside a processor that is away came to.
@@ -32,78 +42,94 @@ struct Beside {
     /// Whether the grace period of a cookie was over, before and after.
     polls: [bool; 2],
     ran: u64,
-    /// What the other one's report answered once it was back.
-    back: Option<u64>,
 }
 
-fn beside_one_that_is_away(alloc: Global) -> Option<Beside> {
-    let (mut here, second, mut driver) = two_processors(alloc)?;
-    let away = second.leave().ok()?;
-    here.call_rcu(1, job(alloc, 7).ok()?).ok()?;
+/// A grace period of a callback, in which the other processor is away.
+fn beside_one_that_is_away(
+    alloc: Global,
+    here: &mut Processor<Work>,
+    driver: &mut Driver,
+) -> Option<Beside> {
+    call(alloc, here, 1, 7)?;
     here.tick(1);
     let cookie = here.start_poll();
     let before = here.poll_state(cookie);
-    let turns = turns_of(&mut here, &mut driver);
+    let turns = turns_of(here, driver);
     let ran = here.tick(2).ran;
-    let after = here.poll_state(cookie);
-    let mut back = away.come_back();
     Some(Beside {
         turns,
-        polls: [before, after],
+        polls: [before, here.poll_state(cookie)],
         ran,
-        back: back.quiescent(),
     })
 }
 
 /// The driver's turns of a grace period in which one processor reports.
-fn turns_of(processor: &mut Processor<BoxedJob<0>>, driver: &mut Driver) -> [DriverTurn; 3] {
+fn turns_of(processor: &mut Processor<Work>, driver: &mut Driver) -> [DriverTurn; 3] {
     let started = driver.turn();
     let waits = driver.turn();
     processor.quiescent();
     [started, waits, driver.turn()]
 }
 
+/// What the report of one that comes back answers.
+fn report_once_back(away: Away<Work>) -> Option<u64> {
+    let mut back = away.come_back();
+    back.quiescent()
+}
+
 #[test]
-fn one_that_is_away_holds_nobody_back(rt: HostRuntime) -> Result<(), Fail> {
-    let beside = beside_one_that_is_away(rt.alloc()).expect(&rt, "a grace period");
-    let turns = [
-        DriverTurn::Started(1),
-        DriverTurn::Waits(0),
-        DriverTurn::Ended(4),
-    ];
+fn one_that_is_away_holds_nobody_back(rt: HostRuntime) {
+    let OneAway {
+        mut here,
+        away,
+        mut driver,
+    } = one_away(&rt, rt.alloc());
+    let beside = beside_one_that_is_away(rt.alloc(), &mut here, &mut driver);
     let expected = Beside {
-        turns,
+        turns: [
+            DriverTurn::Started(1),
+            DriverTurn::Waits(0),
+            DriverTurn::Ended(4),
+        ],
         polls: [false, true],
         ran: 1,
-        back: None,
     };
-    assert_eq!(rt; beside, expected);
-    Ok(())
+    assert_same(
+        &rt,
+        (beside, report_once_back(away)),
+        (Some(expected), None),
+    );
 }
 
 /// The driver's turns where processor 1 is back before the driver met it: it owes its report.
-fn back_before_it_is_met(alloc: Global) -> Option<[DriverTurn; 3]> {
-    let (mut first, second, mut driver) = two_processors(alloc)?;
-    let away = second.leave().ok()?;
+fn back_before_it_is_met(
+    first: &mut Processor<Work>,
+    away: Away<Work>,
+    driver: &mut Driver,
+) -> [DriverTurn; 3] {
     first.start_poll();
     let started = driver.turn();
     first.quiescent();
     let mut back = away.come_back();
     let waits = driver.turn();
     back.quiescent();
-    Some([started, waits, driver.turn()])
+    [started, waits, driver.turn()]
 }
 
 #[test]
-fn one_that_is_back_owes_its_report(rt: HostRuntime) -> Result<(), Fail> {
-    let turns = back_before_it_is_met(rt.alloc()).expect(&rt, "a grace period");
-    assert_eq!(rt;
-        turns,
+fn one_that_is_back_owes_its_report(rt: HostRuntime) {
+    let OneAway {
+        mut here,
+        away,
+        mut driver,
+    } = one_away(&rt, rt.alloc());
+    assert_same(
+        &rt,
+        back_before_it_is_met(&mut here, away, &mut driver),
         [
             DriverTurn::Started(1),
             DriverTurn::Waits(1),
-            DriverTurn::Ended(4)
-        ]
+            DriverTurn::Ended(4),
+        ],
     );
-    Ok(())
 }

@@ -1,28 +1,31 @@
 //! What `close` and `again` answer.
 
-use rcu_jobs::BoxedJob;
+use crate::opening::Work;
+use crate::same::assert_same;
+use rcu_jobs::Closed;
 use rcu_numbers::Shape;
 use rcu_parts::{close, open};
-use std::test::Fail;
+use std::process::Abort;
 
-type Work = BoxedJob<0>;
+/// That nothing came back of the processors, and that none passed a grace period.
+fn assert_nothing_happened(rt: &impl Abort, closed: &Closed<Work>) {
+    for back in closed.back.iter() {
+        assert_same(rt, back.len(), 0);
+    }
+    for reports in closed.reports.iter() {
+        assert_same(rt, *reports, 0);
+    }
+}
 
 #[test]
-fn an_empty_runtime_closes(rt: HostRuntime) -> Result<(), Fail> {
-    let alloc = rt.alloc();
-    let shape = Shape::new(4, 0b1010, 2, 10, 16, 20).ok_or("no shape")?;
-    let parts = open::<Work>(alloc, &shape.for_parts())?;
-    let Ok(closed) = close(alloc, parts) else {
-        return Err(Fail::from("no room"));
-    };
-    assert_eq!(rt; closed.ran.len(), 4);
-    assert_eq!(rt; closed.back.len(), 4);
-    for back in closed.back.iter() {
-        assert_eq!(rt; back.len(), 0);
-    }
-    assert_eq!(rt; closed.reports.len(), 4);
-    for reports in closed.reports.iter() {
-        assert_eq!(rt; *reports, 0);
-    }
-    Ok(())
+fn an_empty_runtime_closes(rt: HostRuntime) {
+    let shape = Shape::new(4, 0b1010, 2, 10, 16, 20).expect(&rt, "a shape");
+    let parts = open::<Work>(rt.alloc(), &shape.for_parts()).expect(&rt, "memory");
+    let closed = close(rt.alloc(), parts).ok().expect(&rt, "room");
+    assert_same(
+        &rt,
+        (closed.ran.len(), closed.back.len(), closed.reports.len()),
+        (4, 4, 4),
+    );
+    assert_nothing_happened(&rt, &closed);
 }

@@ -1,16 +1,39 @@
 //! Which parts `open` makes.
 
-use crate::tests::job;
-use rcu_jobs::{BoxedJob, Lists, Mode};
+use crate::opening::{Work, call_lazy};
+use crate::same::assert_same;
+use rcu_jobs::{Lists, Mode};
 use rcu_numbers::{MOST_CALLS, PartsShape, ProcessorSet, Shape};
-use rcu_parts::{Parts, open};
+use rcu_parts::{Control, Group, Hand, Parts, Processor, open};
 use std::alloc::Global;
-use std::test::Fail;
+use std::process::Abort;
+
+/// The parts of a runtime of four processors.
+struct OfFour {
+    parts: Parts<Work>,
+}
+
+impl Drop for OfFour {
+    fn drop(self) {
+        let OfFour { parts: _ } = self;
+    }
+}
 
 /// The parts of four processors, of which these are offloadable. Neighbours are a group of two.
-fn opened(alloc: Global, offloadable: u32) -> Option<Parts<BoxedJob<0>>> {
-    let shape = Shape::new(4, offloadable, 2, 10, 16, 20)?;
-    open(alloc, &shape.for_parts()).ok()
+fn opened(rt: &impl Abort, alloc: Global, offloadable: u32) -> OfFour {
+    let shape = Shape::new(4, offloadable, 2, 10, 16, 20).expect(rt, "a shape");
+    OfFour {
+        parts: open(alloc, &shape.for_parts()).expect(rt, "memory"),
+    }
+}
+
+/// How many processors, groups and hands there are.
+fn counts(parts: &Parts<Work>) -> [usize; 3] {
+    [
+        parts.processors.len(),
+        parts.groups.len(),
+        parts.hands.len(),
+    ]
 }
 
 /// What an empty processor shows.
@@ -29,73 +52,89 @@ const EMPTY_MEMBER: Lists = Lists::Folk {
     numbers: [0; 2],
 };
 
+/// That these are so many empty processors as modes, each of its mode.
+fn assert_empty(rt: &impl Abort, processors: &[Processor<Work>], modes: &[Mode]) {
+    assert_same(rt, processors.len(), modes.len());
+    for (processor, mode) in processors.iter().zip(modes) {
+        assert_same(rt, processor.lists(), empty(*mode));
+    }
+}
+
 #[test]
-fn offloadable_ones_are_offloaded(rt: HostRuntime) -> Result<(), Fail> {
-    let parts = opened(rt.alloc(), 0b1010).expect(&rt, "parts");
-    assert_eq!(rt; parts.processors.len(), 4);
+fn offloadable_ones_are_offloaded(rt: HostRuntime) {
+    let all = opened(&rt, rt.alloc(), 0b1010);
     let modes = [Mode::Local, Mode::Offloaded, Mode::Local, Mode::Offloaded];
-    for (processor, mode) in parts.processors.iter().zip(modes.iter()) {
-        assert_eq!(rt; processor.lists(), empty(*mode));
+    assert_empty(&rt, all.parts.processors.as_slice(), &modes);
+}
+
+/// That these are the hands of these processors.
+fn assert_hands(rt: &impl Abort, hands: &[Hand<Work>], cpus: &[u64]) {
+    assert_same(rt, hands.len(), cpus.len());
+    for (hand, cpu) in hands.iter().zip(cpus) {
+        assert_same(rt, hand.cpu(), *cpu);
     }
-    Ok(())
 }
 
 #[test]
-fn each_offloadable_one_has_a_hand(rt: HostRuntime) -> Result<(), Fail> {
-    let parts = opened(rt.alloc(), 0b1010).expect(&rt, "parts");
-    assert_eq!(rt; parts.hands.len(), 2);
-    for (hand, cpu) in parts.hands.iter().zip([1, 3].iter()) {
-        assert_eq!(rt; hand.cpu(), *cpu);
-    }
-    Ok(())
+fn each_offloadable_one_has_a_hand(rt: HostRuntime) {
+    let all = opened(&rt, rt.alloc(), 0b1010);
+    assert_hands(&rt, all.parts.hands.as_slice(), &[1, 3]);
+}
+
+/// The number of the first of so many groups, and what it shows of each processor.
+fn first_group(rt: &impl Abort, groups: &[Group<Work>], many: usize) -> (u64, [Option<Lists>; 4]) {
+    assert_same(rt, groups.len(), many);
+    let first = groups.first().expect(rt, "a group");
+    let shown = [
+        first.lists(0),
+        first.lists(1),
+        first.lists(2),
+        first.lists(3),
+    ];
+    (first.number(), shown)
 }
 
 #[test]
-fn each_group_has_its_members(rt: HostRuntime) -> Result<(), Fail> {
-    let parts = opened(rt.alloc(), 0b1010).expect(&rt, "parts");
-    assert_eq!(rt; parts.groups.len(), 2);
-    let first = parts.groups.first().expect(&rt, "group 0");
-    assert_eq!(rt; first.number(), 0);
-    assert_eq!(rt; first.lists(0), None);
-    assert_eq!(rt; first.lists(1), Some(EMPTY_MEMBER));
-    assert_eq!(rt; first.lists(3), None);
-    Ok(())
+fn each_group_has_its_members(rt: HostRuntime) {
+    let all = opened(&rt, rt.alloc(), 0b1010);
+    let shown = [None, Some(EMPTY_MEMBER), None, None];
+    assert_same(
+        &rt,
+        first_group(&rt, all.parts.groups.as_slice(), 2),
+        (0, shown),
+    );
 }
 
 #[test]
-fn a_group_may_have_two_members(rt: HostRuntime) -> Result<(), Fail> {
-    let parts = opened(rt.alloc(), 0b1100).expect(&rt, "parts");
-    assert_eq!(rt; parts.groups.len(), 1);
-    let group = parts.groups.first().expect(&rt, "group 1");
-    assert_eq!(rt; group.number(), 1);
-    assert_eq!(rt; group.lists(1), None);
-    assert_eq!(rt; group.lists(2), Some(EMPTY_MEMBER));
-    assert_eq!(rt; group.lists(3), Some(EMPTY_MEMBER));
-    Ok(())
+fn a_group_may_have_two_members(rt: HostRuntime) {
+    let all = opened(&rt, rt.alloc(), 0b1100);
+    let shown = [None, None, Some(EMPTY_MEMBER), Some(EMPTY_MEMBER)];
+    assert_same(
+        &rt,
+        first_group(&rt, all.parts.groups.as_slice(), 1),
+        (1, shown),
+    );
 }
 
 #[test]
-fn with_none_offloadable_there_is_no_group(rt: HostRuntime) -> Result<(), Fail> {
-    let parts = opened(rt.alloc(), 0).expect(&rt, "parts");
-    assert_eq!(rt; parts.processors.len(), 4);
-    assert_eq!(rt; parts.groups.len(), 0);
-    assert_eq!(rt; parts.hands.len(), 0);
-    Ok(())
+fn with_none_offloadable_there_is_no_group(rt: HostRuntime) {
+    let all = opened(&rt, rt.alloc(), 0);
+    assert_same(&rt, counts(&all.parts), [4, 0, 0]);
 }
 
-/// How long the bypass list of processor 1023 of 1,024 is: after a lazy call, after a tick, and after a barrier and a tick.
-fn last_bypass(alloc: Global) -> Option<[u64; 3]> {
-    let all = ProcessorSet::of_first(1024);
-    let shape = PartsShape::new(1024, &all, 64, 10, 16, MOST_CALLS)?;
-    let mut parts: Parts<BoxedJob<0>> = open(alloc, &shape).ok()?;
-    let mut last = parts.processors.pop()?;
-    last.call_rcu_lazy(1, job(alloc, 8).ok()?).ok()?;
-    let called = bypass_of(last.lists());
-    last.tick(2);
-    let waits = bypass_of(last.lists());
-    parts.control.barrier(&[]).ok()?;
-    last.tick(2);
-    Some([called, waits, bypass_of(last.lists())])
+/// How long a processor's bypass list is: after a lazy call, after a tick, and after a barrier and a tick.
+fn bypass_lengths(
+    alloc: Global,
+    processor: &mut Processor<Work>,
+    control: &mut Control,
+) -> Option<[u64; 3]> {
+    call_lazy(alloc, processor, 1, 8)?;
+    let called = bypass_of(processor.lists());
+    processor.tick(2);
+    let waits = bypass_of(processor.lists());
+    control.barrier(&[]).ok()?;
+    processor.tick(2);
+    Some([called, waits, bypass_of(processor.lists())])
 }
 
 fn bypass_of(lists: Lists) -> u64 {
@@ -106,7 +145,11 @@ fn bypass_of(lists: Lists) -> u64 {
 }
 
 #[test]
-fn a_barrier_urges_the_last_of_1024(rt: HostRuntime) -> Result<(), Fail> {
-    assert_eq!(rt; last_bypass(rt.alloc()), Some([1, 1, 0]));
-    Ok(())
+fn a_barrier_urges_the_last_of_1024(rt: HostRuntime) {
+    let all = ProcessorSet::of_first(1024);
+    let shape = PartsShape::new(1024, &all, 64, 10, 16, MOST_CALLS).expect(&rt, "a shape");
+    let mut parts: Parts<Work> = open(rt.alloc(), &shape).expect(&rt, "memory");
+    let mut last = parts.processors.pop().expect(&rt, "a processor");
+    let lengths = bypass_lengths(rt.alloc(), &mut last, &mut parts.control);
+    assert_same(&rt, lengths, Some([1, 1, 0]));
 }

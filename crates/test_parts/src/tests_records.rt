@@ -1,31 +1,50 @@
 //! What is kept of the callbacks that ran, by the choice at the open.
 
-use crate::tests::job;
-use rcu_jobs::BoxedJob;
+use crate::opening::{Work, call};
+use crate::same::assert_same;
 use rcu_numbers::{MOST_CALLS, PartsShape, ProcessorSet};
-use rcu_parts::{AllParts, Driver, Kept, Parts, Processor, open_with};
+use rcu_parts::{AllParts, Driver, Kept, Processor, open_with};
 use std::alloc::Global;
-use std::test::Fail;
+use std::process::Abort;
 
-/// The parts of a runtime with one Local processor, which accepts callbacks without end.
-fn open_one(alloc: Global, kept: Kept) -> Option<Parts<BoxedJob<0>>> {
-    let shape = PartsShape::new(1, &ProcessorSet::new(), 1, 10, 16, MOST_CALLS)?;
-    open_with(alloc, &shape, kept).ok()
+/// A Local processor, which accepts callbacks without end, and the driver.
+struct Endless {
+    processor: Processor<Work>,
+    driver: Driver,
+}
+
+impl Drop for Endless {
+    fn drop(self) {
+        let Endless {
+            processor: _,
+            driver: _,
+        } = self;
+    }
+}
+
+fn open_endless(rt: &impl Abort, alloc: Global, kept: Kept) -> Endless {
+    let shape = PartsShape::new(1, &ProcessorSet::new(), 1, 10, 16, MOST_CALLS);
+    let AllParts {
+        mut processors,
+        driver,
+        groups: _,
+        hands: _,
+        control: _,
+    } = open_with(alloc, &shape.expect(rt, "a shape"), kept).expect(rt, "memory");
+    Endless {
+        processor: processors.pop().expect(rt, "a processor"),
+        driver,
+    }
 }
 
 /// Calls once, and runs the callback, whose grace period passes meanwhile. Answers how many ran.
-fn call_and_run(
-    alloc: Global,
-    processor: &mut Processor<BoxedJob<0>>,
-    driver: &mut Driver,
-    moment: u64,
-) -> Option<u64> {
-    processor.call_rcu(moment, job(alloc, 7).ok()?).ok()?;
-    processor.tick(moment);
-    driver.turn();
-    processor.quiescent();
-    driver.turn();
-    Some(processor.tick(moment).ran)
+fn call_and_run(alloc: Global, parts: &mut Endless, moment: u64) -> Option<u64> {
+    call(alloc, &mut parts.processor, moment, 7)?;
+    parts.processor.tick(moment);
+    parts.driver.turn();
+    parts.processor.quiescent();
+    parts.driver.turn();
+    Some(parts.processor.tick(moment).ran)
 }
 
 /// What is known after two callbacks, a take of their records, and one callback more.
@@ -36,81 +55,66 @@ struct AfterThree {
     left: usize,
 }
 
-fn take_after_two(alloc: Global, kept: Kept) -> Option<AfterThree> {
-    let AllParts {
-        mut processors,
-        mut driver,
-        ..
-    } = open_one(alloc, kept)?;
-    let mut processor = processors.pop()?;
-    call_and_run(alloc, &mut processor, &mut driver, 1)?;
-    call_and_run(alloc, &mut processor, &mut driver, 2)?;
-    let taken = processor.take_records(alloc);
-    call_and_run(alloc, &mut processor, &mut driver, 3)?;
+fn take_after_two(alloc: Global, parts: &mut Endless) -> Option<AfterThree> {
+    call_and_run(alloc, parts, 1)?;
+    call_and_run(alloc, parts, 2)?;
+    let taken = parts.processor.take_records(alloc).len();
+    call_and_run(alloc, parts, 3)?;
     Some(AfterThree {
-        ran: processor.ran(),
-        taken: taken.len(),
-        left: processor.records_left(),
+        ran: parts.processor.ran(),
+        taken,
+        left: parts.processor.records_left(),
     })
 }
 
 #[test]
-fn every_record_is_kept(rt: HostRuntime) -> Result<(), Fail> {
-    let found = take_after_two(rt.alloc(), Kept::Whole);
+fn every_record_is_kept(rt: HostRuntime) {
     let wanted = AfterThree {
         ran: 3,
         taken: 0,
         left: 3,
     };
-    assert!(rt; found == Some(wanted));
-    Ok(())
+    let mut parts = open_endless(&rt, rt.alloc(), Kept::Whole);
+    assert_same(&rt, take_after_two(rt.alloc(), &mut parts), Some(wanted));
 }
 
 #[test]
-fn records_are_taken_out_once(rt: HostRuntime) -> Result<(), Fail> {
-    let found = take_after_two(rt.alloc(), Kept::Rest);
+fn records_are_taken_out_once(rt: HostRuntime) {
     let wanted = AfterThree {
         ran: 3,
         taken: 2,
         left: 1,
     };
-    assert!(rt; found == Some(wanted));
-    Ok(())
+    let mut parts = open_endless(&rt, rt.alloc(), Kept::Rest);
+    assert_same(&rt, take_after_two(rt.alloc(), &mut parts), Some(wanted));
 }
 
 #[test]
-fn no_record_is_kept(rt: HostRuntime) -> Result<(), Fail> {
-    let found = take_after_two(rt.alloc(), Kept::Nothing);
+fn no_record_is_kept(rt: HostRuntime) {
     let wanted = AfterThree {
         ran: 3,
         taken: 0,
         left: 0,
     };
-    assert!(rt; found == Some(wanted));
-    Ok(())
+    let mut parts = open_endless(&rt, rt.alloc(), Kept::Nothing);
+    assert_same(&rt, take_after_two(rt.alloc(), &mut parts), Some(wanted));
 }
 
 /// Callbacks run one after another, and no record of them is left.
 #[test]
-fn calls_go_on_without_records(rt: HostRuntime) -> Result<(), Fail> {
-    let alloc = rt.alloc();
-    let AllParts {
-        mut processors,
-        mut driver,
-        ..
-    } = open_one(alloc, Kept::Nothing).ok_or("no room")?;
-    let mut processor = processors.pop().ok_or("no processor")?;
+fn calls_go_on_without_records(rt: HostRuntime) {
+    let mut parts = open_endless(&rt, rt.alloc(), Kept::Nothing);
     for moment in 1..100 {
-        let ran = call_and_run(alloc, &mut processor, &mut driver, moment);
-        assert!(rt; ran == Some(1));
+        assert_same(&rt, call_and_run(rt.alloc(), &mut parts, moment), Some(1));
     }
-    assert_eq!(rt;
+    let processor = &parts.processor;
+    assert_same(
+        &rt,
         (
             processor.accepted(),
             processor.ran(),
-            processor.records_left()
+            processor.records_left(),
         ),
-        (99, 99, 0)
+        (99, 99, 0),
     );
-    Ok(())
 }

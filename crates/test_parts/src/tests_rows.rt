@@ -1,37 +1,16 @@
 //! Worked rows over the running parts (docs/specification/rows.md).
 
-use crate::opening::{AllOfOne, open_one};
-use crate::tests::{job, with_control};
-use rcu_jobs::{BarrierFault, BoxedJob, GroupTurn, Lists, Mode, Ticket};
-use rcu_parts::{Group, Processor};
+use crate::opening::{Work, call, open_local, open_offloaded};
+use crate::same::assert_same;
+use rcu_jobs::{BarrierFault, GroupTurn, Lists, Mode, Ticket};
+use rcu_parts::{Control, Group, Processor};
 use std::alloc::Global;
-use std::test::Fail;
-
-type Work = BoxedJob<0>;
-
-/// The only processor of a runtime, which is offloadable and accepts 100 callbacks at most, and its group.
-pub(crate) fn offloaded(alloc: Global, qhimark: u64) -> Option<(Processor<Work>, Group<Work>)> {
-    let AllOfOne {
-        processor,
-        group,
-        ..
-    } = open_one(alloc, true, 10, qhimark, 100)?;
-    with_group(processor, group)
-}
-
-fn with_group(
-    processor: Processor<Work>,
-    group: Option<Group<Work>>,
-) -> Option<(Processor<Work>, Group<Work>)> {
-    Some((processor, group?))
-}
 
 /// So many calls at one moment. Answers the number of the last, where all were accepted.
-fn call(alloc: Global, processor: &mut Processor<Work>, moment: u64, many: u64) -> Option<u64> {
+fn calls(alloc: Global, processor: &mut Processor<Work>, moment: u64, many: u64) -> Option<u64> {
     let mut last = None;
     for _ in 0..many {
-        let Ticket { cpu: _, number } = processor.call_rcu(moment, job(alloc, 1).ok()?).ok()?;
-        last = Some(number);
+        last = Some(call(alloc, processor, moment, 1)?.number);
     }
     last
 }
@@ -48,72 +27,91 @@ fn shown(accepted: u64, bypass: u64) -> Lists {
 }
 
 /// What a group shows of a member, for which so many callbacks wait for a number.
-fn waiting(many: u64, number: u64) -> Lists {
-    Lists::Folk {
+fn waiting(many: u64, number: u64) -> Option<Lists> {
+    Some(Lists::Folk {
         lengths: [0, many, 0, 0],
         numbers: [number, 0],
-    }
+    })
+}
+
+/// What a processor and its group show after so many calls at one moment, with the number of the last.
+type Seen = (Option<u64>, Lists, Option<Lists>);
+
+fn seen_after(
+    alloc: Global,
+    processor: &mut Processor<Work>,
+    group: &Group<Work>,
+    moment: u64,
+    many: u64,
+) -> Seen {
+    let last = calls(alloc, processor, moment, many);
+    (last, processor.lists(), group.lists(0))
+}
+
+/// What a turn of the group answered, and what both show after it.
+fn seen_after_turn(
+    processor: &Processor<Work>,
+    group: &mut Group<Work>,
+) -> (GroupTurn, Lists, Option<Lists>) {
+    let turn = group.turn();
+    (turn, processor.lists(), group.lists(0))
 }
 
 #[test]
-fn bypass_17(rt: HostRuntime) -> Result<(), Fail> {
-    let alloc = rt.alloc();
-    let (mut processor, mut group) = offloaded(alloc, 10000).expect(&rt, "a processor");
-    assert_eq!(rt; call(alloc, &mut processor, 5, 17), Some(16));
-    assert_eq!(rt; processor.lists(), shown(17, 1));
-    assert_eq!(rt; group.lists(0), Some(waiting(0, 0)));
-    assert_eq!(rt; call(alloc, &mut processor, 6, 1), Some(17));
-    assert_eq!(rt; processor.lists(), shown(18, 0));
-    assert_eq!(rt; group.lists(0), Some(waiting(0, 0)));
-    let turn = GroupTurn {
+fn bypass_17(rt: HostRuntime) {
+    let mut parts = open_offloaded(&rt, rt.alloc(), 10, 10000, 100);
+    let first = seen_after(rt.alloc(), &mut parts.processor, &parts.group, 5, 17);
+    assert_same(&rt, first, (Some(16), shown(17, 1), waiting(0, 0)));
+    let second = seen_after(rt.alloc(), &mut parts.processor, &parts.group, 6, 1);
+    assert_same(&rt, second, (Some(17), shown(18, 0), waiting(0, 0)));
+    let took = GroupTurn {
         took: 18,
         gave: 0,
         held: 0,
     };
-    assert_eq!(rt; group.turn(), turn);
-    assert_eq!(rt; processor.lists(), shown(18, 0));
-    assert_eq!(rt; group.lists(0), Some(waiting(18, 4)));
-    Ok(())
+    let turned = seen_after_turn(&parts.processor, &mut parts.group);
+    assert_same(&rt, turned, (took, shown(18, 0), waiting(18, 4)));
 }
 
 #[test]
-fn bypass_qhimark(rt: HostRuntime) -> Result<(), Fail> {
-    let alloc = rt.alloc();
-    let (mut processor, group) = offloaded(alloc, 3).expect(&rt, "a processor");
-    assert_eq!(rt; call(alloc, &mut processor, 5, 16), Some(15));
-    assert_eq!(rt; processor.lists(), shown(16, 0));
-    for (accepted, bypass) in [(17, 1), (18, 2), (19, 0), (20, 1)] {
-        assert_eq!(rt; call(alloc, &mut processor, 5, 1), Some(accepted - 1));
-        assert_eq!(rt; processor.lists(), shown(accepted, bypass));
-        assert_eq!(rt; group.lists(0), Some(waiting(0, 0)));
+fn bypass_qhimark(rt: HostRuntime) {
+    let mut parts = open_offloaded(&rt, rt.alloc(), 10, 3, 100);
+    let many = [(16, 16, 0), (1, 17, 1), (1, 18, 2), (1, 19, 0), (1, 20, 1)];
+    for (calls, accepted, bypass) in many {
+        let seen = seen_after(rt.alloc(), &mut parts.processor, &parts.group, 5, calls);
+        let wanted = (Some(accepted - 1), shown(accepted, bypass), waiting(0, 0));
+        assert_same(&rt, seen, wanted);
     }
-    Ok(())
+}
+
+/// What control answers where a barrier is asked for with one ticket.
+fn fault_of(control: &mut Control, cpu: u64, number: u64) -> Option<BarrierFault> {
+    control.barrier(&[Ticket { cpu, number }]).err()
 }
 
 #[test]
-fn barrier_tickets(rt: HostRuntime) -> Result<(), Fail> {
-    let alloc = rt.alloc();
-    let (mut processor, mut control) = with_control(alloc, false, 100).expect(&rt, "parts");
-    assert_eq!(rt; call(alloc, &mut processor, 5, 3), Some(2));
-    let ahead = control.barrier(&[Ticket { cpu: 0, number: 3 }]);
-    assert_eq!(rt; ahead.err(), Some(BarrierFault::Ahead { cpu: 0, count: 3 }));
-    let opened = control.barrier(&[Ticket { cpu: 0, number: 2 }]);
-    assert!(rt; opened.is_ok());
-    let nowhere = control.barrier(&[Ticket { cpu: 1, number: 0 }]);
-    assert_eq!(rt; nowhere.err(), Some(BarrierFault::NoProcessor(1)));
-    Ok(())
+fn barrier_tickets(rt: HostRuntime) {
+    let mut parts = open_local(&rt, rt.alloc(), 10, 100);
+    assert_same(&rt, calls(rt.alloc(), &mut parts.processor, 5, 3), Some(2));
+    let faults = [
+        fault_of(&mut parts.control, 0, 3),
+        fault_of(&mut parts.control, 0, 2),
+        fault_of(&mut parts.control, 1, 0),
+    ];
+    let ahead = BarrierFault::Ahead { cpu: 0, count: 3 };
+    assert_same(
+        &rt,
+        faults,
+        [Some(ahead), None, Some(BarrierFault::NoProcessor(1))],
+    );
 }
 
 #[test]
-fn a_barrier_counts_what_its_processor_accepted(rt: HostRuntime) -> Result<(), Fail> {
-    let alloc = rt.alloc();
-    let (mut processor, mut control) = with_control(alloc, false, 100).expect(&rt, "parts");
-    assert_eq!(rt; call(alloc, &mut processor, 5, 3), Some(2));
-    let open = processor.barrier();
-    let counted = open.counts.counts[0];
-    assert_eq!(rt; counted, 3);
-    control.shut();
-    let shut = processor.barrier();
-    assert_eq!(rt; shut, open);
-    Ok(())
+fn a_barrier_counts_what_its_processor_accepted(rt: HostRuntime) {
+    let mut parts = open_local(&rt, rt.alloc(), 10, 100);
+    assert_same(&rt, calls(rt.alloc(), &mut parts.processor, 5, 3), Some(2));
+    let open = parts.processor.barrier();
+    parts.control.shut();
+    let shut = parts.processor.barrier();
+    assert_same(&rt, (open.counts.counts[0], shut), (3, open));
 }

@@ -1,29 +1,25 @@
 //! The row group-beside-caller of docs/specification/rows.md, in two threads.
 
-use crate::tests::job;
-use crate::tests_rows::offloaded;
-use rcu_jobs::{BoxedJob, Lists};
+use crate::opening::{Work, call, open_offloaded};
+use crate::same::assert_same;
+use rcu_jobs::Lists;
 use rcu_parts::{Group, Processor};
 use std::alloc::Global;
-use std::test::Fail;
 use std::thread;
 
-/// Has a processor make 100 calls, some of them held back by their moments.
-fn call_100(alloc: Global, processor: Processor<BoxedJob<0>>) -> Option<Processor<BoxedJob<0>>> {
+/// Has a processor make 100 calls, some of them held back by their moments. Answers how many were accepted.
+fn call_100(alloc: Global, processor: Processor<Work>) -> (Processor<Work>, u64) {
     let mut processor = processor;
+    let mut accepted: u64 = 0;
     for number in 0..100 {
-        let Ok(work) = job(alloc, number) else {
-            return None;
-        };
-        if processor.call_rcu(number / 25, work).is_err() {
-            return None;
-        }
+        let ticket = call(alloc, &mut processor, number / 25, number);
+        accepted = accepted.wrapping_add(u64::from(ticket.is_some()));
     }
-    Some(processor)
+    (processor, accepted)
 }
 
 /// Turns a group so often. Answers how many callbacks it took.
-fn turn_often(group: Group<BoxedJob<0>>, turns: u64) -> (Group<BoxedJob<0>>, u64) {
+fn turn_often(group: Group<Work>, turns: u64) -> (Group<Work>, u64) {
     let mut group = group;
     let mut took: u64 = 0;
     for _ in 0..turns {
@@ -33,8 +29,7 @@ fn turn_often(group: Group<BoxedJob<0>>, turns: u64) -> (Group<BoxedJob<0>>, u64
 }
 
 /// Turns a group until a turn takes nothing, at most 100 times. Answers how many callbacks it took.
-fn turn_to_the_end(group: Group<BoxedJob<0>>) -> u64 {
-    let mut group = group;
+fn turn_to_the_end(group: &mut Group<Work>) -> u64 {
     let mut took: u64 = 0;
     for _ in 0..100 {
         let turn = group.turn();
@@ -47,7 +42,7 @@ fn turn_to_the_end(group: Group<BoxedJob<0>>) -> u64 {
 }
 
 /// How many callbacks a processor's bypass list holds.
-fn bypassed(processor: &Processor<BoxedJob<0>>) -> u64 {
+fn bypassed(processor: &Processor<Work>) -> u64 {
     match processor.lists() {
         Lists::Cpu { bypass, .. } => bypass,
         Lists::Folk { .. } => 0,
@@ -55,16 +50,16 @@ fn bypassed(processor: &Processor<BoxedJob<0>>) -> u64 {
 }
 
 #[test]
-fn group_beside_caller(rt: HostRuntime) -> Result<(), Fail> {
+fn group_beside_caller(rt: HostRuntime) {
+    let parts = open_offloaded(&rt, rt.alloc(), 10, 10000, 100);
+    let (processor, group) = parts.into_processor_and_group();
     let alloc = rt.alloc();
-    let (processor, group) = offloaded(alloc, 10000).ok_or("no parts")?;
-    let (called, (group, beside)) = thread::join(
+    let ((processor, accepted), (mut group, beside)) = thread::join(
         &rt,
         move || call_100(alloc, processor),
         move || turn_often(group, 1000),
     );
-    let processor = called.ok_or("a call was refused")?;
-    let took = beside.wrapping_add(turn_to_the_end(group));
-    assert_eq!(rt; took.wrapping_add(bypassed(&processor)), 100);
-    Ok(())
+    let took = beside.wrapping_add(turn_to_the_end(&mut group));
+    let found = took.wrapping_add(bypassed(&processor));
+    assert_same(&rt, (accepted, found), (100, 100));
 }
