@@ -7,6 +7,8 @@
 #[cfg(test)]
 mod runs;
 #[cfg(test)]
+mod same;
+#[cfg(test)]
 mod tests;
 #[cfg(test)]
 mod tests_agreement;

@@ -5,9 +5,9 @@ use rcu_numbers::Shape;
 use rcu_parts::open;
 use rcu_threads::{ThreadsEnd, run_in_threads};
 use std::alloc::{AllocError, Global};
+use std::process::Abort;
 use std::rt::Clock;
 use std::sync::Wait;
-use std::test::Fail;
 use std::thread::Threads;
 
 /// A job that gives its key.
@@ -27,16 +27,16 @@ pub(crate) fn jobs(alloc: Global, many: u64) -> Result<Vec<Work>, AllocError> {
     Ok(jobs)
 }
 
-/// What a run in threads leaves of a shape's parts, with these jobs.
-pub(crate) fn run<R: Threads + Wait + Clock + Copy + Send + 'static>(
+/// What a run in threads leaves of a shape's parts, with these jobs. The test ends where it isn't run.
+pub(crate) fn run<R: Abort + Threads + Wait + Clock + Copy + Send + 'static>(
     rt: &R,
     alloc: Global,
     shape: Option<Shape>,
     jobs: Vec<Work>,
-) -> Result<ThreadsEnd<Work>, Fail> {
-    let parts = open(alloc, &shape.ok_or("no shape")?.for_parts())?;
-    match run_in_threads(rt, alloc, parts, jobs) {
-        Ok(ended) => Ok(ended),
-        Err(_) => Err("not run".into()),
-    }
+) -> ThreadsEnd<Work> {
+    let shape = shape.expect(rt, "a shape").for_parts();
+    let parts = open(alloc, &shape).expect(rt, "memory");
+    run_in_threads(rt, alloc, parts, jobs)
+        .ok()
+        .expect(rt, "a run")
 }

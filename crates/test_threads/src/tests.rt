@@ -1,13 +1,14 @@
 //! All parts in threads.
 
 use crate::runs::{Work, jobs, run};
+use crate::same::assert_same;
 use rcu_jobs::{BoxedJob, Closed, Job, Refused};
 use rcu_numbers::Shape;
 use rcu_threads::ThreadsEnd;
 use std::alloc::{AllocError, Global};
+use std::process::Abort;
 use std::sync::Arc;
 use std::sync::atomic::{AtomicU64, Ordering};
-use std::test::Fail;
 use std::thread;
 
 /// Whether processor `p` ran, of jobs that were dealt in so many rounds to `many` processors, just its own, in order, and
@@ -29,36 +30,40 @@ fn ran_its_own(closed: &Closed<Work>, p: usize, many: u64, rounds: usize) -> boo
     ran.len() == rounds && back.is_empty()
 }
 
+/// That each of `many` processors ran just its own, as `ran_its_own`.
+fn assert_all_ran(rt: &impl Abort, closed: &Closed<Work>, many: u64, rounds: usize) {
+    for p in 0..many {
+        let ran = ran_its_own(closed, p as usize, many, rounds);
+        assert_same(rt, (p, ran), (p, true));
+    }
+}
+
 #[test]
-fn four_processors_in_threads(rt: HostRuntime) -> Result<(), Fail> {
+fn four_processors_in_threads(rt: HostRuntime) {
     let alloc = rt.alloc();
     let shape = Shape::new(4, 0b1110, 2, 10, 10000, 1000);
-    let ended = run(&rt, alloc, shape, jobs(alloc, 8)?)?;
-    for p in 0..4 {
-        assert!(rt; ran_its_own(&ended.closed, p, 4, 2));
-    }
-    Ok(())
+    let ended = run(&rt, alloc, shape, jobs(alloc, 8).expect(&rt, "memory"));
+    assert_all_ran(&rt, &ended.closed, 4, 2);
 }
 
 #[test]
-fn thirty_two_processors_in_threads(rt: HostRuntime) -> Result<(), Fail> {
+fn thirty_two_processors_in_threads(rt: HostRuntime) {
     let alloc = rt.alloc();
     let shape = Shape::new(32, u32::MAX, 6, 10, 10000, 1000);
-    let ended = run(&rt, alloc, shape, jobs(alloc, 32)?)?;
-    for p in 0..32 {
-        assert!(rt; ran_its_own(&ended.closed, p, 32, 1));
-    }
-    Ok(())
+    let ended = run(&rt, alloc, shape, jobs(alloc, 32).expect(&rt, "memory"));
+    assert_all_ran(&rt, &ended.closed, 32, 1);
 }
 
 #[test]
-fn more_jobs_than_rounds(rt: HostRuntime) -> Result<(), Fail> {
+fn more_jobs_than_rounds(rt: HostRuntime) {
     let alloc = rt.alloc();
     let shape = Shape::new(2, 0b01, 1, 10, 10000, 1000);
-    let ended = run(&rt, alloc, shape, jobs(alloc, 5)?)?;
-    assert!(rt; ran_its_own(&ended.closed, 0, 2, 3));
-    assert!(rt; ran_its_own(&ended.closed, 1, 2, 2));
-    Ok(())
+    let ended = run(&rt, alloc, shape, jobs(alloc, 5).expect(&rt, "memory"));
+    let ran = [
+        ran_its_own(&ended.closed, 0, 2, 3),
+        ran_its_own(&ended.closed, 1, 2, 2),
+    ];
+    assert_same(&rt, ran, [true, true]);
 }
 
 /// Whether the answers of processor `p`, whose limit is 2, are tickets of the numbers 0 and 1, and then the jobs with the keys
@@ -90,26 +95,28 @@ fn refused_its_last(ended: &ThreadsEnd<Work>, p: u64, key: u64, many: u64) -> bo
 }
 
 #[test]
-fn refused_jobs_come_back(rt: HostRuntime) -> Result<(), Fail> {
+fn refused_jobs_come_back(rt: HostRuntime) {
     let alloc = rt.alloc();
     let shape = Shape::new(2, 0b10, 1, 10, 10000, 2);
-    let ended = run(&rt, alloc, shape, jobs(alloc, 8)?)?;
-    assert!(rt; ran_its_own(&ended.closed, 0, 2, 2));
-    assert!(rt; ran_its_own(&ended.closed, 1, 2, 2));
-    assert!(rt; refused_its_last(&ended, 0, 4, 2));
-    assert!(rt; refused_its_last(&ended, 1, 5, 2));
-    Ok(())
+    let ended = run(&rt, alloc, shape, jobs(alloc, 8).expect(&rt, "memory"));
+    let ran = [
+        ran_its_own(&ended.closed, 0, 2, 2),
+        ran_its_own(&ended.closed, 1, 2, 2),
+    ];
+    assert_same(&rt, ran, [true, true]);
+    let refused = [
+        refused_its_last(&ended, 0, 4, 2),
+        refused_its_last(&ended, 1, 5, 2),
+    ];
+    assert_same(&rt, refused, [true, true]);
 }
 
 #[test]
-fn no_jobs(rt: HostRuntime) -> Result<(), Fail> {
+fn no_jobs(rt: HostRuntime) {
     let alloc = rt.alloc();
     let shape = Shape::new(3, 0b010, 2, 10, 10000, 1000);
-    let ended = run(&rt, alloc, shape, jobs(alloc, 0)?)?;
-    for p in 0..3 {
-        assert!(rt; ran_its_own(&ended.closed, p, 3, 0));
-    }
-    Ok(())
+    let ended = run(&rt, alloc, shape, jobs(alloc, 0).expect(&rt, "memory"));
+    assert_all_ran(&rt, &ended.closed, 3, 0);
 }
 
 /// Raises a flag, and looks for the other at most a million times. Answers 1 where it is seen, else 0.
@@ -134,21 +141,29 @@ fn meeting(
     Ok(BoxedJob::new(key, Box::new(alloc, move || meet(&own, &other))?))
 }
 
-#[test]
-fn two_jobs_meet(rt: HostRuntime) -> Result<(), Fail> {
-    let alloc = rt.alloc();
-    let shape = Shape::new(2, 0b11, 1, 10, 10000, 1000);
+/// Two jobs, of which each meets the other.
+fn meeting_jobs(alloc: Global) -> Result<Vec<Work>, AllocError> {
     let first = Arc::new(alloc, AtomicU64::new(0))?;
     let second = Arc::new(alloc, AtomicU64::new(0))?;
     let mut jobs = Vec::new(alloc);
     jobs.push(meeting(alloc, 0, Arc::try_clone(&first)?, Arc::try_clone(&second)?)?)?;
     jobs.push(meeting(alloc, 1, second, first)?)?;
-    let ended = run(&rt, alloc, shape, jobs)?;
-    for ran in ended.closed.ran.iter() {
-        assert_eq!(rt; ran.len(), 1);
+    Ok(jobs)
+}
+
+/// That each processor ran one callback, of which each gave 1.
+fn assert_all_met(rt: &impl Abort, closed: &Closed<Work>) {
+    for ran in closed.ran.iter() {
+        assert_same(rt, ran.len(), 1);
         for record in ran.iter() {
-            assert_eq!(rt; record.receipt, 1);
+            assert_same(rt, record.receipt, 1);
         }
     }
-    Ok(())
+}
+
+#[test]
+fn two_jobs_meet(rt: HostRuntime) {
+    let shape = Shape::new(2, 0b11, 1, 10, 10000, 1000);
+    let jobs = meeting_jobs(rt.alloc()).expect(&rt, "memory");
+    assert_all_met(&rt, &run(&rt, rt.alloc(), shape, jobs).closed);
 }
