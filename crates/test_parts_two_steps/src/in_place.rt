@@ -1,4 +1,4 @@
-//! Parts in place, of which a callback begins and ends where they stand. It is no test itself, as `opening`.
+//! Parts in place, of which a callback begins and ends where they stand.
 
 use rcu_jobs::{BoxedJob, Stop};
 use rcu_parts::{HandInPlace, ProcessorInPlace};

@@ -12,9 +12,14 @@
 #![tactic(auto)]
 
 pub mod echo;
-pub mod in_place;
-pub mod opening;
-pub mod outcomes;
+#[cfg(test)]
+mod in_place;
+#[cfg(test)]
+mod opening;
+#[cfg(test)]
+mod outcomes;
+#[cfg(test)]
+mod same;
 pub mod steps;
 #[cfg(test)]
 mod tests;

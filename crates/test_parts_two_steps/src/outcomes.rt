@@ -1,4 +1,4 @@
-//! What a begin comes to, taken apart, and whether a barrier passes. It is no test itself, as `opening`.
+//! What a begin comes to, taken apart, and whether a barrier passes.
 
 use rcu_jobs::{BoxedJob, Stop};
 use rcu_parts::{Barrier, Begins, Control, Hand, Processor, RunningHand, RunningProcessor};

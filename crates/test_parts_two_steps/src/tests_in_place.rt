@@ -1,13 +1,13 @@
 //! Callbacks in two steps of parts in place, through a local processor and through a hand.
 
 use crate::in_place::{begin, finish, hand_begin, hand_finish};
-use crate::opening::{AllOfOne, open_one};
+use crate::opening::{AllOfOne, open_local, open_offloaded};
 use crate::outcomes::passes;
-use rcu_jobs::{BoxedJob, Job, Lists, Mode, Stop, Ticket};
+use crate::same::assert_same;
+use rcu_jobs::{BoxedJob, Job, Lists, Mode, Stop};
 use rcu_parts::{Control, Driver, HandInPlace, Processor, ProcessorInPlace};
 use std::alloc::{AllocError, Global};
 use std::process::Abort;
-use std::test::Fail;
 
 type Work = BoxedJob<0>;
 
@@ -58,44 +58,59 @@ fn number(processor: &ProcessorInPlace<Work>) -> Option<u64> {
     Some(processor.claimed()?.number)
 }
 
-#[test]
-fn processor_in_place_begins_in_order(rt: HostRuntime) -> Result<(), Fail> {
-    let alloc = rt.alloc();
-    let AllOfOne {
-        processor,
-        mut driver,
-        ..
-    } = open_one(alloc, false).expect(&rt, "a runtime");
-    let mut processor = ripe(alloc, processor, &mut driver).expect(&rt, "two callbacks");
-    let work = begun(&mut processor, 2).expect(&rt, "the first");
-    assert_eq!(rt; number(&processor), Some(0));
-    assert!(rt; begin(&mut processor, 2).is_none(), "one runs");
-    assert!(rt; finish(&mut processor, work.run()), "it ran");
-    assert!(rt; !finish(&mut processor, 7), "none runs");
-    let work = begun(&mut processor, 3).expect(&rt, "the second");
-    assert_eq!(rt; number(&processor), Some(1));
+/// Runs the job of the callback that runs, and ends this. Answers its number, the job's receipt, and whether no other began
+/// before its end, whether it ended, and whether another did.
+fn end_alone(processor: &mut ProcessorInPlace<Work>, work: Work) -> (Option<u64>, u64, [bool; 3]) {
+    let number = number(processor);
+    let none = begin(processor, 2).is_none();
     let receipt = work.run();
-    assert_eq!(rt; receipt, 8);
-    assert!(rt; finish(&mut processor, receipt), "it ran");
-    assert_eq!(rt; why_not(&mut processor, 4), Some(Stop::Empty));
-    Ok(())
+    let ended = finish(processor, receipt);
+    (number, receipt, [none, ended, finish(processor, 7)])
+}
+
+/// Runs the job of the callback that runs, and ends this. Answers whether one ran.
+fn end(processor: &mut ProcessorInPlace<Work>, work: Work) -> bool {
+    finish(processor, work.run())
 }
 
 #[test]
-fn callback_in_place_calls_on_its_own_processor(rt: HostRuntime) -> Result<(), Fail> {
+fn processor_in_place_begins_in_order(rt: HostRuntime) {
     let alloc = rt.alloc();
-    let AllOfOne {
-        processor,
-        mut driver,
-        ..
-    } = open_one(alloc, false).expect(&rt, "a runtime");
+    let (processor, mut driver) = open_local(&rt, alloc);
     let mut processor = ripe(alloc, processor, &mut driver).expect(&rt, "two callbacks");
     let work = begun(&mut processor, 2).expect(&rt, "the first");
-    let third = processor.call_rcu(2, job(alloc, 9)?).ok();
-    assert_eq!(rt; third, Some(Ticket { cpu: 0, number: 2 }));
-    let fourth = processor.call_rcu_lazy(2, job(alloc, 10)?).ok();
-    assert_eq!(rt; fourth, Some(Ticket { cpu: 0, number: 3 }));
-    assert_eq!(rt; (processor.accepted(), processor.left()), (4, 4));
+    assert_same(
+        &rt,
+        end_alone(&mut processor, work),
+        (Some(0), 7, [true, true, false]),
+    );
+    let work = begun(&mut processor, 3).expect(&rt, "the second");
+    assert_same(
+        &rt,
+        end_alone(&mut processor, work),
+        (Some(1), 8, [true, true, false]),
+    );
+    assert_same(&rt, why_not(&mut processor, 4), Some(Stop::Empty));
+}
+
+/// The numbers of a plain call and of a lazy one, where processor 0 accepts both.
+fn call_beside(alloc: Global, processor: &mut ProcessorInPlace<Work>) -> Option<[u64; 2]> {
+    let plain = processor.call_rcu(2, job(alloc, 9).ok()?).ok()?;
+    let lazy = processor.call_rcu_lazy(2, job(alloc, 10).ok()?).ok()?;
+    if (plain.cpu, lazy.cpu) != (0, 0) {
+        return None;
+    }
+    Some([plain.number, lazy.number])
+}
+
+#[test]
+fn callback_in_place_calls_on_its_own_processor(rt: HostRuntime) {
+    let alloc = rt.alloc();
+    let (processor, mut driver) = open_local(&rt, alloc);
+    let mut processor = ripe(alloc, processor, &mut driver).expect(&rt, "two callbacks");
+    let work = begun(&mut processor, 2).expect(&rt, "the first");
+    assert_same(&rt, call_beside(alloc, &mut processor), Some([2, 3]));
+    assert_same(&rt, (processor.accepted(), processor.left()), (4, 4));
     let shown = Lists::Cpu {
         mode: Mode::Local,
         accepted: 4,
@@ -103,16 +118,19 @@ fn callback_in_place_calls_on_its_own_processor(rt: HostRuntime) -> Result<(), F
         lengths: [1, 0, 0, 2],
         numbers: [0, 0],
     };
-    assert_eq!(rt; processor.lists(), shown);
-    assert_eq!(rt; processor.quiescent(), None);
-    assert!(rt; finish(&mut processor, work.run()), "it ran");
+    assert_same(
+        &rt,
+        (processor.lists(), processor.quiescent()),
+        (shown, None),
+    );
+    let first = end(&mut processor, work);
     let work = begun(&mut processor, 3).expect(&rt, "the second");
-    assert!(rt; finish(&mut processor, work.run()), "it ran");
-    assert_eq!(rt; why_not(&mut processor, 4), Some(Stop::Empty));
+    let second = end(&mut processor, work);
+    let last = why_not(&mut processor, 4);
+    assert_same(&rt, (first, second, last), (true, true, Some(Stop::Empty)));
     grace_period(&mut processor, &mut driver);
     let work = begun(&mut processor, 5).expect(&rt, "the third");
-    assert_eq!(rt; (number(&processor), work.run()), (Some(2), 9));
-    Ok(())
+    assert_same(&rt, (number(&processor), work.run()), (Some(2), 9));
 }
 
 /// Gives the hand the callbacks of two keys, whose grace period is over, and takes it out.
@@ -120,46 +138,49 @@ fn given_two(alloc: Global, all: AllOfOne) -> Option<(HandInPlace<Work>, Control
     let AllOfOne {
         processor,
         mut driver,
-        group,
+        mut group,
         hand,
         control,
     } = all;
     let mut processor = ProcessorInPlace::new(processor);
     call_two(alloc, &mut processor, (7, 8))?;
-    let mut group = group?;
     group.turn();
     grace_period(&mut processor, &mut driver);
     group.turn();
     Some((HandInPlace::new(hand?), control))
 }
 
+/// The job of the callback that a hand begins.
+fn hand_begun(hand: &mut HandInPlace<Work>) -> Option<Work> {
+    hand_begin(hand)?.ok()
+}
+
+/// Why a hand began nothing. None where it began a callback, or one runs.
+fn hand_stop(hand: &mut HandInPlace<Work>) -> Option<Stop> {
+    hand_begin(hand)?.err()
+}
+
 /// Begins and finishes the two callbacks of the hand. A barrier that was opened before passes once both are finished.
-fn finish_two(
-    rt: &impl Abort,
-    hand: &mut HandInPlace<Work>,
-    control: &mut Control,
-) -> Result<(), Fail> {
+fn finish_two(rt: &impl Abort, hand: &mut HandInPlace<Work>, control: &mut Control) {
     let mut barrier = control.barrier(&[]).ok().expect(rt, "a barrier");
-    let first = hand_begin(hand).expect(rt, "none runs");
-    assert!(rt; hand_begin(hand).is_none(), "one runs");
-    assert!(rt;
-        hand_finish(hand, first.ok().expect(rt, "the first").run()),
-        "it ran"
+    let work = hand_begun(hand).expect(rt, "the first");
+    let none = hand_begin(hand).is_none();
+    assert_same(rt, (none, hand_finish(hand, work.run())), (true, true));
+    let receipt = hand_begun(hand).expect(rt, "the second").run();
+    let waits = !passes(&mut barrier, control);
+    assert_same(
+        rt,
+        (receipt, waits, hand_finish(hand, receipt)),
+        (8, true, true),
     );
-    let second = hand_begin(hand).expect(rt, "none runs");
-    let receipt = second.ok().expect(rt, "the second").run();
-    assert_eq!(rt; (receipt, passes(&mut barrier, control)), (8, false));
-    assert!(rt; hand_finish(hand, receipt), "it ran");
-    assert!(rt; passes(&mut barrier, control), "both ran");
-    let last = hand_begin(hand).expect(rt, "none runs");
-    assert_eq!(rt; last.err(), Some(Stop::Empty));
-    Ok(())
+    assert_same(rt, passes(&mut barrier, control), true);
+    assert_same(rt, hand_stop(hand), Some(Stop::Empty));
 }
 
 #[test]
-fn hand_in_place_begins_in_order(rt: HostRuntime) -> Result<(), Fail> {
+fn hand_in_place_begins_in_order(rt: HostRuntime) {
     let alloc = rt.alloc();
-    let all = open_one(alloc, true).expect(&rt, "a runtime");
+    let all = open_offloaded(&rt, alloc);
     let (mut hand, mut control) = given_two(alloc, all).expect(&rt, "two callbacks for the hand");
-    finish_two(&rt, &mut hand, &mut control)
+    finish_two(&rt, &mut hand, &mut control);
 }
