@@ -5,8 +5,6 @@ use Rattle.std.proofs.lemmas.List.Elements.{All-append}
 use Rattle.rcu_board.specs.Views.{sight}
 use Rattle.rcu_board.specs.declared.view.View.{View}
 use Rattle.rcu_board.proofs.Stepping.{same_again}
-use Rattle.rcu_part_lists.specs.Helds.{drawn_by, held_by}
-use Rattle.rcu_part_lists.specs.declared.hand.Held.{Held}
 use Rattle.rcu_jobs.specs.Records.{Given}
 use Rattle.rcu_jobs.specs.declared.Stop.{Stop}
 use Rattle.rcu_jobs.specs.declared.Stop.TheVariants.{Limit}
@@ -18,9 +16,9 @@ use Rattle.rcu_part_steps.specs.Begins.{claimed_as, claim_that_runs, record_with
 use Rattle.rcu_part_steps.specs.Changes.{Claims, Finishes}
 use Rattle.rcu_part_steps.specs.Places.{AreKeyed, numbered_callback, claim_of}
 use Rattle.rcu_part_steps.specs.declared.begins.ClaimedCallback.{ClaimedCallback}
-use Rattle.rcu_part_hand.specs.Begins.{KeepsHand, SameBegun, SameFinished}
+use Rattle.rcu_part_hand.specs.Begins.{SameBegun, SameFinished}
 use Rattle.rcu_part_hand.specs.HandLaw.{IsLawfulHand, IsRunningHand}
-use Rattle.rcu_part_hand.specs.Hands.{Loads, SameHand, StopsAt}
+use Rattle.rcu_part_hand.specs.Hands.{SameHand, StopsAt}
 use Rattle.rcu_part_hand.specs.declared.hand.HandState.{HandState}
 use Rattle.rcu_part_hand.specs.declared.running_hand.RunningHandState.{RunningHandState}
 use Rattle.rcu_part_hand.proofs.HandRuns.{all_one, keyed_at}
@@ -65,17 +63,6 @@ module _ {J R : Type 0} where
   -- the two steps of a callback leave the hand what it was
   pub same_in_two_steps : (p : HandState J R) (q : RunningHandState J R) (r : HandState J R) → SameBegun p q → SameFinished q r → SameHand p r
   same_in_two_steps p q r a b = record { part = same_again _ _ _ _ _ _ a.part b.part; lane = b.lane ∙ a.lane; cpu = b.cpu ∙ a.cpu; blimit = b.blimit ∙ a.blimit; kept = b.kept ∙ a.kept }
-
-  -- room for records changes no draw
-  pub loads_kept : (p q r : HandState J R) → Loads p q → KeepsHand q r → Loads p r
-  loads_kept p q r a k = record {
-    batch = a.batch;
-    drawn = ap (λ (x : Held J). drawn_by x) k.held ∙ a.drawn;
-    held = ap (λ (x : Held J). held_by x) k.held ∙ a.held;
-    only = a.only;
-    view = k.view ∙ a.view;
-    records = k.records ∙ a.records;
-  }
 
   -- a reason that holds of every number of runs isn't the limit
   pub never_limit : (stop : Stop) (h : HandState J R) → ((n seen : ℕ) → StopsAt stop n n seen h) → stop ≢ Limit

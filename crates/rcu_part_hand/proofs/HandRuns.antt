@@ -6,6 +6,8 @@ use Rattle.std.specs.List.{All}
 use Rattle.rcu_board.specs.Views.{new_view, sight, tally}
 use Rattle.rcu_board.specs.declared.board.Board.{Board}
 use Rattle.rcu_part_lists.specs.Ends.{before_end}
+use Rattle.rcu_part_lists.specs.Helds.{drawn_by, held_by}
+use Rattle.rcu_part_lists.specs.declared.hand.Held.{Held}
 use Rattle.rcu_board.specs.declared.view.Claim.{Claim}
 use Rattle.rcu_board.specs.declared.view.View.{View}
 use Rattle.rcu_board.proofs.Stepping.{has_words, same_again}
@@ -24,8 +26,9 @@ use Rattle.rcu_part_order.proofs.Keeping.{ran_again, ran_none as nothing_more}
 use Rattle.rcu_part_steps.specs.Changes.{Keeps, Claims, Finishes, StepsOnly, claim_at}
 use Rattle.rcu_board.specs.Words.{board_word, turns_word}
 use Rattle.rcu_part_steps.proofs.Turning.{steps_more}
+use Rattle.rcu_part_hand.specs.Begins.{TakesNone}
 use Rattle.rcu_part_hand.specs.HandLaw.{IsLawfulHand}
-use Rattle.rcu_part_hand.specs.Hands.{AddsRecords, Looks, Loads, Ran, SameHand, StopsAt, TurnsBy, hand_board, hand_held, hand_drawn, hand_records, hand_view}
+use Rattle.rcu_part_hand.specs.Hands.{AddsRecords, Looks, Loads, Ran, RunsHeld, SameHand, StopsAt, TurnsBy, hand_board, hand_held, hand_drawn, hand_records, hand_view}
 use Rattle.rcu_part_steps.specs.Places.{AreKeyed, numbered_callback, claim_of}
 use Rattle.rcu_part_hand.specs.declared.hand.HandState.{HandState}
 use Rattle.rcu_board.proofs.Facts.{same_seat}
@@ -82,8 +85,14 @@ module _ {J R : Type 0} where
   stops_empty (Some Turn) h none why = absurd why
   stops_empty (Some Memory) h none why = absurd why
 
-  pub hand_kept : (cpu : ℕ) (v w : View) (ran ran' : List (Record R)) (taken : List (Callback J)) → Keeps v w → ran' ≡ ran → IsLawfulHand cpu v ran taken → IsLawfulHand cpu w ran' taken
-  hand_kept cpu v w ran ran' taken k same l = subst (λ (rs : List (Record R)). IsLawfulHand cpu w rs taken) (sym same) (record { rests = k.running ∙ l.rests; places = l.places; claims = k.claims ∙ l.claims; ripe = l.ripe })
+  -- nothing was claimed
+  pub hand_kept : (cpu : ℕ) (v w : View) (ran ran' : List (Record R)) (taken taken' : List (Callback J)) → Keeps v w → ran' ≡ ran → taken' ≡ taken → IsLawfulHand cpu v ran taken → IsLawfulHand cpu w ran' taken'
+  hand_kept cpu v w ran ran' taken taken' k same took l = record {
+    rests = k.running ∙ l.rests;
+    places = ap (map numbered_callback) took ∙ (l.places ∙ ap (map numbered_record) (sym same));
+    claims = k.claims ∙ (l.claims ∙ ap (map (claim_of cpu)) (sym same));
+    ripe = subst (λ (rs : List (Record R)). AreRipe rs) (sym same) l.ripe;
+  }
 
   -- one callback was claimed, run, and recorded
   pub hand_ran : (cpu seen : ℕ) (v u w : View) (ran ran' : List (Record R)) (taken taken' : List (Callback J)) (c : Callback J) (r : Record R)
@@ -116,6 +125,14 @@ module _ {J R : Type 0} where
     sight = at;
     steps = subst (λ (k : ℕ). StepsOnly (turns_word p.cpu) k (hand_view p) (hand_view q)) (omega arith) steps;
   }
+
+  -- no claim was won
+  pub ran_untaken : (seen : ℕ) (stop : Stop) (p q : HandState J R) (t : TakesNone R p.cpu seen stop (hand_view p) (hand_view q) p.held q.held) → hand_records q ≡ hand_records p → sight (hand_view p) ≡ seen → Ran 0 t.tried seen p q
+  ran_untaken seen stop p q t records at = ran_none t.tried seen p q (ap (λ (h : Held J). held_by h) t.held) (ap (λ (h : Held J). drawn_by h) t.held) records (t.sight ∙ at) t.steps
+
+  pub held_untaken : (seen : ℕ) (stop : Stop) (p q : HandState J R) → TakesNone R p.cpu seen stop (hand_view p) (hand_view q) p.held q.held → q.cpu ≡ p.cpu → hand_records q ≡ hand_records p → sight (hand_view p) ≡ seen
+      → RunsHeld seen (record { ran = 0; stop = stop }) p q
+  held_untaken seen stop p q t cpu records at = (t.tried, ran_untaken seen stop p q t records at, subst (λ (k : ℕ). StopsAt stop 0 k seen q) (omega arith) (t.why q cpu refl t.held 0))
 
   -- one was
   pub ran_one : (seen : ℕ) (p q : HandState J R) (c : Callback J) (r : Record R) → hand_held p ≡ c ∷ hand_held q → hand_drawn q ≡ hand_drawn p → hand_records q ≡ and_ran (r ∷ []) (hand_records p)

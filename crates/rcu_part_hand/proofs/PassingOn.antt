@@ -1,14 +1,13 @@
 -- A claim that ends and the next one, made by one step: the hand as it would stand between.
-use Rattle.std.proofs.Common.{◌≡◌, ◌≢◌, ℕ, ◌+◌, ◌*◌, ◌<◌, ◌≤◌, List, [], ◌∷◌, ◌++◌, None, Some, ap, sym, ◌∙◌, refl, subst, arith}
+use Rattle.std.proofs.Common.{◌≡◌, ℕ, ◌+◌, ◌*◌, ◌≤◌, [], ◌∷◌, ◌++◌, None, Some, ap, sym, ◌∙◌, refl, subst, arith}
 use Rattle.std.proofs.lemmas.List.{append-nil}
 use Rattle.std.proofs.lemmas.Option.{none-some}
 use Rattle.std.specs.Arc.{arc_value}
-use Rattle.rcu_board.specs.Plays.{claiming, finished, looked, touched}
+use Rattle.rcu_board.specs.Plays.{claiming, finished, looked}
 use Rattle.rcu_board.specs.Roles.{MayClaim, cpu_of_role}
 use Rattle.rcu_board.specs.Seats.{view, AtBoard, SameSeat, running_number, first_number}
 use Rattle.rcu_board.specs.Views.{seen_at, sight}
-use Rattle.rcu_board.specs.Words.{turns_word, words_of}
-use Rattle.rcu_board.specs.declared.board.Board.{Board}
+use Rattle.rcu_board.specs.Words.{turns_word}
 use Rattle.rcu_board.specs.declared.board.Role.{Role}
 use Rattle.rcu_board.specs.declared.board.Role.TheVariants.{Hand}
 use Rattle.rcu_board.specs.declared.board.Seat.{Seat}

@@ -1,23 +1,26 @@
 -- What a hand's begin and finish do: docs/specification/surface.md, "rcu_parts".
-use Rattle.std.specs.Prelude.{◌≡◌, ℕ, ◌≤◌, List, [], ◌∷◌}
+use Rattle.std.specs.Prelude.{◌≡◌, ◌≢◌, ℕ, ◌+◌, ◌≤◌, ◌<◌, List, [], ◌∷◌, ◌++◌}
 use Rattle.std.specs.Arc.{arc_value}
 use Rattle.rcu_board.specs.Seats.{view}
+use Rattle.rcu_board.specs.Views.{sight}
 use Rattle.rcu_board.specs.Words.{turns_word}
 use Rattle.rcu_board.specs.declared.board.Board.{Board}
 use Rattle.rcu_board.specs.declared.view.View.{View}
 use Rattle.rcu_board.specs.Frames.{SamePart}
-use Rattle.rcu_part_lists.specs.Helds.{front_of, drawn_by, held_by}
+use Rattle.rcu_part_lists.specs.Helds.{front_of, drawn_by, held_by, taken_by}
+use Rattle.rcu_part_lists.specs.declared.hand.Held.{Held}
 use Rattle.rcu_jobs.specs.Records.{Given}
 use Rattle.rcu_jobs.specs.declared.Stop.{Stop}
+use Rattle.rcu_jobs.specs.declared.Stop.TheVariants.{Again, Limit}
 use Rattle.rcu_jobs.specs.declared.callback.Callback.{Callback}
 use Rattle.rcu_lanes.specs.Ends.{SameFront}
 use Rattle.rcu_numbers.specs.Numbers.{snap_of}
+use Rattle.rcu_numbers.specs.declared.shape.TheConstants.{MOST_CALLS}
 use Rattle.rcu_part_order.specs.Recorded.{Recorded, and_ran, recorded}
 use Rattle.rcu_part_steps.specs.Begins.{claimed_as, record_with}
-use Rattle.rcu_part_steps.specs.Changes.{Claims, Finishes, StepsOnly}
+use Rattle.rcu_part_steps.specs.Changes.{Claims, Finishes, Keeps, StepsOnly}
 use Rattle.rcu_part_steps.specs.Places.{AreKeyed}
-use Rattle.rcu_part_steps.specs.declared.begins.ClaimedCallback.{ClaimedCallback}
-use Rattle.rcu_part_hand.specs.Hands.{SameHand, Looks, Loads, TurnsBy, hand_board, hand_view, hand_records, hand_drawn, hand_held}
+use Rattle.rcu_part_hand.specs.Hands.{SameHand, Looks, Loads, StopsAt, TurnsBy, hand_board, hand_view, hand_records, hand_drawn, hand_held}
 use Rattle.rcu_part_hand.specs.declared.hand.HandState.{HandState}
 use Rattle.rcu_part_hand.specs.declared.running_hand.RunningHandState.{RunningHandState}
 
@@ -66,20 +69,6 @@ module _ {J R : Type 0} where
   abbrev pub IsGivenFor : (J → ℕ) → (ℕ → R → Type 0) → RunningHandState J R → R → Type 0
   IsGivenFor key_of gives h receipt = AreKeyed key_of (running_drawn h) → gives h.claimed.key receipt
 
-  -- what may be claimed: the first callback that is held, whose grace period is over at the number seen
-  pub record IsNext (seen : ℕ) (c : ClaimedCallback) (h : HandState J R) : Type 0 where
-    pub first : Callback J
-    pub rest : List (Callback J)
-    pub held : hand_held h ≡ first ∷ rest
-    pub claimed : c ≡ claimed_as seen first
-    pub over : snap_of first.stamp ≤ seen
-
-  -- nothing changed but the room for records
-  pub record KeepsHand (p q : HandState J R) : Type 0 where
-    pub view : hand_view q ≡ hand_view p
-    pub held : q.held ≡ p.held
-    pub records : hand_records q ≡ hand_records p
-
   -- The claim of the first callback that was held, of which this is the job, was won at the board sight `seen`, by one step,
   -- and runs; its grace period was over.
   pub record ClaimsFirst (seen : ℕ) (p : HandState J R) (q : RunningHandState J R) (job : J) : Type 0 where
@@ -114,3 +103,24 @@ module _ {J R : Type 0} where
     pub held : q.held ≡ p.held
     pub ends : Finishes (running_view p) (hand_view q)
     pub steps : StepsOnly (turns_word p.cpu) 1 (running_view p) (hand_view q)
+
+-- The claim of the first callback that was held was won at the board sight `seen` by one step, and the callback was taken
+-- out; its grace period was over.
+pub record TakesFirst {J : Type 0} (cpu seen : ℕ) (c : Callback J) (v w : View) (h k : Held J) : Type 0 where
+  pub held : held_by h ≡ c ∷ held_by k
+  pub taken : taken_by k ≡ taken_by h ++ c ∷ []
+  pub over : snap_of c.stamp ≤ seen
+  pub small : c.number < MOST_CALLS
+  pub won : Claims cpu c.number v w
+  pub steps : StepsOnly (turns_word cpu) 1 v w
+
+-- No claim was won, and nothing was taken out; so many were tried.
+pub record TakesNone {J : Type 0} (R : Type 0) (cpu seen : ℕ) (stop : Stop) (v w : View) (h k : Held J) : Type 0 where
+  pub tried : ℕ
+  pub held : k ≡ h
+  pub keeps : Keeps v w
+  pub sight : sight w ≡ sight v
+  pub steps : StepsOnly (turns_word cpu) tried v w
+  -- the reason holds of a hand that holds so and has this view, however many were run before
+  pub why : (q : HandState J R) → q.cpu ≡ cpu → hand_view q ≡ w → q.held ≡ h → (n : ℕ) → StopsAt stop n (n + tried) seen q
+  pub counts : (stop ≢ Limit) × (stop ≢ Again)

@@ -1,19 +1,19 @@
 -- A hand in place: between its calls it is a hand, or a running hand, and what its calls do is said of those:
 -- docs/specification/surface.md, "rcu_parts", `begin` and `finish`.
-use Rattle.std.specs.Prelude.{◌≡◌, ℕ, ◌+◌, ◌<◌, ◌≤◌, List, ◌∷◌, IfErr, IfOk, IfNone, IfSome, Option, Result}
+use Rattle.std.specs.Prelude.{◌≡◌, ◌≢◌, ℕ, ◌+◌, ◌<◌, ◌≤◌, List, ◌∷◌, IfErr, IfOk, Result}
 use Rattle.std.specs.declared.option.Option.TheVariants.{None, Some}
 use Rattle.std.proofs.lemmas.Option.{none-some}
 use Rattle.rcu_board.specs.Plays.{touched}
 use Rattle.rcu_board.specs.Words.{halt_word}
 use Rattle.rcu_jobs.specs.Records.{Given}
 use Rattle.rcu_jobs.specs.declared.Stop.{Stop}
-use Rattle.rcu_jobs.specs.declared.Stop.TheVariants.{Turn}
+use Rattle.rcu_jobs.specs.declared.Stop.TheVariants.{Limit}
 use Rattle.rcu_jobs.specs.declared.callback.Callback.{Callback}
 use Rattle.rcu_numbers.specs.Numbers.{snap_of}
 use Rattle.rcu_numbers.specs.declared.shape.TheConstants.{MOST_CALLS}
 use Rattle.rcu_part_lists.specs.Helds.{drawn_by}
 use Rattle.rcu_part_hand.specs.Begins.{BeginsHand, ClaimsFirst, FinishesHand, IsGivenFor, IsKeyed, SameBegun, SameFinished, StopsHand, running_held}
-use Rattle.rcu_part_hand.specs.Hands.{SameHand, Ran, StopsAt, hand_drawn, hand_held, hand_records, hand_view}
+use Rattle.rcu_part_hand.specs.Hands.{SameHand, RunsHeld, hand_drawn, hand_held, hand_records, hand_view}
 use Rattle.rcu_part_hand.specs.declared.hand.HandState.{HandState}
 use Rattle.rcu_part_hand.specs.declared.in_place.HandInPlaceState.{HandInPlaceState}
 use Rattle.rcu_part_hand.specs.declared.running_hand.RunningHandState.{RunningHandState}
@@ -104,19 +104,16 @@ module _ {J R : Type 0} where
   abbrev pub IfRunning : (RunningHandState J R → Type 0) → HandInPlaceState J R → Type 0
   IfRunning Is p = (c : ClaimedCallback) (e : p.claimed ≡ Some c) → Is (running p c e)
 
-  -- the claim of the first callback wasn't won at the board sight `seen`
-  abbrev pub LosesClaim : ℕ → HandState J R → HandState J R → Type 0
-  LosesClaim seen p q = Ran 0 1 seen p q × StopsAt Turn 0 1 seen q
-
   -- The claim of the first callback that is held was tried at the board sight `seen`: where it was won it runs, and its job is
-  -- handed out.
-  pub record ClaimsAs (seen : ℕ) (key_of : J → ℕ) (gives : ℕ → R → Type 0) (answer : Option J) (p q : HandInPlaceState J R) : Type 0 where
-    -- Some: the claim runs
-    pub runs : IfSome answer (λ job. StartsRunning (λ o r. ClaimsFirst seen o r job) p q)
-    -- None: it wasn't won
-    pub lost : IfNone answer (StaysResting (LosesClaim seen) p q)
+  -- handed out; else nothing was run, and why.
+  pub record ClaimsAs (seen : ℕ) (key_of : J → ℕ) (gives : ℕ → R → Type 0) (answer : Result J Stop) (p q : HandInPlaceState J R) : Type 0 where
+    -- Ok: the claim runs
+    pub runs : IfOk answer (λ job. StartsRunning (λ o r. ClaimsFirst seen o r job) p q)
+    -- Err: it wasn't won, which is never as so many were run
+    pub stops : IfErr answer (λ stop. StaysResting (λ o r. RunsHeld seen (record { ran = 0; stop = stop }) o r) p q)
+    pub counts : IfErr answer (λ stop. stop ≢ Limit)
     -- the job that is handed out has the claim's key
-    pub keyed : IfSome answer (λ job. IfRunning (λ r. IsKeyed key_of r job) q)
+    pub keyed : IfOk answer (λ job. IfRunning (λ r. IsKeyed key_of r job) q)
     pub sound : KeepsSoundInPlace key_of gives p q
 
   -- the halt word was read, and nothing else changed

@@ -2,20 +2,20 @@
 
 ghost use Rattle.std.specs.Prelude.{◌≡◌};
 ghost use Rattle.std.specs.Arc.{arc_value};
-ghost use Rattle.rcu_numbers.specs.declared.shape.TheConstants.{MOST_CALLS};
 ghost use Rattle.rcu_board.specs.Seats.{view, AtBoard};
 ghost use Rattle.rcu_board.specs.declared.board.Role.{Role};
 ghost use Rattle.rcu_part_lists.specs.Helds.{taken_by};
 ghost use Rattle.rcu_part_order.specs.Recorded.{ran_of};
 ghost use Rattle.rcu_part_hand.specs.HandLaw.{IsLawfulHand};
 
+use crate::claim::claim_first;
 use crate::running_hand::{RunningHand, RunningHandState};
 use rcu_board::{Board, Role, Seat};
-use rcu_jobs::{Callback, Job, Stop};
+use rcu_jobs::{Callback, Job};
 use rcu_numbers::PartsShape;
 use rcu_part_lists::Held;
 use rcu_part_order::{Kept, Records};
-use rcu_part_steps::{Begins, ClaimedCallback, try_claim};
+use rcu_part_steps::{Begins, ClaimedCallback};
 use std::alloc::Global;
 use std::sync::Arc;
 
@@ -104,26 +104,22 @@ impl<J: Job> Hand<J> {
 }
 
 impl<J: Job> Hand<J> {
-    ghost use Rattle.std.specs.Prelude.{◌≢◌, ◌<◌};
+    ghost use Rattle.std.specs.Prelude.{◌≢◌};
     ghost use Rattle.rcu_board.specs.Views.{sight};
     ghost use Rattle.rcu_jobs.specs.declared.Stop.TheVariants.{Limit};
-    ghost use Rattle.rcu_part_hand.specs.Begins.{SameBegun, IsSoundRunning, IsKeyed, IsNext, ClaimsFirst};
-    ghost use Rattle.rcu_part_hand.specs.Hands.{SameHand, IsSoundHand, Ran, StopsAt, hand_view};
-    ghost use Rattle.rcu_part_order.specs.Recorded.{HasRoom};
+    ghost use Rattle.rcu_part_hand.specs.Begins.{SameBegun, IsSoundRunning, IsKeyed, ClaimsFirst};
+    ghost use Rattle.rcu_part_hand.specs.Hands.{SameHand, IsSoundHand, RunsHeld, hand_view};
     ghost use Rattle.rcu_part_steps.specs.Begins.{IfRuns, IfStops};
 
-    /// Wins the claim of the first of what it holds, and hands its job out, or says that it isn't its turn.
-    pub(crate) fn claim(self, claimed: ClaimedCallback) -> Begins<RunningHand<J>, J, Hand<J>>
-        requires seen { sight (hand_view self.state) ≡ claimed.ready }
-        requires next { IsNext claimed.ready claimed self.state }
-        requires small { claimed.number < MOST_CALLS }
-        requires room { HasRoom self.state.ran }
+    /// Claims the first of what it holds, and hands its job out, or says why not. The number `seen` is that of the look.
+    pub(crate) fn claim(self, seen: u64) -> Begins<RunningHand<J>, J, Hand<J>>
+        requires seen { sight (hand_view self.state) ≡ seen }
         ensures same { IfRuns result (λ running _. SameBegun self.state running.state) }
         ensures stays { IfStops result (λ hand _. SameHand self.state hand.state) }
         ensures runs { IfRuns result (λ running job.
-            ClaimsFirst claimed.ready self.state running.state job) }
-        ensures lost { IfStops result (λ hand _. Ran 0 1 claimed.ready self.state hand.state) }
-        ensures stops { IfStops result (λ hand stop. StopsAt stop 0 1 claimed.ready hand.state) }
+            ClaimsFirst seen self.state running.state job) }
+        ensures stops { IfStops result (λ hand stop.
+            RunsHeld seen (record { ran = 0; stop = stop }) self.state hand.state) }
         ensures counts { IfStops result (λ _ stop. stop ≢ Limit) }
         ensures keyed { IfRuns result (λ running job. IsKeyed J.key_of running.state job) }
         ensures sound { IsSoundHand J.key_of J.gives self.state
@@ -136,35 +132,37 @@ impl<J: Job> Hand<J> {
                 mut seat,
                 cpu,
                 blimit,
-                ran,
+                mut ran,
                 mut held,
             },
         } = self;
-        if !try_claim(&board, &mut seat, cpu, claimed.number) {
-            let state = HandState {
-                board,
-                seat,
-                cpu,
-                blimit,
-                ran,
-                held,
-            };
-            return Begins::Stops(Hand { state }, Stop::Turn);
+        match claim_first(&board, &mut seat, cpu, &mut held, &mut ran, seen) {
+            Err(stop) => {
+                let state = HandState {
+                    board,
+                    seat,
+                    cpu,
+                    blimit,
+                    ran,
+                    held,
+                };
+                Begins::Stops(Hand { state }, stop)
+            }
+            Ok(callback) => {
+                let claimed = ClaimedCallback::of(&callback, seen);
+                let Callback { job, .. } = callback;
+                let state = RunningHandState {
+                    board,
+                    seat,
+                    cpu,
+                    blimit,
+                    ran,
+                    claimed,
+                    held,
+                };
+                Begins::Runs(RunningHand { state }, job)
+            }
         }
-        let Some(callback) = held.take() else {
-            unreachable!()
-        };
-        let Callback { job, .. } = callback;
-        let state = RunningHandState {
-            board,
-            seat,
-            cpu,
-            blimit,
-            ran,
-            claimed,
-            held,
-        };
-        Begins::Runs(RunningHand { state }, job)
     }
 }
 

@@ -1,27 +1,27 @@
 //! A hand that stays where it is while claims of it begin and end.
 
-ghost use Rattle.std.specs.Prelude.{◌≡◌, ◌≢◌, ◌<◌, ◌≤◌, ℕ, true, None, Some, Ok, IfNone, IfSome, IfOk, IfErr, is_some};
+ghost use Rattle.std.specs.Prelude.{◌≡◌, ◌≢◌, ◌≤◌, ℕ, true, None, Some, Ok, IfSome, IfOk, IfErr, is_some};
 ghost use Rattle.std.specs.Arc.{arc_value};
 ghost use Rattle.std.specs.Int.{from_bool};
 ghost use Rattle.rcu_numbers.specs.declared.sequence.TheConstants.{LAST_NUMBER};
-ghost use Rattle.rcu_numbers.specs.declared.shape.TheConstants.{MOST_CALLS};
 ghost use Rattle.rcu_board.specs.Seats.{view, AtBoard};
 ghost use Rattle.rcu_board.specs.Views.{sight};
 ghost use Rattle.rcu_board.specs.declared.board.Role.{Role};
 ghost use Rattle.rcu_jobs.specs.declared.Stop.TheVariants.{Limit};
 ghost use Rattle.rcu_part_lists.specs.Helds.{taken_by};
-ghost use Rattle.rcu_part_order.specs.Recorded.{HasRoom, ran_of};
+ghost use Rattle.rcu_part_order.specs.Recorded.{ran_of};
 ghost use Rattle.rcu_part_hand.specs.HandLaw.{IsLawfulHand};
 ghost use Rattle.rcu_part_hand.specs.InPlaceLaw.{RunsAs};
 ghost use Rattle.rcu_part_steps.specs.declared.begins.ClaimedCallback.{ClaimedCallback as Claimed};
 
+use crate::claim::claim_first;
 use crate::hand::{Hand, HandState, into_state};
 use rcu_board::{Board, Role, Seat, halted};
 use rcu_jobs::{Callback, Job, Stop};
 use rcu_numbers::snap;
 use rcu_part_lists::Held;
 use rcu_part_order::Records;
-use rcu_part_steps::{ClaimedCallback, end_and_claim, end_claim, look_at_number, try_claim};
+use rcu_part_steps::{ClaimedCallback, end_and_claim, end_claim, look_at_number};
 use std::alloc::Global;
 use std::sync::Arc;
 
@@ -128,7 +128,7 @@ impl<J: Job> HandInPlace<J> {
 }
 
 impl<J: Job> HandInPlace<J> {
-    ghost use Rattle.rcu_part_hand.specs.Begins.{BeginsHand, FinishesHand, IsGivenFor, IsKeyed, IsNext, KeepsHand, StopsHand};
+    ghost use Rattle.rcu_part_hand.specs.Begins.{BeginsHand, FinishesHand, IsGivenFor, IsKeyed, StopsHand};
     ghost use Rattle.rcu_part_hand.specs.Hands.{Loads, Looks, StopsAt};
     ghost use Rattle.rcu_part_hand.specs.InPlace.{ClaimsAs, EndsRunning, IfResting, IfRunning, KeepingInPlace, KeepsSoundInPlace, StartsRunning, StaysResting};
 
@@ -153,51 +153,28 @@ impl<J: Job> HandInPlace<J> {
         self.state.held.fetch()
     }
 
-    // The first of what it holds, where its wait is over at the number of the look and there is room for its record.
-    fn next(&mut self, seen: u64) -> Result<ClaimedCallback, Stop>
+    // Claims the first of what it holds, and hands its job out, or says why not. The number `seen` is that of the begin's look.
+    fn claim(&mut self, seen: u64) -> Result<J, Stop>
         requires rests { self.old.state.claimed ≡ None }
-        ensures keeps { KeepingInPlace KeepsHand J.key_of J.gives self.old.state self.new.state }
-        ensures next { IfOk result (λ c. IfResting (IsNext seen c) self.new.state) }
-        ensures ready { IfOk result (λ c. c.ready ≡ seen) }
-        ensures small { IfOk result (λ c. c.number < MOST_CALLS) }
-        ensures room { IfOk result (λ _. HasRoom self.new.state.ran) }
-        ensures stops { IfErr result (λ stop.
-            IfResting (StopsAt stop 0 0 seen) self.new.state × (stop ≢ Limit)) }
+        requires seen { sight (view self.old.state.seat) ≡ seen }
+        ensures claims { ClaimsAs seen J.key_of J.gives result self.old.state self.new.state }
     {
         let state = &mut self.state;
-        let Some(first) = state.held.first() else {
-            return Err(Stop::Empty);
-        };
-        if snap(first.stamp) > seen {
-            return Err(Stop::Turn);
+        match claim_first(
+            &state.board,
+            &mut state.seat,
+            state.cpu,
+            &mut state.held,
+            &mut state.ran,
+            seen,
+        ) {
+            Err(stop) => Err(stop),
+            Ok(callback) => {
+                state.claimed = Some(ClaimedCallback::of(&callback, seen));
+                let Callback { job, .. } = callback;
+                Ok(job)
+            }
         }
-        let claimed = ClaimedCallback::of(first, seen);
-        let Ok(()) = state.ran.find_room() else {
-            return Err(Stop::Memory);
-        };
-        Ok(claimed)
-    }
-
-    // Wins the claim of the first of what it holds, and hands its job out, unless it isn't its turn.
-    fn claim(&mut self, claimed: ClaimedCallback) -> Option<J>
-        requires rests { self.old.state.claimed ≡ None }
-        requires seen { sight (view self.old.state.seat) ≡ claimed.ready }
-        requires next { IfResting (IsNext claimed.ready claimed) self.old.state }
-        requires small { claimed.number < MOST_CALLS }
-        requires room { HasRoom self.old.state.ran }
-        ensures claims { ClaimsAs claimed.ready J.key_of J.gives result self.old.state
-            self.new.state }
-    {
-        let state = &mut self.state;
-        if !try_claim(&state.board, &mut state.seat, state.cpu, claimed.number) {
-            return None;
-        }
-        let Some(callback) = state.held.take() else {
-            unreachable!()
-        };
-        state.claimed = Some(claimed);
-        let Callback { job, .. } = callback;
-        Some(job)
     }
 
     /// Begins a callback, as [`Hand::begin`] does: one look; where no batch is held, one is drawn; then the first callback is
@@ -220,15 +197,9 @@ impl<J: Job> HandInPlace<J> {
         ensures sound { KeepsSoundInPlace J.key_of J.gives self.old.state self.new.state }
     {
         let seen = self.look();
-        if let Some(stop) = self.load() {
-            return Err(stop);
-        }
-        match self.next(seen) {
-            Err(stop) => Err(stop),
-            Ok(claimed) => match self.claim(claimed) {
-                Some(job) => Ok(job),
-                None => Err(Stop::Turn),
-            },
+        match self.load() {
+            Some(stop) => Err(stop),
+            None => self.claim(seen),
         }
     }
 

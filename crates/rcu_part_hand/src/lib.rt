@@ -23,6 +23,7 @@
 #![tactic(auto)]
 
 mod begin;
+mod claim;
 mod hand;
 mod in_place;
 mod laws;

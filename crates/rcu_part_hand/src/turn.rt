@@ -8,10 +8,10 @@ ghost use Rattle.rcu_numbers.specs.declared.sequence.TheConstants.{LAST_NUMBER};
 ghost use Rattle.rcu_part_hand.specs.Hands.{Keeping, SameHand, KeepsSoundHand, Looks, Loads, RunsOne, RunsHeld, StopsAt, TurnsBy, hand_held, hand_view};
 ghost use Rattle.rcu_part_steps.specs.Stops.{StopsInTime};
 
+use crate::claim::claim_first;
 use crate::hand::Hand;
 use rcu_jobs::{HandTurn, Job, Stop};
-use rcu_numbers::snap;
-use rcu_part_steps::{look_at_number, run_claimed, try_claim};
+use rcu_part_steps::{look_at_number, run_claimed};
 
 impl<J: Job> Hand<J> {
     // Runs the first of what it holds, or says why not. The number `seen` is that of the turn's look.
@@ -22,25 +22,21 @@ impl<J: Job> Hand<J> {
             self.new.state }
     {
         let state = &mut self.state;
-        let Some(first) = state.held.first() else {
-            return Some(Stop::Empty);
-        };
-        let number = first.number;
-        if snap(first.stamp) > seen {
-            return Some(Stop::Turn);
+        match claim_first(
+            &state.board,
+            &mut state.seat,
+            state.cpu,
+            &mut state.held,
+            &mut state.ran,
+            seen,
+        ) {
+            Err(stop) => Some(stop),
+            Ok(callback) => {
+                let record = run_claimed(&state.board, &mut state.seat, callback, seen);
+                state.ran.add(record);
+                None
+            }
         }
-        let Ok(()) = state.ran.find_room() else {
-            return Some(Stop::Memory);
-        };
-        if !try_claim(&state.board, &mut state.seat, state.cpu, number) {
-            return Some(Stop::Turn);
-        }
-        let Some(callback) = state.held.take() else {
-            unreachable!()
-        };
-        let record = run_claimed(&state.board, &mut state.seat, callback, seen);
-        state.ran.add(record);
-        None
     }
 
     // Runs the first ones of what it holds, at most `blimit`.

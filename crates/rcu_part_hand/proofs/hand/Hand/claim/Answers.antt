@@ -1,109 +1,81 @@
-use Rattle.std.proofs.Common.{◌≡◌, ℕ, ◌≤◌, ◌++◌, inr, ◌∙◌, ap, sym, subst, refl, arith}
-use Rattle.rcu_part_hand.specs.contracts.hand.Hand as row
-use Rattle.rcu_part_lists.proofs.Sizes.{in_struct}
-use denote.Param.{param}
+use Rattle.std.proofs.Common.{List, ◌++◌, ◌∙◌, ap, sym, subst, refl}
+use Rattle.std.specs.Arc.{arc_value}
 use Rattle.std.specs.Mem.{FitsInMemory}
+use denote.Param.{param}
 use Rattle.rcu_board.specs.Roles.{MayClaim, cpu_of_role}
 use Rattle.rcu_board.specs.Seats.{view}
+use Rattle.rcu_jobs.specs.declared.callback.Record.{Record}
+use Rattle.rcu_part_lists.proofs.Sizes.{in_struct}
 use Rattle.rcu_part_lists.specs.Helds.{drawn_by, held_by, taken_by}
 use Rattle.rcu_part_lists.specs.Lanes.{drawn_calls}
-use Rattle.rcu_jobs.specs.declared.Stop.TheVariants.{Limit, Turn}
-use Rattle.rcu_jobs.specs.declared.callback.Callback.{Callback}
-use Rattle.rcu_numbers.specs.Numbers.{snap_of}
+use Rattle.rcu_part_lists.specs.declared.hand.Held.{Held}
+use Rattle.rcu_part_hand.specs.HandLaw.{IsLawfulHand}
 use Rattle.rcu_part_hand.proofs.HandBegins.{hand_begun, keyed_that_runs}
-use Rattle.rcu_part_hand.proofs.HandRuns.{hand_kept, hand_sound_kept, not_none, ran_none, same_first}
+use Rattle.rcu_part_hand.specs.contracts.hand.Hand as row
+use Rattle.rcu_part_hand.proofs.HandRuns.{all_as, hand_kept, hand_sound_kept, held_untaken, kept_as}
 use Rattle.rcu_part_hand.proofs.Standing.{same_lane, stands}
-use Rattle.rcu_part_steps.specs.Begins.{claimed_as}
-use Rattle.rcu_part_steps.specs.Changes.{Claims}
-use Rattle.rcu_part_steps.specs.declared.begins.ClaimedCallback.{ClaimedCallback}
-use Rattle.std.specs.Arc.{arc_value}
 use Rattle.rcu_part_hand.proofs.hand.Hand.claim.Goals as goal
 
-pub try_claim-requires-clause-board : goal.try_claim-requires-clause-board
-try_claim-requires-clause-board g c = let s = c.args.self.state in stands (arc_value s.board) c.deref.result.now s.seat c.deref.ensures s.here
-
-pub try_claim-requires-clause-who : goal.try_claim-requires-clause-who
-try_claim-requires-clause-who g c = subst MayClaim (sym c.args.self.state.role) tt
-
-pub try_claim-requires-clause-cpu : goal.try_claim-requires-clause-cpu
-try_claim-requires-clause-cpu g c = ap cpu_of_role c.args.self.state.role
-
-pub try_claim-requires-clause-rests : goal.try_claim-requires-clause-rests
-try_claim-requires-clause-rests g c = c.args.self.state.lawful.rests
-
-pub try_claim-requires-clause-small : goal.try_claim-requires-clause-small
-try_claim-requires-clause-small g c = c.requires.small
+pub claim_first-requires-after_bounds : goal.claim_first-requires-after_bounds
+claim_first-requires-after_bounds g c κs within = let s = c.args.self.state in let h : FitsInMemory (row.the_row (param 0 g.row.J) (param 1 g.row.J-Receipt)) = assumption in (
+  in_struct _ _ _ (in_struct _ _ _ h),
+  (stands (arc_value s.board) c.deref.result.now s.seat c.deref.ensures s.here, (subst MayClaim (sym s.role) tt, (ap cpu_of_role s.role, s.lawful.rests))),
+)
 
 pub invariant_of-state : goal.invariant_of-state
-invariant_of-state g c = let s = c.args.self.state in let e = c.if-not-try_claim.ensures in record {
+invariant_of-state g c = let s = c.args.self.state in let e = c.claim_first.ensures in let t = c.in-Err.ensures.stops in record {
   here = e.same.table ∙ s.here;
   role = e.same.role ∙ s.role;
-  lawful = hand_kept s.cpu (view s.seat) _ s.ran.all.items _ (taken_by s.held) (e.lost refl).0 refl s.lawful;
+  lawful = hand_kept s.cpu (view s.seat) (view c.claim_first.new.seat) s.ran.all.items _ (taken_by s.held) (taken_by c.claim_first.new.held) t.keeps (all_as _ _ e.records) (ap (λ (h : Held g.row.J.Denot). taken_by h) t.held) s.lawful;
 }
 
-pub returns-then-not-try_claim-clause-stays : goal.returns-then-not-try_claim-clause-stays
-returns-then-not-try_claim-clause-stays g c = record { part = record { board = refl; seat = c.if-not-try_claim.ensures.same }; lane = refl; cpu = refl; blimit = refl; kept = refl }
+pub returns-in-Err-clause-stays : goal.returns-in-Err-clause-stays
+returns-in-Err-clause-stays g c = let s = c.args.self.state in let e = c.claim_first.ensures in
+    record { part = record { board = refl; seat = e.same }; lane = same_lane s.held c.claim_first.new.held e.lane; cpu = refl; blimit = refl; kept = kept_as _ _ e.records }
 
-pub returns-then-not-try_claim-clause-lost : goal.returns-then-not-try_claim-clause-lost
-returns-then-not-try_claim-clause-lost g c = ran_none 1 c.args.claimed.ready c.args.self.state _ refl refl refl ((c.if-not-try_claim.ensures.lost refl).1 ∙ c.requires.seen) c.if-not-try_claim.ensures.only
+pub returns-in-Err-clause-stops : goal.returns-in-Err-clause-stops
+returns-in-Err-clause-stops g c = let s = c.args.self.state in let e = c.claim_first.ensures in let t = c.in-Err.ensures.stops in
+    held_untaken c.args.seen c.in-Err.stop s _ t refl e.records c.requires.seen
 
-pub returns-then-not-try_claim-clause-stops : goal.returns-then-not-try_claim-clause-stops
-returns-then-not-try_claim-clause-stops g c = let n = c.requires.next in let k = ap (λ (x : ClaimedCallback). x.number) n.claimed in let l = (c.if-not-try_claim.ensures.lost refl).2 in
-    (n.first, n.rest, n.held, inr (λ e. l (omega (arith, e, k)), refl))
+pub returns-in-Err-clause-counts : goal.returns-in-Err-clause-counts
+returns-in-Err-clause-counts g c = c.in-Err.ensures.stops.counts.0
 
-pub returns-then-not-try_claim-clause-counts : goal.returns-then-not-try_claim-clause-counts
-returns-then-not-try_claim-clause-counts g c = λ e. (let f : Turn ≡ Limit = e in cc)
+pub returns-in-Err-clause-sound : goal.returns-in-Err-clause-sound
+returns-in-Err-clause-sound g c = λ sound. let s = c.args.self.state in let e = c.claim_first.ensures in
+    (tt, hand_sound_kept g.J.Job.key_of g.J.Job.gives (drawn_by s.held) (drawn_by c.claim_first.new.held) s.ran.all.items c.claim_first.new.ran.all.items (ap (λ f. drawn_calls f) e.lane) (all_as _ _ e.records) sound)
 
-pub returns-then-not-try_claim-clause-sound : goal.returns-then-not-try_claim-clause-sound
-returns-then-not-try_claim-clause-sound g c = λ sound. (tt, sound)
+pub invariant_of-state-in-Ok : goal.invariant_of-state-in-Ok
+invariant_of-state-in-Ok g c = let s = c.args.self.state in let e = c.claim_first.ensures in let t = c.in-Ok.ensures.takes in record {
+  here = e.same.table ∙ s.here;
+  role = e.same.role ∙ s.role;
+  small = rw c.of-claimed.ensures t.small;
+  room = c.in-Ok.ensures.room;
+  lawful = hand_begun s.cpu c.args.seen (view s.seat) (view c.claim_first.new.seat) c.claim_first.new.ran.all.items (taken_by s.held) (taken_by c.claim_first.new.held) c.in-Ok.callback c.of-claimed.result c.of-claimed.ensures t.won c.requires.seen t.taken t.over
+      (subst (λ (rs : List (Record g.row.J-Receipt.Denot)). IsLawfulHand s.cpu (view s.seat) rs (taken_by s.held)) (sym (all_as _ _ e.records)) s.lawful);
+}
 
-pub unreachable-requires : goal.unreachable-requires
-unreachable-requires g c = let n = c.requires.next in not_none n.first n.rest (held_by c.args.self.state.held) n.held c.in_default.ensures.first.0
+pub returns-in-Ok-clause-same : goal.returns-in-Ok-clause-same
+returns-in-Ok-clause-same g c = let s = c.args.self.state in let e = c.claim_first.ensures in
+    record { part = record { board = refl; seat = e.same }; lane = same_lane s.held c.claim_first.new.held e.lane; cpu = refl; blimit = refl; kept = kept_as _ _ e.records }
 
-pub invariant_of-state-2 : goal.invariant_of-state-2
-invariant_of-state-2 g c =
-    let s = c.args.self.state in let e = c.if-not-try_claim.ensures in let n = c.requires.next in let x = c.in-Some.callback in
-    let first = same_first n.first x n.rest (held_by c.take.new.self) (sym n.held ∙ c.in-Some.ensures.first) in
-    let is : c.args.claimed ≡ claimed_as c.args.claimed.ready x = n.claimed ∙ ap (claimed_as c.args.claimed.ready) first in
-    let won : Claims s.cpu x.number (view s.seat) (view c.try_claim.new.seat) = subst (λ (k : ℕ). Claims s.cpu k (view s.seat) (view c.try_claim.new.seat)) (ap (λ (y : ClaimedCallback). y.number) is) (e.won refl) in record {
-      here = e.same.table ∙ s.here;
-      role = e.same.role ∙ s.role;
-      small = c.requires.small;
-      room = c.requires.room;
-      lawful = hand_begun s.cpu c.args.claimed.ready (view s.seat) (view c.try_claim.new.seat) s.ran.all.items (taken_by s.held) (taken_by c.take.new.self) x c.args.claimed is won c.requires.seen c.in-Some.ensures.taken
-          (subst (λ (y : Callback g.row.J.Denot). snap_of y.stamp ≤ c.args.claimed.ready) first n.over) s.lawful;
-    }
+pub returns-in-Ok-clause-runs : goal.returns-in-Ok-clause-runs
+returns-in-Ok-clause-runs g c = let e = c.claim_first.ensures in let t = c.in-Ok.ensures.takes in record {
+  first = c.in-Ok.callback;
+  job_is = refl;
+  held = t.held;
+  drawn = ap (λ f. drawn_calls f) e.lane;
+  records = e.records;
+  claimed = c.of-claimed.ensures;
+  over = t.over;
+  won = t.won;
+  steps = t.steps;
+}
 
-pub returns-clause-same : goal.returns-clause-same
-returns-clause-same g c = let s = c.args.self.state in record { part = record { board = refl; seat = c.if-not-try_claim.ensures.same }; lane = same_lane s.held c.take.new.self c.in-Some.ensures.front; cpu = refl; blimit = refl; kept = refl }
+pub returns-in-Ok-clause-keyed : goal.returns-in-Ok-clause-keyed
+returns-in-Ok-clause-keyed g c = let s = c.args.self.state in let e = c.claim_first.ensures in let t = c.in-Ok.ensures.takes in
+    keyed_that_runs g.J.Job.key_of c.args.seen (drawn_by s.held) (drawn_by c.claim_first.new.held) (taken_by s.held) (held_by c.claim_first.new.held) c.in-Ok.callback c.of-claimed.result c.of-claimed.ensures
+    (s.held.order ∙ ap (λ l. taken_by s.held ++ l) t.held) (ap (λ f. drawn_calls f) e.lane)
 
-pub returns-clause-runs : goal.returns-clause-runs
-returns-clause-runs g c =
-    let s = c.args.self.state in let e = c.if-not-try_claim.ensures in let n = c.requires.next in let x = c.in-Some.callback in
-    let first = same_first n.first x n.rest (held_by c.take.new.self) (sym n.held ∙ c.in-Some.ensures.first) in
-    let is : c.args.claimed ≡ claimed_as c.args.claimed.ready x = n.claimed ∙ ap (claimed_as c.args.claimed.ready) first in record {
-      first = x;
-      job_is = refl;
-      held = c.in-Some.ensures.first;
-      drawn = ap (λ f. drawn_calls f) c.in-Some.ensures.front;
-      records = refl;
-      claimed = is;
-      over = subst (λ (y : Callback g.row.J.Denot). snap_of y.stamp ≤ c.args.claimed.ready) first n.over;
-      won = subst (λ (k : ℕ). Claims s.cpu k (view s.seat) (view c.try_claim.new.seat)) (ap (λ (y : ClaimedCallback). y.number) is) (e.won refl);
-      steps = e.only;
-    }
-
-pub returns-clause-keyed : goal.returns-clause-keyed
-returns-clause-keyed g c =
-    let s = c.args.self.state in let n = c.requires.next in let x = c.in-Some.callback in
-    let first = same_first n.first x n.rest (held_by c.take.new.self) (sym n.held ∙ c.in-Some.ensures.first) in
-    let is : c.args.claimed ≡ claimed_as c.args.claimed.ready x = n.claimed ∙ ap (claimed_as c.args.claimed.ready) first in
-    let drawn : drawn_by c.take.new.self ≡ drawn_by s.held = ap (λ f. drawn_calls f) c.in-Some.ensures.front in
-    keyed_that_runs g.J.Job.key_of c.args.claimed.ready (drawn_by s.held) (drawn_by c.take.new.self) (taken_by s.held) (held_by c.take.new.self) x c.args.claimed is (s.held.order ∙ ap (λ l. taken_by s.held ++ l) c.in-Some.ensures.first) drawn
-
-pub returns-clause-sound : goal.returns-clause-sound
-returns-clause-sound g c = λ sound. let s = c.args.self.state in
-    (hand_sound_kept g.J.Job.key_of g.J.Job.gives (drawn_by s.held) (drawn_by c.take.new.self) s.ran.all.items s.ran.all.items (ap (λ f. drawn_calls f) c.in-Some.ensures.front) refl sound, tt)
-
-pub take-requires : goal.take-requires
-take-requires g c = let h : FitsInMemory (row.the_row (param 0 g.row.J) (param 1 g.row.J-Receipt)) = assumption in in_struct _ _ _ (in_struct _ _ _ h)
+pub returns-in-Ok-clause-sound : goal.returns-in-Ok-clause-sound
+returns-in-Ok-clause-sound g c = λ sound. let s = c.args.self.state in let e = c.claim_first.ensures in
+    (hand_sound_kept g.J.Job.key_of g.J.Job.gives (drawn_by s.held) (drawn_by c.claim_first.new.held) s.ran.all.items c.claim_first.new.ran.all.items (ap (λ f. drawn_calls f) e.lane) (all_as _ _ e.records) sound, tt)

@@ -1,117 +1,91 @@
-use Rattle.std.proofs.Common.{None, Some, ◌≡◌, ℕ, ◌≤◌, ◌++◌, inr, ◌∙◌, ap, sym, subst, refl, arith}
+use Rattle.std.proofs.Common.{None, Some, ◌≡◌, ◌++◌, ◌∙◌, ap, sym, subst, refl, arith}
 use Rattle.std.specs.Arc.{arc_value}
 use Rattle.std.specs.Mem.{FitsInMemory}
 use denote.Param.{param}
 use Rattle.rcu_board.specs.Roles.{MayClaim, cpu_of_role}
 use Rattle.rcu_board.specs.Seats.{view}
-use Rattle.rcu_jobs.specs.declared.callback.Callback.{Callback}
-use Rattle.rcu_numbers.specs.Numbers.{snap_of}
 use Rattle.rcu_part_lists.proofs.Sizes.{in_struct}
 use Rattle.rcu_part_lists.specs.Helds.{drawn_by, held_by, taken_by}
 use Rattle.rcu_part_lists.specs.Lanes.{drawn_calls}
+use Rattle.rcu_part_lists.specs.declared.hand.Held.{Held}
 use Rattle.rcu_part_hand.proofs.HandBegins.{hand_begun, keyed_that_runs}
-use Rattle.rcu_part_hand.proofs.HandRuns.{hand_kept, hand_sound_kept, not_none, ran_none, same_first}
+use Rattle.rcu_part_hand.specs.contracts.in_place.HandInPlace as row
+use Rattle.rcu_part_hand.proofs.HandRuns.{all_as, hand_kept, hand_sound_kept, held_untaken, kept_as}
 use Rattle.rcu_part_hand.proofs.InPlace.{some_is}
 use Rattle.rcu_part_hand.proofs.Standing.{same_lane, stands}
+use Rattle.rcu_part_hand.specs.HandLaw.{IsLawfulHand}
 use Rattle.rcu_part_hand.specs.InPlace.{resting}
 use Rattle.rcu_part_hand.specs.InPlaceLaw.{RunsAs}
-use Rattle.rcu_part_hand.specs.contracts.in_place.HandInPlace as row
 use Rattle.rcu_part_steps.specs.Begins.{claimed_as}
-use Rattle.rcu_part_steps.specs.Changes.{Claims}
 use Rattle.rcu_part_steps.specs.declared.begins.ClaimedCallback.{ClaimedCallback}
 use Rattle.rcu_part_hand.proofs.in_place.HandInPlace.claim.Goals as goal
 
-pub try_claim-requires-clause-board : goal.try_claim-requires-clause-board
-try_claim-requires-clause-board g c = let s = c.args.self.now.state in stands (arc_value s.board) c.deref.result.now s.seat c.deref.ensures s.here
-
-pub try_claim-requires-clause-who : goal.try_claim-requires-clause-who
-try_claim-requires-clause-who g c = subst MayClaim (sym c.args.self.now.state.role) tt
-
-pub try_claim-requires-clause-cpu : goal.try_claim-requires-clause-cpu
-try_claim-requires-clause-cpu g c = ap cpu_of_role c.args.self.now.state.role
-
-pub try_claim-requires-clause-rests : goal.try_claim-requires-clause-rests
-try_claim-requires-clause-rests g c = (c.args.self.now.state.rests c.requires.rests).rests
-
-pub try_claim-requires-clause-small : goal.try_claim-requires-clause-small
-try_claim-requires-clause-small g c = c.requires.small
-
-pub take-requires : goal.take-requires
-take-requires g c = let h : FitsInMemory (row.the_row (param 0 g.row.J) (param 1 g.row.J-Receipt)) = assumption in in_struct _ _ _ (in_struct _ _ _ h)
-
-pub unreachable-requires : goal.unreachable-requires
-unreachable-requires g c = let n = c.requires.next c.requires.rests in not_none n.first n.rest (held_by c.args.self.now.state.held) n.held c.in_default.ensures.first.0
+pub claim_first-requires-after_bounds : goal.claim_first-requires-after_bounds
+claim_first-requires-after_bounds g c κs within = let s = c.args.self.now.state in let h : FitsInMemory (row.the_row (param 0 g.row.J) (param 1 g.row.J-Receipt)) = assumption in (
+  in_struct _ _ _ (in_struct _ _ _ h),
+  (stands (arc_value s.board) c.deref.result.now s.seat c.deref.ensures s.here, (subst MayClaim (sym s.role) tt, (ap cpu_of_role s.role, (s.rests c.requires.rests).rests))),
+)
 
 pub invariant_of-state : goal.invariant_of-state
-invariant_of-state g c = let s = c.args.self.now.state in let e = c.if-not-try_claim.ensures in record {
+invariant_of-state g c = let s = c.args.self.now.state in let e = c.claim_first.ensures in let t = c.in-Err.ensures.stops in record {
   here = e.same.table ∙ s.here;
   role = e.same.role ∙ s.role;
-  rests = λ r. hand_kept s.cpu (view s.seat) _ s.ran.all.items _ (taken_by s.held) (e.lost refl).0 refl (s.rests r);
+  rests = λ r. hand_kept s.cpu (view s.seat) (view c.claim_first.new.seat) s.ran.all.items _ (taken_by s.held) (taken_by c.claim_first.new.held) t.keeps (all_as _ _ e.records) (ap (λ (h : Held g.row.J.Denot). taken_by h) t.held) (s.rests r);
   runs = λ k f. (let x : None ≡ Some k = sym c.requires.rests ∙ f in cc);
 }
 
-pub invariant_of-state-2 : goal.invariant_of-state-2
-invariant_of-state-2 g c =
-    let s = c.args.self.now.state in let e = c.if-not-try_claim.ensures in let n = c.requires.next c.requires.rests in let x = c.in-Some.callback in
-    let first = same_first n.first x n.rest (held_by c.take.new.self) (sym n.held ∙ c.in-Some.ensures.first) in
-    let is : c.args.claimed ≡ claimed_as c.args.claimed.ready x = n.claimed ∙ ap (claimed_as c.args.claimed.ready) first in
-    let won : Claims s.cpu x.number (view s.seat) (view c.try_claim.new.seat) = subst (λ (k : ℕ). Claims s.cpu k (view s.seat) (view c.try_claim.new.seat)) (ap (λ (y : ClaimedCallback). y.number) is) (e.won refl) in
-    let law = hand_begun s.cpu c.args.claimed.ready (view s.seat) (view c.try_claim.new.seat) s.ran.all.items (taken_by s.held) (taken_by c.take.new.self) x c.args.claimed is won c.requires.seen c.in-Some.ensures.taken
-    (subst (λ (y : Callback g.row.J.Denot). snap_of y.stamp ≤ c.args.claimed.ready) first n.over) (s.rests c.requires.rests) in record {
-      here = e.same.table ∙ s.here;
-      role = e.same.role ∙ s.role;
-      rests = λ r. (let y : Some c.args.claimed ≡ None = r in cc);
-      runs = λ k f. subst (λ (y : ClaimedCallback). RunsAs s.cpu y (view c.try_claim.new.seat) s.ran (taken_by c.take.new.self)) (some_is c.args.claimed k f)
-          (record { small = c.requires.small; room = c.requires.room; lawful = law; seen = (let s = won.sights in omega (arith, s, c.requires.seen)) });
-    }
+pub invariant_of-state-in-Ok : goal.invariant_of-state-in-Ok
+invariant_of-state-in-Ok g c = let s = c.args.self.now.state in let e = c.claim_first.ensures in let t = c.in-Ok.ensures.takes in let u = view c.claim_first.new.seat in record {
+  here = e.same.table ∙ s.here;
+  role = e.same.role ∙ s.role;
+  rests = λ r. (let y : Some c.of.result ≡ None = r in cc);
+  runs = λ k f. subst (λ (y : ClaimedCallback). RunsAs s.cpu y u c.claim_first.new.ran (taken_by c.claim_first.new.held)) (sym c.of.ensures ∙ some_is c.of.result k f) (record {
+    small = t.small;
+    room = c.in-Ok.ensures.room;
+    lawful = hand_begun s.cpu c.args.seen (view s.seat) u c.claim_first.new.ran.all.items (taken_by s.held) (taken_by c.claim_first.new.held) c.in-Ok.callback (claimed_as c.args.seen c.in-Ok.callback) refl t.won c.requires.seen t.taken t.over
+        (subst (λ rs. IsLawfulHand s.cpu (view s.seat) rs (taken_by s.held)) (sym (all_as _ _ e.records)) (s.rests c.requires.rests));
+    seen = (let a = t.won.sights in omega (arith, a, c.requires.seen));
+  });
+}
 
-pub returns-then-not-try_claim : goal.returns-then-not-try_claim
-returns-then-not-try_claim g c = record {
+pub returns-in-Err : goal.returns-in-Err
+returns-in-Err g c = let s = c.args.self.now.state in let e = c.claim_first.ensures in let t = c.in-Err.ensures.stops in record {
   claims = record {
     runs = tt;
-    lost = λ r. let e = c.if-not-try_claim.ensures in let n = c.requires.next r in let k = ap (λ (x : ClaimedCallback). x.number) n.claimed in let l = (e.lost refl).2 in (
+    stops = λ r. (
       r,
-      record { part = record { board = refl; seat = e.same }; lane = refl; cpu = refl; blimit = refl; kept = refl },
-      (
-        ran_none 1 c.args.claimed.ready (resting c.args.self.now.state r) _ refl refl refl ((e.lost refl).1 ∙ c.requires.seen) e.only,
-        (n.first, n.rest, n.held, inr (λ e. l (omega (arith, e, k)), refl)),
-      ),
+      record { part = record { board = refl; seat = e.same }; lane = same_lane s.held c.claim_first.new.held e.lane; cpu = refl; blimit = refl; kept = kept_as _ _ e.records },
+      held_untaken c.args.seen c.in-Err.stop (resting s r) _ t refl e.records c.requires.seen,
     );
+    counts = t.counts.0;
     keyed = tt;
-    sound = λ sound. sound;
+    sound = hand_sound_kept g.J.Job.key_of g.J.Job.gives (drawn_by s.held) (drawn_by c.claim_first.new.held) s.ran.all.items c.claim_first.new.ran.all.items (ap (λ f. drawn_calls f) e.lane) (all_as _ _ e.records);
   };
 }
 
-pub returns : goal.returns
-returns g c = record {
-  claims = record {
-    runs = λ r.
-        let s = c.args.self.now.state in let e = c.if-not-try_claim.ensures in let n = c.requires.next r in let x = c.in-Some.callback in
-        let first = same_first n.first x n.rest (held_by c.take.new.self) (sym n.held ∙ c.in-Some.ensures.first) in
-        let is : c.args.claimed ≡ claimed_as c.args.claimed.ready x = n.claimed ∙ ap (claimed_as c.args.claimed.ready) first in (
-          c.args.claimed,
+pub returns-in-Ok : goal.returns-in-Ok
+returns-in-Ok g c = let s = c.args.self.now.state in let e = c.claim_first.ensures in let t = c.in-Ok.ensures.takes in let x = c.in-Ok.callback in
+    let drawn : drawn_by c.claim_first.new.held ≡ drawn_by s.held = ap (λ f. drawn_calls f) e.lane in record {
+      claims = record {
+        runs = λ r. (
+          c.of.result,
           refl,
-          record { part = record { board = refl; seat = e.same }; lane = same_lane s.held c.take.new.self c.in-Some.ensures.front; cpu = refl; blimit = refl; kept = refl },
+          record { part = record { board = refl; seat = e.same }; lane = same_lane s.held c.claim_first.new.held e.lane; cpu = refl; blimit = refl; kept = kept_as _ _ e.records },
           record {
             first = x;
             job_is = refl;
-            held = c.in-Some.ensures.first;
-            drawn = ap (λ f. drawn_calls f) c.in-Some.ensures.front;
-            records = refl;
-            claimed = is;
-            over = subst (λ (y : Callback g.row.J.Denot). snap_of y.stamp ≤ c.args.claimed.ready) first n.over;
-            won = subst (λ (k : ℕ). Claims s.cpu k (view s.seat) (view c.try_claim.new.seat)) (ap (λ (y : ClaimedCallback). y.number) is) (e.won refl);
-            steps = e.only;
+            held = t.held;
+            drawn = drawn;
+            records = e.records;
+            claimed = c.of.ensures;
+            over = t.over;
+            won = t.won;
+            steps = t.steps;
           },
         );
-    lost = tt;
-    keyed = λ k f.
-        let s = c.args.self.now.state in let n = c.requires.next c.requires.rests in let x = c.in-Some.callback in
-        let first = same_first n.first x n.rest (held_by c.take.new.self) (sym n.held ∙ c.in-Some.ensures.first) in
-        let is : k ≡ claimed_as c.args.claimed.ready x = sym (some_is c.args.claimed k f) ∙ (n.claimed ∙ ap (claimed_as c.args.claimed.ready) first) in
-        let drawn : drawn_by c.take.new.self ≡ drawn_by s.held = ap (λ f. drawn_calls f) c.in-Some.ensures.front in
-        keyed_that_runs g.J.Job.key_of c.args.claimed.ready (drawn_by s.held) (drawn_by c.take.new.self) (taken_by s.held) (held_by c.take.new.self) x k is (s.held.order ∙ ap (λ l. taken_by s.held ++ l) c.in-Some.ensures.first) drawn;
-    sound = let s = c.args.self.now.state in
-        hand_sound_kept g.J.Job.key_of g.J.Job.gives (drawn_by s.held) (drawn_by c.take.new.self) s.ran.all.items s.ran.all.items (ap (λ f. drawn_calls f) c.in-Some.ensures.front) refl;
-  };
-}
+        stops = tt;
+        counts = tt;
+        keyed = λ k f. keyed_that_runs g.J.Job.key_of c.args.seen (drawn_by s.held) (drawn_by c.claim_first.new.held) (taken_by s.held) (held_by c.claim_first.new.held) x k (sym (some_is c.of.result k f) ∙ c.of.ensures) (s.held.order ∙ ap (λ l. taken_by s.held ++ l) t.held) drawn;
+        sound = hand_sound_kept g.J.Job.key_of g.J.Job.gives (drawn_by s.held) (drawn_by c.claim_first.new.held) s.ran.all.items c.claim_first.new.ran.all.items drawn (all_as _ _ e.records);
+      };
+    }

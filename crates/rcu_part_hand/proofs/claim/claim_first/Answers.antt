@@ -1,0 +1,103 @@
+use Rattle.std.proofs.Common.{◌≡◌, ℕ, inl, inr, ◌∙◌, ap, sym, subst, refl, arith}
+use Rattle.rcu_board.proofs.Facts.{same_seat}
+use Rattle.rcu_board.specs.Seats.{view}
+use Rattle.rcu_board.specs.Views.{seen_at}
+use Rattle.rcu_board.specs.Words.{turns_word}
+use Rattle.rcu_board.specs.declared.view.View.{View}
+use Rattle.rcu_jobs.specs.declared.Stop.TheVariants.{Limit, Again, Empty, Turn, Memory}
+use Rattle.rcu_jobs.specs.declared.callback.Callback.{Callback}
+use Rattle.rcu_numbers.specs.Numbers.{snap_of}
+use Rattle.rcu_part_lists.specs.Helds.{held_by}
+use Rattle.rcu_part_lists.specs.declared.hand.Held.{Held}
+use Rattle.rcu_part_steps.specs.Changes.{Claims}
+use Rattle.rcu_part_steps.proofs.Turning.{steps_none}
+use Rattle.rcu_part_hand.proofs.HandRuns.{not_none, same_first}
+use Rattle.rcu_part_hand.proofs.claim.claim_first.Goals as goal
+
+pub first-requires : goal.first-requires
+first-requires g c = assumption
+
+pub snap-requires : goal.snap-requires
+snap-requires g c = c.in-Some.ensures.safe.0
+
+pub try_claim-requires : goal.try_claim-requires
+try_claim-requires g c = record { board = c.requires.board; who = c.requires.who; cpu = c.requires.cpu; rests = c.requires.rests; small = c.in-Some.ensures.safe.1 }
+
+pub take-requires : goal.take-requires
+take-requires g c = assumption
+
+pub unreachable-requires : goal.unreachable-requires
+unreachable-requires g c = let f = c.in-Some.ensures.first in not_none c.in-Some.first.now f.0 (held_by c.args.held.now) f.1 c.in_default-take.ensures.first.0
+
+pub returns-in_default-clause-stops : goal.returns-in_default-clause-stops
+returns-in_default-clause-stops g c = record {
+  tried = 0;
+  held = refl;
+  keeps = record { accepted = refl; fresh = refl; word = refl; claims = refl; running = refl };
+  sight = refl;
+  steps = steps_none _ _ _ refl;
+  why = λ q cpu at same n. (ap (λ (h : Held g.row.J.Denot). held_by h) same ∙ c.in_default.ensures.first, omega arith);
+  counts = ((λ e. (let f : Empty ≡ Limit = e in cc)), λ e. (let f : Empty ≡ Again = e in cc));
+}
+
+pub returns-then-snap-seen-clause-stops : goal.returns-then-snap-seen-clause-stops
+returns-then-snap-seen-clause-stops g c = let f = c.in-Some.ensures.first in record {
+  tried = 0;
+  held = refl;
+  keeps = record { accepted = refl; fresh = refl; word = refl; claims = refl; running = refl };
+  sight = refl;
+  steps = steps_none _ _ _ refl;
+  why = λ q cpu at same n. (c.in-Some.first.now, f.0, ap (λ (h : Held g.row.J.Denot). held_by h) same ∙ f.1, inl (omega (arith, c.if-snap-seen.true, c.snap.ensures.value), omega arith));
+  counts = ((λ e. (let f : Turn ≡ Limit = e in cc)), λ e. (let f : Turn ≡ Again = e in cc));
+}
+
+pub returns-in_default-find_room-clause-stops : goal.returns-in_default-find_room-clause-stops
+returns-in_default-find_room-clause-stops g c = let f = c.in-Some.ensures.first in record {
+  tried = 0;
+  held = refl;
+  keeps = record { accepted = refl; fresh = refl; word = refl; claims = refl; running = refl };
+  sight = refl;
+  steps = steps_none _ _ _ refl;
+  why = λ q cpu at same n. ((c.in-Some.first.now, f.0, ap (λ (h : Held g.row.J.Denot). held_by h) same ∙ f.1, omega (arith, c.if-snap-seen.false, c.snap.ensures.value)), omega arith);
+  counts = ((λ e. (let f : Memory ≡ Limit = e in cc)), λ e. (let f : Memory ≡ Again = e in cc));
+}
+
+pub returns-then-not-try_claim-clause-stops : goal.returns-then-not-try_claim-clause-stops
+returns-then-not-try_claim-clause-stops g c = let f = c.in-Some.ensures.first in let e = c.if-not-try_claim.ensures in let l = e.lost refl in record {
+  tried = 1;
+  held = refl;
+  keeps = l.0;
+  sight = l.1;
+  steps = e.only;
+  why = λ q cpu at same n. (
+    c.in-Some.first.now,
+    f.0,
+    ap (λ (h : Held g.row.J.Denot). held_by h) same ∙ f.1,
+    inr ((λ is. l.2 (sym (ap (λ (v : View). seen_at v (turns_word c.args.cpu)) at) ∙ (ap (λ (p : ℕ). seen_at (view q.seat) (turns_word p)) (sym cpu) ∙ is))), refl),
+  );
+  counts = ((λ e. (let f : Turn ≡ Limit = e in cc)), λ e. (let f : Turn ≡ Again = e in cc));
+}
+
+pub returns-clause-takes : goal.returns-clause-takes
+returns-clause-takes g c =
+    let v = view c.args.seat.now in let w = view c.try_claim.new.seat in let x = c.in-Some-take.callback in let f = c.in-Some.ensures.first in let t = c.in-Some-take.ensures in
+    let first = same_first c.in-Some.first.now x f.0 (held_by c.take.new.self) (sym f.1 ∙ t.first) in record {
+      held = t.first;
+      taken = t.taken;
+      over = omega (arith, c.if-snap-seen.false, c.snap.ensures.value, ap (λ (y : Callback g.row.J.Denot). snap_of y.stamp) first);
+      small = t.safe.1;
+      won = subst (λ (y : Callback g.row.J.Denot). Claims c.args.cpu y.number v w) first (c.if-not-try_claim.ensures.won refl);
+      steps = c.if-not-try_claim.ensures.only;
+    }
+
+pub returns-clause-room : goal.returns-clause-room
+returns-clause-room g c = c.in-Ok.ensures.room
+
+pub returns-in_default-clause-same : goal.returns-in_default-clause-same
+returns-in_default-clause-same g c = same_seat _
+
+pub returns-then-snap-seen-clause-same : goal.returns-then-snap-seen-clause-same
+returns-then-snap-seen-clause-same g c = same_seat _
+
+pub returns-in_default-find_room-clause-same : goal.returns-in_default-find_room-clause-same
+returns-in_default-find_room-clause-same g c = same_seat _
