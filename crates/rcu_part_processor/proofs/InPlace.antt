@@ -1,6 +1,5 @@
 -- What a processor in place is, by its parts.
 use Rattle.std.proofs.Common.{◌≡◌, ℕ, List, [], ◌∷◌, ◌++◌, ap, refl, sym, subst, ◌∙◌, true, ◌<◌, ◌≤◌, Option, None, Some}
-use Rattle.std.specs.Prelude.{Result, Ok, Err, IfOk, IfErr}
 use Rattle.std.proofs.lemmas.Option.{none-some}
 use Rattle.std.proofs.Math.Path.{path_j}
 use Rattle.std.proofs.Props.{props}
@@ -51,16 +50,6 @@ nil_back xs p = path_j (λ ys q. nil_by ys (subst at_nil q tt) ≡ q) refl p
 nil_once : {A : Type 0} (xs : List A) → IsProp (xs ≡ [])
 nil_once [] p q = sym (nil_back [] p) ∙ nil_back [] q
 nil_once (x ∷ xs) p q = absurd (let f : x ∷ xs ≡ [] = p in cc)
-
-module _ {A E : Type 0} where
-  -- what is so of an answer is so of it in other words
-  pub if_ok : (P Q : A → Type 0) (r : Result A E) → ((x : A) → P x → Q x) → IfOk r P → IfOk r Q
-  if_ok P Q (Ok x) f p = f x p
-  if_ok P Q (Err e) f p = tt
-
-  pub if_err : (P Q : E → Type 0) (r : Result A E) → ((e : E) → P e → Q e) → IfErr r P → IfErr r Q
-  if_err P Q (Ok x) f p = tt
-  if_err P Q (Err e) f p = f e p
 
 module _ {J R : Type 0} where
   -- the same lists and records

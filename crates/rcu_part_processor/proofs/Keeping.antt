@@ -9,7 +9,8 @@ use Rattle.rcu_board.specs.Words.{needed_word}
 use Rattle.rcu_board.specs.declared.view.Accepted.{Accepted as Entry}
 use Rattle.rcu_board.specs.declared.view.View.{View}
 use Rattle.rcu_part_lists.specs.Aims.{AreUpTo}
-use Rattle.rcu_part_lists.specs.ProcessorLists.{Holding, held_in, put_by, passed_on}
+use Rattle.rcu_part_lists.specs.ProcessorLists.{Holding, held_in, holding, put_by, passed_on}
+use Rattle.rcu_part_lists.specs.declared.processor_lists.ProcessorLists.{ProcessorLists}
 use Rattle.rcu_part_lists.proofs.Aims.{up-raised}
 use Rattle.rcu_jobs.specs.declared.callback.Callback.{Callback}
 use Rattle.rcu_jobs.specs.declared.callback.Record.{Record}
@@ -108,6 +109,11 @@ module _ {J R : Type 0} where
 
   pub kept_by_keeps : (cpu n m : ℕ) (v w : View) (ran : List (Record R)) (h : Holding J) → Keeps v w → NeverFalls m v w → IsLawful cpu n v ran h → IsLawful cpu n w ran h
   kept_by_keeps cpu n m v w ran h k later l = kept_by_tells cpu n m v w ran h (tells_by_keeps v w k) later l
+
+  -- no claim was won
+  pub kept_untaken : (cpu n m : ℕ) (v w : View) (ran ran' : List (Record R)) (a b : ProcessorLists J) → Keeps v w → NeverFalls m v w → ran' ≡ ran → b ≡ a → IsLawful cpu n v ran (holding a) → IsLawful cpu n w ran' (holding b)
+  kept_untaken cpu n m v w ran ran' a b k later same lists l =
+      subst (λ (x : ProcessorLists J). IsLawful cpu n w ran' (holding x)) (sym lists) (subst (λ (rs : List (Record R)). IsLawful cpu n w rs (holding a)) (sym same) (kept_by_keeps cpu n m v w ran (holding a) k later l))
 
   pub runs_by_tells : (cpu n m : ℕ) (c : ClaimedCallback) (v w : View) (ran : List (Record R)) (h : Holding J) → Tells v w → NeverFalls m v w → IsRunningProcessor cpu n c v ran h → IsRunningProcessor cpu n c w ran h
   runs_by_tells cpu n m c v w ran h k later l = runs_by_places cpu n n c v w ran h h k.claims k.running (places_by_tells n m v w (numbered_records ran ++ number_that_runs c ∷ []) h k later l.has) l

@@ -6,8 +6,10 @@ use Rattle.std.proofs.lemmas.List.Sums.{sum_by-cons}
 use Rattle.rcu_board.specs.Views.{seen_at}
 use Rattle.rcu_board.specs.Words.{turns_word}
 use Rattle.rcu_board.proofs.Stepping.{same_again}
-use Rattle.rcu_part_lists.specs.ProcessorLists.{Holding, passed_on}
+use Rattle.rcu_part_lists.specs.ProcessorLists.{Holding, holding, passed_on}
+use Rattle.rcu_part_lists.specs.declared.processor_lists.ProcessorLists.{ProcessorLists}
 use Rattle.rcu_jobs.specs.Records.{Given}
+use Rattle.rcu_jobs.specs.declared.Stop.{Stop}
 use Rattle.rcu_jobs.specs.declared.Ticked.{Ticked}
 use Rattle.rcu_jobs.specs.declared.callback.Callback.{Callback}
 use Rattle.rcu_jobs.specs.declared.callback.Record.{Record}
@@ -18,6 +20,7 @@ use Rattle.rcu_part_order.specs.Records.{numbered_record}
 use Rattle.rcu_part_order.proofs.Keeping.{ran_again, ran_none}
 use Rattle.rcu_part_steps.specs.Changes.{StepsOnly}
 use Rattle.rcu_part_steps.specs.Places.{AreKeyed, numbered_callback}
+use Rattle.rcu_part_processor.specs.Begins.{TakesNone}
 use Rattle.rcu_part_processor.specs.Processors.{AddsRecords, IsSound, SameProcessor, lists_of, records_of, view_of}
 use Rattle.rcu_part_processor.specs.Ticks.{RanDone, TicksBy}
 use Rattle.rcu_part_processor.specs.declared.processor.ProcessorState.{ProcessorState}
@@ -77,6 +80,11 @@ module _ {J R : Type 0} where
     steps = subst (λ (k : ℕ). StepsOnly (turns_word p.cpu) k (view_of p) (view_of q)) (omega arith) steps;
     later = later;
   }
+
+  -- no claim was won
+  pub done_untaken : (seen : ℕ) (stop : Stop) (p q : ProcessorState J R) (t : TakesNone R p.cpu stop (view_of p) (view_of q) p.lists q.lists) → records_of q ≡ records_of p
+      → seen_at (view_of p) (turns_word p.cpu) ≤ seen_at (view_of q) (turns_word p.cpu) → RanDone 0 t.tried seen p q
+  done_untaken seen stop p q t records later = done_none t.tried seen p q (ap (λ (l : ProcessorLists J). holding l) t.lists) records t.steps later
 
   -- one was
   pub done_one : (seen : ℕ) (p q : ProcessorState J R) (c : Callback J) (r : Record R) → (lists_of p).own ≡ marked Done (c ∷ []) ++ (lists_of q).own → lists_of q ≡ record (lists_of p) { own = (lists_of q).own }

@@ -1,13 +1,18 @@
 -- What a processor's begin and finish do: docs/specification/surface.md, "rcu_parts".
-use Rattle.std.specs.Prelude.{◌≡◌, ℕ, ◌≤◌, true, false, List, [], ◌∷◌, ◌++◌}
+use Rattle.std.specs.Prelude.{◌≡◌, ◌≢◌, ℕ, ◌+◌, ◌≤◌, ◌<◌, true, false, [], ◌∷◌, ◌++◌}
+use Rattle.rcu_board.specs.Views.{sight}
 use Rattle.rcu_board.specs.Words.{turns_word}
+use Rattle.rcu_board.specs.declared.view.View.{View}
 use Rattle.rcu_jobs.specs.declared.Stop.{Stop}
+use Rattle.rcu_jobs.specs.declared.Stop.TheVariants.{Limit}
 use Rattle.rcu_jobs.specs.declared.callback.Callback.{Callback}
-use Rattle.rcu_lists.specs.Labels.{Done, Labelled, marked}
+use Rattle.rcu_lists.specs.Labels.{Done, marked}
 use Rattle.rcu_numbers.specs.Numbers.{snap_of}
+use Rattle.rcu_numbers.specs.declared.shape.TheConstants.{MOST_CALLS}
+use Rattle.rcu_part_lists.specs.ProcessorLists.{held_in, holding}
+use Rattle.rcu_part_lists.specs.declared.processor_lists.ProcessorLists.{ProcessorLists}
 use Rattle.rcu_part_steps.specs.Begins.{claimed_as, record_with}
-use Rattle.rcu_part_steps.specs.Changes.{Claims, Finishes, StepsOnly}
-use Rattle.rcu_part_steps.specs.declared.begins.ClaimedCallback.{ClaimedCallback}
+use Rattle.rcu_part_steps.specs.Changes.{Claims, Finishes, Keeps, StepsOnly}
 use Rattle.rcu_part_order.specs.Recorded.{and_ran}
 use Rattle.rcu_part_processor.specs.Processors.{SameProcessor, view_of, lists_of, records_of}
 use Rattle.rcu_part_processor.specs.Running.{running_view, running_lists, running_records}
@@ -16,20 +21,6 @@ use Rattle.rcu_part_processor.specs.declared.processor.ProcessorState.{Processor
 use Rattle.rcu_part_processor.specs.declared.running_processor.RunningProcessorState.{RunningProcessorState}
 
 module _ {J R : Type 0} where
-  -- what may be claimed: the first callback of done, whose grace period is over at the number seen
-  pub record IsNext (seen : ℕ) (c : ClaimedCallback) (p : ProcessorState J R) : Type 0 where
-    pub first : Callback J
-    pub rest : List (Labelled J)
-    pub done : (lists_of p).own ≡ marked Done (first ∷ []) ++ rest
-    pub claimed : c ≡ claimed_as seen first
-
-  -- nothing changed but the room for records
-  pub record KeepsProcessor (p q : ProcessorState J R) : Type 0 where
-    pub view : view_of q ≡ view_of p
-    pub lists : lists_of q ≡ lists_of p
-    pub records : records_of q ≡ records_of p
-    pub count : q.accepted ≡ p.accepted
-
   -- The claim of the first callback of done, of which this is the job, was won at the board sight `seen`, by one step, and
   -- runs; its grace period was over.
   pub record ClaimsFirst (seen : ℕ) (p : ProcessorState J R) (q : RunningProcessorState J R) (job : J) : Type 0 where
@@ -76,3 +67,25 @@ module _ {J R : Type 0} where
     pub count : q.accepted ≡ p.accepted
     pub ends : Finishes (running_view p) (view_of q)
     pub steps : StepsOnly (turns_word p.cpu) 1 (running_view p) (view_of q)
+
+-- The claim of the first callback of done was won by one step, and the callback was taken out.
+pub record TakesDone {J : Type 0} (cpu : ℕ) (c : Callback J) (v w : View) (h k : ProcessorLists J) : Type 0 where
+  pub done : (holding h).own ≡ marked Done (c ∷ []) ++ (holding k).own
+  pub others : holding k ≡ record (holding h) { own = (holding k).own }
+  -- it was the next in its place
+  pub places : held_in (holding h) ≡ c ∷ held_in (holding k)
+  pub graced : snap_of c.stamp ≤ (holding h).advanced
+  pub small : c.number < MOST_CALLS
+  pub won : Claims cpu c.number v w
+  pub steps : StepsOnly (turns_word cpu) 1 v w
+
+-- No claim was won, and nothing was taken out; so many were tried.
+pub record TakesNone {J : Type 0} (R : Type 0) (cpu : ℕ) (stop : Stop) (v w : View) (h k : ProcessorLists J) : Type 0 where
+  pub tried : ℕ
+  pub lists : k ≡ h
+  pub keeps : Keeps v w
+  pub sight : sight w ≡ sight v
+  pub steps : StepsOnly (turns_word cpu) tried v w
+  -- the reason holds of a processor that holds so and has this view, however many were run before
+  pub why : (q : ProcessorState J R) → q.cpu ≡ cpu → view_of q ≡ w → q.lists ≡ h → (n : ℕ) → StopsTick stop n (n + tried) q
+  pub counts : stop ≢ Limit

@@ -1,6 +1,6 @@
 -- A processor in place: between its calls it is a processor, or a running processor, and what its calls do is said of those:
 -- docs/specification/surface.md, "rcu_parts", `begin` and `finish`.
-use Rattle.std.specs.Prelude.{◌≡◌, ◌≢◌, ℕ, Option, Result, IfNone, IfSome, IfOk, IfErr, IsErr}
+use Rattle.std.specs.Prelude.{◌≡◌, ◌≢◌, ℕ, Result, IfOk, IfErr, IsErr}
 use Rattle.std.specs.declared.option.Option.TheVariants.{None, Some}
 use Rattle.std.specs.Arc.{arc_value}
 use Rattle.std.proofs.lemmas.Option.{none-some}
@@ -10,7 +10,7 @@ use Rattle.rcu_board.specs.declared.board.Seat.{Seat}
 use Rattle.rcu_board.specs.declared.view.View.{View}
 use Rattle.rcu_jobs.specs.Records.{Given}
 use Rattle.rcu_jobs.specs.declared.Stop.{Stop}
-use Rattle.rcu_jobs.specs.declared.Stop.TheVariants.{Limit, Turn}
+use Rattle.rcu_jobs.specs.declared.Stop.TheVariants.{Limit}
 use Rattle.rcu_jobs.specs.declared.answers.Refused.{Refused}
 use Rattle.rcu_jobs.specs.declared.answers.Ticket.{Ticket}
 use Rattle.rcu_lists.specs.declared.pace.Kind.{Kind}
@@ -19,10 +19,8 @@ use Rattle.rcu_part_order.specs.Recorded.{ran_of, recorded}
 use Rattle.rcu_part_steps.specs.Places.{AreKeyed}
 use Rattle.rcu_part_steps.specs.declared.begins.ClaimedCallback.{ClaimedCallback}
 use Rattle.rcu_part_processor.specs.Accepting.{Accepting, Accepts, AcceptsNone, IsRefusedByLimit, Refuses}
-use Rattle.rcu_part_processor.specs.Begins.{ClaimsFirst}
 use Rattle.rcu_part_processor.specs.Processors.{SameProcessor}
 use Rattle.rcu_part_processor.specs.Running.{Identity, IsSamePart, SameBegun, SameFinished}
-use Rattle.rcu_part_processor.specs.Ticks.{RanDone, StopsTick}
 use Rattle.rcu_part_processor.specs.declared.in_place.ProcessorInPlaceState.{ProcessorInPlaceState}
 use Rattle.rcu_part_processor.specs.declared.processor.ProcessorState.{ProcessorState}
 use Rattle.rcu_part_processor.specs.declared.running_processor.RunningProcessorState.{RunningProcessorState}
@@ -198,23 +196,6 @@ module _ {J R : Type 0} where
   -- Where a claim of it runs, this is so of the running processor.
   abbrev pub IfRunning : (RunningProcessorState J R → Type 0) → ProcessorInPlaceState J R → Type 0
   IfRunning Is p = (c : ClaimedCallback) (e : p.claimed ≡ Some c) → Is (running p c e)
-
-  -- the claim of the first callback of done wasn't won at the board sight `seen`
-  abbrev pub LosesClaim : ℕ → ProcessorState J R → ProcessorState J R → Type 0
-  LosesClaim seen p q = RanDone 0 1 seen p q × StopsTick Turn 0 1 q
-
-  -- The claim of the first callback of done was tried at the board sight `seen`: where it was won it runs, and its job is
-  -- handed out.
-  pub record ClaimsAs (seen : ℕ) (key_of : J → ℕ) (gives : ℕ → R → Type 0) (answer : Option J) (p q : ProcessorInPlaceState J R) : Type 0 where
-    -- Some: the claim runs
-    pub runs : IfSome answer (λ job. StartsRunning (λ o r. ClaimsFirst seen o r job) p q)
-    -- None: it wasn't won
-    pub lost : IfNone answer (StaysResting (LosesClaim seen) p q)
-    -- it accepted as many as before
-    pub count : q.accepted ≡ p.accepted
-    -- the job that is handed out has the claim's key
-    pub keyed : IsSoundInPlace key_of gives p → IfSome answer (λ job. IfRunning (λ r. key_of job ≡ r.claimed.key) q)
-    pub sound : KeepsSoundInPlace key_of gives p q
 
   -- A begin answers a job, whose claim runs then; or no claim runs, and why, which is never that so many ran.
   pub record BeginsAs (Runs : J → ProcessorState J R → RunningProcessorState J R → Type 0) (Stops : Stop → ProcessorState J R → ProcessorState J R → Type 0) (key_of : J → ℕ) (gives : ℕ → R → Type 0) (answer : Result J Stop) (p q : ProcessorInPlaceState J R) : Type 0 where

@@ -1,18 +1,17 @@
 //! A callback of a processor in place, in two steps: its claim is won and its job handed out, and later the claim is ended.
 
-ghost use Rattle.std.specs.Prelude.{◌≡◌, ◌≢◌, ◌<◌, true, None, IfErr, IfOk};
-ghost use Rattle.rcu_part_order.specs.Recorded.{HasRoom};
-ghost use Rattle.rcu_numbers.specs.declared.shape.TheConstants.{MOST_CALLS};
+ghost use Rattle.std.specs.Prelude.{◌≡◌, ◌≢◌, true, None, IfErr, IfOk};
 ghost use Rattle.rcu_board.specs.Views.{sight};
 ghost use Rattle.rcu_jobs.specs.declared.Stop.TheVariants.{Limit};
-ghost use Rattle.rcu_part_processor.specs.Begins.{BeginsTick, ClaimsFirst, ClaimsNone, FinishesProcessor, IsNext, KeepsProcessor, StopsBegin};
-ghost use Rattle.rcu_part_processor.specs.InPlace.{BeginsAs, ClaimsAs, EndsRunning, IfResting, IfRunning, IsSoundInPlace, KeepingInPlace, KeepsSoundInPlace, StartsRunning, StaysResting, lists_in, view_in};
-ghost use Rattle.rcu_part_processor.specs.Ticks.{CatchesUp, Heeds, Settles, StopsTick};
+ghost use Rattle.rcu_part_processor.specs.Begins.{BeginsTick, ClaimsFirst, ClaimsNone, FinishesProcessor, StopsBegin};
+ghost use Rattle.rcu_part_processor.specs.InPlace.{BeginsAs, EndsRunning, IfRunning, IsSoundInPlace, KeepingInPlace, KeepsSoundInPlace, StartsRunning, StaysResting, lists_in, view_in};
+ghost use Rattle.rcu_part_processor.specs.Ticks.{CatchesUp, Heeds, Settles};
 
+use crate::claim::claim_first;
 use crate::in_place::ProcessorInPlace;
 use rcu_board::{asked, heard, need, turn_of};
 use rcu_jobs::{Callback, Job, Stop};
-use rcu_part_steps::{ClaimedCallback, end_claim, look_at_number, try_claim};
+use rcu_part_steps::{ClaimedCallback, end_claim, look_at_number};
 
 impl<J: Job> ProcessorInPlace<J> {
     // The begin's look: the own list is advanced by the number seen and accelerated, and what it waits for is asked for.
@@ -63,53 +62,7 @@ impl<J: Job> ProcessorInPlace<J> {
         }
     }
 
-    // The first callback of done, where there is room for its record.
-    fn next(&mut self, seen: u64) -> Result<ClaimedCallback, Stop>
-        requires rests { self.old.state.claimed ≡ None }
-        ensures keeps { KeepingInPlace KeepsProcessor J.key_of J.gives self.old.state
-            self.new.state }
-        ensures next { IfOk result (λ c. IfResting (IsNext seen c) self.new.state) }
-        ensures ready { IfOk result (λ c. c.ready ≡ seen) }
-        ensures small { IfOk result (λ c. c.number < MOST_CALLS) }
-        ensures room { IfOk result (λ _. HasRoom self.new.state.ran) }
-        ensures stops { IfErr result (λ stop.
-            IfResting (StopsTick stop 0 0) self.new.state × (stop ≢ Limit)) }
-    {
-        let state = &mut self.state;
-        let Some(first) = state.lists.first() else {
-            return Err(Stop::Empty);
-        };
-        let claimed = ClaimedCallback::of(first, seen);
-        let Ok(()) = state.ran.find_room() else {
-            return Err(Stop::Memory);
-        };
-        Ok(claimed)
-    }
-
-    // Wins the claim of the first callback of done, and hands its job out, unless it isn't its turn.
-    fn claim(&mut self, claimed: ClaimedCallback) -> Option<J>
-        requires rests { self.old.state.claimed ≡ None }
-        requires seen { (sight (view_in self.old.state) ≡ claimed.ready)
-            × ((lists_in self.old.state).advanced ≡ claimed.ready) }
-        requires next { IfResting (IsNext claimed.ready claimed) self.old.state }
-        requires small { claimed.number < MOST_CALLS }
-        requires room { HasRoom self.old.state.ran }
-        ensures claims { ClaimsAs claimed.ready J.key_of J.gives result self.old.state
-            self.new.state }
-    {
-        let state = &mut self.state;
-        if !try_claim(&state.board, &mut state.seat, state.cpu, claimed.number) {
-            return None;
-        }
-        let Some(callback) = state.lists.take() else {
-            unreachable!()
-        };
-        state.claimed = Some(claimed);
-        let Callback { job, .. } = callback;
-        Some(job)
-    }
-
-    // Claims the first callback of done, or says why not. The number `seen` is that of the begin's look.
+    // Claims the first callback of done, and hands its job out, or says why not. The number `seen` is that of the begin's look.
     fn claim_done(&mut self, seen: u64) -> Result<J, Stop>
         requires rests { self.old.state.claimed ≡ None }
         requires seen { (sight (view_in self.old.state) ≡ seen)
@@ -117,12 +70,20 @@ impl<J: Job> ProcessorInPlace<J> {
         ensures begins { BeginsAs (λ job p q. ClaimsFirst seen p q job) (ClaimsNone seen) J.key_of
             J.gives result self.old.state self.new.state }
     {
-        match self.next(seen) {
+        let state = &mut self.state;
+        match claim_first(
+            &state.board,
+            &mut state.seat,
+            state.cpu,
+            &mut state.lists,
+            &mut state.ran,
+        ) {
             Err(stop) => Err(stop),
-            Ok(claimed) => match self.claim(claimed) {
-                Some(job) => Ok(job),
-                None => Err(Stop::Turn),
-            },
+            Ok(callback) => {
+                state.claimed = Some(ClaimedCallback::of(&callback, seen));
+                let Callback { job, .. } = callback;
+                Ok(job)
+            }
         }
     }
 

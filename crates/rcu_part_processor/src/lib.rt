@@ -41,6 +41,7 @@ mod away;
 mod barrier;
 mod begin;
 mod call;
+mod claim;
 mod in_place;
 mod in_place_begin;
 mod in_place_calls;

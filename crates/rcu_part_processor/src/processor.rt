@@ -11,13 +11,14 @@ ghost use Rattle.rcu_part_order.specs.Recorded.{ran_of};
 ghost use Rattle.rcu_part_processor.specs.Lawful.{IsHereSince, IsLawful, StaysLocal};
 
 use crate::away::{Away, AwayState};
+use crate::claim::claim_first;
 use crate::running_processor::{RunningProcessor, RunningProcessorState};
 use rcu_board::{Board, Role, Seat, leave};
-use rcu_jobs::{Callback, Job, Stop};
+use rcu_jobs::{Callback, Job};
 use rcu_numbers::PartsShape;
 use rcu_part_lists::ProcessorLists;
 use rcu_part_order::{Kept, Records};
-use rcu_part_steps::{Begins, ClaimedCallback, try_claim};
+use rcu_part_steps::{Begins, ClaimedCallback};
 use std::alloc::Global;
 use std::sync::Arc;
 
@@ -143,33 +144,24 @@ impl<J: Job> Processor<J> {
 
 impl<J: Job> Processor<J> {
     ghost use Rattle.std.specs.Prelude.{◌≢◌};
-    ghost use Rattle.rcu_part_order.specs.Recorded.{HasRoom};
     ghost use Rattle.rcu_board.specs.Views.{sight};
     ghost use Rattle.rcu_jobs.specs.declared.Stop.TheVariants.{Limit};
-    ghost use Rattle.rcu_part_processor.specs.Begins.{IsNext, ClaimsFirst};
+    ghost use Rattle.rcu_part_processor.specs.Begins.{ClaimsFirst, ClaimsNone};
     ghost use Rattle.rcu_part_processor.specs.Processors.{SameProcessor, IsSound, lists_of, view_of};
     ghost use Rattle.rcu_part_processor.specs.Running.{SameBegun, IsSoundRunning};
-    ghost use Rattle.rcu_part_processor.specs.Ticks.{RanDone, StopsTick};
     ghost use Rattle.rcu_part_steps.specs.Begins.{IfRuns, IfStops};
 
-    /// Wins the claim of the first callback of done, and hands its job out, or says that it isn't its turn.
-    pub(crate) fn claim(
-        self,
-        claimed: ClaimedCallback,
-    ) -> Begins<RunningProcessor<J>, J, Processor<J>>
-        requires seen { (sight (view_of self.state) ≡ claimed.ready)
-            × ((lists_of self.state).advanced ≡ claimed.ready) }
-        requires next { IsNext claimed.ready claimed self.state }
-        requires small { claimed.number < MOST_CALLS }
-        requires room { HasRoom self.state.ran }
+    /// Claims the first callback of done, and hands its job out, or says why not. The number `seen` is that of the look.
+    pub(crate) fn claim_done(self, seen: u64) -> Begins<RunningProcessor<J>, J, Processor<J>>
+        requires seen { (sight (view_of self.state) ≡ seen)
+            × ((lists_of self.state).advanced ≡ seen) }
         ensures same { IfRuns result (λ running _. SameBegun self.state running.state)
             × IfStops result (λ processor _. SameProcessor self.state processor.state) }
         ensures runs { IfRuns result (λ running job.
-            ClaimsFirst claimed.ready self.state running.state job) }
-        ensures lost { IfStops result (λ processor _.
-            RanDone 0 1 claimed.ready self.state processor.state) }
+            ClaimsFirst seen self.state running.state job) }
         ensures stops { IfStops result (λ processor stop.
-            StopsTick stop 0 1 processor.state × (stop ≢ Limit)) }
+            ClaimsNone seen stop self.state processor.state) }
+        ensures counts { IfStops result (λ _ stop. stop ≢ Limit) }
         ensures count { IfStops result (λ processor _.
             processor.state.accepted ≡ self.state.accepted) }
         ensures keyed { IsSound J.key_of J.gives self.state
@@ -189,43 +181,45 @@ impl<J: Job> Processor<J> {
                 blimit,
                 accepted,
                 passed,
-                ran,
+                mut ran,
                 mut lists,
             },
         } = self;
-        if !try_claim(&board, &mut seat, cpu, claimed.number) {
-            let state = ProcessorState {
-                board,
-                seat,
-                cpu,
-                offloadable,
-                limit,
-                blimit,
-                accepted,
-                passed,
-                ran,
-                lists,
-            };
-            return Begins::Stops(Processor { state }, Stop::Turn);
+        match claim_first(&board, &mut seat, cpu, &mut lists, &mut ran) {
+            Err(stop) => {
+                let state = ProcessorState {
+                    board,
+                    seat,
+                    cpu,
+                    offloadable,
+                    limit,
+                    blimit,
+                    accepted,
+                    passed,
+                    ran,
+                    lists,
+                };
+                Begins::Stops(Processor { state }, stop)
+            }
+            Ok(callback) => {
+                let claimed = ClaimedCallback::of(&callback, seen);
+                let Callback { job, .. } = callback;
+                let state = RunningProcessorState {
+                    board,
+                    seat,
+                    cpu,
+                    offloadable,
+                    limit,
+                    blimit,
+                    accepted,
+                    passed,
+                    ran,
+                    claimed,
+                    lists,
+                };
+                Begins::Runs(RunningProcessor { state }, job)
+            }
         }
-        let Some(callback) = lists.take() else {
-            unreachable!()
-        };
-        let Callback { job, .. } = callback;
-        let state = RunningProcessorState {
-            board,
-            seat,
-            cpu,
-            offloadable,
-            limit,
-            blimit,
-            accepted,
-            passed,
-            ran,
-            claimed,
-            lists,
-        };
-        Begins::Runs(RunningProcessor { state }, job)
     }
 }
 

@@ -7,10 +7,11 @@ ghost use Rattle.rcu_part_processor.specs.Processors.{Keeping, SameProcessor, li
 ghost use Rattle.rcu_part_processor.specs.Ticks.{CatchesUp, Heeds, Settles, RunsOne, RunsDone, TicksBy, IsFresh, IsLocalOnceRun, RunsNoneOffloaded};
 ghost use Rattle.rcu_part_steps.specs.Stops.{StopsInTime};
 
+use crate::claim::claim_first;
 use crate::processor::Processor;
 use rcu_board::{asked, heard, need, turn_of};
 use rcu_jobs::{Job, Stop, Ticked};
-use rcu_part_steps::{look_at_number, run_claimed, try_claim};
+use rcu_part_steps::{look_at_number, run_claimed};
 
 impl<J: Job> Processor<J> {
     // The tick's look: the own list is advanced by the number seen and accelerated, and what it waits for is asked for.
@@ -67,22 +68,20 @@ impl<J: Job> Processor<J> {
             × ((lists_of self.new.state).advanced ≡ seen) }
     {
         let state = &mut self.state;
-        let Some(first) = state.lists.first() else {
-            return Some(Stop::Empty);
-        };
-        let number = first.number;
-        let Ok(()) = state.ran.find_room() else {
-            return Some(Stop::Memory);
-        };
-        if !try_claim(&state.board, &mut state.seat, state.cpu, number) {
-            return Some(Stop::Turn);
+        match claim_first(
+            &state.board,
+            &mut state.seat,
+            state.cpu,
+            &mut state.lists,
+            &mut state.ran,
+        ) {
+            Err(stop) => Some(stop),
+            Ok(callback) => {
+                let record = run_claimed(&state.board, &mut state.seat, callback, seen);
+                state.ran.add(record);
+                None
+            }
         }
-        let Some(callback) = state.lists.take() else {
-            unreachable!()
-        };
-        let record = run_claimed(&state.board, &mut state.seat, callback, seen);
-        state.ran.add(record);
-        None
     }
 
     // Runs the first callbacks of done, at most `blimit`.

@@ -1,74 +1,120 @@
-use Rattle.std.proofs.Common.{◌≡◌, ℕ, ◌∙◌, ap, sym, subst}
-use Rattle.rcu_board.specs.Views.{sight}
-use Rattle.rcu_board.specs.declared.view.View.{View}
-use Rattle.rcu_jobs.specs.declared.Stop.TheVariants.{Limit, Turn}
-use Rattle.rcu_part_lists.specs.ProcessorLists.{Holding}
-use Rattle.rcu_part_processor.specs.Begins.{IsNext}
-use Rattle.rcu_part_processor.specs.InPlace.{resting, running}
-use Rattle.rcu_part_processor.proofs.BeginTicks.{claims_kept, kept_none, lost_after}
-use Rattle.rcu_part_processor.proofs.Claiming.{same_begun_after}
-use Rattle.rcu_part_processor.proofs.TickRuns.{same_processor_again}
+use Rattle.std.proofs.Common.{◌≡◌, None, Some, ℕ, List, ◌≤◌, ◌++◌, ◌∙◌, ap, sym, subst, refl, arith}
+use Rattle.std.specs.Arc.{arc_value}
+use Rattle.std.specs.Mem.{FitsInMemory}
+use denote.Param.{param}
+use Rattle.std.specs.Prelude.{IsTrue}
+use Rattle.std.proofs.lemmas.List.Elements.{All-rest}
+use Rattle.rcu_board.specs.Roles.{MayClaim, cpu_of_role}
+use Rattle.rcu_board.specs.Seats.{NeverFalls, view}
+use Rattle.rcu_jobs.specs.Records.{Given}
+use Rattle.rcu_jobs.specs.declared.callback.Record.{Record}
+use Rattle.rcu_lists.specs.Labels.{Done, Labelled}
+use Rattle.rcu_numbers.specs.Numbers.{snap_of}
+use Rattle.rcu_part_lists.specs.Aims.{AreUpTo, is_up_to}
+use Rattle.rcu_part_lists.proofs.Sizes.{in_struct}
+use Rattle.rcu_part_lists.specs.ProcessorLists.{Holding, held_in, holding, put_by}
+use Rattle.rcu_part_lists.specs.declared.processor_lists.ProcessorLists.{ProcessorLists}
+use Rattle.rcu_part_order.specs.Recorded.{Recorded, ran_of}
+use Rattle.rcu_part_steps.specs.Begins.{claimed_as}
+use Rattle.rcu_part_steps.specs.Places.{AreKeyed}
+use Rattle.rcu_part_steps.specs.declared.begins.ClaimedCallback.{ClaimedCallback}
+use Rattle.rcu_part_processor.specs.InPlace.{resting}
+use Rattle.rcu_part_processor.specs.InPlaceLaw.{RunsAs}
+use Rattle.rcu_part_processor.specs.Lawful.{IsLawful, StaysLocal}
+use Rattle.rcu_part_processor.proofs.BeginTicks.{none_claimed}
+use Rattle.rcu_part_processor.proofs.Claiming.{begun_law, keyed_in, keyed_without}
+use Rattle.rcu_part_processor.proofs.InPlace.{some_is, sound_same_in_place}
+use Rattle.rcu_part_processor.specs.contracts.in_place.ProcessorInPlace as row
+use Rattle.rcu_part_processor.proofs.Keeping.{kept_untaken}
+use Rattle.rcu_part_processor.proofs.Passing.{since_kept}
+use Rattle.rcu_part_processor.proofs.Standing.{same_lane, stands}
 use Rattle.rcu_part_processor.proofs.in_place.ProcessorInPlace.claim_done.Goals as goal
 
-pub next-requires : goal.next-requires
-next-requires g c = (assumption, (assumption, (assumption, c.requires.rests)))
+pub claim_first-requires-after_bounds : goal.claim_first-requires-after_bounds
+claim_first-requires-after_bounds g c κs within = let s = c.args.self.now.state in let h : FitsInMemory (row.the_row (param 0 g.row.J) (param 1 g.row.J-Receipt)) = assumption in (
+  in_struct _ _ _ (in_struct _ _ _ h),
+  (stands (arc_value s.board) c.deref.result.now s.seat c.deref.ensures s.here, (subst MayClaim (sym s.role) tt, (ap cpu_of_role s.role, (s.rests c.requires.rests).rests))),
+)
 
-pub claim-requires-after_bounds : goal.claim-requires-after_bounds
-claim-requires-after_bounds g c κs within =
-    let d = c.next.ensures.keeps.does c.requires.rests in let is = sym c.in-Ok.ensures.ready in (
-      assumption,
-      (
-        d.0,
-        (
-          (ap (λ (v : View). sight v) d.2.view ∙ (c.requires.seen.0 ∙ is), ap (λ (h : Holding g.row.J.Denot). h.advanced) d.2.lists ∙ (c.requires.seen.1 ∙ is)),
-          ((λ r. subst (λ (s : ℕ). IsNext s c.in-Ok.claimed (resting c.next.new.self.state r)) is (c.in-Ok.ensures.next r)), (c.in-Ok.ensures.small, c.in-Ok.ensures.room)),
-        ),
-      ),
-    )
+pub invariant_of-state : goal.invariant_of-state
+invariant_of-state g c = let s = c.args.self.now.state in let e = c.claim_first.ensures in let t = c.in-Err.ensures.stops in record {
+  here = e.same.table ∙ s.here;
+  role = e.same.role ∙ s.role;
+  there = s.there;
+  bit = s.bit;
+  local = subst (λ (l : ProcessorLists g.row.J.Denot). StaysLocal s.offloadable (holding l)) (sym t.lists) s.local;
+  small = s.small;
+  since = since_kept _ _ _ t.keeps.word s.since;
+  rests = λ r. kept_untaken s.cpu s.accepted _ (view s.seat) (view c.claim_first.new.seat) (ran_of s.ran) (ran_of c.claim_first.new.ran) s.lists c.claim_first.new.lists t.keeps (e.same.later (arc_value s.board) s.here)
+      (ap (λ (x : Recorded g.row.J-Receipt.Denot). x.all) e.records) t.lists (s.rests r);
+  runs = λ k f. (let x : None ≡ Some k = sym c.requires.rests ∙ f in cc);
+}
 
-pub claim-requires-send-J : goal.claim-requires-send-J
-claim-requires-send-J g c κs within = c.type_bounds.send-J
-
-pub claim-requires-send-J-Receipt : goal.claim-requires-send-J-Receipt
-claim-requires-send-J-Receipt g c κs within = c.type_bounds.send-J-Receipt
+pub invariant_of-state-in-Ok : goal.invariant_of-state-in-Ok
+invariant_of-state-in-Ok g c =
+    let s = c.args.self.now.state in let e = c.claim_first.ensures in let t = c.in-Ok.ensures.takes in let x = c.in-Ok.callback in
+    let h = holding s.lists in let h' = holding c.claim_first.new.lists in let seen = c.args.seen in let u = view c.claim_first.new.seat in
+    let m = (arc_value s.board).processors in
+    let later : NeverFalls m (view s.seat) u = e.same.later (arc_value s.board) s.here in
+    let over : snap_of x.stamp ≤ seen = let a = t.graced in let b = c.requires.seen.1 in omega arith in
+    let less : (m : ℕ) → AreUpTo m h.own → AreUpTo m h'.own = λ m up. All-rest (λ (y : Labelled g.row.J.Denot). IsTrue (is_up_to m y.label)) (record { label = Done; callback = x }) h'.own h.own t.done up in
+    let law = begun_law s.cpu s.accepted m seen (view s.seat) u (ran_of c.claim_first.new.ran) h h' x (claimed_as seen x) refl t.won later c.requires.seen.0 (ap put_by t.others) t.places (ap (λ (o : Holding g.row.J.Denot). o.advanced) t.others) less over
+    (subst (λ (rs : List (Record g.row.J-Receipt.Denot)). IsLawful s.cpu s.accepted (view s.seat) rs h) (sym (ap (λ (y : Recorded g.row.J-Receipt.Denot). y.all) e.records)) (s.rests c.requires.rests)) in record {
+      here = e.same.table ∙ s.here;
+      role = e.same.role ∙ s.role;
+      there = s.there;
+      bit = s.bit;
+      local = λ off. let l = s.local off in (ap (λ (o : Holding g.row.J.Denot). o.mode) t.others ∙ l.0, ap put_by t.others ∙ l.1);
+      small = s.small;
+      since = since_kept _ _ _ t.won.word s.since;
+      rests = λ r. (let y : Some c.of.result ≡ None = r in cc);
+      runs = λ k f. subst (λ (y : ClaimedCallback). RunsAs s.cpu s.accepted y u c.claim_first.new.ran h') (sym c.of.ensures ∙ some_is c.of.result k f) (record { below = t.small; room = c.in-Ok.ensures.room; lawful = law });
+    }
 
 pub returns-in-Err : goal.returns-in-Err
-returns-in-Err g c = record {
+returns-in-Err g c = let s = c.args.self.now.state in let e = c.claim_first.ensures in let t = c.in-Err.ensures.stops in record {
   begins = record {
     runs = tt;
-    stops = λ r. let k = c.next.ensures.keeps.does r in
-        (k.0, k.1, record { tried = 0; ran = kept_none c.args.seen (resting c.args.self.now.state r) (resting c.next.new.self.state k.0) k.2; why = c.in-Err.ensures.stops.0 k.0 });
-    counts = c.in-Err.ensures.stops.1;
-    count = (c.next.ensures.keeps.does c.requires.rests).2.count;
+    stops = λ r. (
+      r,
+      record { part = record { board = refl; seat = e.same }; lane = same_lane s.lists c.claim_first.new.lists e.lane; cpu = refl; offloadable = refl; limit = refl; blimit = refl; kept = ap (λ (x : Recorded g.row.J-Receipt.Denot). x.kept) e.records },
+      none_claimed c.args.seen c.in-Err.stop (resting s r) _ t refl e.records ((e.same.later (arc_value s.board) s.here).turns s.cpu s.there),
+    );
+    counts = t.counts;
+    count = refl;
     keyed = λ sound. tt;
-    sound = c.next.ensures.keeps.sound;
+    sound = sound_same_in_place g.J.Job.key_of g.J.Job.gives s _ (ap (λ (l : ProcessorLists g.row.J.Denot). holding l) t.lists) (ap (λ (x : Recorded g.row.J-Receipt.Denot). x.all) e.records);
   };
 }
 
-pub returns-in-Some : goal.returns-in-Some
-returns-in-Some g c = record {
-  begins = record {
-    runs = λ r. let d = c.next.ensures.keeps.does r in let w = c.in-Some.ensures.claims.runs d.0 in
-        let p = resting c.args.self.now.state r in let q = resting c.next.new.self.state d.0 in let u = running c.claim.new.self.state w.0 w.1 in
-        (w.0, w.1, same_begun_after p q u d.1 w.2, claims_kept c.args.seen c.in-Ok.claimed.ready p q u c.in-Some.job c.in-Ok.ensures.ready d.1.cpu d.2 w.3);
-    stops = tt;
-    counts = tt;
-    count = c.claim.ensures.claims.count ∙ (c.next.ensures.keeps.does c.requires.rests).2.count;
-    keyed = λ sound. c.in-Some.ensures.claims.keyed (c.next.ensures.keeps.sound sound);
-    sound = λ sound. c.claim.ensures.claims.sound (c.next.ensures.keeps.sound sound);
-  };
-}
-
-pub returns-in-None : goal.returns-in-None
-returns-in-None g c = record {
-  begins = record {
-    runs = tt;
-    stops = λ r. let d = c.next.ensures.keeps.does r in let w = c.in-None.ensures.claims.lost d.0 in
-        let p = resting c.args.self.now.state r in let q = resting c.next.new.self.state d.0 in let u = resting c.claim.new.self.state w.0 in
-        (w.0, same_processor_again p q u d.1 w.1, lost_after c.args.seen c.in-Ok.claimed.ready Turn p q u c.in-Ok.ensures.ready d.1.cpu d.2 w.2.0 w.2.1);
-    counts = λ e. (let f : Turn ≡ Limit = e in cc);
-    count = c.claim.ensures.claims.count ∙ (c.next.ensures.keeps.does c.requires.rests).2.count;
-    keyed = λ sound. tt;
-    sound = λ sound. c.claim.ensures.claims.sound (c.next.ensures.keeps.sound sound);
-  };
-}
+pub returns-in-Ok : goal.returns-in-Ok
+returns-in-Ok g c = let s = c.args.self.now.state in let e = c.claim_first.ensures in let t = c.in-Ok.ensures.takes in let x = c.in-Ok.callback in
+    let h = holding s.lists in let h' = holding c.claim_first.new.lists in record {
+      begins = record {
+        runs = λ r. (
+          c.of.result,
+          refl,
+          record { part = record { board = refl; seat = e.same }; lane = same_lane s.lists c.claim_first.new.lists e.lane; cpu = refl; offloadable = refl; limit = refl; blimit = refl; kept = ap (λ (y : Recorded g.row.J-Receipt.Denot). y.kept) e.records },
+          record {
+            first = x;
+            job_is = refl;
+            done = t.done;
+            others = t.others;
+            records = e.records;
+            count = refl;
+            claimed = c.of.ensures;
+            over = let a = t.graced in let b = c.requires.seen.1 in omega arith;
+            won = t.won;
+            steps = t.steps;
+          },
+        );
+        stops = tt;
+        counts = tt;
+        count = refl;
+        keyed = λ sound k f. keyed_in g.J.Job.key_of (put_by h) x (held_in h') (subst (AreKeyed g.J.Job.key_of) (ap (λ l. put_by h ++ l) t.places) sound.keyed) ∙ ap (λ (y : ClaimedCallback). y.key) (sym c.of.ensures ∙ some_is c.of.result k f);
+        sound = λ sound. record {
+          keyed = subst (AreKeyed g.J.Job.key_of) (sym (ap (λ l. l ++ held_in h') (ap put_by t.others))) (keyed_without g.J.Job.key_of (put_by h) x (held_in h') (subst (AreKeyed g.J.Job.key_of) (ap (λ l. put_by h ++ l) t.places) sound.keyed));
+          given = subst (λ (rs : List (Record g.row.J-Receipt.Denot)). Given g.J.Job.gives rs) (sym (ap (λ (y : Recorded g.row.J-Receipt.Denot). y.all) e.records)) sound.given;
+        };
+      };
+    }

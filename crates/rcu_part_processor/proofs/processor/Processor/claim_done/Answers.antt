@@ -1,86 +1,119 @@
-use Rattle.std.proofs.Common.{◌≡◌, ◌≢◌, ℕ, ◌∙◌, ap, sym, subst}
-use Rattle.rcu_board.specs.Views.{sight}
-use Rattle.rcu_board.specs.declared.view.View.{View}
-use Rattle.rcu_jobs.specs.declared.Stop.TheVariants.{Limit}
-use Rattle.rcu_part_lists.specs.ProcessorLists.{Holding}
-use Rattle.rcu_part_steps.proofs.Beginning.{runs_map, stops_both, stops_map}
+use Rattle.std.proofs.Common.{ℕ, List, ◌≤◌, ◌++◌, ◌∙◌, ap, sym, subst, refl, arith}
+use Rattle.std.specs.Arc.{arc_value}
+use Rattle.std.specs.Mem.{FitsInMemory}
+use denote.Param.{param}
+use Rattle.std.specs.Prelude.{IsTrue}
+use Rattle.std.proofs.lemmas.List.Elements.{All-rest}
+use Rattle.rcu_board.specs.Roles.{MayClaim, cpu_of_role}
+use Rattle.rcu_board.specs.Seats.{NeverFalls, view}
+use Rattle.rcu_jobs.specs.Records.{Given}
+use Rattle.rcu_jobs.specs.declared.callback.Record.{Record}
+use Rattle.rcu_lists.specs.Labels.{Done, Labelled}
+use Rattle.rcu_numbers.specs.Numbers.{snap_of}
+use Rattle.rcu_part_lists.specs.Aims.{AreUpTo, is_up_to}
+use Rattle.rcu_part_lists.proofs.Sizes.{in_struct}
+use Rattle.rcu_part_lists.specs.ProcessorLists.{Holding, held_in, holding, put_by}
+use Rattle.rcu_part_lists.specs.declared.processor_lists.ProcessorLists.{ProcessorLists}
+use Rattle.rcu_part_order.specs.Recorded.{Recorded, ran_of}
+use Rattle.rcu_part_steps.specs.Places.{AreKeyed}
 use Rattle.rcu_part_steps.specs.declared.begins.ClaimedCallback.{ClaimedCallback}
-use Rattle.rcu_part_processor.specs.Begins.{ClaimsFirst, ClaimsNone, IsNext}
-use Rattle.rcu_part_processor.specs.Processors.{SameProcessor}
-use Rattle.rcu_part_processor.specs.Running.{SameBegun}
-use Rattle.rcu_part_processor.specs.Ticks.{RanDone, StopsTick}
-use Rattle.rcu_part_processor.proofs.BeginTicks.{claims_kept, kept_none, lost_after}
-use Rattle.rcu_part_processor.proofs.Claiming.{same_begun_after}
-use Rattle.rcu_part_processor.proofs.TickRuns.{same_processor_again}
+use Rattle.rcu_part_processor.specs.Lawful.{IsLawful, StaysLocal}
+use Rattle.rcu_part_processor.specs.contracts.processor.Processor as row
+use Rattle.rcu_part_processor.proofs.BeginTicks.{none_claimed}
+use Rattle.rcu_part_processor.proofs.Claiming.{begun_law, keyed_in, keyed_without}
+use Rattle.rcu_part_processor.proofs.Keeping.{kept_untaken}
+use Rattle.rcu_part_processor.proofs.Passing.{since_kept}
+use Rattle.rcu_part_processor.proofs.Standing.{same_lane, stands}
+use Rattle.rcu_part_processor.proofs.Taking.{sound_same}
 use Rattle.rcu_part_processor.proofs.processor.Processor.claim_done.Goals as goal
 
+pub claim_first-requires-after_bounds : goal.claim_first-requires-after_bounds
+claim_first-requires-after_bounds g c κs within = let s = c.args.self.state in let h : FitsInMemory (row.the_row (param 0 g.row.J) (param 1 g.row.J-Receipt)) = assumption in (
+  in_struct _ _ _ (in_struct _ _ _ h),
+  (stands (arc_value s.board) c.deref.result.now s.seat c.deref.ensures s.here, (subst MayClaim (sym s.role) tt, (ap cpu_of_role s.role, s.lawful.rests))),
+)
+
+pub invariant_of-state : goal.invariant_of-state
+invariant_of-state g c = let s = c.args.self.state in let e = c.claim_first.ensures in let t = c.in-Err.ensures.stops in record {
+  here = e.same.table ∙ s.here;
+  role = e.same.role ∙ s.role;
+  there = s.there;
+  bit = s.bit;
+  local = subst (λ (l : ProcessorLists g.row.J.Denot). StaysLocal s.offloadable (holding l)) (sym t.lists) s.local;
+  small = s.small;
+  since = since_kept _ _ _ t.keeps.word s.since;
+  lawful = kept_untaken s.cpu s.accepted _ (view s.seat) (view c.claim_first.new.seat) (ran_of s.ran) (ran_of c.claim_first.new.ran) s.lists c.claim_first.new.lists t.keeps (e.same.later (arc_value s.board) s.here)
+      (ap (λ (r : Recorded g.row.J-Receipt.Denot). r.all) e.records) t.lists s.lawful;
+}
+
+pub returns-in-Err-clause-same : goal.returns-in-Err-clause-same
+returns-in-Err-clause-same g c = let s = c.args.self.state in let e = c.claim_first.ensures in
+    (tt, record { part = record { board = refl; seat = e.same }; lane = same_lane s.lists c.claim_first.new.lists e.lane; cpu = refl; offloadable = refl; limit = refl; blimit = refl; kept = ap (λ (r : Recorded g.row.J-Receipt.Denot). r.kept) e.records })
+
 pub returns-in-Err-clause-stops : goal.returns-in-Err-clause-stops
-returns-in-Err-clause-stops g c = record { tried = 0; ran = kept_none c.args.seen c.args.self.state c.next.new.self.state c.next.ensures.keeps.does; why = c.in-Err.ensures.stops.0 }
+returns-in-Err-clause-stops g c = let s = c.args.self.state in let e = c.claim_first.ensures in none_claimed c.args.seen c.in-Err.stop s _ c.in-Err.ensures.stops refl e.records ((e.same.later (arc_value s.board) s.here).turns s.cpu s.there)
 
 pub returns-in-Err-clause-counts : goal.returns-in-Err-clause-counts
-returns-in-Err-clause-counts g c = c.in-Err.ensures.stops.1
+returns-in-Err-clause-counts g c = c.in-Err.ensures.stops.counts
 
 pub returns-in-Err-clause-count : goal.returns-in-Err-clause-count
-returns-in-Err-clause-count g c = c.next.ensures.keeps.does.count
+returns-in-Err-clause-count g c = refl
 
 pub returns-in-Err-clause-keyed : goal.returns-in-Err-clause-keyed
 returns-in-Err-clause-keyed g c = λ sound. tt
 
 pub returns-in-Err-clause-sound : goal.returns-in-Err-clause-sound
-returns-in-Err-clause-sound g c = λ sound. (tt, c.next.ensures.keeps.sound sound)
+returns-in-Err-clause-sound g c = λ sound. let s = c.args.self.state in
+    (tt, sound_same g.J.Job.key_of g.J.Job.gives s _ (ap (λ (l : ProcessorLists g.row.J.Denot). holding l) c.in-Err.ensures.stops.lists) c.claim_first.ensures.records sound)
 
-pub next-requires : goal.next-requires
-next-requires g c = (assumption, (assumption, (assumption, c.requires.seen)))
-
-pub claim-requires-after_bounds : goal.claim-requires-after_bounds
-claim-requires-after_bounds g c κs within =
-    let k = c.next.ensures.keeps.does in let n = c.in-Ok.ensures.next in let is = sym (ap (λ (x : ClaimedCallback). x.ready) n.claimed) in (
-      assumption,
-      (
-        assumption,
-        (
-          (ap (λ (v : View). sight v) k.view ∙ (c.requires.seen.0 ∙ is), ap (λ (h : Holding g.row.J.Denot). h.advanced) k.lists ∙ (c.requires.seen.1 ∙ is)),
-          (subst (λ (s : ℕ). IsNext s c.in-Ok.claimed c.next.new.self.state) is n, (c.in-Ok.ensures.small, c.in-Ok.ensures.room)),
-        ),
-      ),
-    )
-
-pub returns-in-Ok-clause-runs : goal.returns-in-Ok-clause-runs
-returns-in-Ok-clause-runs g c = let p = c.args.self.state in let q = c.next.new.self.state in let ready = c.in-Ok.claimed.ready in
-    let is : ready ≡ c.args.seen = ap (λ (x : ClaimedCallback). x.ready) c.in-Ok.ensures.next.claimed in
-    runs_map (λ running job. ClaimsFirst ready q running.state job) (λ running job. ClaimsFirst c.args.seen p running.state job) c.claim.result
-    (λ running job claims. claims_kept c.args.seen ready p q running.state job is c.next.ensures.keeps.same.cpu c.next.ensures.keeps.does claims) c.claim.ensures.runs
-
-pub returns-in-Ok-clause-stops : goal.returns-in-Ok-clause-stops
-returns-in-Ok-clause-stops g c = let p = c.args.self.state in let q = c.next.new.self.state in let ready = c.in-Ok.claimed.ready in
-    let is : ready ≡ c.args.seen = ap (λ (x : ClaimedCallback). x.ready) c.in-Ok.ensures.next.claimed in
-    stops_both (λ processor stop. RanDone 0 1 ready q processor.state) (λ processor stop. StopsTick stop 0 1 processor.state) (λ processor stop. ClaimsNone c.args.seen stop p processor.state) c.claim.result
-    (λ processor stop ran stops. lost_after c.args.seen ready stop p q processor.state is c.next.ensures.keeps.same.cpu c.next.ensures.keeps.does ran stops) c.claim.ensures.lost (stops_map (λ processor stop. StopsTick stop 0 1 processor.state × (stop ≢ Limit)) (λ processor stop. StopsTick stop 0 1 processor.state) c.claim.result (λ _ _ x. x.0) c.claim.ensures.stops)
-
-pub returns-in-Ok-clause-count : goal.returns-in-Ok-clause-count
-returns-in-Ok-clause-count g c = let p = c.args.self.state in let q = c.next.new.self.state in
-    stops_map (λ processor _. processor.state.accepted ≡ q.accepted) (λ processor _. processor.state.accepted ≡ p.accepted) c.claim.result (λ processor _ same. same ∙ c.next.ensures.keeps.does.count) c.claim.ensures.count
-
-pub returns-in-Ok-clause-keyed : goal.returns-in-Ok-clause-keyed
-returns-in-Ok-clause-keyed g c = λ sound. c.claim.ensures.keyed (c.next.ensures.keeps.sound sound)
-
-pub returns-in-Ok-clause-sound : goal.returns-in-Ok-clause-sound
-returns-in-Ok-clause-sound g c = λ sound. c.claim.ensures.sound (c.next.ensures.keeps.sound sound)
-
-pub claim-requires-send-J : goal.claim-requires-send-J
-claim-requires-send-J g c κs within = c.type_bounds.send-J
-
-pub claim-requires-send-J-Receipt : goal.claim-requires-send-J-Receipt
-claim-requires-send-J-Receipt g c κs within = c.type_bounds.send-J-Receipt
-
-pub returns-in-Ok-clause-counts : goal.returns-in-Ok-clause-counts
-returns-in-Ok-clause-counts g c = stops_map (λ processor stop. StopsTick stop 0 1 processor.state × (stop ≢ Limit)) (λ _ stop. stop ≢ Limit) c.claim.result (λ _ _ x. x.1) c.claim.ensures.stops
-
-pub returns-in-Err-clause-same : goal.returns-in-Err-clause-same
-returns-in-Err-clause-same g c = (tt, c.next.ensures.keeps.same)
+pub invariant_of-state-in-Ok : goal.invariant_of-state-in-Ok
+invariant_of-state-in-Ok g c =
+    let s = c.args.self.state in let e = c.claim_first.ensures in let t = c.in-Ok.ensures.takes in let x = c.in-Ok.callback in
+    let h = holding s.lists in let h' = holding c.claim_first.new.lists in let seen = c.args.seen in let u = view c.claim_first.new.seat in
+    let m = (arc_value s.board).processors in
+    let later : NeverFalls m (view s.seat) u = e.same.later (arc_value s.board) s.here in
+    let over : snap_of x.stamp ≤ seen = let a = t.graced in let b = c.requires.seen.1 in omega arith in
+    let less : (m : ℕ) → AreUpTo m h.own → AreUpTo m h'.own = λ m up. All-rest (λ (y : Labelled g.row.J.Denot). IsTrue (is_up_to m y.label)) (record { label = Done; callback = x }) h'.own h.own t.done up in record {
+      here = e.same.table ∙ s.here;
+      role = e.same.role ∙ s.role;
+      there = s.there;
+      bit = s.bit;
+      local = λ off. let l = s.local off in (ap (λ (o : Holding g.row.J.Denot). o.mode) t.others ∙ l.0, ap put_by t.others ∙ l.1);
+      small = s.small;
+      below = rw c.of-claimed.ensures t.small;
+      room = c.in-Ok.ensures.room;
+      since = since_kept _ _ _ t.won.word s.since;
+      lawful = begun_law s.cpu s.accepted m seen (view s.seat) u (ran_of c.claim_first.new.ran) h h' x c.of-claimed.result c.of-claimed.ensures t.won later c.requires.seen.0 (ap put_by t.others) t.places (ap (λ (o : Holding g.row.J.Denot). o.advanced) t.others) less over
+          (subst (λ (rs : List (Record g.row.J-Receipt.Denot)). IsLawful s.cpu s.accepted (view s.seat) rs h) (sym (ap (λ (y : Recorded g.row.J-Receipt.Denot). y.all) e.records)) s.lawful);
+    }
 
 pub returns-in-Ok-clause-same : goal.returns-in-Ok-clause-same
-returns-in-Ok-clause-same g c = let p = c.args.self.state in let q = c.next.new.self.state in (
-  runs_map (λ running _. SameBegun q running.state) (λ running _. SameBegun p running.state) c.claim.result (λ running _ same. same_begun_after p q running.state c.next.ensures.keeps.same same) c.claim.ensures.same.0,
-  stops_map (λ processor _. SameProcessor q processor.state) (λ processor _. SameProcessor p processor.state) c.claim.result (λ processor _ same. same_processor_again p q processor.state c.next.ensures.keeps.same same) c.claim.ensures.same.1,
+returns-in-Ok-clause-same g c = let s = c.args.self.state in let e = c.claim_first.ensures in
+    (record { part = record { board = refl; seat = e.same }; lane = same_lane s.lists c.claim_first.new.lists e.lane; cpu = refl; offloadable = refl; limit = refl; blimit = refl; kept = ap (λ (r : Recorded g.row.J-Receipt.Denot). r.kept) e.records }, tt)
+
+pub returns-in-Ok-clause-runs : goal.returns-in-Ok-clause-runs
+returns-in-Ok-clause-runs g c = let t = c.in-Ok.ensures.takes in record {
+  first = c.in-Ok.callback;
+  job_is = refl;
+  done = t.done;
+  others = t.others;
+  records = c.claim_first.ensures.records;
+  count = refl;
+  claimed = c.of-claimed.ensures;
+  over = let a = t.graced in let b = c.requires.seen.1 in omega arith;
+  won = t.won;
+  steps = t.steps;
+}
+
+pub returns-in-Ok-clause-keyed : goal.returns-in-Ok-clause-keyed
+returns-in-Ok-clause-keyed g c = λ sound. let h = holding c.args.self.state.lists in let h' = holding c.claim_first.new.lists in
+    keyed_in g.J.Job.key_of (put_by h) c.in-Ok.callback (held_in h') (subst (AreKeyed g.J.Job.key_of) (ap (λ l. put_by h ++ l) c.in-Ok.ensures.takes.places) sound.keyed) ∙ ap (λ (y : ClaimedCallback). y.key) (sym c.of-claimed.ensures)
+
+pub returns-in-Ok-clause-sound : goal.returns-in-Ok-clause-sound
+returns-in-Ok-clause-sound g c = λ sound. let t = c.in-Ok.ensures.takes in let h = holding c.args.self.state.lists in let h' = holding c.claim_first.new.lists in (
+  record {
+    keyed = subst (AreKeyed g.J.Job.key_of) (sym (ap (λ l. l ++ held_in h') (ap put_by t.others))) (keyed_without g.J.Job.key_of (put_by h) c.in-Ok.callback (held_in h') (subst (AreKeyed g.J.Job.key_of) (ap (λ l. put_by h ++ l) t.places) sound.keyed));
+    given = subst (λ (rs : List (Record g.row.J-Receipt.Denot)). Given g.J.Job.gives rs) (sym (ap (λ (y : Recorded g.row.J-Receipt.Denot). y.all) c.claim_first.ensures.records)) sound.given;
+  },
+  tt,
 )
