@@ -4,6 +4,8 @@
 #![tactic(auto)]
 
 #[cfg(test)]
+mod expect;
+#[cfg(test)]
 mod tests_plan;
 #[cfg(test)]
 mod tests_replay;

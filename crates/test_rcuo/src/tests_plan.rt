@@ -1,8 +1,10 @@
 //! Words of the command line, and a reader that fails.
 
+use crate::expect::expect_same;
 use rcu_setup::SetupFault;
 use rcuo_plan::{Refusal, read_plan};
 use rcuo_script::Fault;
+use std::alloc::{AllocError, Global};
 use std::io;
 use std::io::{Cursor, Read};
 use std::test::Fail;
@@ -24,45 +26,47 @@ impl Read for Broken {
     }
 }
 
+// Why there is no plan, by one word.
+fn refusal<R: Read>(
+    alloc: Global,
+    word: &str,
+    reader: &mut R,
+) -> Result<Option<Refusal>, AllocError> {
+    let words = [String::from_str(alloc, word)?];
+    Ok(read_plan(alloc, &words, reader).err())
+}
+
 #[test]
 fn fails_at_each_read(rt: HostRuntime) -> Result<(), Fail> {
-    let alloc = rt.alloc();
     for left in 0..3u64 {
-        let words = vec![in alloc; String::from_str(alloc, "replay")?]?;
-        let mut reader = Broken { left };
-        let refused = read_plan(alloc, words.as_slice(), &mut reader);
-        assert!(rt; matches!(refused, Err(Refusal::Fault(Fault::CannotRead))));
+        let refused = refusal(rt.alloc(), "replay", &mut Broken { left })?;
+        let is_read = matches!(refused, Some(Refusal::Fault(Fault::CannotRead)));
+        expect_same(&rt, "of a failed read", is_read, true);
     }
     Ok(())
 }
 
 #[test]
 fn other_words_are_refused_before_reading(rt: HostRuntime) -> Result<(), Fail> {
-    let alloc = rt.alloc();
     for word in ["thread", "replays", "--help", ""] {
-        let words = vec![in alloc; String::from_str(alloc, word)?]?;
-        let mut reader = Broken { left: 0 };
-        let refused = read_plan(alloc, words.as_slice(), &mut reader);
-        assert!(rt; matches!(refused, Err(Refusal::Words(_))), "at {word:?}");
+        let refused = refusal(rt.alloc(), word, &mut Broken { left: 0 })?;
+        expect_same(&rt, word, matches!(refused, Some(Refusal::Words(_))), true);
     }
     Ok(())
 }
 
 #[test]
 fn a_text_that_is_too_long_or_no_text(rt: HostRuntime) -> Result<(), Fail> {
-    let alloc = rt.alloc();
-    let words = vec![in alloc; String::from_str(alloc, "replay")?]?;
     for bytes in [
         b"processors = 1 # \xff".as_slice(),
         b"processors".as_slice(),
     ] {
-        let refused = read_plan(alloc, words.as_slice(), &mut Cursor::new(bytes));
-        assert!(rt;
-            matches!(
-                refused,
-                Err(Refusal::Fault(Fault::Setup(SetupFault::NotToml)))
-            )
+        let refused = refusal(rt.alloc(), "replay", &mut Cursor::new(bytes))?;
+        let is_no_toml = matches!(
+            refused,
+            Some(Refusal::Fault(Fault::Setup(SetupFault::NotToml)))
         );
+        expect_same(&rt, "no document", is_no_toml, true);
     }
     Ok(())
 }

@@ -1,10 +1,12 @@
 //! A writer that fails, at each of its calls.
 
+use crate::expect::expect_same;
 use rcu_jobs::BoxedJob;
 use rcu_numbers::Shape;
 use rcu_setup::{Command, Setup};
 use rcuo_replay::replay;
 use rcuo_script::Fault;
+use std::alloc::Global;
 use std::io;
 use std::io::Write;
 use std::test::Fail;
@@ -34,35 +36,39 @@ impl Write for Broken {
     }
 }
 
+// Whether a replay in which each command writes ends as it should, where its writer fails once it has taken so many steps: at that
+// step, and nothing more is written.
+fn ends_as_it_should(alloc: Global, left: u64) -> Result<bool, Fail> {
+    let shape = Shape::new(1, 1, 1, 10, 10000, 1000000).ok_or("a shape")?;
+    let script = vec![in alloc;
+        Command::Driver,
+        Command::Show,
+        Command::Group { group: 0 },
+        Command::Hand { cpu: 0 },
+        Command::Barrier,
+        Command::Poll,
+        Command::Shut,
+    ]?;
+    let setup = Setup {
+        shape,
+        calls: 0,
+        routes: Vec::new(alloc),
+        script,
+    };
+    let jobs = Vec::<BoxedJob<65536>>::new(alloc);
+    let mut writer = Broken { left, taken: 0 };
+    match replay(alloc, &setup, jobs, &mut writer) {
+        Ok(()) => Ok(writer.left > 0),
+        Err(Fault::CannotWrite) => Ok(writer.taken == left),
+        Err(_) => Ok(false),
+    }
+}
+
 #[test]
 fn fails_at_each_write(rt: HostRuntime) -> Result<(), Fail> {
-    let alloc = rt.alloc();
     for left in 0..80u64 {
-        let script = vec![in alloc;
-            Command::Driver,
-            Command::Show,
-            Command::Group { group: 0 },
-            Command::Hand { cpu: 0 },
-            Command::Barrier,
-            Command::Poll,
-            Command::Shut,
-        ]?;
-        let shape = Shape::new(1, 1, 1, 10, 10000, 1000000).ok_or("a shape")?;
-        let setup = Setup {
-            shape,
-            calls: 0,
-            routes: Vec::new(alloc),
-            script,
-        };
-        let jobs = Vec::<BoxedJob<65536>>::new(alloc);
-        let mut writer = Broken { left, taken: 0 };
-        match replay(alloc, &setup, jobs, &mut writer) {
-            Ok(()) => assert!(rt; writer.left > 0),
-            Err(fault) => {
-                assert!(rt; matches!(fault, Fault::CannotWrite));
-                assert_eq!(rt; writer.taken, left, "nothing more is written");
-            }
-        }
+        let found = (left, ends_as_it_should(rt.alloc(), left)?);
+        expect_same(&rt, "writes", found, (left, true));
     }
     Ok(())
 }

@@ -1,7 +1,9 @@
 //! Setups, script lines and CPU lists, with their faults.
 
-use rcu_setup::{Command, SetupFault, cpu_list, read_setup, script_line};
+use crate::expect::{expect_same, expect_text};
+use rcu_setup::{Command, Setup, SetupFault, cpu_list, read_setup, script_line};
 use std::alloc::Global;
+use std::process::Abort;
 use std::test::Fail;
 
 fn fault_of(alloc: Global, text: &str) -> Option<String> {
@@ -104,45 +106,72 @@ const REFUSED: [(&str, &str); 32] = [
 fn refused_setups(rt: HostRuntime) -> Result<(), Fail> {
     for (text, want) in REFUSED {
         let got = fault_of(rt.alloc(), text).ok_or("a fault")?;
-        assert_eq!(rt; got.as_str(), want, "{text}");
+        expect_text(&rt, text, got.as_str(), want);
     }
+    Ok(())
+}
+
+// The numbers of a setup: those of its shape, and its calls.
+fn numbers_of(setup: &Setup) -> [u64; 7] {
+    let shape = &setup.shape;
+    [
+        shape.processors,
+        u64::from(shape.offloadable),
+        shape.stride,
+        shape.blimit,
+        shape.qhimark,
+        shape.limit,
+        setup.calls,
+    ]
+}
+
+// How many routes and commands a setup has.
+fn lengths_of(setup: &Setup) -> (usize, usize) {
+    (setup.routes.len(), setup.script.len())
+}
+
+// What is left out of a setup has its default.
+fn expect_least(rt: &impl Abort, alloc: Global) -> Result<(), Fail> {
+    let Ok(least) = read_setup(alloc, "processors = 17") else {
+        return Err(Fail::from("a setup"));
+    };
+    expect_same(
+        rt,
+        "numbers",
+        numbers_of(&least),
+        [17, 0, 4, 10, 10000, 1000000, 0],
+    );
+    expect_same(rt, "lengths", lengths_of(&least), (0, 0));
+    Ok(())
+}
+
+// The routes of a setup are these.
+fn expect_routes(rt: &impl Abort, routes: &[(String, u32)], wants: &[(&str, u32)]) {
+    for ((name, hop), (wanted, wanted_hop)) in routes.iter().zip(wants.iter()) {
+        expect_text(rt, "a name", name.as_str(), wanted);
+        expect_same(rt, "a hop", *hop, *wanted_hop);
+    }
+}
+
+// Each key is read.
+fn expect_whole(rt: &impl Abort, alloc: Global) -> Result<(), Fail> {
+    let text =
+        "processors = 3\nnocbs = \"0,2-2\"\nstride = 2\nblimit = 5\nqhimark = 6\nlimit = 7\ncalls = 7\n\
+        routes = [\"a=1\", \"b2=999999999\", \"a=007\"]\nscript = [\"call 0 0 b 2\", \"show\"]";
+    let Ok(whole) = read_setup(alloc, text) else {
+        return Err(Fail::from("a setup"));
+    };
+    expect_same(rt, "numbers", numbers_of(&whole), [3, 5, 2, 5, 6, 7, 7]);
+    expect_same(rt, "lengths", lengths_of(&whole), (3, 2));
+    let wants = [("a", 1), ("b2", 999999999), ("a", 7)];
+    expect_routes(rt, whole.routes.as_slice(), &wants);
     Ok(())
 }
 
 #[test]
 fn whole_setup(rt: HostRuntime) -> Result<(), Fail> {
-    let alloc = rt.alloc();
-    let least = read_setup(alloc, "processors = 17").expect(&rt, "a setup");
-    assert_eq!(rt;
-        (least.shape.offloadable, least.shape.stride, least.calls),
-        (0, 4, 0)
-    );
-    assert_eq!(rt;
-        (least.shape.blimit, least.shape.qhimark, least.shape.limit),
-        (10, 10000, 1000000)
-    );
-    assert!(rt; least.routes.is_empty() && least.script.is_empty());
-
-    let text =
-        "processors = 3\nnocbs = \"0,2-2\"\nstride = 2\nblimit = 5\nqhimark = 6\nlimit = 7\ncalls = 7\n\
-        routes = [\"a=1\", \"b2=999999999\", \"a=007\"]\nscript = [\"call 0 0 b 2\", \"show\"]";
-    let whole = read_setup(alloc, text).expect(&rt, "a setup");
-    let shape = whole.shape;
-    assert_eq!(rt;
-        (shape.processors, shape.offloadable, shape.stride),
-        (3, 5, 2)
-    );
-    assert_eq!(rt;
-        (shape.blimit, shape.qhimark, shape.limit, whole.calls),
-        (5, 6, 7, 7)
-    );
-    assert_eq!(rt; whole.script.len(), 2);
-    let wants = [("a", 1), ("b2", 999999999), ("a", 7)];
-    for ((name, hop), want) in whole.routes.iter().zip(wants.iter()) {
-        assert_eq!(rt; (name.as_str(), *hop), *want);
-    }
-    assert_eq!(rt; whole.routes.len(), 3);
-    Ok(())
+    expect_least(&rt, rt.alloc())?;
+    expect_whole(&rt, rt.alloc())
 }
 
 #[test]
@@ -155,7 +184,7 @@ fn cpu_lists(rt: HostRuntime) {
         ("0003,1-2,2-3", 4, 14),
     ];
     for (text, n, want) in rows {
-        assert_eq!(rt; cpu_list(text, n).ok(), Some(want), "{text}");
+        expect_same(&rt, text, cpu_list(text, n).ok(), Some(want));
     }
 }
 
@@ -216,7 +245,8 @@ fn script_lines(rt: HostRuntime) -> Result<(), Fail> {
         let Ok(command) = script_line(alloc, line) else {
             return Err(Fail::from("a command"));
         };
-        assert_eq!(rt; shown(alloc, &command).ok_or("memory")?.as_str(), line);
+        let text = shown(alloc, &command).ok_or("memory")?;
+        expect_text(&rt, "a line", text.as_str(), line);
     }
     Ok(())
 }
@@ -250,9 +280,7 @@ fn bad_script_lines(rt: HostRuntime) {
         "show 0",
     ];
     for line in bad {
-        assert!(rt;
-            matches!(script_line(alloc, line), Err(SetupFault::BadLine(1))),
-            "{line}"
-        );
+        let is_bad = matches!(script_line(alloc, line), Err(SetupFault::BadLine(1)));
+        expect_same(&rt, line, is_bad, true);
     }
 }

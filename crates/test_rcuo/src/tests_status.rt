@@ -1,7 +1,10 @@
 //! The lines of lists and totals.
 
+use crate::expect::expect_text;
 use rcu_jobs::{BoxedJob, Closed, Counts, Lists, Mode, Record};
 use rcu_status::{counts, line, totals};
+use std::alloc::Global;
+use std::process::Abort;
 use std::test::Fail;
 
 fn record(receipt: u64) -> Record<u64> {
@@ -55,40 +58,73 @@ fn lines(rt: HostRuntime) -> Result<(), Fail> {
         ),
     ];
     for (p, lists, want) in rows {
-        assert_eq!(rt; line(alloc, p, &lists)?.as_str(), want);
+        let text = line(alloc, p, &lists)?;
+        expect_text(&rt, "a line", text.as_str(), want);
     }
     Ok(())
 }
 
-#[test]
-fn ends(rt: HostRuntime) -> Result<(), Fail> {
-    let alloc = rt.alloc();
-    let mut closed = Closed::<BoxedJob<0>> {
-        ran: Vec::new(alloc),
-        back: Vec::new(alloc),
-        reports: Vec::new(alloc),
-    };
-    assert_eq!(rt; totals(alloc, &closed, false)?.as_str(), "");
-    // Two receipts whose sum is above the greatest `u64`, and a job that was handed back.
-    let mut ran = Vec::new(alloc);
-    ran.push(record(18446744073709551615))?;
-    ran.push(record(2))?;
-    closed.ran.push(ran)?;
-    closed.ran.push(Vec::new(alloc))?;
-    let mut back = Vec::new(alloc);
-    let call: Box<dyn FnOnce() -> u64 + Send> = Box::new(alloc, || 7)?;
-    back.push(BoxedJob::<0>::new(5, call))?;
+// What is left of two processors: two receipts whose sum is above the greatest `u64`, and a job that was handed back.
+fn push_ends(
+    alloc: Global,
+    closed: &mut Closed<BoxedJob<0>>,
+    job: BoxedJob<0>,
+) -> Result<(), Fail> {
+    let back = vec![in alloc; job]?;
     closed.back.push(Vec::new(alloc))?;
     closed.back.push(back)?;
-    closed.reports.push(1)?;
-    closed.reports.push(0)?;
+    let records = [record(18446744073709551615), record(2)];
+    closed.ran.push(Vec::from_array(alloc, records)?)?;
+    closed.ran.push(Vec::new(alloc))?;
+    closed.reports.extend_from_slice(&[1, 0])?;
+    Ok(())
+}
+
+// The totals of what is left, with the reports or without.
+fn expect_totals(
+    rt: &impl Abort,
+    alloc: Global,
+    closed: &Closed<BoxedJob<0>>,
+    reports: bool,
+    wanted: &str,
+) -> Result<(), Fail> {
+    let text = totals(alloc, closed, reports)?;
+    expect_text(rt, "totals", text.as_str(), wanted);
+    Ok(())
+}
+
+// The totals of nothing, and of two processors, of which the second handed a job back.
+fn expect_ends(
+    rt: &impl Abort,
+    alloc: Global,
+    closed: &mut Closed<BoxedJob<0>>,
+    job: BoxedJob<0>,
+) -> Result<(), Fail> {
+    expect_totals(rt, alloc, closed, false, "")?;
+    push_ends(alloc, closed, job)?;
     let lines = "cpu 0 ran 2 back 0 routes 18446744073709551617\ncpu 1 ran 0 back 1 routes 0\n";
-    assert_eq!(rt; totals(alloc, &closed, false)?.as_str(), lines);
-    let with_reports = format!(in alloc; "{lines}reports 1,0\n")?;
-    assert_eq!(rt;
-        totals(alloc, &closed, true)?.as_str(),
-        with_reports.as_str()
-    );
+    expect_totals(rt, alloc, closed, false, lines)?;
+    let with_reports = "cpu 0 ran 2 back 0 routes 18446744073709551617\n\
+        cpu 1 ran 0 back 1 routes 0\nreports 1,0\n";
+    expect_totals(rt, alloc, closed, true, with_reports)
+}
+
+#[test]
+fn ends(rt: HostRuntime) -> Result<(), Fail> {
+    let call: Box<dyn FnOnce() -> u64 + Send> = Box::new(rt.alloc(), || 7)?;
+    let job = BoxedJob::<0>::new(5, call);
+    let mut closed = Closed::<BoxedJob<0>> {
+        ran: Vec::new(rt.alloc()),
+        back: Vec::new(rt.alloc()),
+        reports: Vec::new(rt.alloc()),
+    };
+    expect_ends(&rt, rt.alloc(), &mut closed, job)
+}
+
+// The counts of `shut` as they are shown.
+fn expect_counts(rt: &impl Abort, alloc: Global, taken: &Counts, wanted: &str) -> Result<(), Fail> {
+    let text = counts(alloc, taken)?;
+    expect_text(rt, "counts", text.as_str(), wanted);
     Ok(())
 }
 
@@ -96,7 +132,6 @@ fn ends(rt: HostRuntime) -> Result<(), Fail> {
 fn shut_counts(rt: HostRuntime) -> Result<(), Fail> {
     let mut taken = Counts::new(3);
     taken.set(1, 12);
-    assert_eq!(rt; counts(rt.alloc(), &taken)?.as_str(), "0,12,0");
-    assert_eq!(rt; counts(rt.alloc(), &Counts::new(0))?.as_str(), "");
-    Ok(())
+    expect_counts(&rt, rt.alloc(), &taken, "0,12,0")?;
+    expect_counts(&rt, rt.alloc(), &Counts::new(0), "")
 }

@@ -1,8 +1,10 @@
 //! Whole versions of a route table.
 
-use rcu_setup::read_setup;
+use crate::expect::{expect_same, expect_text};
+use rcu_setup::{Setup, read_setup};
 use rcuo_versions::{Retired, versions_by_rounds, versions_by_script};
 use std::alloc::Global;
+use std::process::Abort;
 use std::test::Fail;
 
 // A version, by its key and its routes in order.
@@ -16,12 +18,27 @@ fn shown(alloc: Global, version: &Retired) -> Result<String, Fail> {
     Ok(text)
 }
 
-fn all_shown(alloc: Global, versions: &[Retired]) -> Result<Vec<String>, Fail> {
-    let mut texts = Vec::new(alloc);
-    for version in versions {
-        texts.push(shown(alloc, version)?)?;
+// The versions are these, in order.
+fn expect_versions(
+    rt: &impl Abort,
+    alloc: Global,
+    versions: &[Retired],
+    wants: &[&str],
+) -> Result<(), Fail> {
+    expect_same(rt, "versions", versions.len(), wants.len());
+    for (version, wanted) in versions.iter().zip(wants.iter()) {
+        let text = shown(alloc, version)?;
+        expect_text(rt, "a version", text.as_str(), wanted);
     }
-    Ok(texts)
+    Ok(())
+}
+
+// The setup of a text.
+fn setup_of(alloc: Global, text: &str) -> Result<Setup, Fail> {
+    let Ok(setup) = read_setup(alloc, text) else {
+        return Err(Fail::new("the setup is refused"));
+    };
+    Ok(setup)
 }
 
 // Names that are given again keep their places, in the setup and in a call line.
@@ -31,20 +48,12 @@ script = [\"call 0 0 c 4\", \"tick 0 0\", \"lazy 1 5 b 6\", \"call 0 0 d 7\"]";
 
 #[test]
 fn whole_versions_of_a_script(rt: HostRuntime) -> Result<(), Fail> {
-    let alloc = rt.alloc();
-    let Ok(setup) = read_setup(alloc, SCRIPT) else {
-        return Err(Fail::new("the setup is refused"));
-    };
-    let Ok(versions) = versions_by_script(alloc, &setup) else {
+    let setup = setup_of(rt.alloc(), SCRIPT)?;
+    let Ok(versions) = versions_by_script(rt.alloc(), &setup) else {
         return Err(Fail::new("no memory"));
     };
-    let texts = all_shown(alloc, versions.as_slice())?;
-    let want = ["2: a=3 b=2", "65539: a=3 b=2 c=4", "131075: a=3 b=6 c=4"];
-    assert_eq!(rt; texts.len(), want.len());
-    for (text, wanted) in texts.iter().zip(want) {
-        assert_eq!(rt; text.as_str(), wanted);
-    }
-    Ok(())
+    let wants = ["2: a=3 b=2", "65539: a=3 b=2 c=4", "131075: a=3 b=6 c=4"];
+    expect_versions(&rt, rt.alloc(), versions.as_slice(), &wants)
 }
 
 const ROUNDS: &str = "processors = 2
@@ -53,23 +62,15 @@ routes = [\"c1=9\"]";
 
 #[test]
 fn whole_versions_of_rounds(rt: HostRuntime) -> Result<(), Fail> {
-    let alloc = rt.alloc();
-    let Ok(setup) = read_setup(alloc, ROUNDS) else {
-        return Err(Fail::new("the setup is refused"));
-    };
-    let Ok(versions) = versions_by_rounds(alloc, &setup) else {
+    let setup = setup_of(rt.alloc(), ROUNDS)?;
+    let Ok(versions) = versions_by_rounds(rt.alloc(), &setup) else {
         return Err(Fail::new("no memory"));
     };
-    let texts = all_shown(alloc, versions.as_slice())?;
-    let want = [
+    let wants = [
         "1: c1=9",
         "65538: c1=9 c0=0",
         "131074: c1=0 c0=0",
         "196610: c1=0 c0=1",
     ];
-    assert_eq!(rt; texts.len(), want.len());
-    for (text, wanted) in texts.iter().zip(want) {
-        assert_eq!(rt; text.as_str(), wanted);
-    }
-    Ok(())
+    expect_versions(&rt, rt.alloc(), versions.as_slice(), &wants)
 }
