@@ -20,6 +20,7 @@ use rcu_part_steps::try_claim;
 /// # Errors
 ///
 /// No claim was won, and why.
+#[inline(always)]
 pub(crate) fn claim_first<J: Job>(
     board: &Board,
     seat: &mut Seat,
