@@ -2,14 +2,12 @@
 use Rattle.std.proofs.Common.{◌≡◌, inl, inr, ℕ, ◌-◌, ◌<◌, ◌≤◌, Bool, true, false, List, [], ◌∷◌, ◌++◌, length, take, refl, sym, ap, ◌∙◌, ◌+◌, subst, arith}
 use Rattle.std.proofs.lemmas.List.{append-nil, append_assoc, length-append}
 use Rattle.std.specs.List.{flat_map}
-use Rattle.std.specs.Prelude.{nat_lt, IsTrue, ◌↔◌, ◌||◌, ⊤, Result, Ok, Err, IsOk, IsErr, IsErrAnd, MatchResult}
+use Rattle.std.specs.Prelude.{nat_lt, IsTrue, ◌↔◌, ◌||◌, Result, Ok, Err, IsOk, MatchResult}
 use Rattle.std.proofs.lemmas.Bool.{cases_Bool, ltb-true, ltb-false}
 use Rattle.rcu_jobs.specs.declared.callback.Callback.{Callback}
 use Rattle.rcu_lanes.specs.declared.ends.TheConstants.{FIRST_SLOTS}
-use Rattle.rcu_lists.specs.Batches.{batch_items}
 use Rattle.rcu_lists.specs.Parcels.{parcel_items}
 use Rattle.rcu_lists.specs.Release.{emptied, is_any, is_late, refilled, ticked}
-use Rattle.rcu_lists.specs.declared.batch.Batch.{Batch}
 use Rattle.rcu_lists.specs.declared.pace.Pace.{Pace}
 use Rattle.rcu_lists.specs.declared.parcel.Parcel.{Parcel}
 use Rattle.rcu_part_lists.specs.Outgoing.{Outgoing, IsReleased, IsReleasedIfAny, IsSentOrBack, is_due_in_tick}
@@ -27,15 +25,6 @@ rooms-enough (Err back) old new item rooms left less enough put room = let n = a
 -- nothing came off the end of a list
 pub none-popped : {X : Type 0} → (old new : List X) (n : ℕ) → n ≡ 0 → old ≡ new ++ [] → new ≡ take (n - 1) old → old ≡ []
 none-popped old new n e h k = h ∙ (append-nil new ∙ (k ∙ ap (λ m. take (m - 1) old) e))
-
--- what is handed back by an outcome
-pub on-back : {T E : Type 0} → (r : Result T E) (Q : Type 0) → Q → MatchResult r (λ _. ⊤) (λ _. Q)
-on-back (Ok x) Q h = tt
-on-back (Err e) Q h = h
-
-pub on-err : {T E : Type 0} → (r : Result T E) (e : E) (P : T → Type 0) (Q : E → Type 0) → IsErr r × IsErrAnd r (λ x. x ≡ e) → Q e → MatchResult r P Q
-on-err (Ok x) e P Q h k = absurd (let i = h.0 in cc)
-on-err (Err x) e P Q h k = subst Q (sym h.1) k
 
 -- whether a list holds something
 pub some-in : {X : Type 0} → (b : Bool) (xs : List X) → IsTrue b ↔ (xs ≡ []) → b ≡ false → is_any xs ≡ true
@@ -73,11 +62,6 @@ module _ {J : Type 0} where
   pub flat-snoc : (ps : List (Parcel J)) (p : Parcel J) → flat_map parcel_items (ps ++ p ∷ []) ≡ flat_map parcel_items ps ++ parcel_items p
   flat-snoc [] p = append-nil (parcel_items p)
   flat-snoc (x ∷ ps) p = ap (λ l. parcel_items x ++ l) (flat-snoc ps p) ∙ sym (append_assoc (parcel_items x) (flat_map parcel_items ps) (parcel_items p))
-
-  -- a batch that was packed, or is handed back
-  pub packed-back : (r : Result (Parcel J) (Batch J)) (b : Batch J) → MatchResult r (λ p. parcel_items p ≡ batch_items b) (λ x. x ≡ b) → MatchResult r (λ p. parcel_items p ≡ batch_items b) (λ x. batch_items x ≡ batch_items b)
-  packed-back (Ok p) b h = h
-  packed-back (Err x) b h = ap batch_items h
 
   pub parcel-put : (old new : List (Parcel J)) (p : Parcel J) → {cs : List (Callback J)} → new ≡ old ++ p ∷ [] → parcel_items p ≡ cs → (flat_map parcel_items new ≡ flat_map parcel_items old ++ cs) × (length new ≡ length old + 1)
   parcel-put old new p e f = (ap (flat_map parcel_items) e ∙ (flat-snoc old p ∙ ap (λ l. flat_map parcel_items old ++ l) f), ap length e ∙ length-append old (p ∷ []))

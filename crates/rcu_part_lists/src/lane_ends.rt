@@ -1,6 +1,6 @@
 //! The ends of a lane between two running parts: what one puts on it and the other draws from it are parcels.
 
-ghost use Rattle.std.specs.Prelude.{⊤, ◌≡◌, ◌≢◌, ◌+◌, ◌<◌, ◌≤◌, true, false, [], ◌∷◌, ◌++◌, length, IfNone, IfOk, IfSome, IsOk, MatchResult, None};
+ghost use Rattle.std.specs.Prelude.{◌≡◌, ◌≢◌, ◌+◌, ◌<◌, ◌≤◌, true, false, [], ◌∷◌, ◌++◌, length, IfNone, IfOk, IfSome, IsOk, MatchOption, MatchResult, None};
 ghost use Rattle.rcu_lanes.specs.Ends.{SameFront, SameRear, items_drawn, items_put};
 ghost use Rattle.rcu_lanes.specs.declared.ends.TheConstants.{FIRST_SLOTS};
 ghost use Rattle.rcu_lists.specs.Batches.{batch_items};
@@ -78,25 +78,6 @@ impl<J: Drop> Outlet<J> {
         }
     }
 
-    /// Puts a batch, or hands it back where there is no memory for it or the lane finds no room.
-    pub(crate) fn put_batch(&mut self, batch: Batch<J>) -> Result<(), Batch<J>>
-        requires safe { AreSafe (batch_items batch) }
-        requires few { AreFew (put_calls self.old.rear ++ batch_items batch) }
-        ensures lane { SameRear self.old.rear self.new.rear }
-        ensures put { MatchResult result
-            (λ _. PutsOn (batch_items batch) self.old.rear self.new.rear) (λ back.
-            (batch_items back ≡ batch_items batch)
-            × (items_put self.new.rear ≡ items_put self.old.rear)) }
-        ensures room { length (items_put self.old.rear) < FIRST_SLOTS → IsOk result }
-    {
-        let alloc = *self.rooms.allocator();
-        let parcel = pack(&mut self.rooms, batch)?;
-        match self.rear.put(parcel) {
-            Ok(()) => Ok(()),
-            Err(back) => Err(unpack(alloc, back)),
-        }
-    }
-
     /// Puts what a batch holds, which is something. Where it can't be put it stays.
     pub(crate) fn put_from(&mut self, batch: &mut Batch<J>) -> bool
         requires safe { AreSafe (batch_items batch.old) }
@@ -105,54 +86,10 @@ impl<J: Drop> Outlet<J> {
         ensures puts { PutsFrom result (batch_items batch.old) (batch_items batch.new) self.old.rear
             self.new.rear }
     {
-        match batch.take_single() {
-            Some(callback) => match self.put_single(callback) {
-                Ok(()) => true,
-                Err(back) => {
-                    batch.add(back);
-                    false
-                }
-            },
-            None => {
-                if batch.len() > INLINE_PLACES as u64 {
-                    self.put_whole(batch)
-                } else {
-                    self.put_few(batch)
-                }
-            }
-        }
-    }
-
-    // Puts all that a batch holds, as it is. Where it can't be put it stays.
-    fn put_whole(&mut self, batch: &mut Batch<J>) -> bool
-        requires safe { AreSafe (batch_items batch.old) }
-        requires few { AreFew (put_calls self.old.rear ++ batch_items batch.old) }
-        ensures lane { SameRear self.old.rear self.new.rear }
-        ensures puts { PutsFrom result (batch_items batch.old) (batch_items batch.new) self.old.rear
-            self.new.rear }
-    {
-        match self.put_batch(batch.take_all()) {
-            Ok(()) => true,
-            Err(back) => {
-                *batch = back;
-                false
-            }
-        }
-    }
-
-    // Puts what a batch holds, no more than stands in the batch itself, in a list on the heap. Where it can't be put it stays.
-    fn put_few(&mut self, batch: &mut Batch<J>) -> bool
-        requires little { length (batch_items batch.old) ≤ INLINE_PLACES }
-        requires safe { AreSafe (batch_items batch.old) }
-        requires few { AreFew (put_calls self.old.rear ++ batch_items batch.old) }
-        ensures lane { SameRear self.old.rear self.new.rear }
-        ensures puts { PutsFrom result (batch_items batch.old) (batch_items batch.new) self.old.rear
-            self.new.rear }
-    {
-        let Some(room) = first_room(&mut self.rooms) else {
+        let Some(parcel) = pack_from(&mut self.rooms, batch) else {
             return false;
         };
-        match self.rear.put(batch.pack_few(room)) {
+        match self.rear.put(parcel) {
             Ok(()) => true,
             Err(back) => {
                 batch.load(back);
@@ -186,27 +123,42 @@ fn first_room<J: Drop>(rooms: &mut Vec<SpareBlock<J>>) -> Option<SpareBlock<J>>
     }
 }
 
-// Makes a parcel of a batch, in the first room that there is.
-fn pack<J: Drop>(rooms: &mut Vec<SpareBlock<J>>, batch: Batch<J>) -> Result<Parcel<J>, Batch<J>>
-    ensures packed { MatchResult result
-        (λ parcel. parcel_items parcel ≡ batch_items batch)
-        (λ back. batch_items back ≡ batch_items batch) }
+// Makes a parcel of what a batch holds: a callback alone goes by itself, and no more than stand in the batch are moved to a list
+// on the heap. None where there is no memory for that, and then all stay.
+fn pack_from<J: Drop>(rooms: &mut Vec<SpareBlock<J>>, batch: &mut Batch<J>) -> Option<Parcel<J>>
+    ensures packed { MatchOption result
+        ((batch_items batch.new ≡ batch_items batch.old) × (rooms.old.items ≡ [])) (λ parcel.
+        (parcel_items parcel ≡ batch_items batch.old) × (batch_items batch.new ≡ [])) }
     ensures left { length rooms.old.items ≤ length rooms.new.items + 1 }
-    ensures none { MatchResult result (λ _. ⊤) (λ _. rooms.old.items ≡ []) }
 {
-    match rooms.pop() {
-        Some(room) => Ok(batch.pack_into(room)),
-        None => batch.pack(),
+    if let Some(callback) = batch.take_single() {
+        return Some(Parcel::One(callback));
     }
+    if batch.len() > INLINE_PLACES as u64 {
+        return pack_whole(rooms, batch);
+    }
+    let room = first_room(rooms)?;
+    Some(batch.pack_few(room))
 }
 
-// The batch that a parcel was made of.
-fn unpack<J: Drop>(alloc: Global, parcel: Parcel<J>) -> Batch<J>
-    ensures { batch_items result ≡ parcel_items parcel }
+// Makes a parcel of all that a batch holds, as it is.
+fn pack_whole<J: Drop>(rooms: &mut Vec<SpareBlock<J>>, batch: &mut Batch<J>) -> Option<Parcel<J>>
+    ensures packed { MatchOption result
+        ((batch_items batch.new ≡ batch_items batch.old) × (rooms.old.items ≡ [])) (λ parcel.
+        (parcel_items parcel ≡ batch_items batch.old) × (batch_items batch.new ≡ [])) }
+    ensures left { length rooms.old.items ≤ length rooms.new.items + 1 }
 {
-    let mut unpacked = Batch::new(alloc);
-    unpacked.load(parcel);
-    unpacked
+    let whole = batch.take_all();
+    if let Some(room) = rooms.pop() {
+        return Some(whole.pack_into(room));
+    }
+    match whole.pack() {
+        Ok(parcel) => Some(parcel),
+        Err(back) => {
+            *batch = back;
+            None
+        }
+    }
 }
 
 impl<J: Drop> Inlet<J> {

@@ -53,10 +53,9 @@ fn send_all<J: Drop>(outlet: &mut Outlet<J>, bypass: &mut Bypass<J>)
         (outgoing outlet.new.rear bypass.new) }
     ensures safe { AreSafe (bypass_items bypass.new) }
 {
-    let batch = bypass.flush();
-    match outlet.put_batch(batch) {
-        Ok(()) => {}
-        Err(back) => bypass.refill(back),
+    let mut batch = bypass.flush();
+    if !outlet.put_from(&mut batch) {
+        bypass.refill(batch);
     }
 }
 

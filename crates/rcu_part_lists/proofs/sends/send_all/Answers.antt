@@ -10,50 +10,53 @@ use Rattle.rcu_part_lists.specs.Lanes.{put_calls}
 use Rattle.rcu_part_lists.specs.Outgoing.{outgoing, sent, sent_back}
 use Rattle.rcu_part_lists.specs.Limits.{AreFew, AreSafe, IsSafe}
 use Rattle.rcu_part_lists.proofs.Releases.{same_outgoing, full}
-use Rattle.rcu_lists.proofs.Sizes.{bypass-batch}
+use Rattle.rcu_lists.proofs.Sizes.{bypass-batch, in_places}
 use denote.Param.{param}
 use Rattle.rcu_part_lists.proofs.sends.send_all.Goals as goal
 
-pub put_batch-requires : goal.put_batch-requires
-put_batch-requires g c = let e = sym c.flush-batch.ensures.all in
+pub flush-batch-requires : goal.flush-batch-requires
+flush-batch-requires g c = (assumption, bypass-batch (param 0 g.row.J) assumption)
+
+pub put_from-requires : goal.put_from-requires
+put_from-requires g c = let e = sym c.flush-batch.ensures.all in
     (bypass-batch (param 0 g.row.J) assumption, (subst AreSafe e c.requires.safe, subst (λ l. AreFew (put_calls c.args.outlet.now.rear ++ l)) e c.requires.few))
 
-pub returns-in-Ok-clause-released : goal.returns-in-Ok-clause-released
-returns-in-Ok-clause-released g c =
-    let o = outgoing c.args.outlet.now.rear c.args.bypass.now in
-    inl (same_outgoing (sent o) (outgoing c.put_batch.new.self.rear c.flush-batch.new.self)
-    (c.in-Ok.ensures.put.0 ∙ ap (λ l. put_calls c.args.outlet.now.rear ++ l) c.flush-batch.ensures.all)
-    c.in-Ok.ensures.put.1
-    c.flush-batch.ensures.none c.flush-batch.ensures.pace c.flush-batch.ensures.qhimark)
+pub refill-requires : goal.refill-requires
+refill-requires g c = (assumption, (bypass-batch (param 0 g.row.J) assumption, c.flush-batch.ensures.none))
 
-pub returns-in-Err-clause-released : goal.returns-in-Err-clause-released
-returns-in-Err-clause-released g c =
-    let o = outgoing c.args.outlet.now.rear c.args.bypass.now in
-    let items = c.in-Err.ensures.put.0 ∙ c.flush-batch.ensures.all in
+pub returns-then-not-put_from-clause-lane : goal.returns-then-not-put_from-clause-lane
+returns-then-not-put_from-clause-lane g c = c.put_from.ensures.lane
+
+pub returns-then-not-put_from-clause-released : goal.returns-then-not-put_from-clause-released
+returns-then-not-put_from-clause-released g c =
+    let o = outgoing c.args.outlet.now.rear c.args.bypass.now in let p = c.put_from.ensures.puts in let stays = p.stays c.if-not-put_from.true in
+    let items = stays.1 ∙ c.flush-batch.ensures.all in
     inr (
-      full (length (items_put c.args.outlet.now.rear)) c.in-Err.ensures.room,
-      same_outgoing (sent_back o) (outgoing c.put_batch.new.self.rear c.refill.new.self)
-          (ap (flat_map parcel_items) c.in-Err.ensures.put.1)
-          (ap length c.in-Err.ensures.put.1)
+      full (length (items_put c.args.outlet.now.rear)) (λ less. sym c.if-not-put_from.true ∙ p.room less),
+      same_outgoing (sent_back o) (outgoing c.put_from.new.self.rear c.refill.new.self)
+          (ap (flat_map parcel_items) stays.0)
+          (ap length stays.0)
           (c.refill.ensures.items ∙ items)
           (c.refill.ensures.pace ∙ (ap (λ l. refilled l (bypass_pace c.flush-batch.new.self)) items ∙ ap (λ (p : Pace). refilled o.bypass p) c.flush-batch.ensures.pace))
           (c.refill.ensures.qhimark ∙ c.flush-batch.ensures.qhimark),
     )
 
-pub returns-in-Err-clause-safe : goal.returns-in-Err-clause-safe
-returns-in-Err-clause-safe g c = subst AreSafe (sym (c.refill.ensures.items ∙ (c.in-Err.ensures.put.0 ∙ c.flush-batch.ensures.all))) c.requires.safe
+pub returns-then-not-put_from-clause-safe : goal.returns-then-not-put_from-clause-safe
+returns-then-not-put_from-clause-safe g c = subst AreSafe (sym (c.refill.ensures.items ∙ ((c.put_from.ensures.puts.stays c.if-not-put_from.true).1 ∙ c.flush-batch.ensures.all))) c.requires.safe
 
-pub returns-in-Ok-clause-safe : goal.returns-in-Ok-clause-safe
-returns-in-Ok-clause-safe g c = subst AreSafe (sym c.flush-batch.ensures.none) (All-nil IsSafe)
+pub returns-else-not-put_from-clause-lane : goal.returns-else-not-put_from-clause-lane
+returns-else-not-put_from-clause-lane g c = c.put_from.ensures.lane
 
-pub flush-batch-requires : goal.flush-batch-requires
-flush-batch-requires g c = (assumption, bypass-batch (param 0 g.row.J) assumption)
+pub returns-else-not-put_from-clause-released : goal.returns-else-not-put_from-clause-released
+returns-else-not-put_from-clause-released g c =
+    let o = outgoing c.args.outlet.now.rear c.args.bypass.now in let put = c.put_from.ensures.puts.put c.if-not-put_from.false in
+    inl (same_outgoing (sent o) (outgoing c.put_from.new.self.rear c.flush-batch.new.self)
+    (put.0 ∙ ap (λ l. put_calls c.args.outlet.now.rear ++ l) c.flush-batch.ensures.all)
+    put.1
+    c.flush-batch.ensures.none c.flush-batch.ensures.pace c.flush-batch.ensures.qhimark)
 
-pub refill-requires : goal.refill-requires
-refill-requires g c = (assumption, (bypass-batch (param 0 g.row.J) assumption, c.flush-batch.ensures.none))
+pub returns-else-not-put_from-clause-safe : goal.returns-else-not-put_from-clause-safe
+returns-else-not-put_from-clause-safe g c = subst AreSafe (sym c.flush-batch.ensures.none) (All-nil IsSafe)
 
-pub returns-in-Ok-clause-lane : goal.returns-in-Ok-clause-lane
-returns-in-Ok-clause-lane g c = c.put_batch.ensures.lane
-
-pub returns-in-Err-clause-lane : goal.returns-in-Err-clause-lane
-returns-in-Err-clause-lane g c = c.put_batch.ensures.lane
+pub array_drop-batch-requires : goal.array_drop-batch-requires
+array_drop-batch-requires g c = in_places _ _ _ _ _ _ _ _ _ _ _ _ _ _ _ _ _ _ _ _ (bypass-batch (param 0 g.row.J) assumption)

@@ -1,64 +1,61 @@
-use Rattle.std.proofs.Common.{[], sym, ap, ◌∙◌, ◌++◌, refl, subst, arith, ◌∷◌, true≢false}
+use Rattle.std.proofs.Common.{sym, ap, ◌∙◌, ◌++◌, refl, subst, length, true≢false, arith}
 use Rattle.std.proofs.lemmas.Bool.{false≢true}
-use Rattle.std.proofs.lemmas.List.Elements.{All-head}
-use Rattle.rcu_lists.specs.Batches.{batch_items}
-use Rattle.rcu_part_lists.specs.Lanes.{put_calls, PutsFrom, PutsOn}
-use Rattle.rcu_part_lists.specs.Limits.{IsSafe, AreFew, AreSafe}
+use Rattle.rcu_lanes.specs.Ends.{items_put}
+use Rattle.rcu_lists.specs.Parcels.{parcel_items}
+use Rattle.rcu_part_lists.specs.Lanes.{put_calls}
+use Rattle.rcu_part_lists.specs.Limits.{AreFew, AreSafe}
+use Rattle.rcu_part_lists.proofs.Releases.{parcel-put, rooms-enough}
 use Rattle.rcu_part_lists.proofs.lane_ends.Outlet.put_from.Goals as goal
 
-pub take_single-requires : goal.take_single-requires
-take_single-requires g c = assumption
+pub pack_from-requires : goal.pack_from-requires
+pack_from-requires g c = assumption
 
-pub put_single-requires-clause-safe : goal.put_single-requires-clause-safe
-put_single-requires-clause-safe g c = All-head IsSafe c.in-Some.callback [] (subst AreSafe c.in-Some.ensures.taken.0 c.requires.safe)
+pub put-requires : goal.put-requires
+put-requires g c = let e = c.in-Some.ensures.packed.0 in record {
+  safe = subst AreSafe (sym e) c.requires.safe;
+  few = subst (λ l. AreFew (put_calls c.args.self.now.rear ++ l)) (sym e) c.requires.few;
+}
 
-pub put_single-requires-clause-few : goal.put_single-requires-clause-few
-put_single-requires-clause-few g c = subst (λ l. AreFew (put_calls c.args.self.now.rear ++ l)) c.in-Some.ensures.taken.0 c.requires.few
+pub invariant_of-self-2 : goal.invariant_of-self-2
+invariant_of-self-2 g c = let s = c.args.self.now in record {
+  enough = rooms-enough c.put.result (items_put s.rear) (items_put c.put.new.self) c.in-Some.parcel (length s.rooms.items) (length c.pack_from.new.rooms.items) c.pack_from.ensures.left s.enough c.put.ensures.put c.put.ensures.room;
+}
 
-pub add-requires : goal.add-requires
-add-requires g c = (assumption, let room = c.in-Some.ensures.room refl in omega arith)
+pub load-requires : goal.load-requires
+load-requires g c = (assumption, c.in-Some.ensures.packed.1)
+
+pub returns-in-Ok-clause-lane : goal.returns-in-Ok-clause-lane
+returns-in-Ok-clause-lane g c = c.put.ensures.lane
+
+pub returns-in-Err-clause-lane : goal.returns-in-Err-clause-lane
+returns-in-Err-clause-lane g c = c.put.ensures.lane
 
 pub returns-in-Ok-clause-puts : goal.returns-in-Ok-clause-puts
 returns-in-Ok-clause-puts g c = record {
-  put = λ _. subst (λ l. PutsOn l c.args.self.now.rear c.put_single.new.self.rear) (sym c.in-Some.ensures.taken.0) c.in-Ok.ensures.put;
-  left = λ _. c.in-Some.ensures.taken.1;
+  put = λ _. parcel-put (items_put c.args.self.now.rear) (items_put c.put.new.self) c.in-Some.parcel c.in-Ok.ensures.put c.in-Some.ensures.packed.0;
+  left = λ _. c.in-Some.ensures.packed.1;
   stays = λ e. absurd (true≢false e);
   room = λ _. refl;
 }
 
 pub returns-in-Err-clause-puts : goal.returns-in-Err-clause-puts
-returns-in-Err-clause-puts g c = let t = c.in-Some.ensures.taken in let p = c.in-Err.ensures.put in record {
+returns-in-Err-clause-puts g c = let p = c.in-Err.ensures.put in record {
   put = λ e. absurd (false≢true e);
   left = λ e. absurd (false≢true e);
-  stays = λ _. (p.1, c.add.ensures.items ∙ (ap (λ l. l ++ c.in-Err.back ∷ []) t.1 ∙ (ap (λ x. x ∷ []) p.0 ∙ sym t.0)));
+  stays = λ _. (p.1, c.load.ensures.items ∙ (ap parcel_items p.0 ∙ c.in-Some.ensures.packed.0));
   room = c.in-Err.ensures.room;
 }
 
-pub len-requires : goal.len-requires
-len-requires g c = assumption
+pub invariant_of-self : goal.invariant_of-self
+invariant_of-self g c = record { enough = omega (arith, c.args.self.now.enough, ap length c.in_default.ensures.packed.1) }
 
-pub put_whole-requires : goal.put_whole-requires
-put_whole-requires g c = let e = sym c.in-None.ensures.taken.1 in
-    (assumption, (subst (λ b. AreSafe (batch_items b)) e c.requires.safe, subst (λ b. AreFew (put_calls c.args.self.now.rear ++ batch_items b)) e c.requires.few))
+pub returns-in_default-clause-lane : goal.returns-in_default-clause-lane
+returns-in_default-clause-lane g c = refl
 
-pub put_few-requires : goal.put_few-requires
-put_few-requires g c = let e = sym c.in-None.ensures.taken.1 in
-    (assumption, (omega (arith, c.len.ensures, c.if-len.false), (subst (λ b. AreSafe (batch_items b)) e c.requires.safe, subst (λ b. AreFew (put_calls c.args.self.now.rear ++ batch_items b)) e c.requires.few)))
-
-pub returns-in-Ok-clause-lane : goal.returns-in-Ok-clause-lane
-returns-in-Ok-clause-lane g c = c.put_single.ensures.lane
-
-pub returns-in-Err-clause-lane : goal.returns-in-Err-clause-lane
-returns-in-Err-clause-lane g c = c.put_single.ensures.lane
-
-pub returns-then-len-clause-lane : goal.returns-then-len-clause-lane
-returns-then-len-clause-lane g c = c.put_whole.ensures.lane
-
-pub returns-then-len-clause-puts : goal.returns-then-len-clause-puts
-returns-then-len-clause-puts g c = subst (λ b. PutsFrom c.put_whole.result (batch_items b) (batch_items c.put_whole.new.batch) c.args.self.now.rear c.put_whole.new.self.rear) c.in-None.ensures.taken.1 c.put_whole.ensures.puts
-
-pub returns-else-len-clause-lane : goal.returns-else-len-clause-lane
-returns-else-len-clause-lane g c = c.put_few.ensures.lane
-
-pub returns-else-len-clause-puts : goal.returns-else-len-clause-puts
-returns-else-len-clause-puts g c = subst (λ b. PutsFrom c.put_few.result (batch_items b) (batch_items c.put_few.new.batch) c.args.self.now.rear c.put_few.new.self.rear) c.in-None.ensures.taken.1 c.put_few.ensures.puts
+pub returns-in_default-clause-puts : goal.returns-in_default-clause-puts
+returns-in_default-clause-puts g c = record {
+  put = λ e. absurd (false≢true e);
+  left = λ e. absurd (false≢true e);
+  stays = λ _. (refl, c.in_default.ensures.packed.0);
+  room = λ lt. absurd (omega (arith, lt, c.args.self.now.enough, ap length c.in_default.ensures.packed.1));
+}
