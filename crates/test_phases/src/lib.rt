@@ -5,6 +5,8 @@
 #![tactic(auto)]
 
 #[cfg(test)]
+mod same;
+#[cfg(test)]
 mod tests;
 #[cfg(test)]
 mod tests_cut;

@@ -1,12 +1,13 @@
 //! Rows of docs/specification/rows.md in threads: "Gate tests in threads", "Words, seats and lanes" and "Barriers".
 
+use crate::same::assert_same;
 use rcu_jobs::{BoxedJob, Closed, Stop, Ticked, Ticket};
 use rcu_numbers::Shape;
 use rcu_parts::open;
 use std::alloc::{AllocError, Global};
+use std::process::Abort;
 use std::sync::Arc;
 use std::sync::atomic::AtomicU64;
-use std::test::Fail;
 use std::thread::Threads;
 use test_phases_harness::{
     Act, Answer, Flag, Move, Phase, Played, Reply, Signal, Step, play, raise, sees,
@@ -34,12 +35,18 @@ fn new_flag(alloc: Global) -> Result<Flag, AllocError> {
     Ok(Arc::new(alloc, AtomicU64::new(0))?)
 }
 
+/// Adds what processor 0 does.
+fn add_calls(steps: &mut Vec<Step<Work>>, acts: Vec<Act<Work>>) -> Result<(), AllocError> {
+    for act in acts {
+        steps.push(Step::On { cpu: 0, act })?;
+    }
+    Ok(())
+}
+
 /// What processor 0 does in a phase of its thread alone.
 fn calls(alloc: Global, acts: Vec<Act<Work>>) -> Result<Phase<Work>, AllocError> {
     let mut phase = Phase::new(alloc);
-    for act in acts {
-        phase.steps.push(Step::On { cpu: 0, act })?;
-    }
+    add_calls(&mut phase.steps, acts)?;
     Ok(phase)
 }
 
@@ -80,15 +87,31 @@ fn group_turns(alloc: Global, turns: u64) -> Phase<Work> {
     phase
 }
 
-/// The phases by which one offloadable processor's first callback, of this job, comes to its hand.
-fn to_the_hand(alloc: Global, first: Work) -> Result<Vec<Phase<Work>>, AllocError> {
-    let mut phases = Vec::new(alloc);
+/// Adds the phases by which one offloadable processor's first callback, of this job, comes to its hand.
+fn push_to_the_hand(
+    phases: &mut Vec<Phase<Work>>,
+    alloc: Global,
+    first: Work,
+) -> Result<(), AllocError> {
     let (moment, job) = (0, first);
-    push_act(&mut phases, alloc, Act::Call { moment, job })?;
+    push_act(phases, alloc, Act::Call { moment, job })?;
     phases.push(group_turns(alloc, 1))?;
-    push_grace_period(&mut phases, alloc)?;
+    push_grace_period(phases, alloc)?;
     phases.push(group_turns(alloc, 1))?;
-    Ok(phases)
+    Ok(())
+}
+
+/// Adds these calls of processor 0, which it makes once the first flag is raised. It raises the second one then.
+fn add_calls_between(
+    steps: &mut Vec<Step<Work>>,
+    running: &Flag,
+    acts: Vec<Act<Work>>,
+    seen: &Flag,
+) -> Result<(), AllocError> {
+    steps.push(Step::Sign(Signal::Await(Arc::try_clone(running)?)))?;
+    add_calls(steps, acts)?;
+    steps.push(Step::Sign(Signal::Raise(Arc::try_clone(seen)?)))?;
+    Ok(())
 }
 
 /// A phase in which processor 0 makes these calls once the first flag is raised, and raises the second one then. Meanwhile
@@ -101,28 +124,25 @@ fn beside_the_hand(
 ) -> Result<Phase<Work>, AllocError> {
     let mut phase = Phase::new(alloc);
     phase.hand_turns = 1;
-    phase
-        .steps
-        .push(Step::Sign(Signal::Await(Arc::try_clone(running)?)))?;
-    for act in acts {
-        phase.steps.push(Step::On { cpu: 0, act })?;
-    }
-    phase
-        .steps
-        .push(Step::Sign(Signal::Raise(Arc::try_clone(seen)?)))?;
+    add_calls_between(&mut phase.steps, running, acts, seen)?;
     Ok(phase)
 }
 
-/// What these phases leave of one processor. It is offloadable if so asked.
-fn play_one<R: Threads + Sync>(
+/// What these phases leave of a shape's parts. The test ends where memory is wanted.
+pub(crate) fn played<R: Abort + Threads + Sync>(
     rt: &R,
     alloc: Global,
-    offloadable: bool,
+    shape: Option<Shape>,
     phases: Vec<Phase<Work>>,
-) -> Result<Played<Work>, Fail> {
-    let shape = Shape::new(1, u32::from(offloadable), 1, 10, 10000, 100).ok_or("no shape")?;
-    let parts = open(alloc, &shape.for_parts())?;
-    Ok(play(rt, alloc, parts, phases)?)
+) -> Played<Work> {
+    let shape = shape.expect(rt, "a shape").for_parts();
+    let parts = open(alloc, &shape).expect(rt, "memory");
+    play(rt, alloc, parts, phases).expect(rt, "memory")
+}
+
+/// The shape of one processor, which is offloadable if so asked.
+fn one(offloadable: bool) -> Option<Shape> {
+    Shape::new(1, u32::from(offloadable), 1, 10, 10000, 100)
 }
 
 /// The keys and receipts of the records of the only processor.
@@ -136,6 +156,12 @@ fn receipts(alloc: Global, closed: &Closed<Work>) -> Result<Vec<(u64, u64)>, All
     Ok(receipts)
 }
 
+/// That these are the keys and receipts of the records of the only processor.
+fn assert_receipts(rt: &impl Abort, alloc: Global, closed: &Closed<Work>, wanted: Vec<(u64, u64)>) {
+    let found = receipts(alloc, closed).expect(rt, "memory");
+    assert_same(rt, found, wanted);
+}
+
 fn accepted(number: u64) -> Answer {
     Answer::Accepted(Ticket { cpu: 0, number })
 }
@@ -144,77 +170,110 @@ fn ticked(ran: u64, stop: Stop) -> Answer {
     Answer::Ticked(Ticked { ran, stop })
 }
 
-#[test]
-fn call_beside_a_running_job(rt: HostRuntime) -> Result<(), Fail> {
-    let alloc = rt.alloc();
+/// Adds the phases of `call-beside-a-running-job`.
+fn push_call_beside(phases: &mut Vec<Phase<Work>>, alloc: Global) -> Result<(), AllocError> {
     let running = new_flag(alloc)?;
     let called = new_flag(alloc)?;
-    let mut phases = to_the_hand(alloc, waiting_job(alloc, 7, &running, &called)?)?;
-    let acts = vec![in alloc;
-        Act::Call {
-            moment: 1,
-            job: job(alloc, 8)?
-        },
-    ]?;
+    push_to_the_hand(phases, alloc, waiting_job(alloc, 7, &running, &called)?)?;
+    let (moment, job) = (1, job(alloc, 8)?);
+    let acts = vec![in alloc; Act::Call { moment, job }]?;
     phases.push(beside_the_hand(alloc, &running, acts, &called)?)?;
-    let played = play_one(&rt, alloc, true, phases)?;
-    let answers = [accepted(0), Answer::Reported(Some(1)), accepted(1)];
-    assert_eq!(rt; played.answers.as_slice(), answers.as_slice());
-    assert_eq!(rt;
-        receipts(alloc, &played.closed)?.as_slice(),
-        [(7, 1)].as_slice()
-    );
     Ok(())
 }
 
-/// `turn-word-order` up to its command `hand 0`, where the first callback is of this job.
-fn to_the_claims(alloc: Global, first: Work) -> Result<Vec<Phase<Work>>, AllocError> {
-    let mut phases = to_the_hand(alloc, first)?;
-    push_move(&mut phases, alloc, Move::Deoffload(0))?;
-    let second = Act::Call {
-        moment: 0,
-        job: job(alloc, 8)?,
-    };
-    let tick = Act::Tick { moment: 0 };
-    phases.push(calls(
-        alloc,
-        vec![in alloc; Act::Tick { moment: 0 }, second, tick]?,
-    )?)?;
-    push_grace_period(&mut phases, alloc)?;
-    push_act(&mut phases, alloc, Act::Tick { moment: 0 })?;
-    Ok(phases)
+#[test]
+fn call_beside_a_running_job(rt: HostRuntime) {
+    let alloc = rt.alloc();
+    let mut phases = Vec::new(alloc);
+    push_call_beside(&mut phases, alloc).expect(&rt, "memory");
+    let played = played(&rt, alloc, one(true), phases);
+    let answers = vec![in alloc; accepted(0), Answer::Reported(Some(1)), accepted(1)];
+    assert_same(&rt, played.answers, answers.expect(&rt, "memory"));
+    let wanted = vec![in alloc; (7, 1)].expect(&rt, "memory");
+    assert_receipts(&rt, alloc, &played.closed, wanted);
 }
 
-#[test]
-fn hand_claim_lasts(rt: HostRuntime) -> Result<(), Fail> {
-    let alloc = rt.alloc();
-    let running = new_flag(alloc)?;
-    let ticked_on = new_flag(alloc)?;
-    let mut phases = to_the_claims(alloc, waiting_job(alloc, 7, &running, &ticked_on)?)?;
+/// Adds the phases of `turn-word-order` up to its command `hand 0`, where the first callback is of this job.
+fn push_to_the_claims(
+    phases: &mut Vec<Phase<Work>>,
+    alloc: Global,
+    first: Work,
+) -> Result<(), AllocError> {
+    push_to_the_hand(phases, alloc, first)?;
+    push_move(phases, alloc, Move::Deoffload(0))?;
+    let (moment, job) = (0, job(alloc, 8)?);
+    let acts = vec![in alloc;
+        Act::Tick { moment },
+        Act::Call { moment, job },
+        Act::Tick { moment },
+    ]?;
+    phases.push(calls(alloc, acts)?)?;
+    push_grace_period(phases, alloc)?;
+    push_act(phases, alloc, Act::Tick { moment })
+}
+
+/// So many ticks.
+fn ticks(alloc: Global, many: u64) -> Result<Vec<Act<Work>>, AllocError> {
     let mut ticks = Vec::new(alloc);
-    for _ in 0..20 {
+    for _ in 0..many {
         ticks.push(Act::Tick { moment: 0 })?;
     }
+    Ok(ticks)
+}
+
+/// Adds the phases of `hand-claim-lasts`.
+fn push_hand_claim(phases: &mut Vec<Phase<Work>>, alloc: Global) -> Result<(), AllocError> {
+    let running = new_flag(alloc)?;
+    let ticked_on = new_flag(alloc)?;
+    push_to_the_claims(phases, alloc, waiting_job(alloc, 7, &running, &ticked_on)?)?;
+    let ticks = ticks(alloc, 20)?;
     phases.push(beside_the_hand(alloc, &running, ticks, &ticked_on)?)?;
-    push_act(&mut phases, alloc, Act::Tick { moment: 0 })?;
-    let played = play_one(&rt, alloc, true, phases)?;
-    let mut answers = vec![in alloc;
+    push_act(phases, alloc, Act::Tick { moment: 0 })
+}
+
+/// Adds what is answered in `hand-claim-lasts`.
+fn push_answers(answers: &mut Vec<Answer>) -> Result<(), AllocError> {
+    for answer in [
         accepted(0),
         Answer::Reported(Some(1)),
         ticked(0, Stop::Empty),
         accepted(1),
         ticked(0, Stop::Empty),
         Answer::Reported(Some(5)),
-    ]?;
+    ] {
+        answers.push(answer)?;
+    }
     for _ in 0..21 {
         answers.push(ticked(0, Stop::Turn))?;
     }
     answers.push(ticked(1, Stop::Empty))?;
-    assert_eq!(rt; played.answers.as_slice(), answers.as_slice());
-    assert_eq!(rt;
-        receipts(alloc, &played.closed)?.as_slice(),
-        [(7, 1), (8, 8)].as_slice()
-    );
+    Ok(())
+}
+
+#[test]
+fn hand_claim_lasts(rt: HostRuntime) {
+    let alloc = rt.alloc();
+    let mut phases = Vec::new(alloc);
+    push_hand_claim(&mut phases, alloc).expect(&rt, "memory");
+    let played = played(&rt, alloc, one(true), phases);
+    let mut answers = Vec::new(alloc);
+    push_answers(&mut answers).expect(&rt, "memory");
+    assert_same(&rt, played.answers, answers);
+    let wanted = vec![in alloc; (7, 1), (8, 8)].expect(&rt, "memory");
+    assert_receipts(&rt, alloc, &played.closed, wanted);
+}
+
+/// Adds 20 polls, which control makes once the first flag is raised. It raises the second one then.
+fn add_polls_between(
+    moves: &mut Vec<Move>,
+    running: &Flag,
+    polled: &Flag,
+) -> Result<(), AllocError> {
+    moves.push(Move::Sign(Signal::Await(Arc::try_clone(running)?)))?;
+    for _ in 0..20 {
+        moves.push(Move::Poll)?;
+    }
+    moves.push(Move::Sign(Signal::Raise(Arc::try_clone(polled)?)))?;
     Ok(())
 }
 
@@ -225,45 +284,45 @@ fn polls_beside_a_tick(
     polled: &Flag,
 ) -> Result<Phase<Work>, AllocError> {
     let mut phase = calls(alloc, vec![in alloc; Act::Tick { moment: 0 }]?)?;
-    phase
-        .moves
-        .push(Move::Sign(Signal::Await(Arc::try_clone(running)?)))?;
-    for _ in 0..20 {
-        phase.moves.push(Move::Poll)?;
-    }
-    phase
-        .moves
-        .push(Move::Sign(Signal::Raise(Arc::try_clone(polled)?)))?;
+    add_polls_between(&mut phase.moves, running, polled)?;
     Ok(phase)
 }
 
-#[test]
-fn local_claim_lasts(rt: HostRuntime) -> Result<(), Fail> {
-    let alloc = rt.alloc();
+/// Adds the phases of `local-claim-lasts`.
+fn push_local_claim(phases: &mut Vec<Phase<Work>>, alloc: Global) -> Result<(), AllocError> {
     let running = new_flag(alloc)?;
     let polled = new_flag(alloc)?;
-    let call = Act::Call {
-        moment: 0,
-        job: waiting_job(alloc, 7, &running, &polled)?,
-    };
+    let (moment, job) = (0, waiting_job(alloc, 7, &running, &polled)?);
+    let acts = vec![in alloc; Act::Call { moment, job }, Act::Tick { moment }]?;
+    phases.push(calls(alloc, acts)?)?;
     let tickets = vec![in alloc; Ticket { cpu: 0, number: 0 }]?;
-    let mut phases = Vec::new(alloc);
-    phases.push(calls(alloc, vec![in alloc; call, Act::Tick { moment: 0 }]?)?)?;
-    phases.push(moves(alloc, vec![in alloc; Move::Open(tickets), Move::Drive]?))?;
-    push_act(&mut phases, alloc, Act::Report)?;
-    push_move(&mut phases, alloc, Move::Drive)?;
+    let opened = vec![in alloc; Move::Open(tickets), Move::Drive]?;
+    phases.push(moves(alloc, opened))?;
+    push_act(phases, alloc, Act::Report)?;
+    push_move(phases, alloc, Move::Drive)?;
     phases.push(polls_beside_a_tick(alloc, &running, &polled)?)?;
-    push_move(&mut phases, alloc, Move::Poll)?;
-    let played = play_one(&rt, alloc, false, phases)?;
-    let mut replies = vec![in alloc; Reply::Opened]?;
+    push_move(phases, alloc, Move::Poll)
+}
+
+/// Adds what control's barrier answers in `local-claim-lasts`.
+fn push_replies(replies: &mut Vec<Reply>) -> Result<(), AllocError> {
+    replies.push(Reply::Opened)?;
     for _ in 0..20 {
         replies.push(Reply::Waits)?;
     }
     replies.push(Reply::Passed)?;
-    assert_eq!(rt; played.replies.as_slice(), replies.as_slice());
-    assert_eq!(rt;
-        receipts(alloc, &played.closed)?.as_slice(),
-        [(7, 1)].as_slice()
-    );
     Ok(())
+}
+
+#[test]
+fn local_claim_lasts(rt: HostRuntime) {
+    let alloc = rt.alloc();
+    let mut phases = Vec::new(alloc);
+    push_local_claim(&mut phases, alloc).expect(&rt, "memory");
+    let played = played(&rt, alloc, one(false), phases);
+    let mut replies = Vec::new(alloc);
+    push_replies(&mut replies).expect(&rt, "memory");
+    assert_same(&rt, played.replies, replies);
+    let wanted = vec![in alloc; (7, 1)].expect(&rt, "memory");
+    assert_receipts(&rt, alloc, &played.closed, wanted);
 }

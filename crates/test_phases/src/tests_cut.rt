@@ -1,13 +1,12 @@
 //! Rows of docs/specification/rows.md in threads: "A stop after any turn", and `passed-tickets`.
 
-use crate::tests::{Work, job};
+use crate::same::assert_same;
+use crate::tests::{Work, job, played};
 use rcu_jobs::{Closed, Ticket};
 use rcu_numbers::Shape;
-use rcu_parts::open;
 use std::alloc::{AllocError, Global};
-use std::test::Fail;
-use std::thread::Threads;
-use test_phases_harness::{Act, Move, Phase, Reply, Step, play};
+use std::process::Abort;
+use test_phases_harness::{Act, Move, Phase, Reply, Step};
 
 /// A call of a processor at its turn of this number: every second one is lazy. The job has the number as its key.
 fn call_of(alloc: Global, turn: u64) -> Result<Act<Work>, AllocError> {
@@ -40,6 +39,21 @@ fn add_turn(
     Ok(())
 }
 
+/// Adds so many turns of each of so many processors, and of the driver. The processors call in the first of them.
+fn add_turns(
+    alloc: Global,
+    phase: &mut Phase<Work>,
+    processors: usize,
+    turns: u64,
+    calls: u64,
+) -> Result<(), AllocError> {
+    for turn in 0..turns {
+        add_turn(alloc, &mut phase.steps, processors, turn, turn < calls)?;
+        phase.moves.push(Move::Drive)?;
+    }
+    Ok(())
+}
+
 /// A phase in which each of so many processors, and each other part, takes so many turns. The processors call in the first
 /// of them.
 fn turns(
@@ -51,10 +65,7 @@ fn turns(
     let mut phase = Phase::new(alloc);
     phase.group_turns = turns;
     phase.hand_turns = turns;
-    for turn in 0..turns {
-        add_turn(alloc, &mut phase.steps, processors, turn, turn < calls)?;
-        phase.moves.push(Move::Drive)?;
-    }
+    add_turns(alloc, &mut phase, processors, turns, calls)?;
     Ok(phase)
 }
 
@@ -80,48 +91,49 @@ fn is_whole(closed: &Closed<Work>, cpu: usize, accepted: u64) -> bool {
     number == accepted
 }
 
-/// Closes so many processors after so many turns of each part, and answers whether the end of each is whole.
-fn is_whole_after<R: Threads + Sync>(
-    rt: &R,
-    alloc: Global,
-    shape: Shape,
-    processors: usize,
-    many: u64,
-) -> Result<bool, Fail> {
-    let phases = vec![in alloc; turns(alloc, processors, many, many)?]?;
-    let played = play(rt, alloc, open(alloc, &shape.for_parts())?, phases)?;
+/// Whether of each of so many processors the end is whole, as `is_whole`.
+fn are_whole(closed: &Closed<Work>, processors: usize, accepted: u64) -> bool {
     for cpu in 0..processors {
-        if !is_whole(&played.closed, cpu, many) {
-            return Ok(false);
+        if !is_whole(closed, cpu, accepted) {
+            return false;
         }
     }
-    Ok(true)
+    true
+}
+
+/// The one phase in which each of so many processors, and each other part, takes so many turns, and calls in each.
+fn one_phase(alloc: Global, processors: usize, many: u64) -> Result<Vec<Phase<Work>>, AllocError> {
+    Ok(vec![in alloc; turns(alloc, processors, many, many)?]?)
 }
 
 // Each part has a thread of its own here.
 #[test]
-fn cut_threads(rt: HostRuntime) -> Result<(), Fail> {
-    let shape = Shape::new(1, 1, 1, 10, 10000, 100).ok_or("no shape")?;
+fn cut_threads(rt: HostRuntime) {
+    let shape = Shape::new(1, 1, 1, 10, 10000, 100);
     for many in 0..=40 {
-        assert!(rt;
-            is_whole_after(&rt, rt.alloc(), shape, 1, many)?,
-            "after {many} turns"
+        let phases = one_phase(rt.alloc(), 1, many).expect(&rt, "memory");
+        let played = played(&rt, rt.alloc(), shape, phases);
+        assert_same(
+            &rt,
+            (many, are_whole(&played.closed, 1, many)),
+            (many, true),
         );
     }
-    Ok(())
 }
 
 // Two of the processors are offloadable, in two groups.
 #[test]
-fn cut_threads_of_four_processors(rt: HostRuntime) -> Result<(), Fail> {
-    let shape = Shape::new(4, 0b0110, 2, 3, 5, 100).ok_or("no shape")?;
+fn cut_threads_of_four_processors(rt: HostRuntime) {
+    let shape = Shape::new(4, 0b0110, 2, 3, 5, 100);
     for many in 0..=40 {
-        assert!(rt;
-            is_whole_after(&rt, rt.alloc(), shape, 4, many)?,
-            "after {many} turns"
+        let phases = one_phase(rt.alloc(), 4, many).expect(&rt, "memory");
+        let played = played(&rt, rt.alloc(), shape, phases);
+        assert_same(
+            &rt,
+            (many, are_whole(&played.closed, 4, many)),
+            (many, true),
         );
     }
-    Ok(())
 }
 
 /// How many processors the row `passed-tickets` has, and how many tickets of each.
@@ -143,31 +155,41 @@ fn first_tickets(alloc: Global) -> Result<Vec<Ticket>, AllocError> {
     Ok(tickets)
 }
 
-/// A phase of many turns, in which control opens a barrier with these tickets and polls it after each turn of the driver.
-fn polled_turns(alloc: Global, tickets: Vec<Ticket>) -> Result<Phase<Work>, AllocError> {
-    let mut phase = turns(alloc, PROCESSORS, 200, 20)?;
+/// What control does that opens a barrier with these tickets and polls it after each of 200 turns of the driver.
+fn polls(alloc: Global, tickets: Vec<Ticket>) -> Result<Vec<Move>, AllocError> {
     let mut moves = vec![in alloc; Move::Open(tickets)]?;
     for _ in 0..200 {
         moves.push(Move::Drive)?;
         moves.push(Move::Poll)?;
     }
+    Ok(moves)
+}
+
+/// A phase of many turns, in which control opens a barrier with these tickets and polls it after each turn of the driver.
+fn polled_turns(alloc: Global, tickets: Vec<Ticket>) -> Result<Phase<Work>, AllocError> {
+    let moves = polls(alloc, tickets)?;
+    let mut phase = turns(alloc, PROCESSORS, 200, 20)?;
     phase.moves = moves;
     Ok(phase)
 }
 
-/// The phases of the row: the calls of the tickets; many turns with a barrier that has them; then as many phases of one
+/// A phase in which control polls.
+fn one_poll(alloc: Global) -> Result<Phase<Work>, AllocError> {
+    let mut phase = Phase::new(alloc);
+    phase.moves.push(Move::Poll)?;
+    Ok(phase)
+}
+
+/// Adds the phases of the row: the calls of the tickets; many turns with a barrier that has them; then as many phases of one
 /// turn as always suffice, and one more poll.
-fn ticket_phases(alloc: Global) -> Result<Vec<Phase<Work>>, AllocError> {
-    let mut phases = Vec::new(alloc);
+fn push_ticket_phases(phases: &mut Vec<Phase<Work>>, alloc: Global) -> Result<(), AllocError> {
     phases.push(turns(alloc, PROCESSORS, TICKETS, TICKETS)?)?;
     phases.push(polled_turns(alloc, first_tickets(alloc)?)?)?;
     for _ in 0..20 {
         phases.push(turns(alloc, PROCESSORS, 1, 0)?)?;
     }
-    let mut last = Phase::new(alloc);
-    last.moves.push(Move::Poll)?;
-    phases.push(last)?;
-    Ok(phases)
+    phases.push(one_poll(alloc)?)?;
+    Ok(())
 }
 
 /// Whether control's barrier was opened, and passed at last, and once it had passed never waited again.
@@ -183,20 +205,23 @@ fn has_passed(replies: &[Reply]) -> bool {
     passed && replies.first() == Some(&Reply::Opened)
 }
 
-#[test]
-fn passed_tickets(rt: HostRuntime) -> Result<(), Fail> {
-    let alloc = rt.alloc();
-    let shape = Shape::new(4, 0b1110, 2, 10, 10000, 100).ok_or("no shape")?;
-    let phases = ticket_phases(alloc)?;
-    let played = play(&rt, alloc, open(alloc, &shape.for_parts())?, phases)?;
-    assert!(rt; has_passed(played.replies.as_slice()));
-    for ticket in first_tickets(alloc)?.iter() {
-        let ran = played
-            .closed
-            .ran
-            .get(ticket.cpu as usize)
-            .ok_or("no records")?;
-        assert!(rt; ran.iter().any(|record| record.number == ticket.number));
+/// That the callbacks of these tickets ran.
+fn assert_all_ran(rt: &impl Abort, closed: &Closed<Work>, tickets: &[Ticket]) {
+    for ticket in tickets {
+        let ran = closed.ran.get(ticket.cpu as usize).expect(rt, "records");
+        let found = ran.iter().any(|record| record.number == ticket.number);
+        assert_same(rt, (*ticket, found), (*ticket, true));
     }
-    Ok(())
+}
+
+#[test]
+fn passed_tickets(rt: HostRuntime) {
+    let alloc = rt.alloc();
+    let mut phases = Vec::new(alloc);
+    push_ticket_phases(&mut phases, alloc).expect(&rt, "memory");
+    let shape = Shape::new(4, 0b1110, 2, 10, 10000, 100);
+    let played = played(&rt, alloc, shape, phases);
+    assert_same(&rt, has_passed(played.replies.as_slice()), true);
+    let tickets = first_tickets(alloc).expect(&rt, "memory");
+    assert_all_ran(&rt, &played.closed, tickets.as_slice());
 }
