@@ -1,6 +1,7 @@
 //! A run of all parts: each processor calls in a thread of its own, and then all of them run until a barrier has passed.
 
 use crate::calls::{join_callers, join_processors, start_callers, start_processors};
+use crate::helper::{Helper, start_helper};
 use crate::jobs::{Work, nanoseconds};
 use crate::plan::Plan;
 use rcu_parts::{AllParts, Control, Hand, Parts, Processor};
@@ -69,8 +70,16 @@ fn ran_by(hands: &[Hand<Work>]) -> u64 {
     ran
 }
 
-/// Runs all parts by a plan. None where a thread can't be made, or for want of memory.
-pub fn measure<R: Threads + Wait + Clock + Copy + Send + 'static>(
+/// The figures with what hands ran, of a run that came to its end.
+fn with_hands(figures: Option<Figures>, hands: &[Hand<Work>]) -> Option<Figures> {
+    let mut figures = figures?;
+    figures.ran = figures.ran.saturating_add(ran_by(hands));
+    Some(figures)
+}
+
+/// Runs all parts by a plan, driver, groups and hands in a thread each. None where a thread can't be made, or for want of
+/// memory.
+fn measure_threads<R: Threads + Wait + Clock + Copy + Send + 'static>(
     rt: &R,
     alloc: Global,
     parts: Parts<Work>,
@@ -93,7 +102,46 @@ pub fn measure<R: Threads + Wait + Clock + Copy + Send + 'static>(
     let Ok(hands) = join_all(rt, hands) else {
         return None;
     };
-    let mut figures = figures?;
-    figures.ran = figures.ran.saturating_add(ran_by(hands.as_slice()));
-    Some(figures)
+    with_hands(figures, hands.as_slice())
+}
+
+/// Runs all parts by a plan, driver, groups and hands in one thread. None where a thread can't be made, or for want of
+/// memory.
+fn measure_helper<R: Threads + Wait + Clock + Copy + Send + 'static>(
+    rt: &R,
+    alloc: Global,
+    parts: Parts<Work>,
+    plan: Plan,
+) -> Option<Figures> {
+    let AllParts {
+        processors,
+        driver,
+        groups,
+        hands,
+        mut control,
+    } = parts;
+    let helper = Helper {
+        driver,
+        groups,
+        hands,
+    };
+    let thread = start_helper(rt, helper)?;
+    let figures = call_and_drain(rt, alloc, &mut control, processors, plan);
+    control.finish();
+    let helper = thread.join(rt);
+    with_hands(figures, helper.hands.as_slice())
+}
+
+/// Runs all parts by a plan. None where a thread can't be made, or for want of memory.
+pub fn measure<R: Threads + Wait + Clock + Copy + Send + 'static>(
+    rt: &R,
+    alloc: Global,
+    parts: Parts<Work>,
+    plan: Plan,
+) -> Option<Figures> {
+    if plan.one_helper {
+        measure_helper(rt, alloc, parts, plan)
+    } else {
+        measure_threads(rt, alloc, parts, plan)
+    }
 }

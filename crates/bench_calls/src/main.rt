@@ -25,6 +25,7 @@ ghost use Rattle.bench_calls.specs.declared.Fault.TheVariants.{CannotRun, Refuse
 
 mod calls;
 mod figures;
+mod helper;
 mod jobs;
 mod latency;
 mod plan;

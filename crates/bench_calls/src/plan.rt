@@ -66,6 +66,8 @@ pub struct Plan {
     pub offloaded: bool,
     /// Whether each job is allocated for its call.
     pub boxed: bool,
+    /// Whether one thread turns the driver, the groups and the hands.
+    pub one_helper: bool,
     /// Whether the times are printed.
     pub times: bool,
     /// How many processors there are, each with a thread.
@@ -158,6 +160,11 @@ fn common<'a>(alloc: Global) -> Result<clap::Command<'a>, AllocError> {
 /// The command line.
 fn command<'a>(alloc: Global) -> Result<clap::Command<'a>, AllocError> {
     common(alloc)?
+        .arg(flag(
+            alloc,
+            "one-helper",
+            "one thread turns driver, groups and hands",
+        ))?
         .arg(number(alloc, "threads", 1, "the processors, each with a thread"))?
         .arg(number(alloc, "stride", 1, "the neighbouring processors of a group"))?
         .arg(number(alloc, "blimit", 1, "the callbacks of a turn"))?
@@ -184,6 +191,7 @@ pub fn read_plan(alloc: Global, words: &[String]) -> Result<Plan, Refusal> {
         latency: matches.get_flag("latency"),
         offloaded: matches.get_flag("offloaded"),
         boxed: matches.get_flag("boxed"),
+        one_helper: matches.get_flag("one-helper"),
         times: matches.get_flag("times"),
         threads: matches.get_one("threads").unwrap_or(1),
         stride: matches.get_one("stride"),
