@@ -1,22 +1,25 @@
 -- How a group keeps its law, and what its turn comes to.
-use Rattle.std.proofs.Common.{◌≡◌, ◌⊎◌, inl, inr, ℕ, ◌*◌, sum, ◌<◌, ◌≤◌, Bool, true, false, IsTrue, cond, List, [], ◌∷◌, ◌++◌, map, length, length-append, append-nil, append_assoc, Option, Some, None, IfSome, ap, sym, ◌∙◌, refl, subst, arith}
+use Rattle.std.proofs.Common.{◌≡◌, ◌⊎◌, inl, inr, ℕ, ◌+◌, ◌*◌, sum, ◌<◌, ◌≤◌, Bool, true, false, IsTrue, cond, List, [], ◌∷◌, ◌++◌, map, length, length-append, append-nil, append_assoc, Option, Some, None, IfSome, ap, sym, ◌∙◌, refl, subst, arith}
 use Rattle.std.specs.List.{All, AllPairs, AllZip}
 use Rattle.std.proofs.Math.Nat.{mul-suc}
 use Rattle.std.proofs.lemmas.List.{append_cancel_left}
 use Rattle.std.proofs.lemmas.List.Elements.{All-nil, All-cons, All-tail, All-append, All-weaker, length_all_zip}
 use Rattle.std.proofs.lemmas.List.Sums.{sum_by-cons}
 use Rattle.rcu_board.specs.Plays.{looked, stamp_own, touched}
-use Rattle.rcu_board.specs.Seats.{NeverFalls}
+use Rattle.rcu_board.specs.Seats.{view, AtBoard, NeverFalls, SameSeat}
 use Rattle.rcu_board.specs.Views.{seen_at, sight}
 use Rattle.rcu_board.specs.Words.{needed_word}
+use Rattle.rcu_board.specs.declared.board.Board.{Board as Table}
+use Rattle.rcu_board.specs.declared.board.Seat.{Seat}
 use Rattle.rcu_board.specs.declared.view.View.{View}
 use Rattle.rcu_board.proofs.Stepping.{same_again}
 use Rattle.rcu_board.specs.Frames.{IsBare, KeepsLists}
 use Rattle.rcu_part_lists.specs.Aims.{AreUpTo, is_up_to, aim, wanted, looked as list_looked}
-use Rattle.rcu_part_lists.specs.MemberLists.{most_batches, Relay, relay, TakesIn, Gives, Loads, Hands}
+use Rattle.rcu_part_lists.specs.MemberLists.{most_batches, Relay, relay, front_of, rear_of, TakesIn, after_look, Gives, GivesSome, Loads, Hands}
 use Rattle.rcu_part_lists.proofs.Aims.{up-raised, look-needed}
 use Rattle.rcu_part_lists.specs.declared.member_lists.MemberLists.{MemberLists}
 use Rattle.rcu_jobs.specs.declared.callback.Callback.{Callback}
+use Rattle.rcu_lanes.specs.Ends.{SameFront, SameRear}
 use Rattle.rcu_lists.specs.Labels.{Labelled, Done, Bare, marked, callbacks_of, carries}
 use Rattle.rcu_part_group.specs.Each.{Each, Sums}
 use Rattle.rcu_part_group.specs.GroupLaw.{AreMembers, IsLawfulGroup, relay_of}
@@ -84,6 +87,13 @@ module _ {J : Type 0} where
       (h.0, h.1 ∙ ap (λ l. l ++ h.0) k.2, h.2, h.3 ∙ k.1, h.4 ∙ k.0)
 
   -- no more than a processor accepts
+  pub takes_few : (took : ℕ) (m n : MemberLists J) → TakesIn most_batches took (relay m) (relay n) → took ≤ 9007199254740992
+  takes_few took m n t = omega (arith, n.few, ap length t.received, length-append (relay m).received t.got, t.number)
+
+  pub waits_few : (m : MemberLists J) → length (relay m).drawn + length (relay m).out ≤ 9007199254740992
+  waits_few m = let r = relay m in
+      omega (arith, m.few, ap length m.order, length-append r.put (r.out ++ (callbacks_of r.list ++ r.drawn)), length-append r.out (callbacks_of r.list ++ r.drawn), length-append (callbacks_of r.list) r.drawn)
+
   pub gives_few : (most gave : ℕ) (m n : MemberLists J) → Gives most gave (relay m) (relay n) → gave ≤ 9007199254740992
   gives_few most gave m n g = let p = gives_put most gave (relay m) (relay n) g in let r = relay n in
       omega (arith, n.few, ap length n.order, length-append r.put (r.out ++ (callbacks_of r.list ++ r.drawn)), ap length p.1, length-append (relay m).put p.0, p.2)
@@ -97,7 +107,7 @@ module _ {J : Type 0} where
   hands_within most gave o n (inl p) h = (omega (arith, h, p.0), omega (arith, ap (λ (r : Relay J). length r.out) p.1))
   hands_within most gave o n (inr p) h = (omega (arith, p.0), omega (arith, h, ap (λ (r : Relay J). length r.out) p.1))
 
-  pub gives_within : (most gave : ℕ) (o n : Relay J) → Gives most gave o n → length o.out ≤ most → gave ≤ most
+  gives_within : (most gave : ℕ) (o n : Relay J) → Gives most gave o n → length o.out ≤ most → gave ≤ most
   gives_within most gave o n g h = (hands_within most gave g.between n g.hands (loads_within most o g.between g.loads h)).0
 
   gives_left : (most gave : ℕ) (o n : Relay J) → Gives most gave o n → length o.out ≤ most → length n.out ≤ most
@@ -120,6 +130,31 @@ module _ {J : Type 0} where
   pub within_same : (gave : ℕ) (p q : GroupState J) → SameGroup p q → gave ≤ q.blimit * length (members_of q) → gave ≤ p.blimit * length (members_of p)
   within_same gave p q same few = subst (λ (k : ℕ). gave ≤ k * length (members_of p)) same.blimit
       (subst (λ (k : ℕ). gave ≤ q.blimit * k) (sym (length_all_zip SameGroupMember (members_of p) (members_of q) same.members)) few)
+
+  -- ---- what its lists do, a member does
+
+  pub takes_from : (took : ℕ) (m : GroupMember J) (n : MemberLists J) → SameFront (front_of m.member) (front_of n) × (rear_of n ≡ rear_of m.member) → TakesIn most_batches took (relay m.member) (relay n) → TakesFrom took m (record m { member = n })
+  takes_from took m n lanes takes = record {
+    same = record { cpu = refl; front = lanes.0; rear = subst (λ r. SameRear (rear_of m.member) r) (sym lanes.1) refl };
+    takes = takes;
+  }
+
+  pub gives_to : (blimit gave : ℕ) (m : GroupMember J) (n : MemberLists J) → (front_of n ≡ front_of m.member) × SameRear (rear_of m.member) (rear_of n) → Gives blimit gave (relay m.member) (relay n) → GivesSome blimit gave (relay m.member)
+      → length (relay_of m).out ≤ blimit → GivesTo blimit gave m (record m { member = n })
+  gives_to blimit gave m n lanes gives some loaded = record {
+    same = record { cpu = refl; front = subst (λ r. SameFront (front_of m.member) r) (sym lanes.0) refl; rear = lanes.1 };
+    gives = gives;
+    few = gives_within blimit gave (relay m.member) (relay n) gives loaded;
+    some = some;
+  }
+
+  pub looks_at : (seen : ℕ) (wants : Option ℕ) (m : GroupMember J) (n : MemberLists J) → (front_of n ≡ front_of m.member) × (rear_of n ≡ rear_of m.member) → relay n ≡ after_look seen (relay m.member) → wants ≡ wanted seen (relay m.member).list
+      → LooksAt seen wants m (record m { member = n })
+  looks_at seen wants m n lanes list wants_is = record {
+    same = record { cpu = refl; front = subst (λ r. SameFront (front_of m.member) r) (sym lanes.0) refl; rear = subst (λ r. SameRear (rear_of m.member) r) (sym lanes.1) refl };
+    list = list;
+    wants_is = wants_is;
+  }
 
   -- ---- places
 
@@ -161,7 +196,7 @@ module _ {J : Type 0} where
   same_group_member_again : (l m n : GroupMember J) → SameGroupMember l m → SameGroupMember m n → SameGroupMember l n
   same_group_member_again l m n a b = record { cpu = b.cpu ∙ a.cpu; front = b.front ∙ a.front; rear = b.rear ∙ a.rear }
 
-  same_group_members_again : (ls ms ns : List (GroupMember J)) → AllZip SameGroupMember ls ms → AllZip SameGroupMember ms ns → AllZip SameGroupMember ls ns
+  pub same_group_members_again : (ls ms ns : List (GroupMember J)) → AllZip SameGroupMember ls ms → AllZip SameGroupMember ms ns → AllZip SameGroupMember ls ns
   same_group_members_again ls ms ns a b = zip_again SameGroupMember same_group_member_again ls ms ns a b
 
   pub takes_same : (took : ℕ) (ms ns : List (GroupMember J)) → Sums TakesFrom took ms ns → AllZip SameGroupMember ms ns
@@ -246,7 +281,7 @@ module _ {J : Type 0} where
       subst (λ (r : Relay J). AreUpTo t r.list) (sym l.list)
       (look-needed seen t xs (wants_upto t (aim seen xs) (carries (aim seen xs) (list_looked seen xs)) wanted_below) (up-raised s t xs le h))
 
-  pub lawful_looks : (r seen : ℕ) (v w : View) (blimit : ℕ) (most : Option ℕ) (ms ns : List (GroupMember J)) → KeepsLists (looked r v) w → sight w ≡ seen → seen_at v needed_word ≤ seen_at w needed_word
+  lawful_looks : (r seen : ℕ) (v w : View) (blimit : ℕ) (most : Option ℕ) (ms ns : List (GroupMember J)) → KeepsLists (looked r v) w → sight w ≡ seen → seen_at v needed_word ≤ seen_at w needed_word
       → IfSome most (λ n. n ≤ seen_at w needed_word) → LooksAtAll seen most ms ns → IsLawfulGroup v blimit ms → IsLawfulGroup w blimit ns
   lawful_looks r seen v w blimit most ms ns k at later below a l = record {
     bare = bare_looked r v w k l.bare;
@@ -259,6 +294,13 @@ module _ {J : Type 0} where
     loaded = each_all (LooksAt seen) (λ _. Unit {0}) (λ m. length (relay_of m).out ≤ blimit) (λ m. length (relay_of m).out ≤ blimit)
         (λ n x y q t h. omega (arith, h, ap (λ (z : Relay J). length z.out) q.list)) a.wants ms ns a.members (always a.wants) l.loaded;
   }
+
+  -- the same, by what the look and the ask say of the seat: r before them, s between, t behind
+  pub lawful_asks : (b : Table) (r s t : Seat) (seen blimit : ℕ) (most : Option ℕ) (ms ns : List (GroupMember J)) → AtBoard b r → SameSeat r s → view s ≡ looked seen (view r) → seen ≡ sight (view s)
+      → SameSeat s t → KeepsLists (view s) (view t) → sight (view t) ≡ sight (view s) → IfSome most (λ n. n ≤ seen_at (view t) needed_word) → LooksAtAll seen most ms ns → IsLawfulGroup (view r) blimit ms
+      → IsLawfulGroup (view t) blimit ns
+  lawful_asks b r s t seen blimit most ms ns at same looks is again keeps stays below a l = lawful_looks seen seen (view r) (view t) blimit most ms ns
+      (subst (λ (x : View). KeepsLists x (view t)) looks keeps) (stays ∙ sym is) (let x = (same.later b at).needed in let y = (again.later b (same.table ∙ at)).needed in omega arith) below a l
 
   -- before any step
   pub lawful_first : (v : View) (blimit : ℕ) (ms : List (GroupMember J)) → IsBare v → AreMembers ms → All (λ (m : GroupMember J). IsEmptyGroupMember m) ms → IsLawfulGroup v blimit ms

@@ -8,53 +8,16 @@ ghost use Rattle.rcu_board.specs.Views.{seen_at, sight, tally};
 ghost use Rattle.rcu_board.specs.Words.{board_word, needed_word};
 ghost use Rattle.rcu_board.specs.Frames.{KeepsLists};
 ghost use Rattle.rcu_numbers.specs.declared.sequence.TheConstants.{LAST_NUMBER};
-ghost use Rattle.rcu_numbers.specs.declared.shape.TheConstants.{MOST_CALLS};
 ghost use Rattle.rcu_numbers.specs.declared.set.TheConstants.{PARTS_PROCESSORS};
 ghost use Rattle.rcu_part_group.specs.Each.{IsGreatest, Sums};
-ghost use Rattle.rcu_part_group.specs.GroupLaw.{AreAdvancedTo, AreLoadedUpTo, AreWaitingTo, group_members_in, relay_of};
-ghost use Rattle.rcu_part_group.specs.Groups.{AsksFor, GivesTo, GivesToAll, LooksAt, LooksAtAll, LooksOnce, PassesOn, SameGroup, ShownFor, TakesFrom, TakesInAll, TurnsGroup, group_view, members_of, waiting_of};
+ghost use Rattle.rcu_part_group.specs.GroupLaw.{AreAdvancedTo, AreLoadedUpTo, AreWaitingTo, group_members_in};
+ghost use Rattle.rcu_part_group.specs.Groups.{AsksFor, GivesTo, LooksAtAll, PassesOn, SameGroup, ShownFor, TakesFrom, TurnsGroup, group_view, members_of, waiting_of};
 
 use crate::group::Group;
-use crate::members::{GroupMember, GroupMembers};
+use crate::members::GroupMembers;
 use rcu_board::{Board, Seat, need};
 use rcu_jobs::{GroupTurn, Job, Lists};
 use rcu_part_steps::look_at_number;
-
-impl<J: Drop> GroupMember<J> {
-    // Draws what came of the member. Answers how many callbacks.
-    fn take_in(&mut self) -> u64
-        ensures takes { TakesFrom result self.old self.new }
-        ensures few { result ≤ MOST_CALLS }
-    {
-        self.member.take_in()
-    }
-
-    // Looks at the member's list by the number seen. Answers the number that it wants.
-    fn look(&mut self, seen: u64) -> Option<u64>
-        requires later { (relay_of self.old).advanced ≤ seen }
-        requires small { seen ≤ LAST_NUMBER }
-        ensures { LooksAt seen result self.old self.new }
-    {
-        self.member.look(seen)
-    }
-
-    // Gives what is done to the member's hand. Answers how many callbacks.
-    fn give(&mut self, blimit: u64) -> u64
-        requires loaded { length (relay_of self.old).out ≤ blimit }
-        ensures gives { GivesTo blimit result self.old self.new }
-        ensures few { result ≤ MOST_CALLS }
-    {
-        self.member.give(blimit)
-    }
-
-    // How many callbacks of the member wait in batches.
-    fn waiting(&self) -> u64
-        ensures waits { result ≡ waiting_of self.now }
-        ensures few { result ≤ MOST_CALLS }
-    {
-        self.member.held()
-    }
-}
 
 // The greater of two numbers, or the one that is there.
 fn greatest(first: Option<u64>, second: Option<u64>) -> Option<u64>
@@ -73,10 +36,10 @@ impl<J: Drop> GroupMembers<J> {
         requires { length (group_members_in self.old) ≤ PARTS_PROCESSORS }
         ensures { Sums TakesFrom result (group_members_in self.old) (group_members_in self.new) }
     {
-        let first = self.first.take_in();
+        let first = self.first.member.take_in();
         let mut took = 0;
         for group_member in self.others.iter_mut() {
-            took += group_member.take_in();
+            took += group_member.member.take_in();
         }
         first + took
     }
@@ -87,10 +50,10 @@ impl<J: Drop> GroupMembers<J> {
         requires small { seen ≤ LAST_NUMBER }
         ensures { LooksAtAll seen result (group_members_in self.old) (group_members_in self.new) }
     {
-        let first = self.first.look(seen);
+        let first = self.first.member.look(seen);
         let mut most = first;
         for group_member in self.others.iter_mut() {
-            let wanted = group_member.look(seen);
+            let wanted = group_member.member.look(seen);
             most = greatest(most, wanted);
         }
         most
@@ -103,10 +66,10 @@ impl<J: Drop> GroupMembers<J> {
         ensures { Sums (GivesTo blimit) result (group_members_in self.old)
             (group_members_in self.new) }
     {
-        let first = self.first.give(blimit);
+        let first = self.first.member.give(blimit);
         let mut gave = 0;
         for group_member in self.others.iter_mut() {
-            gave += group_member.give(blimit);
+            gave += group_member.member.give(blimit);
         }
         first + gave
     }
@@ -116,10 +79,10 @@ impl<J: Drop> GroupMembers<J> {
         requires { length (group_members_in self.now) ≤ PARTS_PROCESSORS }
         ensures { result ≡ sum_by waiting_of (group_members_in self.now) }
     {
-        let first = self.first.waiting();
+        let first = self.first.member.held();
         let mut waiting = 0;
         for group_member in &self.others {
-            waiting += group_member.waiting();
+            waiting += group_member.member.held();
         }
         first + waiting
     }
@@ -157,37 +120,6 @@ fn want(board: &Board, seat: &mut Seat, most: Option<u64>)
 }
 
 impl<J: Job> Group<J> {
-    // The draws of a turn. Answers how many callbacks were drawn.
-    fn take_in(&mut self) -> u64
-        ensures same { SameGroup self.old.state self.new.state }
-        ensures takes { TakesInAll result self.old.state self.new.state }
-    {
-        self.state.members.take_in()
-    }
-
-    // The look of a turn, and its ask.
-    fn look(&mut self)
-        ensures same { SameGroup self.old.state self.new.state }
-        ensures looks { LooksOnce self.old.state self.new.state }
-        ensures fresh { tally (group_view self.new.state) board_word
-            ≡ tally (group_view self.old.state) board_word + 1 }
-    {
-        let state = &mut self.state;
-        let seen = look_at_number(&state.board, &mut state.seat);
-        let most = state.members.look(seen);
-        want(&state.board, &mut state.seat, most);
-    }
-
-    // What a turn gives. Answers how many callbacks were put on done lanes.
-    fn give(&mut self) -> u64
-        ensures same { SameGroup self.old.state self.new.state }
-        ensures gives { GivesToAll result self.old.state self.new.state }
-        ensures few { result ≤ self.old.state.blimit * length (members_of self.old.state) }
-    {
-        let state = &mut self.state;
-        state.members.give(state.blimit)
-    }
-
     /// A turn: for each member batches are drawn, each joined to the end of its list; then one look, by which each list
     /// is advanced and accelerated, and one ask for the greatest number that is wanted; then for each member up to
     /// `blimit` done callbacks go to its hand as one batch. What is refused waits for the next turn.
@@ -207,10 +139,13 @@ impl<J: Job> Group<J> {
         ensures fresh { tally (group_view self.new.state) board_word
             ≡ tally (group_view self.old.state) board_word + 1 }
     {
-        let took = self.take_in();
-        self.look();
-        let gave = self.give();
-        let held = self.state.members.waiting();
+        let state = &mut self.state;
+        let took = state.members.take_in();
+        let seen = look_at_number(&state.board, &mut state.seat);
+        let most = state.members.look(seen);
+        want(&state.board, &mut state.seat, most);
+        let gave = state.members.give(state.blimit);
+        let held = state.members.waiting();
         GroupTurn { took, gave, held }
     }
 }
