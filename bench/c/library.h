@@ -9,7 +9,6 @@
 #define BENCH_LIBRARY_H
 
 #include <pthread.h>
-#include <sched.h>
 #include <stdatomic.h>
 #include <stdbool.h>
 #include <stdint.h>
@@ -92,7 +91,9 @@ static bool library_drive_if_free(void) {
     return moved;
 }
 
+/* A helper that found nothing to do sleeps, as liburcu's does: one that spins takes a processor from those that call. */
 static void *library_help(void *helper) {
+    const struct timespec pause = {0, 100000};
     const struct library_helper *self = helper;
     while (!library_stopped()) {
         bool moved = library_drive_if_free();
@@ -100,7 +101,7 @@ static void *library_help(void *helper) {
             moved |= library_group(&library_parts.groups[p]);
             moved |= library_hand(&library_parts.hands[p]);
         }
-        if (!moved) sched_yield();
+        if (!moved) nanosleep(&pause, NULL);
     }
     return NULL;
 }
