@@ -1,7 +1,8 @@
-//! What each kind of step on a board costs, by one thread alone and beside a second thread that steps on the same word.
+//! What each kind of step on a board costs, alone and beside a thread on the same word, and what crosses a lane a second.
 //!
-//! With the argument `time` the program prints nanoseconds. Without it, each row makes a fixed number of steps, and the
-//! program says how many rows made all of them.
+//! With the argument `time` the program prints nanoseconds of the steps, and then the rates of the lane. Without it, each row
+//! makes a fixed number of steps, and the program says how many rows made all of them; then it hands over a fixed number of
+//! items, and says how many came, each once and in order.
 //!
 //! # What is proved
 //!
@@ -15,6 +16,7 @@
 #![tactic(auto)]
 
 mod kinds;
+mod lanes;
 mod measure;
 mod rows;
 mod seats;
@@ -30,12 +32,13 @@ fn main(rt: HostRuntime) -> io::Result<()> {
             prints: true,
         };
         let _rows = rows::all(&rt, alloc, plan)?;
-        return Ok(());
+        return lanes::time(&rt, alloc);
     }
     let plan = Plan {
         rounds: 1000,
         prints: false,
     };
     let rows = rows::all(&rt, alloc, plan)?;
-    println!(rt; "{rows} rows of 1000 rounds alone and 1000 beside a second thread")
+    println!(rt; "{rows} rows of 1000 rounds alone and 1000 beside a second thread")?;
+    lanes::count(&rt, alloc)
 }

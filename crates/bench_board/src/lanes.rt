@@ -1,8 +1,4 @@
 //! How many items a second cross a lane from one thread to another.
-//!
-//! With the argument `time` the program prints the figures. Without it, it hands over a fixed number of items and says how
-//! many came, each once and in order.
-#![tactic(auto)]
 
 ghost use Rattle.rcu_lanes.specs.Ends.{SameRear, SameFront};
 
@@ -14,7 +10,7 @@ use std::sync::Wait;
 use std::sync::atomic::{AtomicBool, Ordering};
 use std::thread::Threads;
 use std::time::Instant;
-use std::{env, io, thread};
+use std::{io, thread};
 
 /// 64 bytes, of which the first eight are the item's number.
 #[derive(Drop)]
@@ -144,13 +140,18 @@ fn time_crossing<X: Load, R: Threads + Wait + Sync + Clock + Print>(
     )
 }
 
-fn main(rt: HostRuntime) -> io::Result<()> {
-    let alloc = rt.alloc();
-    if env::args(&rt)?.any(|word| word.as_str() == "time") {
-        time_crossing(&rt, alloc, "items of 64 bytes", items(alloc, 1_000_000)?)?;
-        return time_crossing(&rt, alloc, "batches of 64 items", batches(alloc, 20_000)?);
-    }
-    let single = cross(&rt, alloc, items(alloc, 10_000)?)?;
-    let batched = cross(&rt, alloc, batches(alloc, 500)?)?;
+/// Prints how many items, and how many batches, crossed a second.
+pub(crate) fn time<R: Threads + Wait + Sync + Clock + Print>(
+    rt: &R,
+    alloc: Global,
+) -> io::Result<()> {
+    time_crossing(rt, alloc, "items of 64 bytes", items(alloc, 1_000_000)?)?;
+    time_crossing(rt, alloc, "batches of 64 items", batches(alloc, 20_000)?)
+}
+
+/// Hands over a fixed number of items and of batches, and prints how many came, each once and in order.
+pub(crate) fn count<R: Threads + Wait + Sync + Print>(rt: &R, alloc: Global) -> io::Result<()> {
+    let single = cross(rt, alloc, items(alloc, 10_000)?)?;
+    let batched = cross(rt, alloc, batches(alloc, 500)?)?;
     println!(rt; "{single} items and {batched} batches crossed in order")
 }
