@@ -26,6 +26,3 @@ pub use counts::Counts;
 pub use job::Job;
 pub use modes::Mode;
 pub use turns::{DriverTurn, GroupTurn, HandTurn, Lists, Stop, Ticked};
-
-#[cfg(test)]
-mod tests;

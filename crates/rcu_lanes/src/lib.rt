@@ -21,6 +21,3 @@ mod whole;
 pub use ends::{Draw, FIRST_SLOTS, Front, Rear, Rest};
 pub use rule::{Anything, Rule};
 pub use whole::{lane, rest, ruled_lane};
-
-#[cfg(test)]
-mod tests;

@@ -34,6 +34,3 @@ pub use shape::{
     Shape, default_stride,
 };
 pub use word::{BoardWord, all_but, all_processors, first_bits, word_laws};
-
-#[cfg(test)]
-mod tests;

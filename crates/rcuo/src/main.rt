@@ -12,8 +12,6 @@
 
 ghost use Rattle.std.specs.Prelude.{◌≡◌};
 
-#[cfg(test)]
-mod tests_threads;
 mod threaded;
 
 use rcu_jobs::BoxedJob;

@@ -1,31 +1,33 @@
 //! Lanes, in one thread and between two.
 
-ghost use Rattle.std.specs.Prelude.{◌≡◌, ◌<◌, ◌≤◌, All, IfSome};
+ghost use Rattle.std.specs.Prelude.{◌≡◌, ◌<◌, ◌≤◌, All};
 ghost use Rattle.rcu_lanes.specs.Ends.{SameRear, SameFront, items_put, items_drawn};
 
-use super::*;
+use crate::tests::expect;
+use rcu_lanes::{Draw, Front, Rear, Rest, Rule, lane, rest, ruled_lane};
+use std::alloc::{AllocError, Global};
 use std::sync::Wait;
-use std::test::Fail;
 use std::thread;
 
 #[test]
-fn lane_order(rt: HostRuntime) -> Result<(), Fail> {
-    let (mut front, mut rear) = lane(rt.alloc())?;
-    assert_eq!(rt; front.draw(), Draw::Empty);
-    assert_eq!(rt;
-        (rear.put(1u64), rear.put(2), rear.put(3)),
-        (Ok(()), Ok(()), Ok(()))
-    );
-    assert_eq!(rt; (front.draw(), front.draw()), (Draw::Got(1), Draw::Got(2)));
+fn lane_order(rt: HostRuntime) {
+    let (mut front, mut rear) = lane(rt.alloc()).expect(&rt, "memory");
+    let early = front.draw();
+    let put = [rear.put(1u64), rear.put(2), rear.put(3)];
+    let drawn = [early, front.draw(), front.draw()];
     let mut left = rest(front, rear);
-    assert_eq!(rt;
-        (left.take(), left.take(), left.take()),
-        (Some(3), None, None)
+    let left = [left.take(), left.take(), left.take()];
+    expect(&rt, "put", put, [Ok(()), Ok(()), Ok(())]);
+    expect(
+        &rt,
+        "drawn",
+        drawn,
+        [Draw::Empty, Draw::Got(1), Draw::Got(2)],
     );
-    Ok(())
+    expect(&rt, "left", left, [Some(3), None, None]);
 }
 
-// Puts the numbers below `count` in order, and counts the refusals. What a refused put hands back is put again.
+/// Puts the numbers below `count` in order, and counts the refusals. What a refused put hands back is put again.
 fn put_all<R: Wait>(rt: &R, mut rear: Rear<u64>, count: u64) -> (Rear<u64>, u64)
     ensures { SameRear rear result.0 }
 {
@@ -46,7 +48,7 @@ fn put_all<R: Wait>(rt: &R, mut rear: Rear<u64>, count: u64) -> (Rear<u64>, u64)
     (rear, refusals)
 }
 
-// Draws until `count` items came, or one that is out of order. Answers how many came in order.
+/// Draws until `count` items came, or one that is out of order. Answers how many came in order.
 fn draw_all<R: Wait>(rt: &R, mut front: Front<u64>, count: u64) -> (Front<u64>, u64)
     ensures { SameFront front result.0 }
 {
@@ -65,7 +67,7 @@ fn draw_all<R: Wait>(rt: &R, mut front: Front<u64>, count: u64) -> (Front<u64>, 
     (front, next)
 }
 
-// Takes all that is left, from `next` on. Answers the number after the last that was in order.
+/// Takes all that is left, from `next` on. Answers the number after the last that was in order.
 fn take_all(mut left: Rest<u64>, next: u64, count: u64) -> u64 {
     for item in next..count {
         if left.take() != Some(item) {
@@ -80,8 +82,8 @@ const CROSSING: u64 = 100_000;
 const DRAWN: u64 = 90_000;
 
 #[test]
-fn from_one_thread_to_another(rt: HostRuntime) -> Result<(), Fail> {
-    let (front, rear) = lane(rt.alloc())?;
+fn from_one_thread_to_another(rt: HostRuntime) {
+    let (front, rear) = lane(rt.alloc()).expect(&rt, "memory");
     let runtime = &rt;
     let ((rear, _refusals), (front, drawn)) = thread::join(
         runtime,
@@ -92,20 +94,19 @@ fn from_one_thread_to_another(rt: HostRuntime) -> Result<(), Fail> {
             ensures { SameFront front result.0 }
         { draw_all(runtime, front, DRAWN) },
     );
-    assert_eq!(rt; drawn, DRAWN);
-    assert_eq!(rt; take_all(rest(front, rear), DRAWN, CROSSING), CROSSING);
-    Ok(())
+    let left = take_all(rest(front, rear), DRAWN, CROSSING);
+    expect(&rt, "drawn, left", [drawn, left], [DRAWN, CROSSING]);
 }
 
 // `rt try --test --fail-alloc N` refuses the allocation N alone. The first three are those of `lane`; each further one is of
 // a put, which hands its item back and leaves the lane as it was, and the next put finds the room.
 #[test]
-fn a_refused_put_hands_its_item_back(rt: HostRuntime) -> Result<(), Fail> {
-    let (front, rear) = lane(rt.alloc())?;
+fn a_refused_put_hands_its_item_back(rt: HostRuntime) {
+    let (front, rear) = lane(rt.alloc()).expect(&rt, "memory");
     let (rear, refusals) = put_all(&rt, rear, 1000);
-    assert!(rt; refusals <= 1);
-    assert_eq!(rt; take_all(rest(front, rear), 0, 1000), 1000);
-    Ok(())
+    let left = take_all(rest(front, rear), 0, 1000);
+    expect(&rt, "at most one refusal", refusals <= 1, true);
+    expect(&rt, "left", left, 1000);
 }
 
 type Call = Box<dyn FnOnce() -> u64 + Send>;
@@ -122,7 +123,7 @@ struct Batch<J> {
     jobs: Vec<J>,
 }
 
-// The numbers of the batches rise.
+/// The numbers of the batches rise.
 #[derive(Drop)]
 struct Rising;
 
@@ -140,7 +141,7 @@ fn put_batch(rear: &mut Rear<Batch<Work>, Rising>, number: u64, jobs: Vec<Work>)
     rear.put(Batch { number, jobs }).is_ok()
 }
 
-// Waits for the next batch. Its number is above all that were drawn.
+/// Waits for the next batch. Its number is above all that were drawn.
 fn draw_batch<R: Wait>(rt: &R, front: &mut Front<Batch<Work>, Rising>) -> Batch<Work>
     ensures lane { SameFront front.old front.new }
     ensures rising { All (λ earlier. earlier.number < result.number) (items_drawn front.old) }
@@ -155,7 +156,7 @@ fn draw_batch<R: Wait>(rt: &R, front: &mut Front<Batch<Work>, Rising>) -> Batch<
     unreachable!()
 }
 
-// Runs the jobs in order. Their answers are the last digits of the result.
+/// Runs the jobs in order. Their answers are the last digits of the result.
 fn run_batch(batch: Batch<Work>, digits: u64) -> u64 {
     let mut digits = digits;
     for job in batch.jobs {
@@ -165,19 +166,28 @@ fn run_batch(batch: Batch<Work>, digits: u64) -> u64 {
     digits
 }
 
-#[test]
-fn batches_of_boxed_jobs(rt: HostRuntime) -> Result<(), Fail> {
-    let mut early = Vec::new(rt.alloc());
-    let mut late = Vec::new(rt.alloc());
-    for answer in 1..4u64 {
-        let call: Call = Box::new(rt.alloc(), move || answer)?;
-        early.push(Work { call })?;
-        let later = answer + 3;
-        let call: Call = Box::new(rt.alloc(), move || later)?;
-        late.push(Work { call })?;
+/// Three jobs, which give the numbers after `before`.
+fn three(alloc: Global, before: u64) -> Result<Vec<Work>, AllocError> {
+    let mut jobs = Vec::new(alloc);
+    for next in 1..4u64 {
+        let answer = before.wrapping_add(next);
+        let call: Call = Box::new(alloc, move || answer)?;
+        jobs.push(Work { call })?;
     }
-    let (mut front, mut rear) = ruled_lane::<Batch<Work>, Rising>(rt.alloc())?;
-    assert!(rt; put_batch(&mut rear, 2, early) && put_batch(&mut rear, 5, late));
+    Ok(jobs)
+}
+
+#[test]
+fn batches_of_boxed_jobs(rt: HostRuntime) {
+    let early = three(rt.alloc(), 0).expect(&rt, "memory");
+    let late = three(rt.alloc(), 3).expect(&rt, "memory");
+    let ends = ruled_lane::<Batch<Work>, Rising>(rt.alloc());
+    let (mut front, mut rear) = ends.expect(&rt, "memory");
+    let put = [
+        put_batch(&mut rear, 2, early),
+        put_batch(&mut rear, 5, late),
+    ];
+    expect(&rt, "put", put, [true, true]);
     let runtime = &rt;
     let (digits, ()) = thread::join(
         runtime,
@@ -189,6 +199,5 @@ fn batches_of_boxed_jobs(rt: HostRuntime) -> Result<(), Fail> {
         || (),
     );
     drop(rear);
-    assert_eq!(rt; digits, 123456);
-    Ok(())
+    expect(&rt, "digits", digits, 123456);
 }

@@ -1,5 +1,5 @@
 use Rattle.rcu_lanes.specs.Ends.{SameFront}
-use Rattle.rcu_lanes.proofs.tests.draw_all.Given as goal
+use Rattle.test_board.proofs.tests_lanes.draw_all.Given as goal
 
 abbrev pub invariant-loop : goal.invariant-loop
 invariant-loop g l = SameFront l.initial.front l.front × (goal.iterator-loop g).can_next l.iterator' × (goal.iterator-loop g).is_finite l.iterator'
