@@ -8,3 +8,12 @@ all_three P Q S (Err e) p q s = tt
 
 pub returns : goal.returns
 returns g c = let e = c.run_callers.ensures in all_three _ _ _ c.run_callers.result e.processors e.driver e.control
+
+pub run_callers-requires-send-J : goal.run_callers-requires-send-J
+run_callers-requires-send-J g c κs within = c.requires.0
+
+pub run_callers-requires-sync-R : goal.run_callers-requires-sync-R
+run_callers-requires-sync-R g c κs within = c.requires.1
+
+pub run_callers-requires-after_bounds : goal.run_callers-requires-after_bounds
+run_callers-requires-after_bounds g c κs within = assumption
