@@ -1,5 +1,5 @@
 -- What the turn calls of the tests ask of a core, and how they leave it.
-use Rattle.std.specs.Prelude.{ℕ, ◌<◌, List, OnOk, Result, length}
+use Rattle.std.specs.Prelude.{ℕ, ◌<◌, List, length}
 use Rattle.rcu_world_law.specs.Events.{CoreEvent}
 use Rattle.rcu_world_law.specs.States.{State}
 use Rattle.rcu_world.specs.Turns.{IsAtRest, Leads}
@@ -13,7 +13,7 @@ pub record IsResting {J R : Type 0} (key_of : J → ℕ) (gives : ℕ → R → 
   pub rest : IsAtRest (state key_of c)
   pub there : 0 < length (state key_of c).cpus
 
--- A step of a test leaves the core at rest; where it succeeds, it made these events.
-pub record RestsAfter {J R A E : Type 0} (key_of : J → ℕ) (gives : ℕ → R → Type 0) (events : State → List CoreEvent) (result : Result A E) (old new : Core J R) : Type 0 where
+-- A step of a test makes these events, and leaves the core at rest.
+pub record RestsAfter {J R : Type 0} (key_of : J → ℕ) (gives : ℕ → R → Type 0) (events : State → List CoreEvent) (old new : Core J R) : Type 0 where
   pub resting : IsResting key_of gives new
-  pub leads : OnOk result (Leads (state key_of old) (events (state key_of old)) (state key_of new))
+  pub leads : Leads (state key_of old) (events (state key_of old)) (state key_of new)

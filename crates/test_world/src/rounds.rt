@@ -1,6 +1,5 @@
 //! Runs of the core in which all kinds of mark stand: rounds of calls, grace periods, barriers and switches.
 
-ghost use Rattle.std.specs.Prelude.{IfOk};
 ghost use Rattle.rcu_world.specs.Worlds.{IsWorld};
 
 use crate::tests_world::run;
@@ -9,7 +8,7 @@ use rcu_numbers::Shape;
 use rcu_world::{Event, World};
 use rcu_world_law::who::{Side, Who};
 use std::alloc::{AllocError, Global};
-use std::test::Fail;
+use std::process::Abort;
 
 // How many processors there are: a local one, and two offloadable ones of one group.
 pub(crate) const PROCESSORS: u64 = 3;
@@ -173,14 +172,15 @@ fn push_rounds(events: &mut Events, rounds: u64) -> Result<(), AllocError> {
 }
 
 // A core that went through so many rounds, and how many events those are.
-pub(crate) fn after_rounds(alloc: Global, rounds: u64) -> Result<(World<Numbered>, usize), Fail>
-    ensures { IfOk result (λ after.
-        IsWorld ⟦<Numbered as Job>⟧.key_of ⟦<Numbered as Job>⟧.gives after.0.core) }
+pub(crate) fn after_rounds(rt: &impl Abort, alloc: Global, rounds: u64) -> (World<Numbered>, usize)
+    ensures { IsWorld ⟦<Numbered as Job>⟧.key_of ⟦<Numbered as Job>⟧.gives result.0.core }
 {
     let mut events = Vec::new(alloc);
-    push_rounds(&mut events, rounds)?;
-    let shape = Shape::new(PROCESSORS, 0b110, 3, 10, 4, 100).ok_or("no shape")?;
-    let mut world = World::new(alloc, shape)?;
-    let answers = run(&mut world, events)?;
-    Ok((world, answers.len()))
+    push_rounds(&mut events, rounds).expect(rt, "memory");
+    let shape = Shape::new(PROCESSORS, 0b110, 3, 10, 4, 100).expect(rt, "a shape");
+    let Ok(mut world) = World::new(alloc, shape) else {
+        panic!(rt; "memory");
+    };
+    let many = run(rt, &mut world, events).len();
+    (world, many)
 }

@@ -8,7 +8,6 @@ use rcu_world_checker::{Kind, is_closed, many_of};
 use rcu_world_law::marks::Mark;
 use std::alloc::{AllocError, Global};
 use std::process::Abort;
-use std::test::Fail;
 
 // How many rounds a run has.
 const ROUNDS: u64 = 6;
@@ -65,13 +64,12 @@ fn remains_of(
 }
 
 // What so many rounds leave.
-fn run_rounds(alloc: Global) -> Result<Remains, Fail> {
-    let (world, _events) = after_rounds(alloc, ROUNDS)?;
+fn run_rounds(rt: &impl Abort, alloc: Global) -> Remains {
+    let (world, _events) = after_rounds(rt, alloc, ROUNDS);
     let Ok((history, closed)) = world.close() else {
-        return Err(Fail::from("no room"));
+        panic!(rt; "no room");
     };
-    let left = remains_of(alloc, history, &closed)?;
-    Ok(left)
+    remains_of(alloc, history, &closed).expect(rt, "memory")
 }
 
 // By whom an answer is refused.
@@ -99,89 +97,86 @@ impl Remains {
     }
 
     // The answer is refused by these.
-    fn expect(&self, rt: &impl Abort, alloc: Global, wanted: Refused) -> Result<(), Fail> {
-        expect(rt, "refused", self.refused(alloc)?, wanted);
-        Ok(())
+    fn expect(&self, rt: &impl Abort, alloc: Global, wanted: Refused) {
+        let refused = self.refused(alloc).expect(rt, "memory");
+        expect(rt, "refused", refused, wanted);
     }
 
     // The account of processor 1.
-    fn account(&mut self) -> Result<&mut Account, Fail> {
-        Ok(self.accounts.get_mut(1).ok_or("no account")?)
+    fn account(&mut self, rt: &impl Abort) -> &mut Account {
+        self.accounts.get_mut(1).expect(rt, "an account")
     }
 
     // Two of its records change places.
-    fn swap_records(&mut self, rt: &impl Abort) -> Result<(), Fail> {
-        let ran = &mut self.account()?.ran;
+    fn swap_records(&mut self, rt: &impl Abort) {
+        let ran = &mut self.account(rt).ran;
         assert!(rt; ran.len() > 2);
         ran.swap(1, 2);
-        Ok(())
     }
 
     // A record comes before the report that it waits for.
-    fn ready_at_once(&mut self) -> Result<(), Fail> {
-        let own = self.account()?;
-        let stamp = own.stamps.first().copied().ok_or("no stamp")?;
-        *own.readies.first_mut().ok_or("no record")? = stamp;
-        Ok(())
+    fn ready_at_once(&mut self, rt: &impl Abort) {
+        let own = self.account(rt);
+        let stamp = own.stamps.first().copied().expect(rt, "a stamp");
+        *own.readies.first_mut().expect(rt, "a record") = stamp;
     }
 
     // The last barrier counts all that was accepted.
-    fn count_all(&mut self) -> Result<(), Fail> {
-        let accepted = self.account()?.keys.len() as u64;
-        let counts = self.counts.last_mut().ok_or("no barrier")?;
-        *counts.get_mut(1).ok_or("no count")? = accepted;
-        Ok(())
+    fn count_all(&mut self, rt: &impl Abort) {
+        let accepted = self.account(rt).keys.len() as u64;
+        let counts = self.counts.last_mut().expect(rt, "a barrier");
+        *counts.get_mut(1).expect(rt, "a count") = accepted;
     }
 }
 
 #[test]
-fn the_core_agrees(rt: HostRuntime) -> Result<(), Fail> {
-    let left = run_rounds(rt.alloc())?;
+fn the_core_agrees(rt: HostRuntime) {
+    let left = run_rounds(&rt, rt.alloc());
     expect(&rt, "barriers", left.counts.len(), ROUNDS as usize);
     let wanted = Refused {
         own: false,
         witness: false,
         closed: false,
     };
-    left.expect(&rt, rt.alloc(), wanted)
+    left.expect(&rt, rt.alloc(), wanted);
 }
 
 #[test]
-fn two_records_swapped(rt: HostRuntime) -> Result<(), Fail> {
-    let mut left = run_rounds(rt.alloc())?;
-    left.swap_records(&rt)?;
+fn two_records_swapped(rt: HostRuntime) {
+    let mut left = run_rounds(&rt, rt.alloc());
+    left.swap_records(&rt);
     let wanted = Refused {
         own: true,
         witness: false,
         closed: true,
     };
-    left.expect(&rt, rt.alloc(), wanted)
+    left.expect(&rt, rt.alloc(), wanted);
 }
 
 #[test]
-fn a_job_dropped(rt: HostRuntime) -> Result<(), Fail> {
-    let mut left = run_rounds(rt.alloc())?;
-    let dropped = left.account()?.back.pop();
+fn a_job_dropped(rt: HostRuntime) {
+    let mut left = run_rounds(&rt, rt.alloc());
+    let dropped = left.account(&rt).back.pop();
     expect(&rt, "dropped", dropped.is_some(), true);
     let wanted = Refused {
         own: true,
         witness: false,
         closed: true,
     };
-    left.expect(&rt, rt.alloc(), wanted)
+    left.expect(&rt, rt.alloc(), wanted);
 }
 
 #[test]
-fn a_record_before_its_report(rt: HostRuntime) -> Result<(), Fail> {
-    let mut left = run_rounds(rt.alloc())?;
-    left.ready_at_once()?;
+fn a_record_before_its_report(rt: HostRuntime) {
+    let mut left = run_rounds(&rt, rt.alloc());
+    left.ready_at_once(&rt);
     // (the core's own history still agrees: a smaller sight says less)
     let wanted = Refused {
         own: false,
         witness: false,
         closed: true,
     };
-    left.expect(&rt, rt.alloc(), wanted)
+    left.expect(&rt, rt.alloc(), wanted);
 }
 
 // A history in which the first mark of this kind stands one place earlier.
@@ -196,8 +191,8 @@ fn one_earlier(history: &mut [Mark], wanted: Mark) -> bool {
 }
 
 #[test]
-fn a_barrier_that_passed_early(rt: HostRuntime) -> Result<(), Fail> {
-    let mut left = run_rounds(rt.alloc())?;
+fn a_barrier_that_passed_early(rt: HostRuntime) {
+    let mut left = run_rounds(&rt, rt.alloc());
     let found = one_earlier(left.history.as_mut_slice(), Mark::Passed(0));
     let closed = is_closed(PROCESSORS, left.history.as_slice());
     expect(&rt, "found, closed", (found, closed), (true, false));
@@ -206,18 +201,18 @@ fn a_barrier_that_passed_early(rt: HostRuntime) -> Result<(), Fail> {
         witness: false,
         closed: false,
     };
-    left.expect(&rt, rt.alloc(), wanted)
+    left.expect(&rt, rt.alloc(), wanted);
 }
 
 #[test]
-fn a_barrier_that_passed_over_a_job(rt: HostRuntime) -> Result<(), Fail> {
-    let mut left = run_rounds(rt.alloc())?;
-    left.count_all()?;
+fn a_barrier_that_passed_over_a_job(rt: HostRuntime) {
+    let mut left = run_rounds(&rt, rt.alloc());
+    left.count_all(&rt);
     // (the witness lets it open before the job was accepted, whose stamp nobody knows)
     let wanted = Refused {
         own: true,
         witness: true,
         closed: false,
     };
-    left.expect(&rt, rt.alloc(), wanted)
+    left.expect(&rt, rt.alloc(), wanted);
 }

@@ -3,11 +3,10 @@
 use crate::steps::expect;
 use rcu_world_checker::{is_closed, is_lawful};
 use rcu_world_law::marks::Mark::{Accepted, Back, Opened, Passed, Ran, Reported, Shut};
-use std::test::Fail;
 
 // Two processors: one callback runs, and one comes back.
 #[test]
-fn a_lawful_history(rt: HostRuntime) -> Result<(), Fail> {
+fn a_lawful_history(rt: HostRuntime) {
     let history = [
         Accepted(0, 7),
         Reported(1),
@@ -28,40 +27,36 @@ fn a_lawful_history(rt: HostRuntime) -> Result<(), Fail> {
         is_closed(2, &[]),
     ];
     expect(&rt, "closed", closed, [true, false, true]);
-    Ok(())
 }
 
 #[test]
-fn ran_without_a_report(rt: HostRuntime) -> Result<(), Fail> {
+fn ran_without_a_report(rt: HostRuntime) {
     let lawful = [
         is_lawful(1, &[Accepted(0, 7), Ran(0, 7)]),
         is_lawful(1, &[Accepted(0, 7), Reported(0), Ran(0, 7)]),
     ];
     expect(&rt, "lawful", lawful, [false, true]);
-    Ok(())
 }
 
 #[test]
-fn a_report_of_one_of_two(rt: HostRuntime) -> Result<(), Fail> {
+fn a_report_of_one_of_two(rt: HostRuntime) {
     let history = [Accepted(0, 7), Reported(0), Reported(0), Ran(0, 7)];
     let lawful = [is_lawful(1, &history), is_lawful(2, &history)];
     expect(&rt, "lawful", lawful, [true, false]);
-    Ok(())
 }
 
 #[test]
-fn a_report_before_the_acceptance(rt: HostRuntime) -> Result<(), Fail> {
+fn a_report_before_the_acceptance(rt: HostRuntime) {
     expect(
         &rt,
         "lawful",
         is_lawful(1, &[Reported(0), Accepted(0, 7), Ran(0, 7)]),
         false,
     );
-    Ok(())
 }
 
 #[test]
-fn passed_before_it_ran(rt: HostRuntime) -> Result<(), Fail> {
+fn passed_before_it_ran(rt: HostRuntime) {
     let early = [Accepted(0, 7), Opened(0), Reported(0), Passed(0), Ran(0, 7)];
     let late = [Accepted(0, 7), Opened(0), Reported(0), Ran(0, 7), Passed(0)];
     let lawful = [
@@ -72,11 +67,10 @@ fn passed_before_it_ran(rt: HostRuntime) -> Result<(), Fail> {
         is_lawful(1, &[Opened(0), Opened(1), Passed(1), Passed(0)]),
     ];
     expect(&rt, "lawful", lawful, [false, true, true, true]);
-    Ok(())
 }
 
 #[test]
-fn passed_without_an_opening(rt: HostRuntime) -> Result<(), Fail> {
+fn passed_without_an_opening(rt: HostRuntime) {
     let lawful = [
         is_lawful(1, &[Passed(0)]),
         is_lawful(1, &[Passed(0), Opened(0)]),
@@ -84,43 +78,39 @@ fn passed_without_an_opening(rt: HostRuntime) -> Result<(), Fail> {
         is_lawful(1, &[Opened(0), Passed(0)]),
     ];
     expect(&rt, "lawful", lawful, [false, false, false, true]);
-    Ok(())
 }
 
 #[test]
-fn opened_twice(rt: HostRuntime) -> Result<(), Fail> {
+fn opened_twice(rt: HostRuntime) {
     let lawful = [
         is_lawful(1, &[Opened(0), Opened(0), Passed(0)]),
         is_lawful(1, &[Opened(0), Passed(0), Opened(0)]),
         is_lawful(1, &[Opened(0), Passed(0), Opened(1)]),
     ];
     expect(&rt, "lawful", lawful, [false, false, true]);
-    Ok(())
 }
 
 #[test]
-fn accepted_after_shut(rt: HostRuntime) -> Result<(), Fail> {
+fn accepted_after_shut(rt: HostRuntime) {
     let lawful = [
         is_lawful(1, &[Shut(0), Accepted(0, 7)]),
         is_lawful(2, &[Shut(0), Accepted(1, 7)]),
     ];
     expect(&rt, "lawful", lawful, [false, true]);
-    Ok(())
 }
 
 #[test]
-fn back_without_shut(rt: HostRuntime) -> Result<(), Fail> {
+fn back_without_shut(rt: HostRuntime) {
     let closed = [
         is_closed(1, &[Accepted(0, 7), Back(0, 7)]),
         is_closed(1, &[Accepted(0, 7), Back(0, 7), Shut(0)]),
         is_closed(1, &[Accepted(0, 7), Shut(0), Back(0, 7)]),
     ];
     expect(&rt, "closed", closed, [false, false, true]);
-    Ok(())
 }
 
 #[test]
-fn out_of_order(rt: HostRuntime) -> Result<(), Fail> {
+fn out_of_order(rt: HostRuntime) {
     let history = [Accepted(0, 1), Accepted(0, 2), Reported(0), Ran(0, 2)];
     let turned = [
         Accepted(0, 1),
@@ -132,11 +122,10 @@ fn out_of_order(rt: HostRuntime) -> Result<(), Fail> {
     let lawful = [is_lawful(1, &history), is_lawful(1, &turned)];
     expect(&rt, "lawful", lawful, [false, true]);
     expect(&rt, "closed", is_closed(1, &turned), false);
-    Ok(())
 }
 
 #[test]
-fn twice(rt: HostRuntime) -> Result<(), Fail> {
+fn twice(rt: HostRuntime) {
     let history = [
         Accepted(0, 1),
         Reported(0),
@@ -152,11 +141,10 @@ fn twice(rt: HostRuntime) -> Result<(), Fail> {
     ];
     expect(&rt, "lawful", lawful, [true, false, true]);
     expect(&rt, "closed", is_closed(1, &both), false);
-    Ok(())
 }
 
 #[test]
-fn of_another(rt: HostRuntime) -> Result<(), Fail> {
+fn of_another(rt: HostRuntime) {
     let lawful = [
         is_lawful(1, &[Accepted(0, 1), Reported(0), Ran(0, 2)]),
         is_lawful(1, &[Accepted(0, 1), Reported(0), Ran(1, 1)]),
@@ -167,5 +155,4 @@ fn of_another(rt: HostRuntime) -> Result<(), Fail> {
         is_closed(1, &[Accepted(0, 1), Shut(0), Shut(1), Back(1, 1)]),
     ];
     expect(&rt, "closed", closed, [false, false]);
-    Ok(())
 }

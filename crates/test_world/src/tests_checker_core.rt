@@ -7,7 +7,6 @@ use rcu_world_checker::{is_closed, is_lawful};
 use rcu_world_law::marks::Mark;
 use std::alloc::{AllocError, Global};
 use std::process::Abort;
-use std::test::Fail;
 
 // A history without the mark at a place.
 fn without(alloc: Global, history: &[Mark], place: usize) -> Result<Vec<Mark>, AllocError> {
@@ -33,11 +32,10 @@ fn needs_each(alloc: Global, history: &[Mark]) -> Result<bool, AllocError> {
 }
 
 // A history is closed, but not without the mark of any one callback.
-fn expect_closed(rt: &impl Abort, alloc: Global, history: &[Mark]) -> Result<(), Fail> {
+fn expect_closed(rt: &impl Abort, alloc: Global, history: &[Mark]) {
     let all = is_closed(PROCESSORS, history);
-    let each = needs_each(alloc, history)?;
+    let each = needs_each(alloc, history).expect(rt, "memory");
     expect(rt, "closed", (all, each), (true, true));
-    Ok(())
 }
 
 // A run is one in which all kinds of mark stand.
@@ -49,17 +47,20 @@ fn expect_all_kinds(rt: &impl Abort, history: &[Mark], closed: &Closed<Numbered>
     expect(rt, "ran, back, passed", all, (true, true, true));
 }
 
-#[test]
-fn what_the_core_leaves(rt: HostRuntime) -> Result<(), Fail> {
-    let (world, events) = after_rounds(rt.alloc(), 6)?;
-    let history = world.history();
+// Many events were made, and the history that they leave is lawful, but not closed yet.
+fn expect_lawful(rt: &impl Abort, history: &[Mark], events: usize) {
     let lawful = is_lawful(PROCESSORS, history);
     let found = (events > 300, lawful, is_closed(PROCESSORS, history));
-    expect(&rt, "many, lawful, closed", found, (true, true, false));
+    expect(rt, "many, lawful, closed", found, (true, true, false));
+}
+
+#[test]
+fn what_the_core_leaves(rt: HostRuntime) {
+    let (world, events) = after_rounds(&rt, rt.alloc(), 6);
+    expect_lawful(&rt, world.history(), events);
     let Ok((marks, closed)) = world.close() else {
-        return Err(Fail::from("no room"));
+        panic!(&rt; "no room");
     };
-    expect_closed(&rt, rt.alloc(), marks.as_slice())?;
+    expect_closed(&rt, rt.alloc(), marks.as_slice());
     expect_all_kinds(&rt, marks.as_slice(), &closed);
-    Ok(())
 }
