@@ -1,4 +1,4 @@
-//! What a test compares.
+//! What a test compares. To the test this is one call, with no way out of its own, at which all that the test has would be dropped.
 
 use std::fmt::Debug;
 use std::process::Abort;
@@ -10,10 +10,15 @@ pub(crate) fn expect_same<T: PartialEq + Debug + Drop>(
     found: T,
     wanted: T,
 ) {
-    assert_eq!(rt; found, wanted, "{what}");
+    if found != wanted {
+        panic!(rt; "{what}: {found:?}, and not {wanted:?}");
+    }
 }
 
 /// A text that is found is the one that is wanted.
-pub(crate) fn expect_text(rt: &impl Abort, what: &str, found: &str, wanted: &str) {
-    assert!(rt; found == wanted, "{what}: {found:?}, and not {wanted:?}");
+pub(crate) fn expect_text(rt: &impl Abort, what: &str, found: Option<String>, wanted: &str) {
+    let found = found.expect(rt, what);
+    if found.as_str() != wanted {
+        panic!(rt; "{what}: {found:?}, and not {wanted:?}");
+    }
 }

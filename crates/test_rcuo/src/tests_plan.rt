@@ -4,10 +4,10 @@ use crate::expect::expect_same;
 use rcu_setup::SetupFault;
 use rcuo_plan::{Refusal, read_plan};
 use rcuo_script::Fault;
-use std::alloc::{AllocError, Global};
+use std::alloc::Global;
 use std::io;
 use std::io::{Cursor, Read};
-use std::test::Fail;
+use std::process::Abort;
 
 // A reader that fails once it has taken so many steps.
 #[derive(Drop)]
@@ -27,46 +27,39 @@ impl Read for Broken {
 }
 
 // Why there is no plan, by one word.
-fn refusal<R: Read>(
-    alloc: Global,
-    word: &str,
-    reader: &mut R,
-) -> Result<Option<Refusal>, AllocError> {
-    let words = [String::from_str(alloc, word)?];
-    Ok(read_plan(alloc, &words, reader).err())
+fn refusal<R: Read>(rt: &impl Abort, alloc: Global, word: &str, reader: &mut R) -> Option<Refusal> {
+    let words = [String::from_str(alloc, word).expect(rt, "memory")];
+    read_plan(alloc, &words, reader).err()
 }
 
 #[test]
-fn fails_at_each_read(rt: HostRuntime) -> Result<(), Fail> {
+fn fails_at_each_read(rt: HostRuntime) {
     for left in 0..3u64 {
-        let refused = refusal(rt.alloc(), "replay", &mut Broken { left })?;
+        let refused = refusal(&rt, rt.alloc(), "replay", &mut Broken { left });
         let is_read = matches!(refused, Some(Refusal::Fault(Fault::CannotRead)));
         expect_same(&rt, "of a failed read", is_read, true);
     }
-    Ok(())
 }
 
 #[test]
-fn other_words_are_refused_before_reading(rt: HostRuntime) -> Result<(), Fail> {
+fn other_words_are_refused_before_reading(rt: HostRuntime) {
     for word in ["thread", "replays", "--help", ""] {
-        let refused = refusal(rt.alloc(), word, &mut Broken { left: 0 })?;
+        let refused = refusal(&rt, rt.alloc(), word, &mut Broken { left: 0 });
         expect_same(&rt, word, matches!(refused, Some(Refusal::Words(_))), true);
     }
-    Ok(())
 }
 
 #[test]
-fn a_text_that_is_too_long_or_no_text(rt: HostRuntime) -> Result<(), Fail> {
+fn a_text_that_is_too_long_or_no_text(rt: HostRuntime) {
     for bytes in [
         b"processors = 1 # \xff".as_slice(),
         b"processors".as_slice(),
     ] {
-        let refused = refusal(rt.alloc(), "replay", &mut Cursor::new(bytes))?;
+        let refused = refusal(&rt, rt.alloc(), "replay", &mut Cursor::new(bytes));
         let is_no_toml = matches!(
             refused,
             Some(Refusal::Fault(Fault::Setup(SetupFault::NotToml)))
         );
         expect_same(&rt, "no document", is_no_toml, true);
     }
-    Ok(())
 }

@@ -9,7 +9,7 @@ use rcuo_script::Fault;
 use std::alloc::Global;
 use std::io;
 use std::io::Write;
-use std::test::Fail;
+use std::process::Abort;
 
 // A writer that fails once it has taken so many steps.
 #[derive(Drop)]
@@ -38,8 +38,8 @@ impl Write for Broken {
 
 // Whether a replay in which each command writes ends as it should, where its writer fails once it has taken so many steps: at that
 // step, and nothing more is written.
-fn ends_as_it_should(alloc: Global, left: u64) -> Result<bool, Fail> {
-    let shape = Shape::new(1, 1, 1, 10, 10000, 1000000).ok_or("a shape")?;
+fn ends_as_it_should(rt: &impl Abort, alloc: Global, left: u64) -> bool {
+    let shape = Shape::new(1, 1, 1, 10, 10000, 1000000).expect(rt, "a shape");
     let script = vec![in alloc;
         Command::Driver,
         Command::Show,
@@ -48,27 +48,26 @@ fn ends_as_it_should(alloc: Global, left: u64) -> Result<bool, Fail> {
         Command::Barrier,
         Command::Poll,
         Command::Shut,
-    ]?;
+    ];
     let setup = Setup {
         shape,
         calls: 0,
         routes: Vec::new(alloc),
-        script,
+        script: script.expect(rt, "memory"),
     };
     let jobs = Vec::<BoxedJob<65536>>::new(alloc);
     let mut writer = Broken { left, taken: 0 };
     match replay(alloc, &setup, jobs, &mut writer) {
-        Ok(()) => Ok(writer.left > 0),
-        Err(Fault::CannotWrite) => Ok(writer.taken == left),
-        Err(_) => Ok(false),
+        Ok(()) => writer.left > 0,
+        Err(Fault::CannotWrite) => writer.taken == left,
+        Err(_) => false,
     }
 }
 
 #[test]
-fn fails_at_each_write(rt: HostRuntime) -> Result<(), Fail> {
+fn fails_at_each_write(rt: HostRuntime) {
     for left in 0..80u64 {
-        let found = (left, ends_as_it_should(rt.alloc(), left)?);
+        let found = (left, ends_as_it_should(&rt, rt.alloc(), left));
         expect_same(&rt, "writes", found, (left, true));
     }
-    Ok(())
 }

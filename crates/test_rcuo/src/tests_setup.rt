@@ -4,8 +4,8 @@ use crate::expect::{expect_same, expect_text};
 use rcu_setup::{Command, Setup, SetupFault, cpu_list, read_setup, script_line};
 use std::alloc::Global;
 use std::process::Abort;
-use std::test::Fail;
 
+// The fault line of a text. None where it is a setup, or memory is wanted.
 fn fault_of(alloc: Global, text: &str) -> Option<String> {
     match read_setup(alloc, text) {
         Ok(_) => None,
@@ -14,7 +14,7 @@ fn fault_of(alloc: Global, text: &str) -> Option<String> {
 }
 
 // Texts that are refused, each with its fault line.
-const REFUSED: [(&str, &str); 32] = [
+static REFUSED: [(&str, &str); 32] = [
     (
         "processors = 4\nnocbs = \"3-1\"",
         "fault 16: reversed range 3-1",
@@ -103,12 +103,10 @@ const REFUSED: [(&str, &str); 32] = [
 ];
 
 #[test]
-fn refused_setups(rt: HostRuntime) -> Result<(), Fail> {
-    for (text, want) in REFUSED {
-        let got = fault_of(rt.alloc(), text).ok_or("a fault")?;
-        expect_text(&rt, text, got.as_str(), want);
+fn refused_setups(rt: HostRuntime) {
+    for (text, want) in REFUSED.iter() {
+        expect_text(&rt, text, fault_of(rt.alloc(), text), want);
     }
-    Ok(())
 }
 
 // The numbers of a setup: those of its shape, and its calls.
@@ -130,48 +128,52 @@ fn lengths_of(setup: &Setup) -> (usize, usize) {
     (setup.routes.len(), setup.script.len())
 }
 
+// The setup of a text that is one.
+pub(crate) fn setup_of(rt: &impl Abort, alloc: Global, text: &str) -> Setup {
+    read_setup(alloc, text).ok().expect(rt, "a setup")
+}
+
 // What is left out of a setup has its default.
-fn expect_least(rt: &impl Abort, alloc: Global) -> Result<(), Fail> {
-    let Ok(least) = read_setup(alloc, "processors = 17") else {
-        return Err(Fail::from("a setup"));
-    };
+fn expect_least(rt: &impl Abort, alloc: Global) {
+    let least = setup_of(rt, alloc, "processors = 17");
+    let wanted = [17, 0, 4, 10, 10000, 1000000, 0];
     expect_same(
         rt,
-        "numbers",
-        numbers_of(&least),
-        [17, 0, 4, 10, 10000, 1000000, 0],
+        "numbers, lengths",
+        (numbers_of(&least), lengths_of(&least)),
+        (wanted, (0, 0)),
     );
-    expect_same(rt, "lengths", lengths_of(&least), (0, 0));
-    Ok(())
 }
 
 // The routes of a setup are these.
 fn expect_routes(rt: &impl Abort, routes: &[(String, u32)], wants: &[(&str, u32)]) {
-    for ((name, hop), (wanted, wanted_hop)) in routes.iter().zip(wants.iter()) {
-        expect_text(rt, "a name", name.as_str(), wanted);
-        expect_same(rt, "a hop", *hop, *wanted_hop);
+    for (route, wanted) in routes.iter().zip(wants) {
+        expect_same(rt, "a route", (route.0.as_str(), route.1), *wanted);
     }
 }
 
+// A setup in which each key stands.
+const WHOLE: &str = "processors = 3\nnocbs = \"0,2-2\"\nstride = 2\nblimit = 5\nqhimark = 6\n\
+    limit = 7\ncalls = 7\nroutes = [\"a=1\", \"b2=999999999\", \"a=007\"]\n\
+    script = [\"call 0 0 b 2\", \"show\"]";
+
 // Each key is read.
-fn expect_whole(rt: &impl Abort, alloc: Global) -> Result<(), Fail> {
-    let text =
-        "processors = 3\nnocbs = \"0,2-2\"\nstride = 2\nblimit = 5\nqhimark = 6\nlimit = 7\ncalls = 7\n\
-        routes = [\"a=1\", \"b2=999999999\", \"a=007\"]\nscript = [\"call 0 0 b 2\", \"show\"]";
-    let Ok(whole) = read_setup(alloc, text) else {
-        return Err(Fail::from("a setup"));
-    };
-    expect_same(rt, "numbers", numbers_of(&whole), [3, 5, 2, 5, 6, 7, 7]);
-    expect_same(rt, "lengths", lengths_of(&whole), (3, 2));
+fn expect_whole(rt: &impl Abort, alloc: Global) {
+    let whole = setup_of(rt, alloc, WHOLE);
+    expect_same(
+        rt,
+        "numbers, lengths",
+        (numbers_of(&whole), lengths_of(&whole)),
+        ([3, 5, 2, 5, 6, 7, 7], (3, 2)),
+    );
     let wants = [("a", 1), ("b2", 999999999), ("a", 7)];
     expect_routes(rt, whole.routes.as_slice(), &wants);
-    Ok(())
 }
 
 #[test]
-fn whole_setup(rt: HostRuntime) -> Result<(), Fail> {
-    expect_least(&rt, rt.alloc())?;
-    expect_whole(&rt, rt.alloc())
+fn whole_setup(rt: HostRuntime) {
+    expect_least(&rt, rt.alloc());
+    expect_whole(&rt, rt.alloc());
 }
 
 #[test]
@@ -188,98 +190,117 @@ fn cpu_lists(rt: HostRuntime) {
     }
 }
 
-// The command's name and numbers, as they stand in the line.
+// A word and a number.
+fn numbered(alloc: Global, word: &str, number: u64) -> Option<String> {
+    format!(in alloc; "{word} {number}").ok()
+}
+
+// The line of a call, by its word.
+fn routed(
+    alloc: Global,
+    word: &str,
+    cpu: u64,
+    moment: u64,
+    name: &str,
+    hop: u32,
+) -> Option<String> {
+    format!(in alloc; "{word} {cpu} {moment} {name} {hop}").ok()
+}
+
+// The command's name and numbers, as they stand in the line. None where memory is wanted.
 fn shown(alloc: Global, command: &Command) -> Option<String> {
-    let text = match command {
+    match *command {
         Command::Call {
             cpu,
             moment,
-            name,
+            ref name,
             hop,
-        } => format!(in alloc; "call {cpu} {moment} {name} {hop}"),
+        } => routed(alloc, "call", cpu, moment, name.as_str(), hop),
         Command::Lazy {
             cpu,
             moment,
-            name,
+            ref name,
             hop,
-        } => format!(in alloc; "lazy {cpu} {moment} {name} {hop}"),
-        Command::Quiet { cpu } => format!(in alloc; "quiet {cpu}"),
-        Command::Tick { cpu, moment } => format!(in alloc; "tick {cpu} {moment}"),
-        Command::Driver => format!(in alloc; "driver"),
-        Command::Group { group } => format!(in alloc; "group {group}"),
-        Command::Hand { cpu } => format!(in alloc; "hand {cpu}"),
-        Command::Offload { cpu } => format!(in alloc; "offload {cpu}"),
-        Command::Deoffload { cpu } => format!(in alloc; "deoffload {cpu}"),
-        Command::Leave { cpu } => format!(in alloc; "leave {cpu}"),
-        Command::Return { cpu } => format!(in alloc; "return {cpu}"),
-        Command::Barrier => format!(in alloc; "barrier"),
-        Command::Poll => format!(in alloc; "poll"),
-        Command::Shut => format!(in alloc; "shut"),
-        Command::Show => format!(in alloc; "show"),
-    };
-    text.ok()
+        } => routed(alloc, "lazy", cpu, moment, name.as_str(), hop),
+        Command::Quiet { cpu } => numbered(alloc, "quiet", cpu),
+        Command::Tick { cpu, moment } => format!(in alloc; "tick {cpu} {moment}").ok(),
+        Command::Driver => String::from_str(alloc, "driver").ok(),
+        Command::Group { group } => numbered(alloc, "group", group),
+        Command::Hand { cpu } => numbered(alloc, "hand", cpu),
+        Command::Offload { cpu } => numbered(alloc, "offload", cpu),
+        Command::Deoffload { cpu } => numbered(alloc, "deoffload", cpu),
+        Command::Leave { cpu } => numbered(alloc, "leave", cpu),
+        Command::Return { cpu } => numbered(alloc, "return", cpu),
+        Command::Barrier => String::from_str(alloc, "barrier").ok(),
+        Command::Poll => String::from_str(alloc, "poll").ok(),
+        Command::Shut => String::from_str(alloc, "shut").ok(),
+        Command::Show => String::from_str(alloc, "show").ok(),
+    }
 }
 
-#[test]
-fn script_lines(rt: HostRuntime) -> Result<(), Fail> {
-    let alloc = rt.alloc();
-    let lines = [
-        "call 0 0 b 2",
-        "call 31 999999999999999999 abcdefgh12345678 999999999",
-        "lazy 1 5 a 1",
-        "quiet 0",
-        "tick 2 14",
-        "driver",
-        "group 99",
-        "hand 3",
-        "offload 4",
-        "deoffload 5",
-        "leave 6",
-        "return 7",
-        "barrier",
-        "poll",
-        "shut",
-        "show",
-    ];
-    for line in lines {
-        let Ok(command) = script_line(alloc, line) else {
-            return Err(Fail::from("a command"));
-        };
-        let text = shown(alloc, &command).ok_or("memory")?;
-        expect_text(&rt, "a line", text.as_str(), line);
-    }
-    Ok(())
+// A line that is read, and shown again. None where it is no command, or memory is wanted.
+fn again(alloc: Global, line: &str) -> Option<String> {
+    shown(alloc, &script_line(alloc, line).ok()?)
 }
+
+// Lines of a script, of each command.
+static LINES: [&str; 16] = [
+    "call 0 0 b 2",
+    "call 31 999999999999999999 abcdefgh12345678 999999999",
+    "lazy 1 5 a 1",
+    "quiet 0",
+    "tick 2 14",
+    "driver",
+    "group 99",
+    "hand 3",
+    "offload 4",
+    "deoffload 5",
+    "leave 6",
+    "return 7",
+    "barrier",
+    "poll",
+    "shut",
+    "show",
+];
+
+#[test]
+fn script_lines(rt: HostRuntime) {
+    for line in LINES.iter() {
+        expect_text(&rt, "a line", again(rt.alloc(), line), line);
+    }
+}
+
+// Lines that are no command.
+static BAD_LINES: [&str; 23] = [
+    "",
+    " ",
+    "driver ",
+    " driver",
+    "Driver",
+    "tick  0 0",
+    "tick 0 0 ",
+    "tick 0",
+    "quiet",
+    "quiet 000",
+    "quiet -1",
+    "leave",
+    "leave 000",
+    "return 0 0",
+    "quiet x",
+    "tick 0 1234567890123456789",
+    "call 0 0 b",
+    "call 0 0 B 2",
+    "call 0 0  2",
+    "call 0 0 abcdefgh123456789 2",
+    "call 0 0 b 1234567890",
+    "call 0 0 b 2 3",
+    "show 0",
+];
 
 #[test]
 fn bad_script_lines(rt: HostRuntime) {
     let alloc = rt.alloc();
-    let bad = [
-        "",
-        " ",
-        "driver ",
-        " driver",
-        "Driver",
-        "tick  0 0",
-        "tick 0 0 ",
-        "tick 0",
-        "quiet",
-        "quiet 000",
-        "quiet -1",
-        "leave",
-        "leave 000",
-        "return 0 0",
-        "quiet x",
-        "tick 0 1234567890123456789",
-        "call 0 0 b",
-        "call 0 0 B 2",
-        "call 0 0  2",
-        "call 0 0 abcdefgh123456789 2",
-        "call 0 0 b 1234567890",
-        "call 0 0 b 2 3",
-        "show 0",
-    ];
-    for line in bad {
+    for line in BAD_LINES.iter() {
         let is_bad = matches!(script_line(alloc, line), Err(SetupFault::BadLine(1)));
         expect_same(&rt, line, is_bad, true);
     }
