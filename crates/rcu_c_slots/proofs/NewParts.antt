@@ -26,9 +26,9 @@ module _ (kept : Kept) (shape : PartsShape) (parts : ForeignParts) (o : IsOpened
       subst (AreRising 0 end) (sym (zip_numbers (IsFirstGroup shape b) (λ (g : Group ForeignJob ForeignJob). g.state.group) (λ k g f. f.part.group_is) (numbers_where test 0 b.processors) (groups_in parts) o.groups))
       (rising_where test 0 b.processors end (omega (arith, many, few)))
 
-  pub rising_hands : AreRising 0 end (map (λ (h : ForeignHand). h.state.cpu) (hands_in parts))
+  pub rising_hands : AreRising 0 end (map (λ (h : ForeignHand). h.state.hand.cpu) (hands_in parts))
   rising_hands = let b = parts_board parts in let many = o.many in let test = is_offloadable b.offloadable in
-      subst (AreRising 0 end) (sym (zip_numbers (IsFirstHand shape kept b) (λ (h : ForeignHand). h.state.cpu) (λ k h f. f.part.cpu_is) (numbers_where test 0 b.processors) (hands_in parts) o.hands))
+      subst (AreRising 0 end) (sym (zip_numbers (IsFirstHand shape kept b) (λ (h : ForeignHand). h.state.hand.cpu) (λ k h f. f.part.cpu_is) (numbers_where test 0 b.processors) (hands_in parts) o.hands))
       (rising_where test 0 b.processors end (omega (arith, many, few)))
 
 -- what was opened, and boxed

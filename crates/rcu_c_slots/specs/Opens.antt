@@ -71,7 +71,7 @@ abbrev pub lent_groups : Opening → List (TheGroup ForeignJob ForeignJob) → L
 lent_groups o gs = lent_each o (λ g. g.state.group) (λ g. Group g) gs
 
 abbrev pub lent_hands : Opening → List ForeignHand → List Lent
-lent_hands o hs = lent_each o (λ h. h.state.cpu) (λ h. Hand (lent_hand h)) hs
+lent_hands o hs = lent_each o (λ h. h.state.hand.cpu) (λ h. Hand (lent_hand h)) hs
 
 -- These are as many of each kind as the open made.
 pub record AreAsMany (o : Opening) (parts : ForeignParts) : Type 0 where

@@ -66,4 +66,4 @@ module _ {J R : Type 0} where
 
   -- a reason that holds of every number of runs isn't the limit
   pub never_limit : (stop : Stop) (h : HandState J R) → ((n seen : ℕ) → StopsAt stop n n seen h) → stop ≢ Limit
-  never_limit stop h all e = let at : (n : ℕ) → n ≡ h.blimit = λ n. (subst (λ (s : Stop). StopsAt s n n 0 h) e (all n 0)).0 in omega (arith, at 0, at 1)
+  never_limit stop h all e = let at : (n : ℕ) → n ≡ h.hand.blimit = λ n. (subst (λ (s : Stop). StopsAt s n n 0 h) e (all n 0)).0 in omega (arith, at 0, at 1)

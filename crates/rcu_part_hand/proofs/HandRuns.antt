@@ -112,7 +112,7 @@ module _ {J R : Type 0} where
         claim_with p k s = record { cpu = p; number = k; sight = s }
 
   -- nothing was run
-  pub ran_none : (tried seen : ℕ) (p q : HandState J R) → hand_held q ≡ hand_held p → hand_drawn q ≡ hand_drawn p → hand_records q ≡ hand_records p → sight (hand_view q) ≡ seen → StepsOnly (turns_word p.cpu) tried (hand_view p) (hand_view q) → Ran 0 tried seen p q
+  pub ran_none : (tried seen : ℕ) (p q : HandState J R) → hand_held q ≡ hand_held p → hand_drawn q ≡ hand_drawn p → hand_records q ≡ hand_records p → sight (hand_view q) ≡ seen → StepsOnly (turns_word p.hand.cpu) tried (hand_view p) (hand_view q) → Ran 0 tried seen p q
   ran_none tried seen p q held drawn records at steps = record {
     calls = [];
     records = [];
@@ -123,20 +123,20 @@ module _ {J R : Type 0} where
     same = refl;
     ready = none_of (λ (r : Record R). r.ready ≡ seen);
     sight = at;
-    steps = subst (λ (k : ℕ). StepsOnly (turns_word p.cpu) k (hand_view p) (hand_view q)) (omega arith) steps;
+    steps = subst (λ (k : ℕ). StepsOnly (turns_word p.hand.cpu) k (hand_view p) (hand_view q)) (omega arith) steps;
   }
 
   -- no claim was won
-  pub ran_untaken : (seen : ℕ) (stop : Stop) (p q : HandState J R) (t : TakesNone R p.cpu seen stop (hand_view p) (hand_view q) p.held q.held) → hand_records q ≡ hand_records p → sight (hand_view p) ≡ seen → Ran 0 t.tried seen p q
+  pub ran_untaken : (seen : ℕ) (stop : Stop) (p q : HandState J R) (t : TakesNone R p.hand.cpu seen stop (hand_view p) (hand_view q) p.hand.held q.hand.held) → hand_records q ≡ hand_records p → sight (hand_view p) ≡ seen → Ran 0 t.tried seen p q
   ran_untaken seen stop p q t records at = ran_none t.tried seen p q (ap (λ (h : Held J). held_by h) t.held) (ap (λ (h : Held J). drawn_by h) t.held) records (t.sight ∙ at) t.steps
 
-  pub held_untaken : (seen : ℕ) (stop : Stop) (p q : HandState J R) → TakesNone R p.cpu seen stop (hand_view p) (hand_view q) p.held q.held → q.cpu ≡ p.cpu → hand_records q ≡ hand_records p → sight (hand_view p) ≡ seen
+  pub held_untaken : (seen : ℕ) (stop : Stop) (p q : HandState J R) → TakesNone R p.hand.cpu seen stop (hand_view p) (hand_view q) p.hand.held q.hand.held → q.hand.cpu ≡ p.hand.cpu → hand_records q ≡ hand_records p → sight (hand_view p) ≡ seen
       → RunsHeld seen (record { ran = 0; stop = stop }) p q
   held_untaken seen stop p q t cpu records at = (t.tried, ran_untaken seen stop p q t records at, subst (λ (k : ℕ). StopsAt stop 0 k seen q) (omega arith) (t.why q cpu refl t.held 0))
 
   -- one was
   pub ran_one : (seen : ℕ) (p q : HandState J R) (c : Callback J) (r : Record R) → hand_held p ≡ c ∷ hand_held q → hand_drawn q ≡ hand_drawn p → hand_records q ≡ and_ran (r ∷ []) (hand_records p)
-      → numbered_record r ≡ numbered_callback c → r.ready ≡ seen → sight (hand_view q) ≡ seen → StepsOnly (turns_word p.cpu) 2 (hand_view p) (hand_view q) → Ran 1 1 seen p q
+      → numbered_record r ≡ numbered_callback c → r.ready ≡ seen → sight (hand_view q) ≡ seen → StepsOnly (turns_word p.hand.cpu) 2 (hand_view p) (hand_view q) → Ran 1 1 seen p q
   ran_one seen p q c r held drawn more same ready at steps = record {
     calls = c ∷ [];
     records = r ∷ [];
@@ -151,7 +151,7 @@ module _ {J R : Type 0} where
   }
 
   -- some, and then others
-  pub ran_more : (m n x y seen : ℕ) (o p q : HandState J R) → p.cpu ≡ o.cpu → Ran m x seen o p → Ran n y seen p q → Ran (m + n) (x + y) seen o q
+  pub ran_more : (m n x y seen : ℕ) (o p q : HandState J R) → p.hand.cpu ≡ o.hand.cpu → Ran m x seen o p → Ran n y seen p q → Ran (m + n) (x + y) seen o q
   ran_more m n x y seen o p q cpu a b = record {
     calls = a.calls ++ b.calls;
     records = a.records ++ b.records;
@@ -162,8 +162,8 @@ module _ {J R : Type 0} where
     same = map-append numbered_callback a.calls b.calls ∙ (ap (λ l. l ++ map numbered_callback b.calls) a.same ∙ (ap (λ l. map numbered_record a.records ++ l) b.same ∙ sym (map-append numbered_record a.records b.records)));
     ready = All-append (λ (r : Record R). r.ready ≡ seen) a.records b.records a.ready b.ready;
     sight = b.sight;
-    steps = subst (λ (k : ℕ). StepsOnly (turns_word o.cpu) k (hand_view o) (hand_view q)) (omega arith)
-        (steps_more (turns_word o.cpu) (x + m) (y + n) (hand_view o) (hand_view p) (hand_view q) a.steps (subst (λ (c : ℕ). StepsOnly (turns_word c) (y + n) (hand_view p) (hand_view q)) cpu b.steps));
+    steps = subst (λ (k : ℕ). StepsOnly (turns_word o.hand.cpu) k (hand_view o) (hand_view q)) (omega arith)
+        (steps_more (turns_word o.hand.cpu) (x + m) (y + n) (hand_view o) (hand_view p) (hand_view q) a.steps (subst (λ (c : ℕ). StepsOnly (turns_word c) (y + n) (hand_view p) (hand_view q)) cpu b.steps));
   }
 
   -- what a hand knows of jobs, where nothing was run
@@ -220,4 +220,4 @@ module _ {J R : Type 0} where
   -- one step was made on the board word, by the look
   pub looked_once : (p q r : HandState J R) (seen : ℕ) → Looks seen p q → Loads q r → tally (hand_view r) board_word ≡ tally (hand_view p) board_word + 1
   looked_once p q r seen a b = ap (λ (v : View). tally v board_word) b.view ∙ (ap (λ (v : View). tally v board_word) a.step
-      ∙ get_or-set_same (hand_view p).steps 0 (tally (hand_view p) 0 + 1) 0 (let h = has_words (hand_board p) p.seat p.here in omega (arith, h.steps)))
+      ∙ get_or-set_same (hand_view p).steps 0 (tally (hand_view p) 0 + 1) 0 (let h = has_words (hand_board p) p.hand.seat p.hand.here in omega (arith, h.steps)))

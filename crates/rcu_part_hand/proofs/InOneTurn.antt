@@ -30,7 +30,7 @@ module _ {J R : Type 0} where
       (ap (λ (k : ClaimedCallback). numbered_record (record_with r.receipt k)) c.claimed)
       (ap (λ (k : ClaimedCallback). k.ready) c.claimed)
       (f.ends.sights ∙ (c.won.sights ∙ at))
-      (steps_more (turns_word p.cpu) 1 1 (hand_view p) (running_view b) (hand_view q) c.steps (subst (λ (i : ℕ). StepsOnly (turns_word i) 1 (running_view b) (hand_view q)) r.same.cpu f.steps))
+      (steps_more (turns_word p.hand.cpu) 1 1 (hand_view p) (running_view b) (hand_view q) c.steps (subst (λ (i : ℕ). StepsOnly (turns_word i) 1 (running_view b) (hand_view q)) r.same.cpu f.steps))
 
-  pub ran_after : (ran tried seen : ℕ) (o p q : HandState J R) → p.cpu ≡ o.cpu → Ran ran tried seen o p → RunsInTwoSteps seen p q → Ran (ran + 1) (tried + 1) seen o q
+  pub ran_after : (ran tried seen : ℕ) (o p q : HandState J R) → p.hand.cpu ≡ o.hand.cpu → Ran ran tried seen o p → RunsInTwoSteps seen p q → Ran (ran + 1) (tried + 1) seen o q
   ran_after ran tried seen o p q cpu before r = ran_more ran 1 tried 1 seen o p q cpu before (ran_in_two_steps seen p q before.sight r)

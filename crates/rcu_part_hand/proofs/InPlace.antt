@@ -11,9 +11,7 @@ use Rattle.rcu_part_hand.specs.Hands.{StopsAt, hand_held}
 use Rattle.rcu_part_hand.specs.InPlace.{in_place, resting}
 use Rattle.rcu_part_hand.specs.InPlaceLaw.{RunsAs}
 use Rattle.rcu_part_hand.specs.declared.in_place.HandInPlaceState.{HandInPlaceState}
-use Rattle.std.specs.Arc.{arc_value}
-use Rattle.rcu_board.specs.Seats.{AtBoard, view}
-use Rattle.rcu_board.specs.declared.board.Role.TheVariants.{Hand}
+use Rattle.rcu_board.specs.Seats.{view}
 use Rattle.rcu_part_lists.specs.Helds.{taken_by}
 use Rattle.rcu_part_hand.specs.declared.hand.HandState.{HandState}
 use Rattle.rcu_part_hand.proofs.HandRuns.{stops_empty}
@@ -40,12 +38,12 @@ module _ {J R : Type 0} where
   stops_in_place B hand (Some s) none why = λ b. stops_empty (Some s) (hand b) (none b) why
 
   -- the same hand, with a claim or none
-  abbrev with_claim : (p : HandInPlaceState J R) (o : Option ClaimedCallback) → (o ≡ None → IsLawfulHand p.cpu (view p.seat) (ran_of p.ran) (taken_by p.held))
-      → ((c : ClaimedCallback) → o ≡ Some c → RunsAs p.cpu c (view p.seat) p.ran (taken_by p.held)) → HandInPlaceState J R
+  abbrev with_claim : (p : HandInPlaceState J R) (o : Option ClaimedCallback) → (o ≡ None → IsLawfulHand p.hand.cpu (view p.hand.seat) (ran_of p.hand.ran) (taken_by p.hand.held))
+      → ((c : ClaimedCallback) → o ≡ Some c → RunsAs p.hand.cpu c (view p.hand.seat) p.hand.ran (taken_by p.hand.held)) → HandInPlaceState J R
   with_claim p o rests runs = record p { claimed = o; rests = rests; runs = runs }
 
-  claim_none : (p : HandInPlaceState J R) (o : Option ClaimedCallback) (e : o ≡ None) (rests : o ≡ None → IsLawfulHand p.cpu (view p.seat) (ran_of p.ran) (taken_by p.held))
-      (runs : (c : ClaimedCallback) → o ≡ Some c → RunsAs p.cpu c (view p.seat) p.ran (taken_by p.held)) → with_claim p o rests runs ≡ with_claim p None (λ x. rests e) (λ c x. absurd (none-some c x))
+  claim_none : (p : HandInPlaceState J R) (o : Option ClaimedCallback) (e : o ≡ None) (rests : o ≡ None → IsLawfulHand p.hand.cpu (view p.hand.seat) (ran_of p.hand.ran) (taken_by p.hand.held))
+      (runs : (c : ClaimedCallback) → o ≡ Some c → RunsAs p.hand.cpu c (view p.hand.seat) p.hand.ran (taken_by p.hand.held)) → with_claim p o rests runs ≡ with_claim p None (λ x. rests e) (λ c x. absurd (none-some c x))
   claim_none p None e rests runs = let one : rests ≡ (λ x. rests e) = λ i x. ap rests (none_once None x e) i in
       let two : runs ≡ (λ c x. absurd (none-some c x)) = λ i c x. (let q : runs c x ≡ absurd (none-some c x) = absurd (none-some c x) in q i) in
       ap (λ r. with_claim p None r runs) one ∙ ap (λ r. with_claim p None (λ x. rests e) r) two
@@ -56,10 +54,7 @@ module _ {J R : Type 0} where
   rests_as p e = claim_none p p.claimed e p.rests p.runs
 
   -- what is known of a hand is known in one way alone
-  pub hand_once : (h : HandState J R) (here : AtBoard (arc_value h.board) h.seat) (role : h.seat.role ≡ Hand h.cpu) (lawful : IsLawfulHand h.cpu (view h.seat) (ran_of h.ran) (taken_by h.held))
-      → h ≡ record h { here = here; role = role; lawful = lawful }
-  hand_once h here role lawful =
-      let one : IsProp (AtBoard (arc_value h.board) h.seat) = hlevel props in
-      let two : IsProp (h.seat.role ≡ Hand h.cpu) = hlevel props in
-      let three : IsProp (IsLawfulHand h.cpu (view h.seat) (ran_of h.ran) (taken_by h.held)) = hlevel props in
-      ap (λ x. record h { here = x }) (one h.here here) ∙ (ap (λ x. record h { here = here; role = x }) (two h.role role) ∙ ap (λ x. record h { here = here; role = role; lawful = x }) (three h.lawful lawful))
+  pub hand_once : (h : HandState J R) (lawful : IsLawfulHand h.hand.cpu (view h.hand.seat) (ran_of h.hand.ran) (taken_by h.hand.held)) → h ≡ record h { lawful = lawful }
+  hand_once h lawful =
+      let one : IsProp (IsLawfulHand h.hand.cpu (view h.hand.seat) (ran_of h.hand.ran) (taken_by h.hand.held)) = hlevel props in
+      ap (λ x. record h { lawful = x }) (one h.lawful lawful)

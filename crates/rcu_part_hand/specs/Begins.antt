@@ -26,36 +26,36 @@ use Rattle.rcu_part_hand.specs.declared.running_hand.RunningHandState.{RunningHa
 
 module _ {J R : Type 0} where
   abbrev pub running_board : RunningHandState J R → Board
-  running_board h = arc_value h.board
+  running_board h = arc_value h.hand.board
 
   abbrev pub running_view : RunningHandState J R → View
-  running_view h = view h.seat
+  running_view h = view h.hand.seat
 
   -- all records of what it ran, and which of them are left
   abbrev pub running_records : RunningHandState J R → Recorded R
-  running_records h = recorded h.ran
+  running_records h = recorded h.hand.ran
 
   -- all that it drew, and of that what it holds
   abbrev pub running_drawn : RunningHandState J R → List (Callback J)
-  running_drawn h = drawn_by h.held
+  running_drawn h = drawn_by h.hand.held
 
   abbrev pub running_held : RunningHandState J R → List (Callback J)
-  running_held h = held_by h.held
+  running_held h = held_by h.hand.held
 
   -- the same part of the same open, once a claim of it runs, and once that has ended
   pub record SameBegun (p : HandState J R) (q : RunningHandState J R) : Type 0 where
-    pub part : SamePart (hand_board p) (running_board q) p.seat q.seat
-    pub lane : SameFront (front_of p.held) (front_of q.held)
-    pub cpu : q.cpu ≡ p.cpu
-    pub blimit : q.blimit ≡ p.blimit
-    pub kept : q.ran.kept ≡ p.ran.kept
+    pub part : SamePart (hand_board p) (running_board q) p.hand.seat q.hand.seat
+    pub lane : SameFront (front_of p.hand.held) (front_of q.hand.held)
+    pub cpu : q.hand.cpu ≡ p.hand.cpu
+    pub blimit : q.hand.blimit ≡ p.hand.blimit
+    pub kept : q.hand.ran.kept ≡ p.hand.ran.kept
 
   pub record SameFinished (p : RunningHandState J R) (q : HandState J R) : Type 0 where
-    pub part : SamePart (running_board p) (hand_board q) p.seat q.seat
-    pub lane : SameFront (front_of p.held) (front_of q.held)
-    pub cpu : q.cpu ≡ p.cpu
-    pub blimit : q.blimit ≡ p.blimit
-    pub kept : q.ran.kept ≡ p.ran.kept
+    pub part : SamePart (running_board p) (hand_board q) p.hand.seat q.hand.seat
+    pub lane : SameFront (front_of p.hand.held) (front_of q.hand.held)
+    pub cpu : q.hand.cpu ≡ p.hand.cpu
+    pub blimit : q.hand.blimit ≡ p.hand.blimit
+    pub kept : q.hand.ran.kept ≡ p.hand.ran.kept
 
   -- What a hand knows of jobs while a claim of it runs: what it knows between its calls.
   abbrev pub IsSoundRunning : (J → ℕ) → (ℕ → R → Type 0) → RunningHandState J R → Type 0
@@ -79,8 +79,8 @@ module _ {J R : Type 0} where
     pub records : running_records q ≡ hand_records p
     pub claimed : q.claimed ≡ claimed_as seen first
     pub over : snap_of first.stamp ≤ seen
-    pub won : Claims p.cpu first.number (hand_view p) (running_view q)
-    pub steps : StepsOnly (turns_word p.cpu) 1 (hand_view p) (running_view q)
+    pub won : Claims p.hand.cpu first.number (hand_view p) (running_view q)
+    pub steps : StepsOnly (turns_word p.hand.cpu) 1 (hand_view p) (running_view q)
 
   -- A begin of which a claim runs: a look, a draw at most, and then the claim.
   pub record BeginsHand (p : HandState J R) (q : RunningHandState J R) (job : J) : Type 0 where
@@ -100,9 +100,9 @@ module _ {J R : Type 0} where
   -- A finish: the claim has ended by one step, its record is added, and nothing else changed.
   pub record FinishesHand (receipt : R) (p : RunningHandState J R) (q : HandState J R) : Type 0 where
     pub records : hand_records q ≡ and_ran (record_with receipt p.claimed ∷ []) (running_records p)
-    pub held : q.held ≡ p.held
+    pub held : q.hand.held ≡ p.hand.held
     pub ends : Finishes (running_view p) (hand_view q)
-    pub steps : StepsOnly (turns_word p.cpu) 1 (running_view p) (hand_view q)
+    pub steps : StepsOnly (turns_word p.hand.cpu) 1 (running_view p) (hand_view q)
 
 -- The claim of the first callback that was held was won at the board sight `seen` by one step, and the callback was taken
 -- out; its grace period was over.
@@ -122,5 +122,5 @@ pub record TakesNone {J : Type 0} (R : Type 0) (cpu seen : ℕ) (stop : Stop) (v
   pub sight : sight w ≡ sight v
   pub steps : StepsOnly (turns_word cpu) tried v w
   -- the reason holds of a hand that holds so and has this view, however many were run before
-  pub why : (q : HandState J R) → q.cpu ≡ cpu → hand_view q ≡ w → q.held ≡ h → (n : ℕ) → StopsAt stop n (n + tried) seen q
+  pub why : (q : HandState J R) → q.hand.cpu ≡ cpu → hand_view q ≡ w → q.hand.held ≡ h → (n : ℕ) → StopsAt stop n (n + tried) seen q
   pub counts : (stop ≢ Limit) × (stop ≢ Again)

@@ -30,29 +30,29 @@ use Rattle.rcu_part_hand.specs.declared.hand.HandState.{HandState}
 
 module _ {J R : Type 0} where
   abbrev pub hand_board : HandState J R → Table
-  hand_board h = arc_value h.board
+  hand_board h = arc_value h.hand.board
 
   abbrev pub hand_view : HandState J R → View
-  hand_view h = view h.seat
+  hand_view h = view h.hand.seat
 
   -- all records of what it ran, and which of them are left
   abbrev pub hand_records : HandState J R → Recorded R
-  hand_records h = recorded h.ran
+  hand_records h = recorded h.hand.ran
 
   -- all that it drew, and of that what it holds
   abbrev pub hand_drawn : HandState J R → List (Callback J)
-  hand_drawn h = drawn_by h.held
+  hand_drawn h = drawn_by h.hand.held
 
   abbrev pub hand_held : HandState J R → List (Callback J)
-  hand_held h = held_by h.held
+  hand_held h = held_by h.hand.held
 
   -- the same part of the same open: its seat, its lane, its number, its limit and what it keeps of what it ran
   pub record SameHand (p q : HandState J R) : Type 0 where
-    pub part : SamePart (hand_board p) (hand_board q) p.seat q.seat
-    pub lane : SameFront (front_of p.held) (front_of q.held)
-    pub cpu : q.cpu ≡ p.cpu
-    pub blimit : q.blimit ≡ p.blimit
-    pub kept : q.ran.kept ≡ p.ran.kept
+    pub part : SamePart (hand_board p) (hand_board q) p.hand.seat q.hand.seat
+    pub lane : SameFront (front_of p.hand.held) (front_of q.hand.held)
+    pub cpu : q.hand.cpu ≡ p.hand.cpu
+    pub blimit : q.hand.blimit ≡ p.hand.blimit
+    pub kept : q.hand.ran.kept ≡ p.hand.ran.kept
 
   -- the records that there were stand before all others, and none of those that were left was lost
   abbrev pub AddsRecords : HandState J R → HandState J R → Type 0
@@ -86,13 +86,13 @@ module _ {J R : Type 0} where
     pub same : numbered_callbacks calls ≡ numbered_records records
     pub ready : All (λ r. r.ready ≡ seen) records
     pub sight : sight (hand_view q) ≡ seen
-    pub steps : StepsOnly (turns_word p.cpu) (tried + n) (hand_view p) (hand_view q)
+    pub steps : StepsOnly (turns_word p.hand.cpu) (tried + n) (hand_view p) (hand_view q)
 
   -- why the first of what it holds doesn't run: its wait isn't over at the number seen, or its claim was lost, as its turn
   -- word is another
   abbrev pub IsNotItsTurn : ℕ → ℕ → ℕ → HandState J R → Type 0
   IsNotItsTurn ran tried seen h = (c : Callback J) × (rest : List (Callback J)) × (hand_held h ≡ c ∷ rest)
-      × (((seen < snap_of c.stamp) × (tried ≡ ran)) ⊎ ((seen_at (hand_view h) (turns_word h.cpu) ≢ 2 * c.number) × (tried ≡ ran + 1)))
+      × (((seen < snap_of c.stamp) × (tried ≡ ran)) ⊎ ((seen_at (hand_view h) (turns_word h.hand.cpu) ≢ 2 * c.number) × (tried ≡ ran + 1)))
 
   -- the wait of the first of what it holds is over at the number seen
   abbrev pub IsDue : ℕ → HandState J R → Type 0
@@ -100,7 +100,7 @@ module _ {J R : Type 0} where
 
   -- why no more were run, once `ran` were and so many claims were tried
   abbrev pub StopsAt : Stop → ℕ → ℕ → ℕ → HandState J R → Type 0
-  StopsAt Limit ran tried seen h = (ran ≡ h.blimit) × (tried ≡ ran)
+  StopsAt Limit ran tried seen h = (ran ≡ h.hand.blimit) × (tried ≡ ran)
   StopsAt Again ran tried seen h = (hand_held h ≡ []) × (tried ≡ ran)
   StopsAt Empty ran tried seen h = (hand_held h ≡ []) × (tried ≡ ran)
   StopsAt Turn ran tried seen h = IsNotItsTurn ran tried seen h
@@ -138,7 +138,7 @@ module _ {J R : Type 0} where
   -- nothing changed but which records are left
   pub record KeepsButRecords (p q : HandState J R) : Type 0 where
     pub view : hand_view q ≡ hand_view p
-    pub held : q.held ≡ p.held
+    pub held : q.hand.held ≡ p.hand.held
 
   -- A turn: a look, a draw at most, and then the first ones of what is held run.
   pub record TurnsBy (answer : HandTurn) (p q : HandState J R) : Type 0 where
@@ -156,8 +156,8 @@ module _ {J R : Type 0} where
   -- the hand of processor cpu of a board, with its seat and what it holds, which keeps this of what it runs: it ran nothing
   pub record IsNewHandOf (shape : PartsShape) (b : Table) (cpu : ℕ) (s : Seat) (held : Held J) (kept : Kept) (h : HandState J R) : Type 0 where
     pub board : hand_board h ≡ b
-    pub seat : h.seat ≡ s
-    pub held_is : h.held ≡ held
-    pub cpu_is : h.cpu ≡ cpu
-    pub limit : h.blimit ≡ shape.blimit
+    pub seat : h.hand.seat ≡ s
+    pub held_is : h.hand.held ≡ held
+    pub cpu_is : h.hand.cpu ≡ cpu
+    pub limit : h.hand.blimit ≡ shape.blimit
     pub ran : hand_records h ≡ record { kept = kept; all = []; gone = 0 }

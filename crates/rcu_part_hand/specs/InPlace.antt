@@ -24,46 +24,17 @@ use Rattle.rcu_part_steps.specs.declared.begins.ClaimedCallback.{ClaimedCallback
 module _ {J R : Type 0} where
   -- where no claim runs, it is this hand
   abbrev pub resting : (p : HandInPlaceState J R) → p.claimed ≡ None → HandState J R
-  resting p e = record {
-    board = p.board;
-    seat = p.seat;
-    cpu = p.cpu;
-    blimit = p.blimit;
-    ran = p.ran;
-    held = p.held;
-    here = p.here;
-    role = p.role;
-    lawful = p.rests e;
-  }
+  resting p e = record { hand = p.hand; lawful = p.rests e }
 
   -- in place it stands so, where no claim runs
   abbrev pub in_place : HandState J R → HandInPlaceState J R
-  in_place o = record {
-    board = o.board;
-    seat = o.seat;
-    cpu = o.cpu;
-    blimit = o.blimit;
-    ran = o.ran;
-    claimed = None;
-    held = o.held;
-    here = o.here;
-    role = o.role;
-    rests = λ e. o.lawful;
-    runs = λ c e. absurd (none-some c e);
-  }
+  in_place o = record { claimed = None; hand = o.hand; rests = λ e. o.lawful; runs = λ c e. absurd (none-some c e) }
 
   -- where one runs, it is this running hand
   abbrev pub running : (p : HandInPlaceState J R) (c : ClaimedCallback) → p.claimed ≡ Some c → RunningHandState J R
   running p c e = record {
-    board = p.board;
-    seat = p.seat;
-    cpu = p.cpu;
-    blimit = p.blimit;
-    ran = p.ran;
     claimed = c;
-    held = p.held;
-    here = p.here;
-    role = p.role;
+    hand = p.hand;
     small = (p.runs c e).small;
     room = (p.runs c e).room;
     lawful = (p.runs c e).lawful;
@@ -71,7 +42,7 @@ module _ {J R : Type 0} where
 
   -- what a hand in place knows of jobs, whether a claim of it runs or not
   abbrev pub IsSoundInPlace : (J → ℕ) → (ℕ → R → Type 0) → HandInPlaceState J R → Type 0
-  IsSoundInPlace key_of gives p = AreKeyed key_of (drawn_by p.held) → Given gives (ran_of p.ran)
+  IsSoundInPlace key_of gives p = AreKeyed key_of (drawn_by p.hand.held) → Given gives (ran_of p.hand.ran)
 
   -- what is known of jobs stays known
   abbrev pub KeepsSoundInPlace : (J → ℕ) → (ℕ → R → Type 0) → HandInPlaceState J R → HandInPlaceState J R → Type 0
@@ -132,7 +103,7 @@ module _ {J R : Type 0} where
     pub next : first.number ≡ h.claimed.number + 1
     pub over : snap_of first.stamp ≤ h.claimed.ready
     pub small : first.number < MOST_CALLS
-    pub room : HasRoomForTwo h.ran
+    pub room : HasRoomForTwo h.hand.ran
 
   -- A finish with this receipt, and then a begin, which came to this. What is known of jobs stays known over both.
   pub record GoesOn (key_of : J → ℕ) (gives : ℕ → R → Type 0) (receipt : R) (result : Result J Stop) (p q : HandInPlaceState J R) : Type 0 where

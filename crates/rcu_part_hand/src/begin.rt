@@ -45,25 +45,12 @@ impl<J: Job> RunningHand<J> {
             → IsGivenFor J.key_of J.gives self.state receipt
             → IsSoundHand J.key_of J.gives result.state }
     {
-        let RunningHandState {
-            board,
-            mut seat,
-            cpu,
-            blimit,
-            mut ran,
-            claimed,
-            held,
-        } = self.state;
-        end_claim(&board, &mut seat);
-        ran.add(claimed.record(receipt));
-        let state = HandState {
-            board,
-            seat,
-            cpu,
-            blimit,
-            ran,
-            held,
-        };
-        Hand { state }
+        let RunningHandState { claimed, mut hand } = self.state;
+        let seated = &mut hand;
+        end_claim(&seated.board, &mut seated.seat);
+        seated.ran.add(claimed.record(receipt));
+        Hand {
+            state: HandState { hand },
+        }
     }
 }

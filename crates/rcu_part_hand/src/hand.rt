@@ -2,15 +2,15 @@
 
 ghost use Rattle.std.specs.Prelude.{◌≡◌};
 ghost use Rattle.std.specs.Arc.{arc_value};
-ghost use Rattle.rcu_board.specs.Seats.{view, AtBoard};
-ghost use Rattle.rcu_board.specs.declared.board.Role.{Role};
+ghost use Rattle.rcu_board.specs.Seats.{view};
 ghost use Rattle.rcu_part_lists.specs.Helds.{taken_by};
 ghost use Rattle.rcu_part_order.specs.Recorded.{ran_of};
 ghost use Rattle.rcu_part_hand.specs.HandLaw.{IsLawfulHand};
 
 use crate::claim::claim_first;
 use crate::running_hand::{RunningHand, RunningHandState};
-use rcu_board::{Board, Role, Seat};
+use crate::seated::SeatedHand;
+use rcu_board::{Board, Seat};
 use rcu_jobs::{Callback, Job};
 use rcu_numbers::PartsShape;
 use rcu_part_lists::Held;
@@ -22,16 +22,8 @@ use std::sync::Arc;
 /// What a hand's part has.
 #[derive(Drop)]
 pub struct HandState<J, R> {
-    pub board: Arc<Board, Global>,
-    pub seat: Seat,
-    pub cpu: u64,
-    /// How many callbacks a turn runs at most.
-    pub blimit: u64,
-    pub ran: Records<R>,
-    pub held: Held<J>,
-    ghost here: { AtBoard (arc_value board) seat },
-    ghost role: { seat.role ≡ Role.Hand cpu },
-    ghost lawful: { IsLawfulHand cpu (view seat) (ran_of ran) (taken_by held) },
+    pub hand: SeatedHand<J, R>,
+    ghost lawful: { IsLawfulHand hand.cpu (view hand.seat) (ran_of hand.ran) (taken_by hand.held) },
 }
 
 /// The hand of an offloadable processor: it runs the callbacks that the group gives it, each under a claim of its number.
@@ -63,35 +55,37 @@ impl<J: Job> Hand<J> {
     {
         Hand {
             state: HandState {
-                board,
-                seat,
-                cpu,
-                blimit: shape.blimit,
-                ran: Records::new(alloc, kept),
-                held,
+                hand: SeatedHand {
+                    board,
+                    seat,
+                    cpu,
+                    blimit: shape.blimit,
+                    ran: Records::new(alloc, kept),
+                    held,
+                },
             },
         }
     }
 
     /// The processor that it runs for.
     pub fn cpu(&self) -> u64
-        ensures { result ≡ self.now.state.cpu }
+        ensures { result ≡ self.now.state.hand.cpu }
     {
-        self.state.cpu
+        self.state.hand.cpu
     }
 
     /// How many callbacks it ran.
     pub fn ran(&self) -> usize
         ensures { result ≡ length (hand_records self.now.state).all }
     {
-        self.state.ran.len()
+        self.state.hand.ran.len()
     }
 
     /// How many records are left of those.
     pub fn records_left(&self) -> usize
-        ensures { result ≡ length (left_in self.now.state.ran) }
+        ensures { result ≡ length (left_in self.now.state.hand.ran) }
     {
-        self.state.ran.records_left()
+        self.state.hand.ran.records_left()
     }
 
     // What it has, which ends with it.
@@ -127,39 +121,25 @@ impl<J: Job> Hand<J> {
             × IfStops result (λ hand _. IsSoundHand J.key_of J.gives hand.state) }
     {
         let Hand {
-            state: HandState {
-                board,
-                mut seat,
-                cpu,
-                blimit,
-                mut ran,
-                mut held,
-            },
+            state: HandState { mut hand },
         } = self;
-        match claim_first(&board, &mut seat, cpu, &mut held, &mut ran, seen) {
+        let seated = &mut hand;
+        match claim_first(
+            &seated.board,
+            &mut seated.seat,
+            seated.cpu,
+            &mut seated.held,
+            &mut seated.ran,
+            seen,
+        ) {
             Err(stop) => {
-                let state = HandState {
-                    board,
-                    seat,
-                    cpu,
-                    blimit,
-                    ran,
-                    held,
-                };
+                let state = HandState { hand };
                 Begins::Stops(Hand { state }, stop)
             }
             Ok(callback) => {
                 let claimed = ClaimedCallback::of(&callback, seen);
                 let Callback { job, .. } = callback;
-                let state = RunningHandState {
-                    board,
-                    seat,
-                    cpu,
-                    blimit,
-                    ran,
-                    claimed,
-                    held,
-                };
+                let state = RunningHandState { claimed, hand };
                 Begins::Runs(RunningHand { state }, job)
             }
         }

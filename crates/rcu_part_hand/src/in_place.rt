@@ -1,12 +1,10 @@
 //! A hand that stays where it is while claims of it begin and end.
 
 ghost use Rattle.std.specs.Prelude.{◌≡◌, ◌≢◌, ◌≤◌, ℕ, true, None, Some, Ok, IfSome, IfOk, IfErr, is_some};
-ghost use Rattle.std.specs.Arc.{arc_value};
 ghost use Rattle.std.specs.Int.{from_bool};
 ghost use Rattle.rcu_numbers.specs.declared.sequence.TheConstants.{LAST_NUMBER};
-ghost use Rattle.rcu_board.specs.Seats.{view, AtBoard};
+ghost use Rattle.rcu_board.specs.Seats.{view};
 ghost use Rattle.rcu_board.specs.Views.{sight};
-ghost use Rattle.rcu_board.specs.declared.board.Role.{Role};
 ghost use Rattle.rcu_jobs.specs.declared.Stop.TheVariants.{Limit};
 ghost use Rattle.rcu_part_lists.specs.Helds.{taken_by};
 ghost use Rattle.rcu_part_order.specs.Recorded.{ran_of};
@@ -16,32 +14,22 @@ ghost use Rattle.rcu_part_steps.specs.declared.begins.ClaimedCallback.{ClaimedCa
 
 use crate::claim::claim_first;
 use crate::hand::{Hand, HandState, into_state};
-use rcu_board::{Board, Role, Seat, halted};
+use crate::seated::SeatedHand;
+use rcu_board::halted;
 use rcu_jobs::{Callback, Job, Stop};
 use rcu_numbers::snap;
-use rcu_part_lists::Held;
-use rcu_part_order::Records;
 use rcu_part_steps::{ClaimedCallback, end_and_claim, end_claim, look_at_number};
-use std::alloc::Global;
-use std::sync::Arc;
 
 /// What a hand's part has, whether or not a claim of it runs.
 #[derive(Drop)]
 pub struct HandInPlaceState<J, R> {
-    pub board: Arc<Board, Global>,
-    pub seat: Seat,
-    pub cpu: u64,
-    /// How many callbacks a turn runs at most.
-    pub blimit: u64,
-    pub ran: Records<R>,
     /// The callback whose claim runs, if one does. There is room for its record.
     pub claimed: Option<ClaimedCallback>,
-    pub held: Held<J>,
-    ghost here: { AtBoard (arc_value board) seat },
-    ghost role: { seat.role ≡ Role.Hand cpu },
-    ghost rests: { claimed ≡ None → IsLawfulHand cpu (view seat) (ran_of ran) (taken_by held) },
+    pub hand: SeatedHand<J, R>,
+    ghost rests: { claimed ≡ None
+        → IsLawfulHand hand.cpu (view hand.seat) (ran_of hand.ran) (taken_by hand.held) },
     ghost runs: { (c : Claimed) → claimed ≡ Some c
-        → RunsAs cpu c (view seat) ran (taken_by held) },
+        → RunsAs hand.cpu c (view hand.seat) hand.ran (taken_by hand.held) },
 }
 
 /// A hand that stays where it is while claims of it begin and end: a [`Hand`] where none runs, and else a
@@ -58,22 +46,10 @@ impl<J: Job> HandInPlace<J> {
         ensures rests { result.state.claimed ≡ None }
         ensures same { IfResting (λ h. h ≡ hand.state) result.state }
     {
-        let HandState {
-            board,
-            seat,
-            cpu,
-            blimit,
-            ran,
-            held,
-        } = into_state(hand);
+        let HandState { hand } = into_state(hand);
         let state = HandInPlaceState {
-            board,
-            seat,
-            cpu,
-            blimit,
-            ran,
             claimed: None,
-            held,
+            hand,
         };
         HandInPlace { state }
     }
@@ -84,25 +60,11 @@ impl<J: Job> HandInPlace<J> {
         ensures same { IfResting (λ h. h ≡ result.state) self.state }
     {
         let HandInPlace {
-            state: HandInPlaceState {
-                board,
-                seat,
-                cpu,
-                blimit,
-                ran,
-                claimed: _,
-                held,
-            },
+            state: HandInPlaceState { claimed: _, hand },
         } = self;
-        let state = HandState {
-            board,
-            seat,
-            cpu,
-            blimit,
-            ran,
-            held,
-        };
-        Hand { state }
+        Hand {
+            state: HandState { hand },
+        }
     }
 
     /// Whether a claim of it runs.
@@ -114,9 +76,9 @@ impl<J: Job> HandInPlace<J> {
 
     /// The processor that it runs for.
     pub fn cpu(&self) -> u64
-        ensures { result ≡ self.now.state.cpu }
+        ensures { result ≡ self.now.state.hand.cpu }
     {
-        self.state.cpu
+        self.state.hand.cpu
     }
 
     /// The callback whose claim runs, if one does.
@@ -139,8 +101,8 @@ impl<J: Job> HandInPlace<J> {
             self.new.state }
         ensures small { result ≤ LAST_NUMBER }
     {
-        let state = &mut self.state;
-        look_at_number(&state.board, &mut state.seat)
+        let hand = &mut self.state.hand;
+        look_at_number(&hand.board, &mut hand.seat)
     }
 
     // Draws a batch where none is held. Answers why nothing can run, if so.
@@ -150,22 +112,24 @@ impl<J: Job> HandInPlace<J> {
         ensures none { IfSome result (λ stop.
             IfResting (λ h. (n seen : ℕ) → StopsAt stop n n seen h) self.new.state) }
     {
-        self.state.held.fetch()
+        let hand = &mut self.state.hand;
+        hand.held.fetch()
     }
 
     // Claims the first of what it holds, and hands its job out, or says why not. The number `seen` is that of the begin's look.
     fn claim(&mut self, seen: u64) -> Result<J, Stop>
         requires rests { self.old.state.claimed ≡ None }
-        requires seen { sight (view self.old.state.seat) ≡ seen }
+        requires seen { sight (view self.old.state.hand.seat) ≡ seen }
         ensures claims { ClaimsAs seen J.key_of J.gives result self.old.state self.new.state }
     {
         let state = &mut self.state;
+        let hand = &mut state.hand;
         match claim_first(
-            &state.board,
-            &mut state.seat,
-            state.cpu,
-            &mut state.held,
-            &mut state.ran,
+            &hand.board,
+            &mut hand.seat,
+            hand.cpu,
+            &mut hand.held,
+            &mut hand.ran,
             seen,
         ) {
             Err(stop) => Err(stop),
@@ -214,8 +178,9 @@ impl<J: Job> HandInPlace<J> {
         let Some(claimed) = state.claimed else {
             unreachable!()
         };
-        end_claim(&state.board, &mut state.seat);
-        state.ran.add(claimed.record(receipt));
+        let hand = &mut state.hand;
+        end_claim(&hand.board, &mut hand.seat);
+        hand.ran.add(claimed.record(receipt));
         state.claimed = None;
     }
 }
@@ -234,7 +199,7 @@ impl<J: Job> HandInPlace<J> {
         let Some(claimed) = state.claimed else {
             unreachable!()
         };
-        let Some(first) = state.held.first() else {
+        let Some(first) = state.hand.held.first() else {
             return false;
         };
         if first.number != claimed.number + 1 {
@@ -243,7 +208,7 @@ impl<J: Job> HandInPlace<J> {
         if snap(first.stamp) > claimed.ready {
             return false;
         }
-        state.ran.has_room_for_two()
+        state.hand.ran.has_room_for_two()
     }
 
     // Ends the claim, and claims the next callback, by one step of the board.
@@ -258,10 +223,11 @@ impl<J: Job> HandInPlace<J> {
         let Some(ended) = state.claimed else {
             unreachable!()
         };
-        let seen = look_at_number(&state.board, &mut state.seat);
-        end_and_claim(&state.board, &mut state.seat);
-        state.ran.add(ended.record(receipt));
-        let Some(callback) = state.held.take() else {
+        let hand = &mut state.hand;
+        let seen = look_at_number(&hand.board, &mut hand.seat);
+        end_and_claim(&hand.board, &mut hand.seat);
+        hand.ran.add(ended.record(receipt));
+        let Some(callback) = hand.held.take() else {
             unreachable!()
         };
         state.claimed = Some(ClaimedCallback::of(&callback, seen));
@@ -300,8 +266,8 @@ impl<J: Job> HandInPlace<J> {
         ensures reads { KeepingInPlace (ReadsHalt (from_bool result)) J.key_of J.gives
             self.old.state self.new.state }
     {
-        let state = &mut self.state;
-        halted(&state.board, &mut state.seat)
+        let hand = &mut self.state.hand;
+        halted(&hand.board, &mut hand.seat)
     }
 }
 

@@ -13,6 +13,6 @@ use rcu_jobs::Job;
 pub fn turns_in_two_steps<J: Job>()
     ensures one { (seen : ℕ) (p q : HandState J J.Receipt) → sight (hand_view p) ≡ seen
         → RunsInTwoSteps seen p q → Ran 1 1 seen p q }
-    ensures more { (ran tried seen : ℕ) (o p q : HandState J J.Receipt) → p.cpu ≡ o.cpu
+    ensures more { (ran tried seen : ℕ) (o p q : HandState J J.Receipt) → p.hand.cpu ≡ o.hand.cpu
         → Ran ran tried seen o p → RunsInTwoSteps seen p q → Ran (ran + 1) (tried + 1) seen o q }
 {}

@@ -30,9 +30,11 @@ mod laws;
 mod recorded;
 mod run;
 mod running_hand;
+mod seated;
 mod turn;
 
 pub use hand::{Hand, HandState, into_state};
 pub use in_place::{HandInPlace, HandInPlaceState};
 pub use laws::turns_in_two_steps;
 pub use running_hand::{RunningHand, RunningHandState};
+pub use seated::SeatedHand;

@@ -15,13 +15,13 @@ impl<J: Job> Hand<J> {
     /// Takes out the records that are left, in the order in which their callbacks ran, where the runtime was opened to keep
     /// them until they are taken ([`Kept::Rest`](rcu_part_order::Kept)); else none. `close` answers those that are left then.
     pub fn take_records(&mut self, alloc: Global) -> Vec<Record<J::Receipt>>
-        ensures taken { result.items ≡ takeable self.old.state.ran }
+        ensures taken { result.items ≡ takeable self.old.state.hand.ran }
         ensures records { hand_records self.new.state ≡ as_taken (hand_records self.old.state) }
         ensures same { SameHand self.old.state self.new.state }
         ensures others { KeepsButRecords self.old.state self.new.state }
         ensures sound { KeepsSoundHand J.key_of J.gives self.old.state self.new.state }
     {
-        self.state.ran.take(alloc)
+        self.state.hand.ran.take(alloc)
     }
 }
 
@@ -33,12 +33,13 @@ impl<J: Job> HandInPlace<J> {
     /// Takes out the records that are left, as [`Hand::take_records`] does.
     pub fn take_records(&mut self, alloc: Global) -> Vec<Record<J::Receipt>>
         requires rests { self.old.state.claimed ≡ None }
-        ensures taken { result.items ≡ takeable self.old.state.ran }
-        ensures records { recorded self.new.state.ran ≡ as_taken (recorded self.old.state.ran) }
+        ensures taken { result.items ≡ takeable self.old.state.hand.ran }
+        ensures records { recorded self.new.state.hand.ran
+            ≡ as_taken (recorded self.old.state.hand.ran) }
         ensures others { StaysResting KeepsButRecords self.old.state self.new.state }
         ensures sound { KeepsSoundInPlace J.key_of J.gives self.old.state self.new.state }
     {
-        let state = &mut self.state;
-        state.ran.take(alloc)
+        let hand = &mut self.state.hand;
+        hand.ran.take(alloc)
     }
 }

@@ -25,8 +25,8 @@ impl<J: Job> Hand<J> {
             ≡ touched halt_word (from_bool result) (hand_view self.old.state) }
         ensures sound { KeepsSoundHand J.key_of J.gives self.old.state self.new.state }
     {
-        let state = &mut self.state;
-        halted(&state.board, &mut state.seat)
+        let hand = &mut self.state.hand;
+        halted(&hand.board, &mut hand.seat)
     }
 
     /// Turns once, unless the runtime was halted. Answers whether a callback ran.

@@ -21,19 +21,19 @@ impl<J: Job> Hand<J> {
         ensures runs { Keeping (RunsOne seen result) J.key_of J.gives self.old.state
             self.new.state }
     {
-        let state = &mut self.state;
+        let hand = &mut self.state.hand;
         match claim_first(
-            &state.board,
-            &mut state.seat,
-            state.cpu,
-            &mut state.held,
-            &mut state.ran,
+            &hand.board,
+            &mut hand.seat,
+            hand.cpu,
+            &mut hand.held,
+            &mut hand.ran,
             seen,
         ) {
             Err(stop) => Some(stop),
             Ok(callback) => {
-                let record = run_claimed(&state.board, &mut state.seat, callback, seen);
-                state.ran.add(record);
+                let record = run_claimed(&hand.board, &mut hand.seat, callback, seen);
+                hand.ran.add(record);
                 None
             }
         }
@@ -45,11 +45,11 @@ impl<J: Job> Hand<J> {
         requires small { seen ≤ LAST_NUMBER }
         ensures runs { Keeping (RunsHeld seen result) J.key_of J.gives self.old.state
             self.new.state }
-        ensures first { StopsInTime result.stop result.ran self.old.state.blimit }
+        ensures first { StopsInTime result.stop result.ran self.old.state.hand.blimit }
         ensures goes_on { result.stop ≢ Again }
-        ensures few { result.ran ≤ self.old.state.blimit }
+        ensures few { result.ran ≤ self.old.state.hand.blimit }
     {
-        let blimit = self.state.blimit;
+        let blimit = self.state.hand.blimit;
         for ran in 0..blimit {
             if let Some(stop) = self.run_one(seen) {
                 return HandTurn { ran, stop };
@@ -66,8 +66,8 @@ impl<J: Job> Hand<J> {
         ensures looks { Keeping (Looks result) J.key_of J.gives self.old.state self.new.state }
         ensures small { result ≤ LAST_NUMBER }
     {
-        let state = &mut self.state;
-        look_at_number(&state.board, &mut state.seat)
+        let hand = &mut self.state.hand;
+        look_at_number(&hand.board, &mut hand.seat)
     }
 
     // Draws a batch where none is held. Answers why nothing can run, if so.
@@ -75,7 +75,8 @@ impl<J: Job> Hand<J> {
         ensures loads { Keeping Loads J.key_of J.gives self.old.state self.new.state }
         ensures none { IfSome result (λ stop. (n seen : ℕ) → StopsAt stop n n seen self.new.state) }
     {
-        self.state.held.fetch()
+        let hand = &mut self.state.hand;
+        hand.held.fetch()
     }
 
     /// A turn: one look; where no batch is held, one is drawn; then the first callbacks are run, at most `blimit`, each where
@@ -84,8 +85,8 @@ impl<J: Job> Hand<J> {
     pub fn turn(&mut self) -> HandTurn
         ensures same { SameHand self.old.state self.new.state }
         ensures turn { TurnsBy result self.old.state self.new.state }
-        ensures few { result.ran ≤ self.old.state.blimit }
-        ensures first { StopsInTime result.stop result.ran self.old.state.blimit }
+        ensures few { result.ran ≤ self.old.state.hand.blimit }
+        ensures first { StopsInTime result.stop result.ran self.old.state.hand.blimit }
         ensures again { result.stop ≡ Again → (hand_held self.old.state ≡ []) × (result.ran ≡ 0) }
         ensures fresh { tally (hand_view self.new.state) board_word
             ≡ tally (hand_view self.old.state) board_word + 1 }

@@ -29,7 +29,7 @@ module _ {J R : Type 0} where
   KeepsAll p = p.state.ran.kept ≡ Whole
 
   abbrev HandKeepsAll : Hand J R → Type 0
-  HandKeepsAll h = h.state.ran.kept ≡ Whole
+  HandKeepsAll h = h.state.hand.ran.kept ≡ Whole
 
   -- as they are opened
   pub opened_whole : (shape : PartsShape) (parts : Parts J R) → IsOpened shape parts → KeepWhole parts
@@ -50,7 +50,7 @@ module _ {J R : Type 0} where
 
   whole_with : (p : Processor J R) (hs : List (Hand J R)) → KeepsAll p → All HandKeepsAll hs → IsWholePart (cpu_part p (first_hand hs))
   whole_with p [] e w = whole_alone p e
-  whole_with p (h ∷ hs) e w = record { own = whole_left p.state.ran e; hand = whole_left h.state.ran (All-head HandKeepsAll h hs w) }
+  whole_with p (h ∷ hs) e w = record { own = whole_left p.state.ran e; hand = whole_left h.state.hand.ran (All-head HandKeepsAll h hs w) }
 
   whole_parts : (ps : List (Processor J R)) (hs : List (Hand J R)) → All KeepsAll ps → All HandKeepsAll hs → All IsWholePart (cpu_parts ps hs)
   whole_parts [] hs e w = All-nil IsWholePart

@@ -70,14 +70,14 @@ module _ {J R : Type 0} where
   }
 
   -- a processor and its hand
-  pub rests_with : (p : Processor J R) (h : Hand J R) → h.state.cpu ≡ p.state.cpu → IsAtRest (cpu_part p (Some (hand_part h)))
+  pub rests_with : (p : Processor J R) (h : Hand J R) → h.state.hand.cpu ≡ p.state.cpu → IsAtRest (cpu_part p (Some (hand_part h)))
   rests_with p h same = record {
     own_cpu = own_cpu p;
     stamped = p.state.lawful.stamped;
     here = is_here p;
     places = record { processor = p.state.lawful.places; hand = h.state.lawful.places };
     claims = p.state.lawful.claims;
-    hand_claims = subst (λ (k : ℕ). (view h.state.seat).claims ≡ map (claim_of k) (ran_of h.state.ran)) same h.state.lawful.claims;
+    hand_claims = subst (λ (k : ℕ). (view h.state.hand.seat).claims ≡ map (claim_of k) (ran_of h.state.hand.ran)) same h.state.lawful.claims;
     ripe = p.state.lawful.ripe;
     hand_ripe = h.state.lawful.ripe;
   }

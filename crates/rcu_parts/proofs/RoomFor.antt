@@ -28,7 +28,7 @@ module _ {J R : Type 0} where
 
   first_taken : (hs : List (Hand J R)) → length (hand_taken (first_hand hs)) ≡ length (hand_ran (first_hand hs))
   first_taken [] = refl
-  first_taken (h ∷ hs) = omega (arith, length-map (taken_by h.state.held) (numbered_callback {J = J}), ap length h.state.lawful.places, length-map (ran_of h.state.ran) (numbered_record {R = R}))
+  first_taken (h ∷ hs) = omega (arith, length-map (taken_by h.state.hand.held) (numbered_callback {J = J}), ap length h.state.lawful.places, length-map (ran_of h.state.hand.ran) (numbered_record {R = R}))
 
   -- where none is left
   pub none_after : (p : Processor J R) (hs : List (Hand J R)) → p.state.offloadable ≡ true → hs ≡ [] → hs ≡ hands_after p hs

@@ -18,7 +18,7 @@ use Rattle.rcu_part_processor.specs.declared.processor.Processor.{Processor}
 
 module _ {J R : Type 0} where
   abbrev pub hand_part : Hand J R → HandPart J R
-  hand_part h = record { view = hand_view h.state; ran = ran_of h.state.ran; kept = left_in h.state.ran; drawn = hand_drawn h.state; taken = taken_by h.state.held }
+  hand_part h = record { view = hand_view h.state; ran = ran_of h.state.hand.ran; kept = left_in h.state.hand.ran; drawn = hand_drawn h.state; taken = taken_by h.state.hand.held }
 
   -- a processor with its hand, if it has one
   abbrev pub cpu_part : Processor J R → Option (HandPart J R) → CpuPart J R
@@ -60,7 +60,7 @@ module _ {J R : Type 0} where
   -- The parts keep every record: none is gone, and none can be taken out.
   pub record KeepWhole (parts : Parts J R) : Type 0 where
     pub processors : All (λ p. p.state.ran.kept ≡ Whole) (processors_in parts)
-    pub hands : All (λ h. h.state.ran.kept ≡ Whole) (hands_in parts)
+    pub hands : All (λ h. h.state.hand.ran.kept ≡ Whole) (hands_in parts)
 
   -- Then the records of all that ran are answered.
   abbrev pub AnswersAll : {promised : List (CpuEnd J R) → Type 0} (parts : Parts J R) (closed : Closed J R) → Answers promised parts closed → Type 0

@@ -54,8 +54,8 @@ module _ {J R : Type 0} where
 
   -- This member's done lane leads to this hand.
   pub record HasHand (m : GroupMember J) (h : Hand J R) : Type 0 where
-    pub cpu : h.state.cpu ≡ m.cpu
-    pub lane : SameLane (hands_front h.state.held) (done_rear m.member)
+    pub cpu : h.state.hand.cpu ≡ m.cpu
+    pub lane : SameLane (hands_front h.state.hand.held) (done_rear m.member)
 
   -- What the seats weigh, which is all there is where none is missing and none is there twice.
   abbrev pub weight_in : Parts J R → ℕ

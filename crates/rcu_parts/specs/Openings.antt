@@ -39,9 +39,9 @@ module _ {J R : Type 0} where
 
   -- The hand of processor k of a board: its seat has made no step, and it has drawn and run nothing.
   pub record IsFirstHand (shape : PartsShape) (kept : Kept) (b : Board) (k : ℕ) (h : Hand J R) : Type 0 where
-    pub seat : IsNewHand b k h.state.seat
+    pub seat : IsNewHand b k h.state.hand.seat
     pub empty : (hand_drawn h.state ≡ []) × (hand_held h.state ≡ [])
-    pub part : IsNewHandOf shape b k h.state.seat h.state.held kept h.state
+    pub part : IsNewHandOf shape b k h.state.hand.seat h.state.hand.held kept h.state
 
   -- Group g of a board: its seat has made no step, and its members are its offloadable processors, of which nothing has come.
   pub record IsFirstGroup (shape : PartsShape) (b : Board) (g : ℕ) (group : Group J R) : Type 0 where

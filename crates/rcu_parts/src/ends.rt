@@ -13,7 +13,7 @@ use rcu_board::{Board, Gathered, Seat, merge};
 use rcu_jobs::{Closed, Job, Record};
 use rcu_part_close::{ProcessorEnd, closing, end_local, end_offloadable, settle};
 use rcu_part_group::GroupMember;
-use rcu_part_hand::{Hand, HandState};
+use rcu_part_hand::{Hand, HandState, SeatedHand};
 use rcu_part_processor::{Processor, ProcessorState};
 use std::alloc::Global;
 use std::collections::VecDeque;
@@ -145,10 +145,12 @@ impl<J: Job> Ending<J> {
             ..
         } = rcu_part_processor::into_state(processor);
         let HandState {
-            seat: hands_seat,
-            ran: hands,
-            held,
-            ..
+            hand: SeatedHand {
+                seat: hands_seat,
+                ran: hands,
+                held,
+                ..
+            },
         } = rcu_part_hand::into_state(hand);
         self.take_in(seat);
         self.take_in(hands_seat);

@@ -57,8 +57,8 @@ module _ {J R : Type 0} where
   pub record HandTurns (h i : Hand J R) : Type 0 where
     pub answer : HandTurn
     pub turns : TurnsBy answer h.state i.state
-    pub few : answer.ran ≤ h.state.blimit
-    pub first : StopsInTime answer.stop answer.ran h.state.blimit
+    pub few : answer.ran ≤ h.state.hand.blimit
+    pub first : StopsInTime answer.stop answer.ran h.state.hand.blimit
     pub again : answer.stop ≡ Again → (hand_held h.state ≡ []) × (answer.ran ≡ 0)
     pub fresh : tally (hand_view i.state) board_word ≡ tally (hand_view h.state) board_word + 1
 

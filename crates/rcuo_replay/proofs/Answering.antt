@@ -24,14 +24,14 @@ module _ {J R : Type 0} (key_of : J → ℕ) (v : Verb) (moment : ℕ) (job : J)
   call_made r p q kind is ok keeps refused = answered r p q (subst (λ k. IfOk r (λ t. IsAccepted moment k (key_of job) job t p.state q.state)) is ok) keeps refused
 
 -- a hand's turn of a processor that isn't offloadable
-pub hand_of_local : {J R : Type 0} (n cpu : ℕ) (hs : List (Hand J R)) (l : Line) → cpu < n → All (λ h. h.state.cpu ≢ cpu) hs → l ≡ refused_by verb.Hand cpu 5 → IsHand n cpu l hs hs
+pub hand_of_local : {J R : Type 0} (n cpu : ℕ) (hs : List (Hand J R)) (l : Line) → cpu < n → All (λ h. h.state.hand.cpu ≢ cpu) hs → l ≡ refused_by verb.Hand cpu 5 → IsHand n cpu l hs hs
 hand_of_local n cpu hs l within none is =
     let t : nat_lt cpu n ≡ true = grind (arith, nat_tests) in
     let e : refused_by verb.Hand cpu 5 ≡ refused_by verb.Hand cpu (if nat_lt cpu n then 5 else 6) = rw t in
     subst (λ x. IsHand n cpu x hs hs) (sym is) (none, e, refl)
 
 -- a hand's turn of a processor that isn't there
-pub no_hand : {J R : Type 0} (n cpu : ℕ) (hs : List (Hand J R)) (l : Line) → n ≤ cpu → All (λ h. h.state.cpu ≢ cpu) hs → l ≡ refused_by verb.Hand cpu 6 → IsHand n cpu l hs hs
+pub no_hand : {J R : Type 0} (n cpu : ℕ) (hs : List (Hand J R)) (l : Line) → n ≤ cpu → All (λ h. h.state.hand.cpu ≢ cpu) hs → l ≡ refused_by verb.Hand cpu 6 → IsHand n cpu l hs hs
 no_hand n cpu hs l past none is =
     let t : nat_lt cpu n ≡ false = grind (arith, nat_tests) in
     let e : refused_by verb.Hand cpu 6 ≡ refused_by verb.Hand cpu (if nat_lt cpu n then 5 else 6) = rw t in

@@ -148,13 +148,13 @@ module _ {J R : Type 0} where
 
   -- the part in this place is the hand of this processor
   abbrev pub IsHandAt : ℕ → ℕ → List (Hand J R) → Type 0
-  IsHandAt place cpu hands = HoldsAt place (λ h. h.state.cpu ≡ cpu) hands
+  IsHandAt place cpu hands = HoldsAt place (λ h. h.state.hand.cpu ≡ cpu) hands
 
   -- `hand`, where so many processors are there: those that aren't offloadable have no hand
   abbrev pub IsHand : ℕ → ℕ → Line → List (Hand J R) → List (Hand J R) → Type 0
   IsHand n cpu (line.Ran v place ran) olds news =
-      (v ≡ verb.Hand) × (place ≡ cpu) × ((k : ℕ) × ChangesAt k (λ h i. (h.state.cpu ≡ cpu) × ((t : HandTurn) × (t.ran ≡ ran) × TurnsBy t h.state i.state)) olds news)
-  IsHand n cpu l olds news = All (λ h. h.state.cpu ≢ cpu) olds × (l ≡ line.Refused verb.Hand cpu (if nat_lt cpu n then 5 else 6)) × (news ≡ olds)
+      (v ≡ verb.Hand) × (place ≡ cpu) × ((k : ℕ) × ChangesAt k (λ h i. (h.state.hand.cpu ≡ cpu) × ((t : HandTurn) × (t.ran ≡ ran) × TurnsBy t h.state i.state)) olds news)
+  IsHand n cpu l olds news = All (λ h. h.state.hand.cpu ≢ cpu) olds × (l ≡ line.Refused verb.Hand cpu (if nat_lt cpu n then 5 else 6)) × (news ≡ olds)
 
 -- ---- driver and control
 

@@ -219,7 +219,7 @@ pub fn group<J: Job>(groups: &mut Vec<Group<J>>, number: u64) -> Line
 /// Where the part of a processor's hand stands.
 fn place_of_hand<J: Job>(hands: &Vec<Hand<J>>, cpu: u64) -> Option<usize>
     ensures found { IfSome result (λ place. IsHandAt place cpu hands.now.items) }
-    ensures none { IfNone result (All (λ h. h.state.cpu ≢ cpu) hands.now.items) }
+    ensures none { IfNone result (All (λ h. h.state.hand.cpu ≢ cpu) hands.now.items) }
 {
     for place in 0..hands.len() {
         if hands[place].cpu() == cpu {

@@ -24,7 +24,7 @@ put_each-requires-2-clause-rising c = let e = c.in-Ok.ensures in let b = e.boxes
 
 pub put_each-requires-3-clause-rising : goal.put_each-requires-3-clause-rising
 put_each-requires-3-clause-rising c = let e = c.in-Ok.ensures in let b = e.boxes_all in let end = length c.args.slots.now.hands in let w = c.args.shape.now.within.some_processors in let few : c.args.shape.now.processors ≤ end = omega (arith, w) in
-    for_places b.opening (λ (h : ForeignHand). h.state.cpu) (λ h. part.Hand (lent_hand h)) (hands_in e.parts) (boxed c.in-Ok.boxes.hands.items) end b.boxed.hands_are
+    for_places b.opening (λ (h : ForeignHand). h.state.hand.cpu) (λ h. part.Hand (lent_hand h)) (hands_in e.parts) (boxed c.in-Ok.boxes.hands.items) end b.boxed.hands_are
     (rising_hands c.args.kept c.args.shape.now e.parts e.new.opened end few)
 
 pub returns-clause-opened : goal.returns-clause-opened
@@ -32,7 +32,7 @@ returns-clause-opened c =
     let e = c.in-Ok.ensures in let b = e.boxes_all in let o = b.opening in
     let ps = processors_in e.parts in let gs = groups_in e.parts in let hs = hands_in e.parts in
     let put_ps = c.put_each.ensures in let put_gs = c.put_each-2.ensures in let put_hs = c.put_each-3.ensures in
-    let cpu = λ (p : ForeignCpu). p.state.cpu in let group = λ (g : Group ForeignJob ForeignJob). g.state.group in let hand = λ (h : ForeignHand). h.state.cpu in record {
+    let cpu = λ (p : ForeignCpu). p.state.cpu in let group = λ (g : Group ForeignJob ForeignJob). g.state.group in let hand = λ (h : ForeignHand). h.state.hand.cpu in record {
       parts = e.parts;
       new = e.new;
       opening = o;

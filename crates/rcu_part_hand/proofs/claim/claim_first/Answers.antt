@@ -73,7 +73,7 @@ returns-then-not-try_claim-clause-stops g c = let f = c.in-Some.ensures.first in
     c.in-Some.first.now,
     f.0,
     ap (λ (h : Held g.row.J.Denot). held_by h) same ∙ f.1,
-    inr ((λ is. l.2 (sym (ap (λ (v : View). seen_at v (turns_word c.args.cpu)) at) ∙ (ap (λ (p : ℕ). seen_at (view q.seat) (turns_word p)) (sym cpu) ∙ is))), refl),
+    inr ((λ is. l.2 (sym (ap (λ (v : View). seen_at v (turns_word c.args.cpu)) at) ∙ (ap (λ (p : ℕ). seen_at (view q.hand.seat) (turns_word p)) (sym cpu) ∙ is))), refl),
   );
   counts = ((λ e. (let f : Turn ≡ Limit = e in cc)), λ e. (let f : Turn ≡ Again = e in cc));
 }

@@ -12,10 +12,10 @@ use Rattle.std.specs.Arc.{arc_value}
 use Rattle.rcu_parts.proofs.opening.open_hand.Goals as goal
 
 pub new-held-requires : goal.new-held-requires
-new-held-requires g c = let h : FitsInMemory (row.the_row (param 0 g.row.J) (param 1 g.row.J-Receipt)) = assumption in (in_struct _ _ _ (in_struct _ _ _ h), c.in_ok-done_front.ensures.none_drawn)
+new-held-requires g c = let h : FitsInMemory (row.the_row (param 0 g.row.J) (param 1 g.row.J-Receipt)) = assumption in (in_struct _ _ _ (in_struct _ _ _ (in_struct _ _ _ h)), c.in_ok-done_front.ensures.none_drawn)
 
 pub new-hand-requires-after_bounds : goal.new-hand-requires-after_bounds
-new-hand-requires-after_bounds g c κs within = let h : FitsInMemory (row.the_row (param 0 g.row.J) (param 1 g.row.J-Receipt)) = assumption in (in_struct _ _ _ (in_struct _ _ _ h), (h, (subst (λ (b : Board). IsNewHand b c.args.cpu c.args.seat) (sym c.in_ok-own.ensures) c.requires.seat, c.new-held.ensures.empty)))
+new-hand-requires-after_bounds g c κs within = let h : FitsInMemory (row.the_row (param 0 g.row.J) (param 1 g.row.J-Receipt)) = assumption in (in_struct _ _ _ (in_struct _ _ _ (in_struct _ _ _ h)), (h, (subst (λ (b : Board). IsNewHand b c.args.cpu c.args.seat) (sym c.in_ok-own.ensures) c.requires.seat, c.new-held.ensures.empty)))
 
 pub returns-in_err-done_front : goal.returns-in_err-done_front
 returns-in_err-done_front g c = let e = c.from_residual.ensures in record { group_member = if_ok_never _ _ e; hand = if_ok_never _ _ e; lane = if_ok_never _ _ e }

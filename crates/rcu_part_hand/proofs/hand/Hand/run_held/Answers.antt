@@ -20,7 +20,7 @@ pub run_one-requires : goal.run_one-requires
 run_one-requires g c = (assumption, (assumption, (assumption, (c.loop-ran.invariant.ran.sight, c.requires.small))))
 
 pub returns-in-Some-clause-first : goal.returns-in-Some-clause-first
-returns-in-Some-clause-first g c = in_time c.in-Some.stop c.loop-ran.ran c.args.self.now.state.blimit c.in-Some.ensures.runs.does.counts.0 (λ _. c.loop-ran-test.true)
+returns-in-Some-clause-first g c = in_time c.in-Some.stop c.loop-ran.ran c.args.self.now.state.hand.blimit c.in-Some.ensures.runs.does.counts.0 (λ _. c.loop-ran-test.true)
 
 pub returns-in-Some-clause-goes_on : goal.returns-in-Some-clause-goes_on
 returns-in-Some-clause-goes_on g c = c.in-Some.ensures.runs.does.counts.1
@@ -41,7 +41,7 @@ returns-in-Some-clause-runs g c = record {
 
 pub returns-clause-runs : goal.returns-clause-runs
 returns-clause-runs g c = record {
-  does = let i = c.loop-ran.invariant in let b = c.args.self.now.state.blimit in let same : c.loop-ran.ran ≡ b = omega (arith, c.loop-ran-test.false, c.loop-ran.auto.ran-end) in
+  does = let i = c.loop-ran.invariant in let b = c.args.self.now.state.hand.blimit in let same : c.loop-ran.ran ≡ b = omega (arith, c.loop-ran-test.false, c.loop-ran.auto.ran-end) in
       (b, subst (λ (m : ℕ). Ran m m c.args.seen c.args.self.now.state c.loop-ran.self.state) same i.ran, (sym i.same.blimit, refl));
   same = c.loop-ran.invariant.same;
   sound = c.loop-ran.invariant.sound;

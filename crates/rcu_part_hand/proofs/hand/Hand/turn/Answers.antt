@@ -71,7 +71,7 @@ pub returns-clause-few : goal.returns-clause-few
 returns-clause-few g c = subst (λ (n : ℕ). c.run_held.result.ran ≤ n) (c.load.ensures.loads.same.blimit ∙ c.look-seen.ensures.looks.same.blimit) c.run_held.ensures.few
 
 pub returns-in-Some-clause-first : goal.returns-in-Some-clause-first
-returns-in-Some-clause-first g c = in_time c.in-Some.stop 0 c.args.self.now.state.blimit (never_limit c.in-Some.stop c.load.new.self.state c.in-Some.ensures.none) (λ some. some)
+returns-in-Some-clause-first g c = in_time c.in-Some.stop 0 c.args.self.now.state.hand.blimit (never_limit c.in-Some.stop c.load.new.self.state c.in-Some.ensures.none) (λ some. some)
 
 pub returns-in-Some-clause-again : goal.returns-in-Some-clause-again
 returns-in-Some-clause-again g c again = let q = c.load.new.self.state in

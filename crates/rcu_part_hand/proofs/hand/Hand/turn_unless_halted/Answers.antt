@@ -10,7 +10,7 @@ pub turn-requires : goal.turn-requires
 turn-requires g c = assumption
 
 pub returns-then-is_halted-clause-halted : goal.returns-then-is_halted-clause-halted
-returns-then-is_halted-clause-halted g c = let s = c.args.self.now.state in saw-halt (arc_value s.board) s.seat c.is_halted.new.self.state.seat c.is_halted.result s.here c.is_halted.ensures.view c.if-is_halted.true
+returns-then-is_halted-clause-halted g c = let s = c.args.self.now.state in saw-halt (arc_value s.hand.board) s.hand.seat c.is_halted.new.self.state.hand.seat c.is_halted.result s.hand.here c.is_halted.ensures.view c.if-is_halted.true
 
 pub returns-then-is_halted-clause-records : goal.returns-then-is_halted-clause-records
 returns-then-is_halted-clause-records g c = record {

@@ -8,7 +8,7 @@ use Rattle.rcu_part_hand.specs.contracts.in_place.HandInPlace as row
 use Rattle.rcu_part_hand.proofs.in_place.HandInPlace.is_followed.Goals as goal
 
 pub first-requires : goal.first-requires
-first-requires g c = let h : FitsInMemory (row.the_row (param 0 g.row.J) (param 1 g.row.J-Receipt)) = assumption in in_struct _ _ _ (in_struct _ _ _ h)
+first-requires g c = let h : FitsInMemory (row.the_row (param 0 g.row.J) (param 1 g.row.J-Receipt)) = assumption in in_struct _ _ _ (in_struct _ _ _ (in_struct _ _ _ h))
 
 pub overflow_add-claimed : goal.overflow_add-claimed
 overflow_add-claimed g c = let small = (c.args.self.now.state.runs c.in-Some.claimed c.in-Some.is).small in omega (arith, small)

@@ -7,11 +7,12 @@ use Rattle.rcu_part_hand.specs.HandLaw.{IsLawfulHand}
 use Rattle.rcu_part_hand.proofs.HandRuns.{all_as, hand_sound_kept, kept_as}
 use Rattle.rcu_part_hand.proofs.in_place.HandInPlace.take_records.Goals as goal
 
-pub invariant_of-state : goal.invariant_of-state
-invariant_of-state g c = let s = c.args.self.now.state in record {
-  here = s.here;
-  role = s.role;
-  rests = λ r. subst (λ (rs : List (Record g.row.J-Receipt.Denot)). IsLawfulHand s.cpu (view s.seat) rs (taken_by s.held)) (sym (all_as _ _ c.take.ensures.rest)) (s.rests r);
+pub invariant_of-hand : goal.invariant_of-hand
+invariant_of-hand g c = let s = c.args.self.now.state.hand in record { here = s.here; role = s.role }
+
+pub invariant_of-self : goal.invariant_of-self
+invariant_of-self g c = let s = c.args.self.now.state in record {
+  rests = λ r. subst (λ (rs : List (Record g.row.J-Receipt.Denot)). IsLawfulHand s.hand.cpu (view s.hand.seat) rs (taken_by s.hand.held)) (sym (all_as _ _ c.take.ensures.rest)) (s.rests r);
   runs = λ k f. (let x : None ≡ Some k = sym c.requires.rests ∙ f in cc);
 }
 
@@ -24,4 +25,4 @@ returns-clause-others g c = λ r. (
 
 pub returns-clause-sound : goal.returns-clause-sound
 returns-clause-sound g c = let s = c.args.self.now.state in
-    hand_sound_kept g.J.Job.key_of g.J.Job.gives (drawn_by s.held) (drawn_by s.held) s.ran.all.items c.take.new.self.all.items refl (all_as _ _ c.take.ensures.rest)
+    hand_sound_kept g.J.Job.key_of g.J.Job.gives (drawn_by s.hand.held) (drawn_by s.hand.held) s.hand.ran.all.items c.take.new.self.all.items refl (all_as _ _ c.take.ensures.rest)

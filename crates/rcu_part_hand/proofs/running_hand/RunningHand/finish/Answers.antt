@@ -10,18 +10,19 @@ use Rattle.rcu_part_steps.specs.Changes.{StepsOnly}
 use Rattle.rcu_part_hand.proofs.HandBegins.{hand_finished, hand_sound_finished}
 use Rattle.rcu_part_hand.proofs.running_hand.RunningHand.finish.Goals as goal
 
-pub invariant_of-state : goal.invariant_of-state
-invariant_of-state g c = let added = rw c.record.ensures at c.add.ensures.added in let s = c.args.self.state in let e = c.end_claim.ensures in record {
-  here = e.same.table ∙ s.here;
-  role = e.same.role ∙ s.role;
-  lawful = hand_finished s.cpu s.claimed c.args.receipt (view s.seat) (view c.end_claim.new.seat) s.ran.all.items c.add.new.self.all.items (taken_by s.held) e.ends (all_as _ _ added) s.lawful;
+pub invariant_of-seated : goal.invariant_of-seated
+invariant_of-seated g c = let s = c.args.self.state.hand in let e = c.end_claim.ensures in record { here = e.same.table ∙ s.here; role = e.same.role ∙ s.role }
+
+pub invariant_of-result : goal.invariant_of-result
+invariant_of-result g c = let added = rw c.record.ensures at c.add.ensures.added in let s = c.args.self.state in let e = c.end_claim.ensures in record {
+  lawful = hand_finished s.hand.cpu s.claimed c.args.receipt (view s.hand.seat) (view c.end_claim.new.seat) s.hand.ran.all.items c.add.new.self.all.items (taken_by s.hand.held) e.ends (all_as _ _ added) s.lawful;
 }
 
 pub end_claim-requires : goal.end_claim-requires
 end_claim-requires g c = let s = c.args.self.state in record {
-  board = subst (λ (b : Board). AtBoard b s.seat) (sym c.deref.ensures) s.here;
-  who = subst MayClaim (sym s.role) tt;
-  runs = record { claim = claim_that_runs s.cpu s.claimed; alone = s.lawful.runs; cpu = sym (ap cpu_of_role s.role); small = s.small };
+  board = subst (λ (b : Board). AtBoard b s.hand.seat) (sym c.deref.ensures) s.hand.here;
+  who = subst MayClaim (sym s.hand.role) tt;
+  runs = record { claim = claim_that_runs s.hand.cpu s.claimed; alone = s.lawful.runs; cpu = sym (ap cpu_of_role s.hand.role); small = s.small };
 }
 
 pub add-requires : goal.add-requires
@@ -35,9 +36,9 @@ returns-clause-finishes g c = let added = rw c.record.ensures at c.add.ensures.a
   records = added;
   held = refl;
   ends = c.end_claim.ensures.ends;
-  steps = subst (λ (p : ℕ). StepsOnly (turns_word p) 1 (view s.seat) (view c.end_claim.new.seat)) (ap cpu_of_role s.role) c.end_claim.ensures.only;
+  steps = subst (λ (p : ℕ). StepsOnly (turns_word p) 1 (view s.hand.seat) (view c.end_claim.new.seat)) (ap cpu_of_role s.hand.role) c.end_claim.ensures.only;
 }
 
 pub returns-clause-sound : goal.returns-clause-sound
 returns-clause-sound g c = let added = rw c.record.ensures at c.add.ensures.added in λ sound given. let s = c.args.self.state in
-    hand_sound_finished g.J.Job.key_of g.J.Job.gives (drawn_by s.held) s.claimed c.args.receipt s.ran.all.items c.add.new.self.all.items (all_as _ _ added) sound given
+    hand_sound_finished g.J.Job.key_of g.J.Job.gives (drawn_by s.hand.held) s.claimed c.args.receipt s.hand.ran.all.items c.add.new.self.all.items (all_as _ _ added) sound given

@@ -47,15 +47,15 @@ end_offloadable-requires-after_bounds g c κs within =
       (
         in_struct _ _ _ (group_member_fits g start),
         (
-          in_struct _ _ _ (in_struct _ _ _ (hand_fits g start)),
+          in_struct _ _ _ (in_struct _ _ _ (in_struct _ _ _ (hand_fits g start))),
           (
             subst₂ (λ m p. SameLane (front_of m) (rear_of p.lists)) u s c.requires.member.lane,
             (
-              subst₂ (λ h m. SameLane (hands_front h.held) (done_rear m)) t u c.requires.hand.lane,
+              subst₂ (λ h m. SameLane (hands_front h.hand.held) (done_rear m)) t u c.requires.hand.lane,
               (
                 r.jobs,
-                subst₂ (λ p h. HasRoom (length (left_in p.ran) + length (left_in h.ran)) r.jobs c.args.room) s t r.empty,
-                subst₂ (λ p h. length (put_by (holding p.lists)) + length (held_in (holding p.lists)) ≤ length (taken_by h.held) + r.jobs) s t r.enough,
+                subst₂ (λ p h. HasRoom (length (left_in p.ran) + length (left_in h.hand.ran)) r.jobs c.args.room) s t r.empty,
+                subst₂ (λ p h. length (put_by (holding p.lists)) + length (held_in (holding p.lists)) ≤ length (taken_by h.hand.held) + r.jobs) s t r.enough,
               ),
             ),
           ),
@@ -74,19 +74,19 @@ returns-clause-ends g c =
     record {
       end = record {
         part = p;
-        ran = by_number (ran_of c.args.processor.state.ran) (ran_of c.args.hand.state.ran);
+        ran = by_number (ran_of c.args.processor.state.ran) (ran_of c.args.hand.state.hand.ran);
         kept = c.end_offloadable.result.ran.items;
         back = c.end_offloadable.result.back.items;
       };
       part = refl;
       at_rest = rests_with c.args.processor c.args.hand (c.requires.hand.cpu ∙ c.requires.member.cpu);
       ended = record {
-        ends = subst₂ (λ p h. EndsWith g.J.Job.key_of g.J.Job.gives (ran_of p.ran) (ran_of h.ran) (holding p.lists) (taken_by h.held) (drawn_by h.held) (by_number (ran_of p.ran) (ran_of h.ran)) c.end_offloadable.result.back.items) s f c.end_offloadable.ensures.ends;
+        ends = subst₂ (λ p h. EndsWith g.J.Job.key_of g.J.Job.gives (ran_of p.ran) (ran_of h.hand.ran) (holding p.lists) (taken_by h.hand.held) (drawn_by h.hand.held) (by_number (ran_of p.ran) (ran_of h.hand.ran)) c.end_offloadable.result.back.items) s f c.end_offloadable.ensures.ends;
         ran = refl;
-        kept = subst₂ (λ p h. c.end_offloadable.result.ran.items ≡ by_number (left_in p.ran) (left_in h.ran)) s f c.end_offloadable.ensures.kept;
+        kept = subst₂ (λ p h. c.end_offloadable.result.ran.items ≡ by_number (left_in p.ran) (left_in h.hand.ran)) s f c.end_offloadable.ensures.kept;
       };
-      view = ap all_view k.others ∙ (u.view ∙ (ap (λ w. joined w (view c.into_state-hands_seat.result.seat)) t.view ∙ subst₂ (λ p h. joined (joined (all_view c.args.self.now) (view c.into_state-seat.result.seat)) (view c.into_state-hands_seat.result.seat) ≡ joined (joined (all_view c.args.self.now) (view p.seat)) (view h.seat)) s f refl));
-      long = both_long (board_at c.args.self.now) (board_of c.args.processor.state) (hand_board c.args.hand.state) c.args.processor.state.seat c.args.hand.state.seat c.requires.board c.requires.hand_board c.args.processor.state.here c.args.hand.state.here;
+      view = ap all_view k.others ∙ (u.view ∙ (ap (λ w. joined w (view c.into_state-hands_seat.result.hand.seat)) t.view ∙ subst₂ (λ p h. joined (joined (all_view c.args.self.now) (view c.into_state-seat.result.seat)) (view c.into_state-hands_seat.result.hand.seat) ≡ joined (joined (all_view c.args.self.now) (view p.seat)) (view h.hand.seat)) s f refl));
+      long = both_long (board_at c.args.self.now) (board_of c.args.processor.state) (hand_board c.args.hand.state) c.args.processor.state.seat c.args.hand.state.hand.seat c.requires.board c.requires.hand_board c.args.processor.state.here c.args.hand.state.hand.here;
       ran = ap (map (λ v. v.items)) k.ran ∙ (map-append (λ v. v.items) c.take_in-2.new.self.ran.items (c.end_offloadable.result.ran ∷ [])
           ∙ (ap (λ x. all_ran x ++ c.end_offloadable.result.ran.items ∷ []) u.others ∙ ap (λ x. all_ran x ++ c.end_offloadable.result.ran.items ∷ []) t.others));
       back = ap (map (λ v. v.items)) k.back ∙ (map-append (λ v. v.items) c.take_in-2.new.self.back.items (c.end_offloadable.result.back ∷ [])
@@ -115,11 +115,11 @@ pub take_in-requires-clause-joins : goal.take_in-requires-clause-joins
 take_in-requires-clause-joins g c κs within = subst (λ s. (view s.seat).running ≡ []) (sym c.into_state-seat.ensures) c.args.processor.state.lawful.rests
 
 pub take_in-requires-2-clause-board : goal.take_in-requires-2-clause-board
-take_in-requires-2-clause-board g c κs within = let h = c.args.hand.state in subst (λ s. AtBoard (board_at c.take_in.new.self) s.seat) (sym c.into_state-hands_seat.ensures)
-    (subst (λ (b : Board). AtBoard b h.seat) (c.requires.hand_board ∙ sym (ap board_at c.take_in.ensures.others)) h.here)
+take_in-requires-2-clause-board g c κs within = let h = c.args.hand.state in subst (λ s. AtBoard (board_at c.take_in.new.self) s.hand.seat) (sym c.into_state-hands_seat.ensures)
+    (subst (λ (b : Board). AtBoard b h.hand.seat) (c.requires.hand_board ∙ sym (ap board_at c.take_in.ensures.others)) h.hand.here)
 
 pub take_in-requires-2-clause-joins : goal.take_in-requires-2-clause-joins
-take_in-requires-2-clause-joins g c κs within = subst (λ s. (view s.seat).running ≡ []) (sym c.into_state-hands_seat.ensures) c.args.hand.state.lawful.rests
+take_in-requires-2-clause-joins g c κs within = subst (λ s. (view s.hand.seat).running ≡ []) (sym c.into_state-hands_seat.ensures) c.args.hand.state.lawful.rests
 
 pub keep-requires-clause-ran : goal.keep-requires-clause-ran
 keep-requires-clause-ran g c κs within = subst (λ x. vec_len x.ran < vec_capacity x.ran) (sym c.take_in-2.ensures.others) (subst (λ x. vec_len x.ran < vec_capacity x.ran) (sym c.take_in.ensures.others) c.requires.may.ran)
@@ -156,10 +156,10 @@ pub returns-clause-goes_on : goal.returns-clause-goes_on
 returns-clause-goes_on g c = let k = c.keep.ensures in let t = c.take_in.ensures in let u = c.take_in-2.ensures in record {
   board = ap board_at k.others ∙ (ap board_at u.others ∙ ap board_at t.others);
   same = ap (λ e. e.all.seat.table_id) k.others ∙ (u.same ∙ t.same);
-  rests = ap (λ e. (all_view e).running) k.others ∙ still_rests (all_view c.take_in.new.self) (view c.into_state-hands_seat.result.seat) (all_view c.take_in-2.new.self) u.view
+  rests = ap (λ e. (all_view e).running) k.others ∙ still_rests (all_view c.take_in.new.self) (view c.into_state-hands_seat.result.hand.seat) (all_view c.take_in-2.new.self) u.view
       (still_rests (all_view c.args.self.now) (view c.into_state-seat.result.seat) (all_view c.take_in.new.self) t.view c.requires.may.rests
       (subst (λ s. (view s.seat).running ≡ []) (sym c.into_state-seat.ensures) c.args.processor.state.lawful.rests))
-      (subst (λ s. (view s.seat).running ≡ []) (sym c.into_state-hands_seat.ensures) c.args.hand.state.lawful.rests);
+      (subst (λ s. (view s.hand.seat).running ≡ []) (sym c.into_state-hands_seat.ensures) c.args.hand.state.lawful.rests);
   ran = (k.for_ran.0 ∙ (ap (λ e. vec_len e.ran + 1) u.others ∙ ap (λ e. vec_len e.ran + 1) t.others), k.for_ran.1 ∙ (ap (λ e. vec_capacity e.ran) u.others ∙ ap (λ e. vec_capacity e.ran) t.others));
   back = (k.for_back.0 ∙ (ap (λ e. vec_len e.back + 1) u.others ∙ ap (λ e. vec_len e.back + 1) t.others), k.for_back.1 ∙ (ap (λ e. vec_capacity e.back) u.others ∙ ap (λ e. vec_capacity e.back) t.others));
 }
