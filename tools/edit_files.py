@@ -5,6 +5,7 @@ import re
 # Where the edits of a crate stand: those that the gate tries, and those that it leaves out.
 TRIED, LEFT_OUT = KINDS = ("gate-edits", "more-edits")
 FUNCTION = re.compile(r"^(?P<in> *)(?:pub(?:\(\w+\))? )?(?:const |unsafe |extern \S+ )*fn (?P<name>\w+)")
+TYPE = re.compile(r"^(?:pub(?:\(\w+\))? )?(?:struct|enum) (\w+)", re.MULTILINE)
 BLOCK = re.compile(r"^(?P<in> *)(?:pub )?(?:unsafe )?(?P<kind>impl|trait)\b(?P<of>.*)$")
 
 
@@ -126,25 +127,52 @@ def type_of(head):
 
 
 def module_of(place):
-    """The module of a file of src/, as a path; an empty text of the crate's root."""
-    path = place.removeprefix("src/").removesuffix(".rt").removesuffix("/mod").replace("/", "::")
-    return "" if path in ("lib", "main") else path
+    """The module of a file of src/, as the parts of a path; none of the crate's root."""
+    parts = place.removeprefix("src/").removesuffix(".rt").removesuffix("/mod").split("/")
+    return [] if parts in (["lib"], ["main"]) else parts
 
 
-def function_at(place, text, at):
-    """The name of the function in which a place of a source file stands, or the end of it; an empty text outside of functions."""
+def path_at(place, text, at):
+    """The path of the function in which a place of a source file stands: its module, its type where it has one, and its name. It is
+    that of the function's folder below proofs/. Nothing outside of functions, and of a function of a trait, but for its trait."""
     name, depth = "", None
     for line in reversed(text[: text.find("\n", at)].splitlines()):
         function, block = FUNCTION.match(line), BLOCK.match(line)
         if function and not name:
             name, depth = function["name"], len(function["in"])
         elif name and block and len(block["in"]) < depth:
-            return f"{type_of(block['of'])}::{name}"
+            return [*module_of(place), type_of(block["of"]), name]
         elif not name and line == "}":
-            return ""
+            return []
         if name and depth == 0:
             break
-    return "::".join(filter(None, (module_of(place), name))) if name else ""
+    return [*module_of(place), name] if name else []
+
+
+def function_at(place, text, at):
+    """The name of the function in which a place of a source file stands, or the end of it; an empty text outside of functions."""
+    path = path_at(place, text, at)
+    # (a type's name says which it is without the module)
+    is_method = len(path) > 1 and path[-2][:1].isupper()
+    return "::".join(path[-2:] if is_method else path)
+
+
+def functions_of(folder):
+    """The paths of the functions that the sources of a crate write, but for those of traits. A method's is below its type's module,
+    wherever it stands."""
+    texts = {str(it.relative_to(folder)): it.read_text(encoding="utf-8") for it in sorted((folder / "src").rglob("*.rt"))}
+    homes = {name: module_of(place) for place, text in texts.items() for name in TYPE.findall(text)}
+    found = []
+    for place, text in texts.items():
+        at, is_trait = 0, False
+        for line in text.splitlines(keepends=True):
+            block = BLOCK.match(line.rstrip("\n"))
+            is_trait = block["kind"] == "trait" if block else is_trait and not line.startswith("}")
+            if FUNCTION.match(line) and not is_trait:
+                path = path_at(place, text, at)
+                found.append([*homes.get(path[-2], path[:-2]), *path[-2:]] if len(path) > 1 else path)
+            at += len(line)
+    return found
 
 
 def function_text(text, at):

@@ -92,6 +92,33 @@ class Names(unittest.TestCase):
     def test_no_function(self):
         self.assertEqual(self.name_at("MOST: u64"), "")
 
+    def test_all_of_a_crate(self):
+        with tempfile.TemporaryDirectory() as room:
+            source = pathlib.Path(room) / "src"
+            source.mkdir()
+            trait = "pub trait Job {\n    fn key(&self) -> u64;\n}\n\nfn after() {}\n"
+            for name, text in {"turn.rt": SOURCE, "hand.rt": "pub struct Hand<J> {}\n", "lib.rt": trait}.items():
+                (source / name).write_text(text, encoding="utf-8")
+            found = ["/".join(it) for it in edit_files.functions_of(pathlib.Path(room))]
+        own = ["turn/FaultDisplay/fmt", "turn/FaultFromIoError/from", "turn/Whole+AllParts+Processor+J/poll", "turn/free_standing"]
+        hands = ["hand/Hand/turn", "hand/Hand/look", "hand/Hand/drop"]
+        self.assertEqual(sorted(found), sorted(["after", *hands, *own]))
+
+
+class Holes(unittest.TestCase):
+    """`fill_proofs` and the check: a function that no edit turns isn't refused, whatever it calls."""
+
+    def test_what_turns_nothing(self):
+        program, crate = edits_program(), crates.read()["rcu_numbers"]
+        same = next(it for it in edit_files.edits_of(crate) if it.function == "BoardWord::reported")
+        same.pairs = [(place, old, old) for place, old, _ in same.pairs]
+        with tempfile.TemporaryDirectory() as room:
+            crates.fill_lane(crate, pathlib.Path(room))
+            trial = program.Trial(crate, [same], pathlib.Path(room))
+            self.assertEqual(trial.judge([same]), {same: program.End.PROVED}, trial.said)
+            left_out = (trial.folder / "proofs/word/BoardWord/pack/Proof.antt").read_text(encoding="utf-8")
+        self.assertIn("pack_spec = ?", left_out)
+
 
 class Reads(unittest.TestCase):
     """An edit by its file: which function it turns, and why it can't be applied."""
@@ -136,30 +163,38 @@ class Reads(unittest.TestCase):
 class Ends(unittest.TestCase):
     """`end_of`: an edit is refused where the function's own proof fails, and nowhere else."""
 
-    def end(self, how, function="Hand::turn", name="rcu_part_hand::turn::Hand::turn"):
-        return edits_program().end_of(function, "rcu_part_hand", [(name, how), ("rcu_part_hand::turn::Hand::look", "proved")]).name
+    TURN, LOOK = "rcu_part_hand::turn::Hand::turn", "rcu_part_hand::turn::Hand::look"
+
+    def end(self, how, of=TURN, look="depends on a hole in `Rattle.rcu_part_hand.proofs.turn.Hand.look.Proof.look_spec`"):
+        return edits_program().end_of("Hand::turn", {of: how, self.LOOK: look}).name
 
     def test_refused(self):
         self.assertEqual(self.end("not proved"), "REFUSED")
         self.assertEqual(self.end("no proof: expected answers in ./proofs/turn; `search` did not prove `returns`"), "REFUSED")
 
     def test_still_proved(self):
-        self.assertEqual(self.end("proved"), "PROVED")
-        self.assertEqual(self.end("proved, may wait"), "PROVED")
+        for how in ("proved", "proved, may wait", "no holes", "depends on a hole in `Rattle.rcu_part_hand.proofs.turn.Hand.look.Proof.look_spec`"):
+            self.assertEqual(self.end(how), "PROVED", how)
+
+    def test_it_calls_one_that_is_left_out(self):
+        how = f"not proved; it stands on `turn.Answers.returns`, which antt refuses; it calls `{self.LOOK}`, which is not proved"
+        self.assertEqual(self.end(how), "REFUSED")
 
     def test_another_is_not_proved(self):
-        self.assertEqual(self.end("not proved; it calls `rcu_part_hand::turn::Hand::look`, which is not proved"), "WAITS")
+        how = f"not proved; it calls `{self.LOOK}`, which is not proved"
+        for look in ("not proved", "no proof: expected answers in ./proofs/turn/Hand/look/Answers.antt", "could not tell"):
+            self.assertEqual(self.end(how, look=look), "WAITS", look)
 
     def test_its_own_closure_is_not_proved(self):
         self.assertEqual(self.end("not proved; it calls `rcu_part_hand::fn::turn::map+FnMut::call_mut`, which is not proved"), "REFUSED")
 
     def test_nothing_is_said(self):
         self.assertEqual(self.end("could not tell"), "UNKNOWN")
-        self.assertEqual(self.end("not proved", name="rcu_part_hand::turn::Hand::other"), "UNKNOWN")
+        self.assertEqual(self.end("not proved", of="rcu_part_hand::turn::Hand::other"), "UNKNOWN")
 
     def test_a_name_that_fits_two(self):
-        said = [("rcu_part_hand::a::fmt", "not proved"), ("rcu_part_hand::b::fmt", "proved")]
-        self.assertEqual(edits_program().end_of("fmt", "rcu_part_hand", said).name, "UNKNOWN")
+        said = {"rcu_part_hand::a::fmt": "not proved", "rcu_part_hand::b::fmt": "proved"}
+        self.assertEqual(edits_program().end_of("fmt", said).name, "UNKNOWN")
 
 
 class Mentions(unittest.TestCase):
