@@ -3,8 +3,10 @@
 ghost use Rattle.std.specs.Prelude.{◌≡◌, ◌≤◌, [], map, IfOk, length, vec_len};
 ghost use Rattle.toml.specs.Data.{get_member};
 ghost use Rattle.toml.specs.View.{table_view, view};
-ghost use Rattle.rcu_setup.specs.Faults.{Gives, key_name};
-ghost use Rattle.rcu_setup.specs.Arrays.{lines_of, lines_view, routes_of, routes_view, texts_in, texts_or_none, texts_view};
+ghost use Rattle.rcu_setup.specs.Faults.{Gives, bad_line, bad_route, key_name, or_fault};
+ghost use Rattle.rcu_setup.specs.Arrays.{lines_of, lines_view, route_view, routes_of, routes_view, texts_in, texts_or_none, texts_view};
+ghost use Rattle.rcu_setup.specs.Line.{line_of, words_line};
+ghost use Rattle.rcu_setup.specs.Words.{parts, route};
 
 use crate::fault::{Key, SetupFault};
 use crate::keys::at;
@@ -52,6 +54,16 @@ pub(crate) fn texts_or_none(
     Ok(texts)
 }
 
+/// The route that the text of item `i` says.
+fn route_at(alloc: Global, text: &str, i: u64) -> Result<(String, u32), SetupFault>
+    ensures { Gives route_view result (or_fault (bad_route i) (route text.now)) }
+{
+    let Some((name, hop)) = route(text) else {
+        return Err(SetupFault::BadRoute(i));
+    };
+    Ok((String::from_str(alloc, name)?, hop))
+}
+
 /// The routes that the texts say, each `NAME=HOP`.
 pub(crate) fn routes(alloc: Global, texts: &[&str]) -> Result<Vec<(String, u32)>, SetupFault>
     ensures answer { Gives routes_view result (routes_of 1 [] (map (λ s. s.now) texts.now)) }
@@ -59,13 +71,20 @@ pub(crate) fn routes(alloc: Global, texts: &[&str]) -> Result<Vec<(String, u32)>
 {
     let mut found = Vec::new(alloc);
     for (i, text) in texts.iter().enumerate() {
-        let Some((name, hop)) = route(text) else {
-            return Err(SetupFault::BadRoute(i as u64 + 1));
-        };
-        let name = String::from_str(alloc, name)?;
-        found.push((name, hop))?;
+        found.push(route_at(alloc, text, i as u64 + 1)?)?;
     }
     Ok(found)
+}
+
+/// The command that the text of item `i` says.
+fn line_at(alloc: Global, text: &str, i: u64) -> Result<Command, SetupFault>
+    ensures { Gives line_of result (or_fault (bad_line i) (words_line (parts 32 text.now))) }
+{
+    match script_line(alloc, text) {
+        Ok(command) => Ok(command),
+        Err(SetupFault::Memory) => Err(SetupFault::Memory),
+        Err(_) => Err(SetupFault::BadLine(i)),
+    }
 }
 
 /// The commands that the texts say.
@@ -75,12 +94,7 @@ pub(crate) fn lines(alloc: Global, texts: &[&str]) -> Result<Vec<Command>, Setup
 {
     let mut found = Vec::new(alloc);
     for (i, text) in texts.iter().enumerate() {
-        let command = match script_line(alloc, text) {
-            Ok(command) => command,
-            Err(SetupFault::Memory) => return Err(SetupFault::Memory),
-            Err(_) => return Err(SetupFault::BadLine(i as u64 + 1)),
-        };
-        found.push(command)?;
+        found.push(line_at(alloc, text, i as u64 + 1)?)?;
     }
     Ok(found)
 }

@@ -1,6 +1,7 @@
 //! What is wrong with a setup: docs/specification/tables.md, "Fault lines".
 
 ghost use Rattle.std.specs.Prelude.{◌≡◌, ◌++◌, Some, codes};
+ghost use Rattle.std.specs.Fmt.{WritesOnOk, decimal};
 ghost use Rattle.rcu_setup.specs.declared.fault.SetupFault.TheVariants.{Memory};
 ghost use Rattle.rcu_setup.specs.Faults.{key_name, setup_fault_text};
 
@@ -76,6 +77,13 @@ pub enum SetupFault {
     BadRoute(u64),
 }
 
+/// Writes a text, and a number behind it.
+fn write_numbered<W: fmt::Write>(f: &mut fmt::Formatter<W>, text: &str, number: u64) -> fmt::Result
+    ensures { WritesOnOk W.write_str_gives f.old result (text.now ++ decimal number) f.new }
+{
+    write!(f, "{text}{number}")
+}
+
 impl fmt::Display for SetupFault {
     ghost output = { λ fault. Some (codes "fault " ++ setup_fault_text fault) };
 
@@ -92,9 +100,9 @@ impl fmt::Display for SetupFault {
                 f,
                 "fault 16: reversed range {first}-{last}"
             ),
-            SetupFault::NoProcessor(p) => write!(f, "fault 17: no processor {p}"),
-            SetupFault::BadLine(i) => write!(f, "fault 18: bad line {i}"),
-            SetupFault::BadRoute(i) => write!(f, "fault 18: bad route {i}"),
+            SetupFault::NoProcessor(p) => write_numbered(f, "fault 17: no processor ", *p),
+            SetupFault::BadLine(i) => write_numbered(f, "fault 18: bad line ", *i),
+            SetupFault::BadRoute(i) => write_numbered(f, "fault 18: bad route ", *i),
         }
     }
 }
@@ -102,7 +110,7 @@ impl fmt::Display for SetupFault {
 /// The same words as `Display`.
 impl fmt::Debug for SetupFault {
     fn fmt<W: fmt::Write>(&self, f: &mut fmt::Formatter<W>) -> fmt::Result {
-        write!(f, "{self}")
+        fmt::Display::fmt(self, f)
     }
 }
 

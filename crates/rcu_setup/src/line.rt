@@ -1,8 +1,10 @@
 //! Lines of a script: docs/specification/tables.md, "Script commands and what they print".
 
-ghost use Rattle.std.specs.Prelude.{◌≡◌, ◌<◌, ◌≤◌, option_map, map, string_bytes, IfOk, IfErr, None};
+ghost use Rattle.std.specs.Prelude.{◌≡◌, ◌<◌, ◌≤◌, option_and_then, option_map, map, string_bytes, IfOk, IfErr, None, codes, false, true, if◌then◌else◌};
+ghost use Rattle.std.specs.Str.{bytes_eq};
 ghost use Rattle.rcu_setup.specs.Faults.{Gives, named};
 ghost use Rattle.rcu_setup.specs.Line.{call_view, call_line, tick_of, line_of, bare, placed, call_of, words_line, or_bad_line, script_line_of};
+ghost use Rattle.rcu_setup.specs.Words.{number};
 
 use crate::fault::SetupFault;
 use crate::limits::{MOMENT_DIGITS, PLACE_DIGITS};
@@ -195,26 +197,44 @@ fn call_line(alloc: Global, lazy: bool, words: Option<CallWords<'_>>) -> Result<
     }
 }
 
+/// The command of a line of two words.
+fn placed_line(word: &str, place: &str) -> Option<Command>
+    ensures { option_map line_of result ≡ option_and_then (placed word.now) (number 2 place.now) }
+{
+    placed(word, number(place, PLACE_DIGITS)?)
+}
+
+/// The command of a line of five words, a call.
+fn called(
+    alloc: Global,
+    word: &str,
+    place: &str,
+    moment: &str,
+    name: &str,
+    hop: &str,
+) -> Result<Command, SetupFault>
+    ensures { let call = call_of place.now moment.now name.now hop.now in
+        Gives line_of result (or_bad_line
+        (if bytes_eq word.now (codes "call") then option_map (call_line false) call
+        else if bytes_eq word.now (codes "lazy") then option_map (call_line true) call
+        else None)) }
+{
+    match word {
+        "call" => call_line(alloc, false, call_words(place, moment, name, hop)),
+        "lazy" => call_line(alloc, true, call_words(place, moment, name, hop)),
+        _ => Err(SetupFault::BadLine(1)),
+    }
+}
+
 /// The command of the words of a line.
 fn words_line(alloc: Global, words: &[&str]) -> Result<Command, SetupFault>
     ensures { Gives line_of result (or_bad_line (words_line (map (λ word. word.now) words.now))) }
 {
     match words {
         [word] => or_bad_line(bare(word)),
-        [word, place] => match number(place, PLACE_DIGITS) {
-            Some(place) => or_bad_line(placed(word, place)),
-            None => Err(SetupFault::BadLine(1)),
-        },
+        [word, place] => or_bad_line(placed_line(word, place)),
         [word, place, moment] => or_bad_line(tick(word, place, moment)),
-        [word, place, moment, name, hop] => {
-            if *word == "call" {
-                call_line(alloc, false, call_words(place, moment, name, hop))
-            } else if *word == "lazy" {
-                call_line(alloc, true, call_words(place, moment, name, hop))
-            } else {
-                Err(SetupFault::BadLine(1))
-            }
-        }
+        [word, place, moment, name, hop] => called(alloc, word, place, moment, name, hop),
         _ => Err(SetupFault::BadLine(1)),
     }
 }
