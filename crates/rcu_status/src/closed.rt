@@ -1,6 +1,6 @@
 //! The totals at the end of a run.
 
-ghost use Rattle.std.specs.Prelude.{◌≡◌, ◌≤◌, ◌<◌, ◌++◌, IfOk, string_bytes, vec_len};
+ghost use Rattle.std.specs.Prelude.{◌≡◌, ◌≤◌, ◌<◌, ◌++◌, IfOk, length, string_bytes, vec_len};
 ghost use Rattle.rcu_status.specs.Totals.{receipts_of, reports_text, total_text, totals_text};
 
 use crate::numbers::{append, commas};
@@ -31,6 +31,20 @@ fn total(
     format!(in alloc; "cpu {p} ran {ran} back {back} routes {routes}\n")
 }
 
+/// The line of processor `p`, of what ran there and of what was handed back.
+fn ends<J: Job>(
+    alloc: Global,
+    p: usize,
+    ran: &Vec<Record<u64>>,
+    back: &Vec<J>,
+) -> Result<String, AllocError>
+    ensures { IfOk result (λ s.
+        string_bytes s ≡ total_text p (length ran.now.items) (length back.now.items)
+        (receipts_of ran.now.items)) }
+{
+    total(alloc, p, ran.len(), back.len(), receipts(ran))
+}
+
 /// The lines of all processors.
 #[tactic(auto, using(crate::proofs::Appended::appended))]
 fn processors<J: Job<Receipt = u64>>(
@@ -42,10 +56,7 @@ fn processors<J: Job<Receipt = u64>>(
 {
     let mut text = String::new(alloc);
     for (p, (ran, back)) in closed.ran.iter().zip(closed.back.iter()).enumerate() {
-        append(
-            &mut text,
-            total(alloc, p, ran.len(), back.len(), receipts(ran)),
-        )?;
+        append(&mut text, ends(alloc, p, ran, back))?;
     }
     Ok(text)
 }
