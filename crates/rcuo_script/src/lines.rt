@@ -1,9 +1,10 @@
 //! What a script prints for each command: docs/specification/tables.md, "Script commands and what they print".
 
 ghost use Rattle.std.specs.Prelude.{◌≡◌, ◌++◌, IfErr, OnOk, Some, codes};
+ghost use Rattle.std.specs.Fmt.{WritesOnOk, decimal};
 ghost use Rattle.std.specs.Io.KnownBytes.{Appends};
 ghost use Rattle.rcuo_script.specs.Faults.{IsFaultOfOutput};
-ghost use Rattle.rcuo_script.specs.Lines.{line_text, lists_line, verb_text, whole_totals};
+ghost use Rattle.rcuo_script.specs.Lines.{driver_text, line_text, lists_line, verb_text, whole_totals};
 ghost use Rattle.rcuo_script.specs.declared.fault.Fault.TheVariants.{CannotWrite};
 ghost use Rattle.rcuo_script.specs.declared.lines.Line.TheVariants.{Refused};
 
@@ -183,29 +184,68 @@ impl Line {
     }
 }
 
+/// Writes a command, the processor or group that it names, and a text behind them.
+fn write_place<W: fmt::Write>(
+    f: &mut fmt::Formatter<W>,
+    verb: Verb,
+    place: u64,
+    text: &str,
+) -> fmt::Result
+    ensures { WritesOnOk W.write_str_gives f.old result
+        (verb_text verb ++ (codes " " ++ (decimal place ++ text.now))) f.new }
+{
+    write!(f, "{verb} {place}{text}")
+}
+
+/// Writes the same, and a number at the end.
+fn write_number<W: fmt::Write>(
+    f: &mut fmt::Formatter<W>,
+    verb: Verb,
+    place: u64,
+    text: &str,
+    number: u64,
+) -> fmt::Result
+    ensures { WritesOnOk W.write_str_gives f.old result
+        (verb_text verb ++ (codes " " ++ (decimal place ++ (text.now ++ decimal number)))) f.new }
+{
+    write!(f, "{verb} {place}{text}{number}")
+}
+
+/// Writes what a turn of the driver did.
+fn write_turn<W: fmt::Write>(f: &mut fmt::Formatter<W>, turn: &DriverTurn) -> fmt::Result
+    ensures { WritesOnOk W.write_str_gives f.old result
+        (codes "driver " ++ driver_text turn.now) f.new }
+{
+    match turn {
+        DriverTurn::Idle => f.write_str("driver idle"),
+        DriverTurn::Started(seq) => write!(f, "driver started {seq}"),
+        DriverTurn::Ended(seq) => write!(f, "driver ended {seq}"),
+        DriverTurn::Waits(_) => f.write_str("driver waits"),
+        DriverTurn::Spent => f.write_str("driver spent"),
+    }
+}
+
 impl fmt::Display for Line {
     ghost output = { λ line. Some (line_text line) };
 
     fn fmt<W: fmt::Write>(&self, f: &mut fmt::Formatter<W>) -> fmt::Result {
         match self {
-            Line::Number { verb, cpu, number } => write!(f, "{verb} {cpu} number {number}"),
+            Line::Number { verb, cpu, number } => {
+                write_number(f, *verb, *cpu, " number ", *number)
+            }
             Line::Refused {
                 verb,
                 place,
                 refusal,
-            } => write!(f, "{verb} {place} refused {refusal}"),
-            Line::Counted { cpu, seq } => write!(f, "quiet {cpu} counted {seq}"),
-            Line::Nothing { cpu } => write!(f, "quiet {cpu} nothing"),
-            Line::Ran { verb, cpu, ran } => write!(f, "{verb} {cpu} ran {ran}"),
+            } => write_number(f, *verb, *place, " refused ", *refusal),
+            Line::Counted { cpu, seq } => write_number(f, Verb::Quiet, *cpu, " counted ", *seq),
+            Line::Nothing { cpu } => write_place(f, Verb::Quiet, *cpu, " nothing"),
+            Line::Ran { verb, cpu, ran } => write_number(f, *verb, *cpu, " ran ", *ran),
             Line::Group { group, took, gave } => write!(f, "group {group} took {took} gave {gave}"),
-            Line::Asked { verb, cpu } => write!(f, "{verb} {cpu} asked"),
-            Line::Left { cpu } => write!(f, "leave {cpu} away"),
-            Line::Returned { cpu } => write!(f, "return {cpu} back"),
-            Line::Driver(DriverTurn::Idle) => f.write_str("driver idle"),
-            Line::Driver(DriverTurn::Started(seq)) => write!(f, "driver started {seq}"),
-            Line::Driver(DriverTurn::Ended(seq)) => write!(f, "driver ended {seq}"),
-            Line::Driver(DriverTurn::Waits(_)) => f.write_str("driver waits"),
-            Line::Driver(DriverTurn::Spent) => f.write_str("driver spent"),
+            Line::Asked { verb, cpu } => write_place(f, *verb, *cpu, " asked"),
+            Line::Left { cpu } => write_place(f, Verb::Leave, *cpu, " away"),
+            Line::Returned { cpu } => write_place(f, Verb::Return, *cpu, " back"),
+            Line::Driver(turn) => write_turn(f, turn),
             Line::Opened => f.write_str("barrier opened"),
             Line::Passed => f.write_str("barrier passed"),
             Line::Waits => f.write_str("barrier waits"),
