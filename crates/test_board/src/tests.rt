@@ -1,6 +1,6 @@
 //! The steps on a board, by the seats that may make them, in one thread and in several.
 
-ghost use Rattle.std.specs.Prelude.{◌≡◌, ◌+◌, ◌-◌, ◌*◌, ◌<◌, ◌≤◌, None, [], ◌∷◌, length, IfOk, IfSome, IsTrue, true, false};
+ghost use Rattle.std.specs.Prelude.{◌≡◌, ◌+◌, ◌-◌, ◌*◌, ◌<◌, ◌≤◌, None, [], ◌∷◌, length, IsTrue, true, false};
 ghost use Rattle.std.specs.Thread.{IsSync};
 ghost use Rattle.rcu_numbers.specs.Words.{owes_of};
 ghost use Rattle.rcu_board.specs.Plays.{all_seats};
@@ -17,9 +17,9 @@ use rcu_board::{
 };
 use rcu_numbers::{LAST_NUMBER, MOST_CALLS, PartsShape, ProcessorSet, Shape};
 use rcu_part_steps::report_quiescent_state;
+use std::alloc::Global;
 use std::fmt::Debug;
 use std::process::Abort;
-use std::test::Fail;
 use std::thread;
 use std::thread::Threads;
 
@@ -33,59 +33,83 @@ pub(crate) fn expect<T: PartialEq + Debug + Drop>(
     assert_eq!(rt; found, wanted, "{what}");
 }
 
-/// The seats of a list are of these, in order.
-fn expect_roles(rt: &impl Abort, seats: &[Seat], wanted: &[Role]) {
-    expect(rt, "how many", seats.len(), wanted.len());
-    for (seat, role) in seats.iter().zip(wanted.iter()) {
-        expect(rt, "whose", seat.role(), *role);
+/// Whose the seat at `i` is; None past the last.
+fn role_at(seats: &[Seat], i: usize) -> Option<Role> {
+    match seats.get(i) {
+        Some(seat) => Some(seat.role()),
+        None => None,
     }
 }
 
-#[test]
-fn seats_of_a_shape(rt: HostRuntime) -> Result<(), Fail> {
-    // processors 1, 4 and 5 of 6 are offloadable, in groups of two
+/// Whose the first four seats of a list are.
+fn roles(seats: &[Seat]) -> [Option<Role>; 4] {
+    [
+        role_at(seats, 0),
+        role_at(seats, 1),
+        role_at(seats, 2),
+        role_at(seats, 3),
+    ]
+}
+
+/// Of a board and its seats: how many processors it has, and how many have a seat; whether two of these are offloadable;
+/// and whose the seats of hands and groups are.
+type Seated = ((u64, usize), (bool, bool), [[Option<Role>; 4]; 2]);
+
+/// Makes a board for six processors, of which 1, 4 and 5 are offloadable, in groups of two.
+fn seat_six(rt: &impl Abort, alloc: Global) -> Seated {
     let shape = Shape::new(6, 0b110010, 2, 10, 16, 1000)
-        .expect(&rt, "within the limits")
+        .expect(rt, "within the limits")
         .for_parts();
-    let (board, seats) = open_board(rt.alloc(), &shape)?;
-    let offloadable = (board.is_offloadable(1), board.is_offloadable(2));
-    let processors = (board.processors(), seats.processors.len());
-    expect(
-        &rt,
-        "processors",
-        (processors, offloadable),
-        ((6, 6), (true, false)),
-    );
-    let hands = [Role::Hand(1), Role::Hand(4), Role::Hand(5)];
-    expect_roles(&rt, seats.hands.as_slice(), &hands);
-    let groups = [Role::Group(0), Role::Group(2)];
-    expect_roles(&rt, seats.groups.as_slice(), &groups);
-    Ok(())
+    let (board, seats) = open_board(alloc, &shape).expect(rt, "memory");
+    (
+        (board.processors(), seats.processors.len()),
+        (board.is_offloadable(1), board.is_offloadable(2)),
+        [
+            roles(seats.hands.as_slice()),
+            roles(seats.groups.as_slice()),
+        ],
+    )
 }
 
 #[test]
-fn seats_of_the_largest_shape(rt: HostRuntime) -> Result<(), Fail> {
+fn seats_of_a_shape(rt: HostRuntime) {
+    let wanted = (
+        (6, 6),
+        (true, false),
+        [
+            [
+                Some(Role::Hand(1)),
+                Some(Role::Hand(4)),
+                Some(Role::Hand(5)),
+                None,
+            ],
+            [Some(Role::Group(0)), Some(Role::Group(2)), None, None],
+        ],
+    );
+    expect(&rt, "seated", seat_six(&rt, rt.alloc()), wanted);
+}
+
+/// Of a board of the largest shape: how many seats processors, hands and groups have, how many processors and urge words it
+/// has, and whether the last processor and the one past it are offloadable.
+fn seat_most(rt: &impl Abort, alloc: Global) -> ([usize; 3], [u64; 2], [bool; 2]) {
     let all = ProcessorSet::of_first(1024);
-    let shape = PartsShape::new(1024, &all, 64, 10, 16, MOST_CALLS).expect(
-        &rt,
-        "within the limits",
-    );
-    let (board, seats) = open_board(rt.alloc(), &shape)?;
-    let offloadable = (board.is_offloadable(1023), board.is_offloadable(1024));
-    let seated = [
-        seats.processors.len(),
-        seats.hands.len(),
-        seats.groups.len(),
-    ];
-    let words = (board.processors(), urge_words(&board));
-    expect(
-        &rt,
-        "seated",
-        (seated, words),
-        ([1024, 1024, 16], (1024, 16)),
-    );
-    expect(&rt, "offloadable", offloadable, (true, false));
-    Ok(())
+    let shape = PartsShape::new(1024, &all, 64, 10, 16, MOST_CALLS).expect(rt, "within the limits");
+    let (board, seats) = open_board(alloc, &shape).expect(rt, "memory");
+    (
+        [
+            seats.processors.len(),
+            seats.hands.len(),
+            seats.groups.len(),
+        ],
+        [board.processors(), urge_words(&board)],
+        [board.is_offloadable(1023), board.is_offloadable(1024)],
+    )
+}
+
+#[test]
+fn seats_of_the_largest_shape(rt: HostRuntime) {
+    let wanted = ([1024, 1024, 16], [1024, 16], [true, false]);
+    expect(&rt, "seated", seat_most(&rt, rt.alloc()), wanted);
 }
 
 /// How many callbacks the processor of the test below tries to have accepted.
@@ -283,13 +307,11 @@ fn be_control(board: &Board, mut seat: Seat) -> (Seat, u64)
 }
 
 /// The only seat of a list.
-fn only(mut seats: Vec<Seat>) -> Option<Seat>
-    ensures { IfSome result (λ seat. seats.items ≡ seat ∷ []) }
+fn only(rt: &impl Abort, mut seats: Vec<Seat>) -> Seat
+    ensures { seats.items ≡ result ∷ [] }
 {
-    if seats.len() != 1 {
-        return None;
-    }
-    seats.pop()
+    assert!(rt; seats.len() == 1, "one seat");
+    seats.pop().expect(rt, "one seat")
 }
 
 /// What the threads did, and what the last loads said.
@@ -419,19 +441,16 @@ pub(crate) struct OneOfEach {
     pub(crate) control: Seat,
 }
 
-pub(crate) fn take_apart(shape: &PartsShape, board: &Board, seats: Seats) -> Option<OneOfEach>
+/// The seats of a board for one processor, one by one.
+fn take_apart(rt: &impl Abort, shape: &PartsShape, board: &Board, seats: Seats) -> OneOfEach
     requires { AreNew shape.now board.now seats }
-    ensures processor { IfSome result (λ parts. IsNewProcessor board.now 0 parts.processor) }
-    ensures hand { IfSome result (λ parts.
-        AtBoard board.now parts.hand × MayClaim parts.hand.role × ((view parts.hand).running ≡ [])
-        × ((view parts.hand).weight ≡ 1)) }
-    ensures group { IfSome result (λ parts.
-        AtBoard board.now parts.group × ((view parts.group).running ≡ [])
-        × ((view parts.group).weight ≡ 1)) }
-    ensures driver { IfSome result (λ parts.
-        IsNew board.now Role.Driver (all_seats - 4) true false [] parts.driver) }
-    ensures control { IfSome result (λ parts.
-        IsNew board.now Role.Control 1 false true [] parts.control) }
+    ensures processor { IsNewProcessor board.now 0 result.processor }
+    ensures hand { AtBoard board.now result.hand × MayClaim result.hand.role
+        × ((view result.hand).running ≡ []) × ((view result.hand).weight ≡ 1) }
+    ensures group { AtBoard board.now result.group × ((view result.group).running ≡ [])
+        × ((view result.group).weight ≡ 1) }
+    ensures driver { IsNew board.now Role.Driver (all_seats - 4) true false [] result.driver }
+    ensures control { IsNew board.now Role.Control 1 false true [] result.control }
 {
     let Seats {
         processors,
@@ -440,37 +459,32 @@ pub(crate) fn take_apart(shape: &PartsShape, board: &Board, seats: Seats) -> Opt
         driver,
         control,
     } = seats;
-    Some(OneOfEach {
-        processor: only(processors)?,
-        hand: only(hands)?,
-        group: only(groups)?,
+    OneOfEach {
+        processor: only(rt, processors),
+        hand: only(rt, hands),
+        group: only(rt, groups),
         driver,
         control,
-    })
+    }
 }
 
 /// A board for one processor, which is offloadable, and its seats.
-pub(crate) fn one_of_each(rt: &HostRuntime) -> Result<(Board, OneOfEach), Fail>
-    ensures some { IfOk result (λ t. 0 < t.0.processors) }
-    ensures processor { IfOk result (λ t. IsNewProcessor t.0 0 t.1.processor) }
-    ensures hand { IfOk result (λ t.
-        AtBoard t.0 t.1.hand × MayClaim t.1.hand.role × ((view t.1.hand).running ≡ [])
-        × ((view t.1.hand).weight ≡ 1)) }
-    ensures group { IfOk result (λ t.
-        AtBoard t.0 t.1.group × ((view t.1.group).running ≡ [])
-        × ((view t.1.group).weight ≡ 1)) }
-    ensures driver { IfOk result (λ t.
-        IsNew t.0 Role.Driver (all_seats - 4) true false [] t.1.driver) }
-    ensures control { IfOk result (λ t. IsNew t.0 Role.Control 1 false true [] t.1.control) }
+pub(crate) fn one_of_each(rt: &impl Abort, alloc: Global) -> (Board, OneOfEach)
+    ensures some { 0 < result.0.processors }
+    ensures processor { IsNewProcessor result.0 0 result.1.processor }
+    ensures hand { AtBoard result.0 result.1.hand × MayClaim result.1.hand.role
+        × ((view result.1.hand).running ≡ []) × ((view result.1.hand).weight ≡ 1) }
+    ensures group { AtBoard result.0 result.1.group × ((view result.1.group).running ≡ [])
+        × ((view result.1.group).weight ≡ 1) }
+    ensures driver { IsNew result.0 Role.Driver (all_seats - 4) true false [] result.1.driver }
+    ensures control { IsNew result.0 Role.Control 1 false true [] result.1.control }
 {
     let shape = Shape::new(1, 1, 1, 10, 16, 1000)
-        .ok_or("within the limits")?
+        .expect(rt, "within the limits")
         .for_parts();
-    let (board, seats) = open_board(rt.alloc(), &shape)?;
-    let Some(parts) = take_apart(&shape, &board, seats) else {
-        return Err(Fail::from("one seat of each kind"));
-    };
-    Ok((board, parts))
+    let (board, seats) = open_board(alloc, &shape).expect(rt, "memory");
+    let parts = take_apart(rt, &shape, &board, seats);
+    (board, parts)
 }
 
 /// The seats, but those of groups, of a board for two processors, which are both offloadable.
@@ -485,31 +499,26 @@ pub(crate) struct TwoOfEach {
 }
 
 /// The two seats of a list.
-fn both(mut seats: Vec<Seat>) -> Option<(Seat, Seat)>
-    ensures { IfSome result (λ pair. seats.items ≡ pair.0 ∷ pair.1 ∷ []) }
+fn both(rt: &impl Abort, mut seats: Vec<Seat>) -> (Seat, Seat)
+    ensures { seats.items ≡ result.0 ∷ result.1 ∷ [] }
 {
-    if seats.len() != 2 {
-        return None;
-    }
-    let second = seats.pop()?;
-    let first = seats.pop()?;
-    Some((first, second))
+    assert!(rt; seats.len() == 2, "two seats");
+    let second = seats.pop().expect(rt, "two seats");
+    let first = seats.pop().expect(rt, "two seats");
+    (first, second)
 }
 
-pub(crate) fn take_two_apart(shape: &PartsShape, board: &Board, seats: Seats) -> Option<TwoOfEach>
+/// The seats of a board for two processors, one by one.
+fn take_two_apart(rt: &impl Abort, shape: &PartsShape, board: &Board, seats: Seats) -> TwoOfEach
     requires { AreNew shape.now board.now seats }
-    ensures first { IfSome result (λ two. IsNewProcessor board.now 0 two.first) }
-    ensures second { IfSome result (λ two. IsNewProcessor board.now 1 two.second) }
-    ensures first_hand { IfSome result (λ two.
-        AtBoard board.now two.first_hand × MayClaim two.first_hand.role
-        × ((view two.first_hand).running ≡ [])) }
-    ensures second_hand { IfSome result (λ two.
-        AtBoard board.now two.second_hand × MayClaim two.second_hand.role
-        × ((view two.second_hand).running ≡ [])) }
-    ensures driver { IfSome result (λ two.
-        AtBoard board.now two.driver × (two.driver.role ≡ Role.Driver)) }
-    ensures control { IfSome result (λ two.
-        AtBoard board.now two.control × (two.control.role ≡ Role.Control)) }
+    ensures first { IsNewProcessor board.now 0 result.first }
+    ensures second { IsNewProcessor board.now 1 result.second }
+    ensures first_hand { AtBoard board.now result.first_hand × MayClaim result.first_hand.role
+        × ((view result.first_hand).running ≡ []) }
+    ensures second_hand { AtBoard board.now result.second_hand × MayClaim result.second_hand.role
+        × ((view result.second_hand).running ≡ []) }
+    ensures driver { AtBoard board.now result.driver × (result.driver.role ≡ Role.Driver) }
+    ensures control { AtBoard board.now result.control × (result.control.role ≡ Role.Control) }
 {
     let Seats {
         processors,
@@ -518,42 +527,36 @@ pub(crate) fn take_two_apart(shape: &PartsShape, board: &Board, seats: Seats) ->
         driver,
         control,
     } = seats;
-    let (first, second) = both(processors)?;
-    let (first_hand, second_hand) = both(hands)?;
-    Some(TwoOfEach {
+    let (first, second) = both(rt, processors);
+    let (first_hand, second_hand) = both(rt, hands);
+    TwoOfEach {
         first,
         second,
         first_hand,
         second_hand,
         driver,
         control,
-    })
+    }
 }
 
 /// A board for two processors, which are both offloadable, and its seats, but those of groups.
-pub(crate) fn two_of_each(rt: &HostRuntime) -> Result<(Board, TwoOfEach), Fail>
-    ensures processors { IfOk result (λ t. t.0.processors ≡ 2) }
-    ensures first { IfOk result (λ t. IsNewProcessor t.0 0 t.1.first) }
-    ensures second { IfOk result (λ t. IsNewProcessor t.0 1 t.1.second) }
-    ensures first_hand { IfOk result (λ t.
-        AtBoard t.0 t.1.first_hand × MayClaim t.1.first_hand.role
-        × ((view t.1.first_hand).running ≡ [])) }
-    ensures second_hand { IfOk result (λ t.
-        AtBoard t.0 t.1.second_hand × MayClaim t.1.second_hand.role
-        × ((view t.1.second_hand).running ≡ [])) }
-    ensures driver { IfOk result (λ t.
-        AtBoard t.0 t.1.driver × (t.1.driver.role ≡ Role.Driver)) }
-    ensures control { IfOk result (λ t.
-        AtBoard t.0 t.1.control × (t.1.control.role ≡ Role.Control)) }
+pub(crate) fn two_of_each(rt: &impl Abort, alloc: Global) -> (Board, TwoOfEach)
+    ensures processors { result.0.processors ≡ 2 }
+    ensures first { IsNewProcessor result.0 0 result.1.first }
+    ensures second { IsNewProcessor result.0 1 result.1.second }
+    ensures first_hand { AtBoard result.0 result.1.first_hand × MayClaim result.1.first_hand.role
+        × ((view result.1.first_hand).running ≡ []) }
+    ensures second_hand { AtBoard result.0 result.1.second_hand
+        × MayClaim result.1.second_hand.role × ((view result.1.second_hand).running ≡ []) }
+    ensures driver { AtBoard result.0 result.1.driver × (result.1.driver.role ≡ Role.Driver) }
+    ensures control { AtBoard result.0 result.1.control × (result.1.control.role ≡ Role.Control) }
 {
     let shape = Shape::new(2, 0b11, 1, 10, 16, 1000)
-        .ok_or("within the limits")?
+        .expect(rt, "within the limits")
         .for_parts();
-    let (board, seats) = open_board(rt.alloc(), &shape)?;
-    let Some(two) = take_two_apart(&shape, &board, seats) else {
-        return Err(Fail::from("two seats of each kind"));
-    };
-    Ok((board, two))
+    let (board, seats) = open_board(alloc, &shape).expect(rt, "memory");
+    let two = take_two_apart(rt, &shape, &board, seats);
+    (board, two)
 }
 
 /// Runs each seat but the group's in a thread of its own, makes all one, and looks.
@@ -623,37 +626,33 @@ impl Outcome {
             turns,
             reports,
         } = self.last;
-        expect(rt, "shut", self.shut, self.accepted);
         let last = [accepts, turns, reports].map(|word| (word / 2, word % 2));
+        let ended = number / 4 <= self.reports;
         // it is here, and passed the last grace period that has ended
         let wanted = [(self.accepted, 1), (self.won, 0), (self.passed, 0)];
-        expect(rt, "last words", last, wanted);
         // it reported in each that it passed
         let reported = self.passed / 4 + self.passed % 4;
-        expect(rt, "reports", self.reports, reported);
-        expect(rt, "ended", number / 4 <= self.reports, true);
+        expect(
+            rt,
+            "shut, reports, last words, ended",
+            (self.shut, self.reports, last, ended),
+            (self.accepted, reported, wanted, true),
+        );
     }
 }
 
 #[test]
-fn four_threads_on_one_board(rt: HostRuntime) -> Result<(), Fail> {
-    let (board, parts) = one_of_each(&rt)?;
-    let outcome = run_parts(&rt, &board, parts);
-    outcome.expect(&rt);
-    Ok(())
+fn four_threads_on_one_board(rt: HostRuntime) {
+    let (board, parts) = one_of_each(&rt, rt.alloc());
+    run_parts(&rt, &board, parts).expect(&rt);
 }
 
-/// What was read before and after each step that another seat reads.
-#[derive(Clone, Copy)]
-struct Answers {
-    asked: (bool, bool),
-    heard: (bool, bool),
-    halted: (bool, bool),
-    needed: (u64, u64),
-}
+/// What was read before and after each step that another seat reads: whether a processor was asked to be offloaded, whether
+/// it was urged, and whether there was a halt; and the greatest number asked for.
+type Reads = ([(bool, bool); 3], (u64, u64));
 
 /// Makes each step on the words of switches, urging and needs once, with the steps that read it before and after.
-fn make_each_step(board: &Board, parts: &mut OneOfEach) -> Answers
+fn make_each_step(board: &Board, parts: &mut OneOfEach) -> Reads
     requires some { 0 < board.now.processors }
     requires processor { AtBoard board.now parts.old.processor
         × (parts.old.processor.role ≡ Role.Processor 0) }
@@ -680,26 +679,14 @@ fn make_each_step(board: &Board, parts: &mut OneOfEach) -> Answers
     need(board, processor, 8);
     let first = needed(board, driver);
     need(board, processor, 4);
-    Answers {
-        asked,
-        heard,
-        halted,
-        needed: (first, needed(board, driver)),
-    }
+    ([asked, heard, halted], (first, needed(board, driver)))
 }
 
 #[test]
-fn told_and_heard(rt: HostRuntime) -> Result<(), Fail> {
-    let (board, mut parts) = one_of_each(&rt)?;
+fn told_and_heard(rt: HostRuntime) {
+    let (board, mut parts) = one_of_each(&rt, rt.alloc());
     assert!(rt; board.is_offloadable(0));
-    let found = make_each_step(&board, &mut parts);
-    let told = [found.asked, found.heard, found.halted];
-    let wanted = [(true, false), (true, false), (false, true)];
-    expect(
-        &rt,
-        "asked, heard, halted",
-        (told, found.needed),
-        (wanted, (8, 8)),
-    );
-    Ok(())
+    let wanted = ([(true, false), (true, false), (false, true)], (8, 8));
+    let reads = make_each_step(&board, &mut parts);
+    expect(&rt, "asked, heard, halted, needed", reads, wanted);
 }

@@ -58,14 +58,14 @@ fn callback(alloc: Global, number: u64) -> Result<Option<Callback<Work>>, AllocE
 }
 
 /// The callbacks of the numbers below `count`.
-fn callbacks(alloc: Global, count: u64) -> Result<Vec<Callback<Work>>, AllocError> {
+fn callbacks(rt: &impl Abort, alloc: Global, count: u64) -> Vec<Callback<Work>> {
     let mut callbacks = Vec::new(alloc);
     for number in 0..count {
-        if let Some(callback) = callback(alloc, number)? {
-            callbacks.push(callback)?;
+        if let Some(callback) = callback(alloc, number).expect(rt, "memory") {
+            callbacks.push(callback).expect(rt, "memory");
         }
     }
-    Ok(callbacks)
+    callbacks
 }
 
 /// Runs a callback at the number 8. Answers its number, and its record's number, stamp and number at the run, its key's rest
@@ -86,7 +86,7 @@ fn ran(callback: Callback<Work>) -> [u64; 6] {
 #[test]
 fn run_in_order(rt: HostRuntime) {
     let mut count: u64 = 0;
-    for callback in callbacks(rt.alloc(), 3).expect(&rt, "memory") {
+    for callback in callbacks(&rt, rt.alloc(), 3) {
         let wanted = [count, count, 4, 8, count, count];
         expect(&rt, "record", ran(callback), wanted);
         count = count.saturating_add(1);
@@ -140,12 +140,14 @@ fn counting(alloc: Global, count: Flag) -> Result<BoxedJob<0>, AllocError> {
 }
 
 /// So many of these jobs.
-fn counting_jobs(alloc: Global, count: &Flag, many: u64) -> Result<Vec<BoxedJob<0>>, AllocError> {
+fn counting_jobs(rt: &impl Abort, alloc: Global, count: &Flag, many: u64) -> Vec<BoxedJob<0>> {
     let mut jobs = Vec::new(alloc);
     for _ in 0..many {
-        jobs.push(counting(alloc, Arc::try_clone(count)?)?)?;
+        let count = Arc::try_clone(count).expect(rt, "memory");
+        let job = counting(alloc, count).expect(rt, "memory");
+        jobs.push(job).expect(rt, "memory");
     }
-    Ok(jobs)
+    jobs
 }
 
 /// The last one of some jobs; the others are dropped.
@@ -156,7 +158,7 @@ fn last(mut jobs: Vec<BoxedJob<0>>) -> Option<BoxedJob<0>> {
 #[test]
 fn dropped_unrun(rt: HostRuntime) {
     let count = flag(&rt, rt.alloc());
-    let jobs = counting_jobs(rt.alloc(), &count, 3).expect(&rt, "memory");
+    let jobs = counting_jobs(&rt, rt.alloc(), &count, 3);
     let last = last(jobs).expect(&rt, "empty");
     let before = count.load(Ordering::SeqCst);
     // a boxed job crosses to another thread

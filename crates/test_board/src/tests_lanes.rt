@@ -6,25 +6,33 @@ ghost use Rattle.rcu_lanes.specs.Ends.{SameRear, SameFront, items_put, items_dra
 use crate::tests::expect;
 use rcu_lanes::{Draw, Front, Rear, Rest, Rule, lane, rest, ruled_lane};
 use std::alloc::{AllocError, Global};
+use std::process::Abort;
 use std::sync::Wait;
 use std::thread;
 
-#[test]
-fn lane_order(rt: HostRuntime) {
-    let (mut front, mut rear) = lane(rt.alloc()).expect(&rt, "memory");
+/// What a lane's puts, draws and takes answered, each in order.
+type Answers = ([Result<(), u64>; 3], [Draw<u64>; 3], [Option<u64>; 3]);
+
+/// Draws from a lane with nothing in it, puts 1, 2 and 3, draws twice, and takes what is left.
+fn put_draw_take(rt: &impl Abort, alloc: Global) -> Answers {
+    let (mut front, mut rear) = lane(alloc).expect(rt, "memory");
     let early = front.draw();
     let put = [rear.put(1u64), rear.put(2), rear.put(3)];
     let drawn = [early, front.draw(), front.draw()];
     let mut left = rest(front, rear);
     let left = [left.take(), left.take(), left.take()];
-    expect(&rt, "put", put, [Ok(()), Ok(()), Ok(())]);
-    expect(
-        &rt,
-        "drawn",
-        drawn,
+    (put, drawn, left)
+}
+
+#[test]
+fn lane_order(rt: HostRuntime) {
+    let wanted = (
+        [Ok(()), Ok(()), Ok(())],
         [Draw::Empty, Draw::Got(1), Draw::Got(2)],
+        [Some(3), None, None],
     );
-    expect(&rt, "left", left, [Some(3), None, None]);
+    let answers = put_draw_take(&rt, rt.alloc());
+    expect(&rt, "put, drawn, left", answers, wanted);
 }
 
 /// Puts the numbers below `count` in order, and counts the refusals. What a refused put hands back is put again.
@@ -166,27 +174,33 @@ fn run_batch(batch: Batch<Work>, digits: u64) -> u64 {
     digits
 }
 
+/// A job that gives this number.
+fn giving(alloc: Global, answer: u64) -> Result<Work, AllocError> {
+    let call: Call = Box::new(alloc, move || answer)?;
+    Ok(Work { call })
+}
+
 /// Three jobs, which give the numbers after `before`.
-fn three(alloc: Global, before: u64) -> Result<Vec<Work>, AllocError> {
+fn three(rt: &impl Abort, alloc: Global, before: u64) -> Vec<Work> {
     let mut jobs = Vec::new(alloc);
     for next in 1..4u64 {
-        let answer = before.wrapping_add(next);
-        let call: Call = Box::new(alloc, move || answer)?;
-        jobs.push(Work { call })?;
+        let job = giving(alloc, before.wrapping_add(next)).expect(rt, "memory");
+        jobs.push(job).expect(rt, "memory");
     }
-    Ok(jobs)
+    jobs
 }
 
 #[test]
 fn batches_of_boxed_jobs(rt: HostRuntime) {
-    let early = three(rt.alloc(), 0).expect(&rt, "memory");
-    let late = three(rt.alloc(), 3).expect(&rt, "memory");
     let ends = ruled_lane::<Batch<Work>, Rising>(rt.alloc());
     let (mut front, mut rear) = ends.expect(&rt, "memory");
+    let early = three(&rt, rt.alloc(), 0);
+    let late = three(&rt, rt.alloc(), 3);
     let put = [
         put_batch(&mut rear, 2, early),
         put_batch(&mut rear, 5, late),
     ];
+    // else the draws would wait for ever
     expect(&rt, "put", put, [true, true]);
     let runtime = &rt;
     let (digits, ()) = thread::join(

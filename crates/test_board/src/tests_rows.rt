@@ -13,7 +13,6 @@ use rcu_board::{
     Board, Claimed, Seat, accept, claim, come_back, finish, leave, look, meet, shut_one, sighted,
     turn_of,
 };
-use std::test::Fail;
 
 /// What the steps of two processors and the driver answered, in order.
 #[derive(Clone, Copy)]
@@ -46,8 +45,8 @@ fn one_grace_period(board: &Board, two: &mut TwoOfEach) -> GracePeriod
 }
 
 #[test]
-fn three_seats(rt: HostRuntime) -> Result<(), Fail> {
-    let (board, mut two) = two_of_each(&rt)?;
+fn three_seats(rt: HostRuntime) {
+    let (board, mut two) = two_of_each(&rt, rt.alloc());
     let seen = one_grace_period(&board, &mut two);
     let steps = (seen.started, seen.ended_early, seen.ended);
     let numbers = (seen.first, seen.again, seen.second, seen.last);
@@ -57,7 +56,6 @@ fn three_seats(rt: HostRuntime) -> Result<(), Fail> {
         (steps, numbers),
         ((true, false, true), (1, 1, 1, 4)),
     );
-    Ok(())
 }
 
 /// What the driver saw of a processor that is away, and which grace period it passed when it came back; whether it was met, and
@@ -86,8 +84,8 @@ fn meet_one(board: &Board, processor: &mut Seat, driver: &mut Seat) -> Option<Me
 }
 
 #[test]
-fn away_is_met(rt: HostRuntime) -> Result<(), Fail> {
-    let (board, mut parts) = one_of_each(&rt)?;
+fn away_is_met(rt: HostRuntime) {
+    let (board, mut parts) = one_of_each(&rt, rt.alloc());
     let meeting = meet_one(&board, &mut parts.processor, &mut parts.driver);
     expect(
         &rt,
@@ -95,7 +93,6 @@ fn away_is_met(rt: HostRuntime) -> Result<(), Fail> {
         meeting,
         Some(((1, 1), (true, false), Err(2))),
     );
-    Ok(())
 }
 
 /// The turn word as it was found after each step of a processor and its hand, from turn 5 on; None where a claim was won
@@ -132,11 +129,10 @@ fn turns_of_two(board: &Board, processor: &mut Seat, hand: &mut Seat) -> Option<
 }
 
 #[test]
-fn turn_word_claims(rt: HostRuntime) -> Result<(), Fail> {
-    let (board, mut parts) = one_of_each(&rt)?;
+fn turn_word_claims(rt: HostRuntime) {
+    let (board, mut parts) = one_of_each(&rt, rt.alloc());
     let turns = turns_of_two(&board, &mut parts.processor, &mut parts.hand);
     expect(&rt, "turns", turns, Some([10, 11, 12, 13, 14]));
-    Ok(())
 }
 
 /// Has a callback accepted, shuts the processor, and tries another. Answers the count that `shut_one` gave, and what the
@@ -158,9 +154,8 @@ fn accept_around_shut(
 }
 
 #[test]
-fn accept_after_shut(rt: HostRuntime) -> Result<(), Fail> {
-    let (board, mut parts) = one_of_each(&rt)?;
+fn accept_after_shut(rt: HostRuntime) {
+    let (board, mut parts) = one_of_each(&rt, rt.alloc());
     let answers = accept_around_shut(&board, &mut parts.processor, &mut parts.control);
     expect(&rt, "count, refused", answers, Some((1, None)));
-    Ok(())
 }

@@ -12,7 +12,6 @@ ghost use Rattle.rcu_board.specs.declared.board.Role.{Role};
 use crate::tests::{TwoOfEach, accept_one, expect, two_of_each};
 use rcu_board::{Board, Claimed, Seat, claim, finish, heard, turn_of, urge};
 use std::sync::Wait;
-use std::test::Fail;
 use std::thread;
 use std::thread::Threads;
 
@@ -34,8 +33,8 @@ fn accept_all(board: &Board, mut seat: Seat, p: u64, count: u64) -> u64
 }
 
 #[test]
-fn two_accepting_threads(rt: HostRuntime) -> Result<(), Fail> {
-    let (board, two) = two_of_each(&rt)?;
+fn two_accepting_threads(rt: HostRuntime) {
+    let (board, two) = two_of_each(&rt, rt.alloc());
     let TwoOfEach { first, second, .. } = two;
     let shared = &board;
     let accepted = thread::join(
@@ -48,7 +47,6 @@ fn two_accepting_threads(rt: HostRuntime) -> Result<(), Fail> {
         { accept_all(shared, second, 1, 1000) },
     );
     expect(&rt, "accepted", accepted, (1000, 1000));
-    Ok(())
 }
 
 /// How many turns each processor has in the test below.
@@ -152,8 +150,8 @@ fn share_both<R: Threads + Wait + Sync>(rt: &R, board: &Board, two: TwoOfEach) -
 
 // Only a processor and its hand may claim its turns, so four threads claim the turns of two processors.
 #[test]
-fn each_turn_once_in_four_threads(rt: HostRuntime) -> Result<(), Fail> {
-    let (board, two) = two_of_each(&rt)?;
+fn each_turn_once_in_four_threads(rt: HostRuntime) {
+    let (board, two) = two_of_each(&rt, rt.alloc());
     let (first, second, mut control) = share_both(&rt, &board, two);
     let sum = TURNS * (TURNS - 1) / 2;
     let turns = (
@@ -163,7 +161,6 @@ fn each_turn_once_in_four_threads(rt: HostRuntime) -> Result<(), Fail> {
     let wins = [(first.count, first.sum), (second.count, second.sum), turns];
     let wanted = [(TURNS, sum), (TURNS, sum), (2 * TURNS, 2 * TURNS)];
     expect(&rt, "wins, turns", wins, wanted);
-    Ok(())
 }
 
 /// Looks again and again whether processor 0 was urged, until it was.
@@ -209,8 +206,8 @@ fn urge_across<R: Threads + Wait + Sync>(rt: &R, board: &Board, first: Seat, con
 }
 
 #[test]
-fn urged_in_one_thread_and_heard_in_another(rt: HostRuntime) -> Result<(), Fail> {
-    let (board, two) = two_of_each(&rt)?;
+fn urged_in_one_thread_and_heard_in_another(rt: HostRuntime) {
+    let (board, two) = two_of_each(&rt, rt.alloc());
     assert!(rt; board.is_offloadable(0) && board.is_offloadable(1));
     let TwoOfEach {
         first,
@@ -222,5 +219,4 @@ fn urged_in_one_thread_and_heard_in_another(rt: HostRuntime) -> Result<(), Fail>
     let again = heard(&board, &mut first);
     let other = (heard(&board, &mut second), heard(&board, &mut second));
     expect(&rt, "heard", (again, other), (false, (true, false)));
-    Ok(())
 }
