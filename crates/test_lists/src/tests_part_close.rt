@@ -3,20 +3,25 @@
 ghost use Rattle.std.specs.Prelude.{◌≡◌, ◌+◌, ◌<◌, false, length};
 ghost use Rattle.rcu_part_lists.specs.ProcessorLists.{holding, passed_on, put_by, rear_of};
 ghost use Rattle.rcu_jobs.specs.Modes.{is_offloaded};
-ghost use Rattle.rcu_lanes.specs.Ends.{SameRear};
+ghost use Rattle.rcu_lanes.specs.Ends.{IsNewLane, SameRear};
 ghost use Rattle.rcu_numbers.specs.declared.shape.TheConstants.{MOST_CALLS};
 
 use crate::same::assert_same;
 use rcu_jobs::{BoxedJob, Callback, Record};
-use rcu_lanes::ruled_lane;
+use rcu_lanes::{Front, Rear, ruled_lane};
 use rcu_lists::{Kind, Parcel};
 use rcu_part_close::{ProcessorEnd, end_local, end_offloadable};
 use rcu_part_lists::{Held, LaneLimits, MemberLists, ProcessorLists};
 use rcu_part_order::{Kept, Records};
-use std::alloc::{AllocError, Global};
+use std::alloc::Global;
 use std::process::Abort;
 
 type Work = BoxedJob<0>;
+
+type LaneEnds = (
+    Front<Parcel<Work>, LaneLimits>,
+    Rear<Parcel<Work>, LaneLimits>,
+);
 
 fn record(number: u64) -> Record<u64> {
     Record {
@@ -29,8 +34,16 @@ fn record(number: u64) -> Record<u64> {
 }
 
 // The job of the callback of this number.
-fn job(alloc: Global, number: u64) -> Result<Work, AllocError> {
-    Ok(BoxedJob::new(number ^ 1024, Box::new(alloc, || 7)?))
+fn job(rt: &impl Abort, alloc: Global, number: u64) -> Work {
+    let call = Box::new(alloc, || 7).expect(rt, "memory");
+    BoxedJob::new(number ^ 1024, call)
+}
+
+// The two ends of a lane with nothing on it.
+fn lane(rt: &impl Abort, alloc: Global) -> LaneEnds
+    ensures { IsNewLane result.0 result.1 }
+{
+    ruled_lane(alloc).expect(rt, "a lane")
 }
 
 // Places one more callback, of this number.
@@ -78,20 +91,10 @@ fn assert_ended(rt: &impl Abort, ended: &ProcessorEnd<Work, u64>, ran: usize, ba
 #[test]
 fn what_a_local_one_holds_comes_back(rt: HostRuntime) {
     let alloc = rt.alloc();
-    let (_, rear) = ruled_lane::<Parcel<Work>, LaneLimits>(alloc).expect(&rt, "a lane");
+    let (_, rear) = lane(&rt, alloc);
     let mut processor_lists = ProcessorLists::new(alloc, rear, false, 10000).expect(&rt, "memory");
-    call(
-        &rt,
-        &mut processor_lists,
-        1,
-        job(alloc, 1).expect(&rt, "memory"),
-    );
-    call(
-        &rt,
-        &mut processor_lists,
-        2,
-        job(alloc, 2).expect(&rt, "memory"),
-    );
+    call(&rt, &mut processor_lists, 1, job(&rt, alloc, 1));
+    call(&rt, &mut processor_lists, 2, job(&rt, alloc, 2));
     let room = Vec::with_capacity(alloc, 2).expect(&rt, "memory");
     let ended = end_local::<Work>(processor_lists, one_record(&rt, alloc), room);
     assert_ended(&rt, &ended, 1, &[1, 2]);
@@ -100,32 +103,15 @@ fn what_a_local_one_holds_comes_back(rt: HostRuntime) {
 #[test]
 fn all_places_come_back_in_order(rt: HostRuntime) {
     let alloc = rt.alloc();
-    let (front, rear) = ruled_lane::<Parcel<Work>, LaneLimits>(alloc).expect(&rt, "a lane");
-    let (done_front, done_rear) = ruled_lane::<Parcel<Work>, LaneLimits>(alloc).expect(
-        &rt, "a lane",
-    );
+    let (front, rear) = lane(&rt, alloc);
+    let (done_front, done_rear) = lane(&rt, alloc);
     let mut processor_lists = ProcessorLists::new(alloc, rear, true, 10000).expect(&rt, "memory");
     let mut member = MemberLists::new(alloc, front, done_rear).expect(&rt, "memory");
     let held = Held::new(alloc, done_front);
-    call(
-        &rt,
-        &mut processor_lists,
-        0,
-        job(alloc, 0).expect(&rt, "memory"),
-    );
-    call(
-        &rt,
-        &mut processor_lists,
-        1,
-        job(alloc, 1).expect(&rt, "memory"),
-    );
+    call(&rt, &mut processor_lists, 0, job(&rt, alloc, 0));
+    call(&rt, &mut processor_lists, 1, job(&rt, alloc, 1));
     assert_same(&rt, member.take_in(), 2);
-    call(
-        &rt,
-        &mut processor_lists,
-        2,
-        job(alloc, 2).expect(&rt, "memory"),
-    );
+    call(&rt, &mut processor_lists, 2, job(&rt, alloc, 2));
     let ended = end_offloadable::<Work>(
         processor_lists,
         member,

@@ -4,6 +4,7 @@ ghost use Rattle.std.specs.Prelude.{◌≡◌, ◌≤◌, length};
 ghost use Rattle.rcu_part_lists.specs.ProcessorLists.{holding, passed_on};
 ghost use Rattle.rcu_part_lists.specs.Limits.{AreBelow};
 
+use self::Step::{Bare, Batches, Bypass, Calls, IsIn, Lazy, Release, Settle, Switch};
 use crate::same::assert_same;
 use rcu_jobs::{Callback, Lists, Mode};
 use rcu_lanes::{Draw, Front, ruled_lane};
@@ -106,79 +107,150 @@ impl Row {
     }
 }
 
+/// What is done with the lists, or what they show then.
+#[derive(Clone, Copy)]
+enum Step {
+    /// So many plain calls at a moment.
+    Calls(u64, u64),
+    /// A lazy call at a moment.
+    Lazy(u64),
+    /// A tick's release at a moment, of a processor that leaves or not, and is urged or not.
+    Release(u64, bool, bool),
+    /// Whether the processor is asked to be offloaded.
+    Switch(bool),
+    /// The turn word that was read.
+    Settle(u64),
+    /// How many callbacks the bypass list holds.
+    Bypass(u64),
+    /// How many callbacks of the own list have no number yet.
+    Bare(u64),
+    /// How many batches were released since they were counted last.
+    Batches(u64),
+    /// The mode.
+    IsIn(Mode),
+}
+
+/// One step, in this place of a test.
+fn play_one(rt: &impl Abort, row: &mut Row, at: usize, step: Step) {
+    match step {
+        Calls(calls, moment) => row.call_often(calls, moment).expect(rt, "calls"),
+        Lazy(moment) => row.call(moment, Kind::Lazy).expect(rt, "a call"),
+        Release(moment, leaving, urged) => row.release(moment, leaving, urged),
+        Switch(on) => row.switch(on),
+        Settle(turn) => row.settle(turn),
+        Bypass(held) => assert_same(rt, (at, row.bypass()), (at, held)),
+        Bare(bare) => assert_same(rt, (at, row.bare()), (at, bare)),
+        Batches(batches) => assert_same(rt, (at, row.batches()), (at, batches)),
+        IsIn(mode) => assert_same(rt, (at, row.processor_lists.mode()), (at, mode)),
+    }
+}
+
+/// The steps in order, on lists that nothing was done with.
+fn play(rt: &impl Abort, alloc: Global, qhimark: u64, steps: &[Step]) {
+    let mut row = Row::new(rt, alloc, qhimark);
+    for at in 0..steps.len() {
+        play_one(rt, &mut row, at, steps[at]);
+    }
+}
+
+static BYPASS_17: [Step; 5] = [Calls(17, 5), Bypass(1), Calls(1, 6), Bypass(0), Batches(17)];
+
 #[test]
 fn bypass_17(rt: HostRuntime) {
-    let mut row = Row::new(&rt, rt.alloc(), 10000);
-    row.call_often(17, 5).expect(&rt, "17 calls");
-    assert_same(&rt, row.bypass(), 1);
-    row.call(6, Kind::Plain).expect(&rt, "a call");
-    assert_same(&rt, (row.bypass(), row.batches()), (0, 17));
+    play(&rt, rt.alloc(), 10000, &BYPASS_17);
 }
+
+static BYPASS_QHIMARK: [Step; 8] = [
+    Calls(16, 5),
+    Bypass(0),
+    Calls(2, 5),
+    Bypass(2),
+    Calls(1, 5),
+    Bypass(0),
+    Calls(1, 5),
+    Bypass(1),
+];
 
 #[test]
 fn bypass_qhimark(rt: HostRuntime) {
-    let mut row = Row::new(&rt, rt.alloc(), 3);
-    for (calls, held) in [(16, 0), (2, 2), (1, 0), (1, 1)] {
-        row.call_often(calls, 5).expect(&rt, "calls");
-        assert_same(&rt, row.bypass(), held);
-    }
+    play(&rt, rt.alloc(), 3, &BYPASS_QHIMARK);
 }
+
+static LAZY_TEN: [Step; 7] = [
+    Lazy(5),
+    Lazy(6),
+    Release(14, false, false),
+    Bypass(2),
+    Release(15, false, false),
+    Bypass(0),
+    Batches(1),
+];
 
 #[test]
 fn lazy_ten(rt: HostRuntime) {
-    let mut row = Row::new(&rt, rt.alloc(), 10000);
-    row.call(5, Kind::Lazy).expect(&rt, "a call");
-    row.call(6, Kind::Lazy).expect(&rt, "a call");
-    row.release(14, false, false);
-    assert_same(&rt, row.bypass(), 2);
-    row.release(15, false, false);
-    assert_same(&rt, (row.bypass(), row.batches()), (0, 1));
+    play(&rt, rt.alloc(), 10000, &LAZY_TEN);
 }
+
+static LAZY_THEN_PLAIN: [Step; 7] = [
+    Calls(1, 5),
+    Bypass(0),
+    Lazy(5),
+    Bypass(1),
+    Calls(1, 5),
+    Bypass(0),
+    Batches(2),
+];
 
 #[test]
 fn lazy_then_plain(rt: HostRuntime) {
-    let mut row = Row::new(&rt, rt.alloc(), 10000);
-    for (kind, held) in [(Kind::Plain, 0), (Kind::Lazy, 1), (Kind::Plain, 0)] {
-        row.call(5, kind).expect(&rt, "a call");
-        assert_same(&rt, row.bypass(), held);
-    }
-    assert_same(&rt, row.batches(), 2);
+    play(&rt, rt.alloc(), 10000, &LAZY_THEN_PLAIN);
 }
+
+static LAZY_URGED: [Step; 5] = [
+    Lazy(5),
+    Release(5, false, false),
+    Bypass(1),
+    Release(5, false, true),
+    Bypass(0),
+];
 
 #[test]
 fn lazy_urged(rt: HostRuntime) {
-    let mut row = Row::new(&rt, rt.alloc(), 10000);
-    row.call(5, Kind::Lazy).expect(&rt, "a call");
-    for (urged, held) in [(false, 1), (true, 0)] {
-        row.release(5, false, urged);
-        assert_same(&rt, row.bypass(), held);
-    }
+    play(&rt, rt.alloc(), 10000, &LAZY_URGED);
 }
+
+static LAZY_DEOFFLOAD: [Step; 10] = [
+    Lazy(5),
+    Switch(false),
+    IsIn(Mode::Offloaded),
+    Release(5, true, false),
+    Switch(false),
+    IsIn(Mode::Deoffloading),
+    Settle(1),
+    IsIn(Mode::Deoffloading),
+    Settle(2),
+    IsIn(Mode::Local),
+];
 
 #[test]
 fn lazy_deoffload(rt: HostRuntime) {
-    let mut row = Row::new(&rt, rt.alloc(), 10000);
-    row.call(5, Kind::Lazy).expect(&rt, "a call");
-    row.switch(false);
-    assert_same(&rt, row.processor_lists.mode(), Mode::Offloaded);
-    row.release(5, true, false);
-    row.switch(false);
-    assert_same(&rt, row.processor_lists.mode(), Mode::Deoffloading);
-    for (turn, mode) in [(1, Mode::Deoffloading), (2, Mode::Local)] {
-        row.settle(turn);
-        assert_same(&rt, row.processor_lists.mode(), mode);
-    }
+    play(&rt, rt.alloc(), 10000, &LAZY_DEOFFLOAD);
 }
+
+static SWITCH_AND_POUR: [Step; 10] = [
+    Switch(false),
+    Settle(0),
+    IsIn(Mode::Local),
+    Calls(4, 5),
+    Bare(4),
+    Switch(true),
+    IsIn(Mode::Offloaded),
+    Bare(0),
+    Bypass(0),
+    Batches(1),
+];
 
 #[test]
 fn switch_and_pour(rt: HostRuntime) {
-    let mut row = Row::new(&rt, rt.alloc(), 10000);
-    row.switch(false);
-    row.settle(0);
-    assert_same(&rt, row.processor_lists.mode(), Mode::Local);
-    row.call_often(4, 5).expect(&rt, "four calls");
-    assert_same(&rt, row.bare(), 4);
-    row.switch(true);
-    assert_same(&rt, row.processor_lists.mode(), Mode::Offloaded);
-    assert_same(&rt, (row.bare(), row.bypass(), row.batches()), (0, 0, 1));
+    play(&rt, rt.alloc(), 10000, &SWITCH_AND_POUR);
 }
