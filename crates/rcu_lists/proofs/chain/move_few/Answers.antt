@@ -1,4 +1,5 @@
-use Rattle.std.proofs.Common.{◌≡◌, [], ◌∷◌, ◌++◌, ◌+◌, ◌-◌, ◌∙◌, take, drop, sym, ap, arith, append_assoc, length, length-drop}
+use Rattle.std.proofs.Common.{◌≡◌, [], ◌∷◌, ◌++◌, ◌+◌, ◌-◌, ◌∙◌, take, drop, sym, ap, arith, append_assoc, length, length-drop, refl}
+use Rattle.std.proofs.lemmas.List.{append-nil}
 use Rattle.rcu_lists.specs.Batches.{batch_items}
 use Rattle.rcu_lists.specs.Blocks.{blocks_items}
 use Rattle.rcu_lists.proofs.Fills.{moves-one}
@@ -23,3 +24,6 @@ returns-clause-left g c = let all : c.loop.counter ≡ c.args.number = omega ari
 pub unreachable-requires : goal.unreachable-requires
 unreachable-requires g c = let xs = blocks_items c.args.blocks.now.items in
     let none = ap length (sym c.loop.invariant.left ∙ c.in_default.ensures.0) in let left = length-drop c.loop.counter xs in omega (arith, c.requires.few, c.loop-test.true)
+
+pub loop-init : goal.loop-init
+loop-init g c = record { moved = sym (append-nil (batch_items c.args.batch.now)); left = refl; room = omega (arith, c.requires.room) }

@@ -1,4 +1,5 @@
-use Rattle.std.proofs.Common.{◌≡◌, [], ◌∷◌, ◌++◌, ◌+◌, ◌-◌, ◌∙◌, take, drop, sym, ap, arith, append_assoc}
+use Rattle.std.proofs.Common.{◌≡◌, [], ◌∷◌, ◌++◌, ◌+◌, ◌-◌, ◌∙◌, take, drop, sym, ap, arith, append_assoc, refl}
+use Rattle.std.proofs.lemmas.List.{append-nil}
 use Rattle.rcu_lists.specs.Batches.{batch_items}
 use Rattle.rcu_lists.proofs.Fills.{moves-one}
 use Rattle.rcu_lists.proofs.Rooms.{none-left}
@@ -28,3 +29,15 @@ unreachable-requires g c = none-left c.loop.counter c.args.number c.args.list.no
 
 pub returns-clause-left_room : goal.returns-clause-left_room
 returns-clause-left_room g c = let all : c.loop.counter ≡ c.args.number = omega arith in rw all at c.loop.invariant.left_room
+
+pub returns-clause-capacity : goal.returns-clause-capacity
+returns-clause-capacity g c = c.loop.invariant.capacity
+
+pub loop-init : goal.loop-init
+loop-init g c = record {
+  moved = sym (append-nil (batch_items c.args.self.now));
+  left = refl;
+  room = omega (arith, c.requires.room);
+  left_room = λ k h. omega (arith, h);
+  capacity = refl;
+}

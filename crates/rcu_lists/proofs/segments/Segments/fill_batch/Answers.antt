@@ -1,4 +1,4 @@
-use Rattle.std.proofs.Common.{◌≡◌, [], ◌≤◌, ◌-◌, ◌++◌, ◌∙◌, min, length, take, drop, ap, refl, sym, subst, arith, rules, length-drop}
+use Rattle.std.proofs.Common.{◌≡◌, ℕ, [], ◌≤◌, ◌-◌, ◌++◌, ◌∙◌, min, length, take, drop, ap, refl, sym, subst, arith, length-drop}
 use Rattle.std.specs.Prelude.{All}
 use Rattle.std.proofs.lemmas.List.{length-take-le}
 use Rattle.std.proofs.lemmas.Bool.{false≢true}
@@ -17,9 +17,12 @@ use Rattle.rcu_lists.proofs.Rooms.{room-moved}
 use Rattle.rcu_lists.proofs.Stamps.{stamps-drop}
 use Rattle.rcu_lists.proofs.segments.Segments.fill_batch.Goals as goal
 
+fewest : (t a b : ℕ) → t ≡ min a b → t ≤ b
+fewest t a b e = omega arith
+
 pub invariant_of-self-2 : goal.invariant_of-self-2
 invariant_of-self-2 g c = let s = c.args.self.now in let le = s.within in let t = c.min-number.result in
-    let few : t ≤ s.bounds.done = search rules in
+    let few = fewest t c.args.max s.bounds.done c.min-number.ensures in
     let cut_front = take-front s.bounds.wait_number s.bounds.ready_number s.bounds.done s.bounds.wait s.bounds.ready t s.list.items few s.within in
     record {
       within = rw c.take_from.ensures.left (simp length-drop (omega arith));
@@ -29,7 +32,7 @@ invariant_of-self-2 g c = let s = c.args.self.now in let le = s.within in let t 
 
 pub returns-clause-taken : goal.returns-clause-taken
 returns-clause-taken g c = let s = c.args.self.now in let le = s.within in let t = c.min-number.result in
-    let few : t ≤ s.bounds.done = search rules in
+    let few = fewest t c.args.max s.bounds.done c.min-number.ensures in
     let b = c.take_from.new.self in
     let front : batch_items b ≡ take t s.list.items = c.take_from.ensures.moved ∙ ap (λ z. z ++ take t s.list.items) (c.reserve.ensures.items ∙ c.free_places.ensures.items ∙ c.requires.none) in
     take-front s.bounds.wait_number s.bounds.ready_number s.bounds.done s.bounds.wait s.bounds.ready t s.list.items few s.within
@@ -38,15 +41,15 @@ returns-clause-taken g c = let s = c.args.self.now in let le = s.within in let t
 
 pub returns-clause-number : goal.returns-clause-number
 returns-clause-number g c = let s = c.args.self.now in let le = s.within in let t = c.min-number.result in
-    let few : t ≤ s.bounds.done = search rules in
-    let least : t ≡ min c.args.max s.bounds.done = search rules in
+    let few = fewest t c.args.max s.bounds.done c.min-number.ensures in
+    let least : t ≡ min c.args.max s.bounds.done = c.min-number.ensures in
     let b = c.take_from.new.self in
     let front : batch_items b ≡ take t s.list.items = c.take_from.ensures.moved ∙ ap (λ z. z ++ take t s.list.items) (c.reserve.ensures.items ∙ c.free_places.ensures.items ∙ c.requires.none) in
     ap length front ∙ length-take-le t s.list.items (omega arith) ∙ least ∙ ap (min c.args.max) (sym (count-done s.bounds.wait_number s.bounds.ready_number s.bounds.done s.bounds.wait s.bounds.ready s.list.items s.within))
 
 pub returns-clause-graced : goal.returns-clause-graced
 returns-clause-graced g c = let s = c.args.self.now in let t = c.min-number.result in
-    let few : t ≤ s.bounds.done = search rules in
+    let few = fewest t c.args.max s.bounds.done c.min-number.ensures in
     let b = c.take_from.new.self in
     let front : batch_items b ≡ take t s.list.items = c.take_from.ensures.moved ∙ ap (λ z. z ++ take t s.list.items) (c.reserve.ensures.items ∙ c.free_places.ensures.items ∙ c.requires.none) in
     subst (All (λ (x : Callback g.row.J.Denot). snap_of x.stamp ≤ s.bounds.advanced)) (sym front)
@@ -71,14 +74,14 @@ returns-in_err-reserve-clause-refused g c = let s = c.args.self.now in let same 
 
 pub returns-clause-room : goal.returns-clause-room
 returns-clause-room g c = let s = c.args.self.now in let le = s.within in let t = c.min-number.result in
-    let few : t ≤ s.bounds.done = search rules in
+    let few = fewest t c.args.max s.bounds.done c.min-number.ensures in
     let b = c.take_from.new.self in
     let front : batch_items b ≡ take t s.list.items = c.take_from.ensures.moved ∙ ap (λ z. z ++ take t s.list.items) (c.reserve.ensures.items ∙ c.free_places.ensures.items ∙ c.requires.none) in
     room-moved s.list.items c.take_from.new.list.items (batch_items b) t _ _ (omega arith) c.take_from.ensures.left front c.take_from.ensures.capacity
 
 pub returns-in_err-reserve-clause-inline : goal.returns-in_err-reserve-clause-inline
 returns-in_err-reserve-clause-inline g c = λ few. let s = c.args.self.now in let t = c.min-number.result in
-    let least : t ≡ min c.args.max s.bounds.done = search rules in
+    let least : t ≡ min c.args.max s.bounds.done = c.min-number.ensures in
     let small = subst (λ n. min c.args.max n ≤ INLINE_PLACES) (count-done s.bounds.wait_number s.bounds.ready_number s.bounds.done s.bounds.wait s.bounds.ready s.list.items s.within) few in
     let room = c.free_places.ensures.inline (c.free_places.ensures.items ∙ c.requires.none) in
     absurd (false≢true (c.in_err-reserve.ensures.had (omega (arith, least, small, room))))

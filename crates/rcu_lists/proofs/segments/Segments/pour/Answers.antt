@@ -1,4 +1,4 @@
-use Rattle.std.proofs.Common.{◌≡◌, arith, length, List, ◌++◌, ◌∙◌, ap, refl, rules, subst, sym, zero-le}
+use Rattle.std.proofs.Common.{◌≡◌, arith, length, List, ◌++◌, ◌∙◌, ap, refl, subst, sym, zero-le}
 use Rattle.std.proofs.lemmas.List.{length-map}
 use Rattle.std.proofs.lemmas.Bool.{false≢true}
 use Rattle.rcu_jobs.specs.declared.callback.Callback.{Callback}
@@ -38,7 +38,7 @@ returns-in_err-make_room-clause-refused g c = let s = c.args.self.now in let sam
     let both : SegmentsUnchanged s s × BypassUnchanged c.args.bypass.now c.make_room.new.self = (same, c.make_room.ensures.same) in on_err_said _ _ both
 
 pub take_list-requires : goal.take_list-requires
-take_list-requires g c = (search rules, (let found = c.in_ok-make_room.ensures.found in let many = c.len.ensures in let all = c.args.self.now.list.ok.0 in omega arith))
+take_list-requires g c = (assumption, subst (BypassRoom c.make_room.new.self) (c.len.ensures ∙ c.args.self.now.list.ok.0) c.in_ok-make_room.ensures.found)
 
 pub invariant_of-self : goal.invariant_of-self
 invariant_of-self g c = let e = c.clear.ensures in record {
@@ -60,3 +60,15 @@ returns-in_err-make_room-clause-had g c = λ room. let s = c.args.self.now in
 pub returns-in_err-make_room-clause-none : goal.returns-in_err-make_room-clause-none
 returns-in_err-make_room-clause-none g c = λ e. let s = c.args.self.now in
     absurd (false≢true (c.in_err-make_room.ensures.had (subst (BypassRoom c.args.bypass.now) (sym (c.len.ensures ∙ s.list.ok.0 ∙ sym (long s) ∙ ap length e)) c.args.bypass.now.held.fits)))
+
+pub returns-in_err-make_room-clause-advanced : goal.returns-in_err-make_room-clause-advanced
+returns-in_err-make_room-clause-advanced g c = refl
+
+pub returns-clause-advanced : goal.returns-clause-advanced
+returns-clause-advanced g c = c.clear.ensures.advanced
+
+pub returns-clause-had : goal.returns-clause-had
+returns-clause-had g c = λ _. refl
+
+pub returns-clause-none : goal.returns-clause-none
+returns-clause-none g c = λ _. refl
