@@ -44,3 +44,12 @@ returns-clause-moved g c = let none : c.args.number - c.loop-more.more ≡ c.arg
 
 pub returns-clause-left : goal.returns-clause-left
 returns-clause-left g c = let none : c.args.number - c.loop-more.more ≡ c.args.number = omega arith in rw none at c.loop-more.invariant.moving.rest
+
+pub overflow_sub-more : goal.overflow_sub-more
+overflow_sub-more g c = omega (arith, c.min-part.ensures)
+
+pub move_into-requires-clause-few : goal.move_into-requires-clause-few
+move_into-requires-clause-few g c = omega (arith, c.min-part.ensures, c.len.ensures)
+
+pub move_into-requires-clause-room : goal.move_into-requires-clause-room
+move_into-requires-clause-room g c = omega (arith, c.loop-more.invariant.room, c.min-part.ensures)

@@ -1,4 +1,4 @@
-use Rattle.std.proofs.Common.{◌≡◌, ◌<◌, ◌-◌, ◌≤◌, ◌+◌, ◌∙◌, length, sym, arith}
+use Rattle.std.proofs.Common.{◌≡◌, ◌<◌, ◌-◌, ◌≤◌, ◌+◌, ◌∙◌, length, sym, arith, refl}
 use Rattle.rcu_lists.proofs.Cuts.{no-first, no-second}
 use Rattle.rcu_lists.proofs.Counts.{no-second-number, accelerate-full, accelerate-first, accelerate-second, carries-none, carries-first, carries-second}
 use Rattle.rcu_lists.proofs.bounds.Bounds.accelerate.Goals.{else-self-gt0-via-then-self-gt0+else-self-seq, else-self-gt0-via-else-self-gt0, else-self-gt0-2-via-then-self-gt0-2+else-self-seq-2, else-self-gt0-2-via-else-self-gt0-2}
@@ -75,3 +75,27 @@ pub returns-else-not_done-eq0-clause-carried : goal.returns-else-not_done-eq0-cl
 returns-else-not_done-eq0-clause-carried g c = λ cs len. let s = c.args.self.now in
     let le : s.done + s.wait + s.ready ≤ length cs = omega (arith, len, c.requires.within) in
     rw (sym len) (sym (carries-first c.args.seq 0 s.done (length cs - s.done) 0 cs (omega arith) (omega arith)))
+
+pub returns-then-self-seq-clause-within : goal.returns-then-self-seq-clause-within
+returns-then-self-seq-clause-within g c = c.requires.within
+
+pub returns-then-later-eq0-clause-within : goal.returns-then-later-eq0-clause-within
+returns-then-later-eq0-clause-within g c = c.requires.within
+
+pub returns-then-not_done-eq0-clause-within : goal.returns-then-not_done-eq0-clause-within
+returns-then-not_done-eq0-clause-within g c = c.requires.within
+
+pub returns-then-self-seq-clause-advanced : goal.returns-then-self-seq-clause-advanced
+returns-then-self-seq-clause-advanced g c = refl
+
+pub returns-then-later-eq0-clause-advanced : goal.returns-then-later-eq0-clause-advanced
+returns-then-later-eq0-clause-advanced g c = refl
+
+pub returns-then-not_done-eq0-clause-advanced : goal.returns-then-not_done-eq0-clause-advanced
+returns-then-not_done-eq0-clause-advanced g c = refl
+
+pub returns-else-later-eq0-clause-advanced : goal.returns-else-later-eq0-clause-advanced
+returns-else-later-eq0-clause-advanced g c = refl
+
+pub returns-else-not_done-eq0-clause-advanced : goal.returns-else-not_done-eq0-clause-advanced
+returns-else-not_done-eq0-clause-advanced g c = refl

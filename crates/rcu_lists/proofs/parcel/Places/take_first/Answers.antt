@@ -1,6 +1,6 @@
 use Rattle.std.proofs.Common.{rules, ◌≡◌, ◌<◌, ◌+◌, ◌∷◌, length, drop, ap, suc, sym, ◌∙◌, subst, arith, add-one, length-set}
 use Rattle.std.proofs.Math.Seq.{drop-cons}
-use Rattle.std.proofs.lemmas.List.{drop-set-lt}
+use Rattle.std.proofs.lemmas.List.{drop-set-lt, drop_all}
 use Rattle.rcu_lists.specs.Filled.{filled, AreFilled}
 use Rattle.rcu_lists.proofs.Fills.{first-filled, takes-first}
 use Rattle.rcu_lists.proofs.parcel.Places.take_first.Goals as goal
@@ -19,3 +19,7 @@ returns g c = let p = c.args.self.now in let xs = p.slots.items in let slot = c.
     let lt : p.next < length xs = search rules in
     let e : drop p.next xs ≡ slot ∷ drop (p.next + 1) xs = rw add-one (drop-cons xs p.next slot lt ∙ ap (λ x. x ∷ drop (suc p.next) xs) (sym c.in-Some.ensures.value)) in
     takes-first _ c.take-first.result slot (drop (p.next + 1) xs) _ _ (subst AreFilled e p.full) c.take-first.ensures.value (ap filled e) (ap filled (drop-set-lt (p.next + 1) xs p.next c.take-first.new.self (omega arith)))
+
+pub returns-then-next-len : goal.returns-then-next-len
+returns-then-next-len g c = let p = c.args.self.now in
+    let none = ap filled (drop_all p.next p.slots.items (omega (arith, c.if-next-len.true, c.len.ensures))) in (none, none)

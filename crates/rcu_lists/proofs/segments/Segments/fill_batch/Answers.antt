@@ -93,3 +93,15 @@ invariant_of-self g c = let b = c.args.self.now.bounds in record {
   single = b.single;
   rising = b.rising;
 }
+
+pub overflow_sub-self : goal.overflow_sub-self
+overflow_sub-self g c = fewest _ _ _ c.min-number.ensures
+
+pub returns-in_err-reserve-clause-advanced : goal.returns-in_err-reserve-clause-advanced
+returns-in_err-reserve-clause-advanced g c = refl
+
+pub returns-clause-advanced : goal.returns-clause-advanced
+returns-clause-advanced g c = refl
+
+pub returns-clause-inline : goal.returns-clause-inline
+returns-clause-inline g c = λ _. refl
