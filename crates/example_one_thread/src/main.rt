@@ -166,6 +166,29 @@ fn look(rt: &impl Print, table: &Table, p: u64) -> Result<(), AnyFault> {
     Ok(())
 }
 
+/// Processor 0 retires a version that a reader on processor 1 looked at. It is let go once both have reported.
+fn retire_one(rt: &impl Print, table: &mut Table) -> Result<(), AnyFault> {
+    look(rt, table, 1)?;
+    retire(rt, table, 0, 1)?;
+    table.runtime.tick(0, 1)?;
+    println!(rt; "driver: {:?}", table.runtime.turn_driver())?;
+    table.runtime.quiescent(0)?;
+    println!(rt; "driver: {:?}", table.runtime.turn_driver())?;
+    table.runtime.quiescent(1)?;
+    println!(rt; "driver: {:?}", table.runtime.turn_driver())?;
+    println!(rt; "processor 0: {:?}", table.runtime.tick(0, 2)?)?;
+    Ok(())
+}
+
+/// Each processor retires a version, and a barrier with both tickets passes.
+fn pass_a_barrier(rt: &impl Print, table: &mut Table) -> Result<(), AnyFault> {
+    let tickets = [retire(rt, table, 0, 3)?, retire(rt, table, 1, 3)?];
+    let barrier = table.runtime.barrier(&tickets)?;
+    table.runtime.turn_until_passed(&barrier, 4, 3)?;
+    println!(rt; "the barrier has passed")?;
+    look(rt, table, 0)
+}
+
 /// Versions of a table are retired, and its runtime is closed. Each version but the last is either let go or handed back, and
 /// each receipt is of the version that its record names.
 fn run_once(rt: &impl Print, alloc: Global) -> Result<(Arc<Version>, Closed<Retired>), AnyFault>
@@ -174,22 +197,8 @@ fn run_once(rt: &impl Print, alloc: Global) -> Result<(Arc<Version>, Closed<Reti
     ensures receipts { IfOk result (λ ended. HaveReceipts ⟦<Retired as Job>⟧.gives ended.1) }
 {
     let mut table = Table::new(alloc)?;
-    // Processor 0 retires a version that a reader on processor 1 looked at. It is let go once both have reported.
-    look(rt, &table, 1)?;
-    retire(rt, &mut table, 0, 1)?;
-    table.runtime.tick(0, 1)?;
-    println!(rt; "driver: {:?}", table.runtime.turn_driver())?;
-    table.runtime.quiescent(0)?;
-    println!(rt; "driver: {:?}", table.runtime.turn_driver())?;
-    table.runtime.quiescent(1)?;
-    println!(rt; "driver: {:?}", table.runtime.turn_driver())?;
-    println!(rt; "processor 0: {:?}", table.runtime.tick(0, 2)?)?;
-    // Each processor retires a version, and a barrier with both tickets passes.
-    let tickets = [retire(rt, &mut table, 0, 3)?, retire(rt, &mut table, 1, 3)?];
-    let barrier = table.runtime.barrier(&tickets)?;
-    table.runtime.turn_until_passed(&barrier, 4, 3)?;
-    println!(rt; "the barrier has passed")?;
-    look(rt, &table, 0)?;
+    retire_one(rt, &mut table)?;
+    pass_a_barrier(rt, &mut table)?;
     // One more is retired that no turn is left to run.
     retire(rt, &mut table, 1, 20)?;
     table.runtime.shut();
