@@ -43,6 +43,27 @@ fn stamps_of<R>(alloc: Global, ran: &[Record<R>], many: usize) -> Result<Vec<u64
     Ok(stamps)
 }
 
+/// The keys of the callbacks that ran, as these records say.
+fn keys_run<R>(alloc: Global, ran: &[Record<R>]) -> Result<Vec<u64>, AllocError>
+    ensures { IfOk result (λ keys. keys.items ≡ map (λ r. r.key) ran.now) }
+{
+    ran.iter().map(|record| record.key).collect(alloc)
+}
+
+/// The number that was seen before each of them was claimed.
+fn readies_of<R>(alloc: Global, ran: &[Record<R>]) -> Result<Vec<u64>, AllocError>
+    ensures { IfOk result (λ readies. readies.items ≡ map (λ r. r.ready) ran.now) }
+{
+    ran.iter().map(|record| record.ready).collect(alloc)
+}
+
+/// The keys of jobs.
+fn keys_of<J: Job>(alloc: Global, jobs: &[J]) -> Result<Vec<u64>, AllocError>
+    ensures { IfOk result (λ keys. keys.items ≡ map J.key_of jobs.now) }
+{
+    jobs.iter().map(|job| job.key()).collect(alloc)
+}
+
 impl Account {
     /// The account of a processor that accepted these keys, by the records and jobs that `close` answered of it, and by how
     /// many grace periods it passed.
@@ -71,9 +92,9 @@ impl Account {
         Ok(Account {
             keys: accepted.to_vec(alloc)?,
             stamps: stamps_of(alloc, ran, accepted.len())?,
-            ran: ran.iter().map(|record| record.key).collect(alloc)?,
-            readies: ran.iter().map(|record| record.ready).collect(alloc)?,
-            back: back.iter().map(|job| job.key()).collect(alloc)?,
+            ran: keys_run(alloc, ran)?,
+            readies: readies_of(alloc, ran)?,
+            back: keys_of(alloc, back)?,
             reports,
             turns: vec![in alloc; ran.len() as u64]?,
             shuts: Vec::new(alloc),
