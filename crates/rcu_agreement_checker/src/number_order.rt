@@ -15,6 +15,53 @@ struct Placed {
     mark: Mark,
 }
 
+/// Adds what processor `p` accepted, each at its moment.
+fn push_acceptances(
+    placed: &mut Vec<Placed>,
+    p: u64,
+    keys: &[u64],
+    moments: &[Moment],
+) -> Result<(), AllocError> {
+    for (key, moment) in keys.iter().zip(moments.iter()) {
+        let mark = Mark::Accepted(p, *key);
+        placed.push(Placed {
+            moment: *moment,
+            mark,
+        })?;
+    }
+    Ok(())
+}
+
+/// Adds what of it ran, each at its moment.
+fn push_runs(
+    placed: &mut Vec<Placed>,
+    p: u64,
+    keys: &[u64],
+    moments: &[Moment],
+) -> Result<(), AllocError> {
+    for (key, moment) in keys.iter().zip(moments.iter()) {
+        let mark = Mark::Ran(p, *key);
+        placed.push(Placed {
+            moment: *moment,
+            mark,
+        })?;
+    }
+    Ok(())
+}
+
+/// Adds its reports, one in each grace period.
+fn push_reports(placed: &mut Vec<Placed>, p: u64, reports: u64) -> Result<(), AllocError> {
+    for period in 0..reports {
+        let moment = Moment {
+            period,
+            step: Step::Report,
+        };
+        let mark = Mark::Reported(p);
+        placed.push(Placed { moment, mark })?;
+    }
+    Ok(())
+}
+
 /// Adds what processor `p` accepted and what of it ran, and its reports, each at its moment and in order.
 fn push_processor(
     alloc: Global,
@@ -24,30 +71,10 @@ fn push_processor(
     account: &Account,
 ) -> Result<(), AllocError> {
     let accepted = moments_of_acceptances(alloc, counts, p, account.stamps.as_slice())?;
-    for (key, moment) in account.keys.iter().zip(accepted.iter()) {
-        placed.push(Placed {
-            moment: *moment,
-            mark: Mark::Accepted(p, *key),
-        })?;
-    }
+    push_acceptances(placed, p, account.keys.as_slice(), accepted.as_slice())?;
     let ran = moments_of_runs(alloc, account.readies.as_slice())?;
-    for (key, moment) in account.ran.iter().zip(ran.iter()) {
-        placed.push(Placed {
-            moment: *moment,
-            mark: Mark::Ran(p, *key),
-        })?;
-    }
-    for period in 0..account.reports {
-        let moment = Moment {
-            period,
-            step: Step::Report,
-        };
-        placed.push(Placed {
-            moment,
-            mark: Mark::Reported(p),
-        })?;
-    }
-    Ok(())
+    push_runs(placed, p, account.ran.as_slice(), ran.as_slice())?;
+    push_reports(placed, p, account.reports)
 }
 
 /// The acceptances, reports and runs of all processors, in the order of their moments.
