@@ -73,8 +73,9 @@ class Crate:
 
     @property
     def weight(self):
-        """Roughly what a check of it takes, in lines of code: of those of proofs each a quarter, and some for what it loads."""
-        return 300 + self.lines + self.proof_lines // 4
+        """Roughly what a check of it takes, in lines of its code: a twentieth of those below, which it reads, count too, and so many
+        more where a program is linked."""
+        return self.lines + sum(it.lines for it in self.below) // 20 + (200 if self.is_program else 0)
 
     def needs(self, jobs):
         """The memory that a check is likely to take, in bytes: what `rt ci` counts with."""
