@@ -1,4 +1,4 @@
-//! Threads in which processors call, and threads that run processors afterwards.
+//! Threads in which processors call, and then run.
 
 ghost use denote.Param.Send.{IsSend};
 ghost use Rattle.std.specs.Prelude.{◌≡◌, ◌+◌, ◌<◌, ◌≤◌, ◌↔◌, IsTrue, false, min};
@@ -13,10 +13,11 @@ use std::sync::{Arc, Barrier, Wait};
 use std::thread;
 use std::thread::{JoinHandle, Threads};
 
-/// What a thread that called gives back.
-#[derive(Drop)]
-pub(crate) struct Called<P> {
-    pub(crate) processor: P,
+/// What a processor's thread measured.
+#[derive(Clone, Copy)]
+pub(crate) struct Called {
+    /// How many callbacks the processor ran itself.
+    pub(crate) ran: u64,
     /// How many nanoseconds all calls took, reports and ticks included.
     pub(crate) spent: u64,
 }
@@ -89,49 +90,59 @@ fn make_calls(processor: &mut Processor<Work>, alloc: Global, plan: &Plan) {
     }
 }
 
-/// Waits at the gate, and makes all calls of a plan.
-fn call_all<R: Wait + Clock>(
+/// Makes all calls of a plan. Answers how many nanoseconds they took.
+fn time_calls(
+    clock: &impl Clock,
+    alloc: Global,
+    processor: &mut Processor<Work>,
+    plan: &Plan,
+) -> u64 {
+    let began = nanoseconds(clock);
+    make_calls(processor, alloc, plan);
+    nanoseconds(clock).saturating_sub(began)
+}
+
+/// Waits at the gate, makes all calls of a plan, waits there until all others have, and runs the processor until the runtime is
+/// halted.
+fn call_and_run<R: Wait + Clock>(
     rt: &R,
     alloc: Global,
     processor: Processor<Work>,
-    gate: &Arc<Barrier>,
+    gate: &Barrier,
     plan: Plan,
-) -> Called<Processor<Work>> {
+) -> Called {
     let mut processor = processor;
     gate.wait(rt);
-    let began = nanoseconds(rt);
-    make_calls(&mut processor, alloc, &plan);
-    let spent = nanoseconds(rt).saturating_sub(began);
-    Called { processor, spent }
+    let spent = time_calls(rt, alloc, &mut processor, &plan);
+    gate.wait(rt);
+    let ran = processor.run(rt).ran() as u64;
+    Called { ran, spent }
 }
 
-/// Starts a thread in which a processor calls. None where none can be made.
+/// Starts a thread in which a processor calls and runs. None where none can be made.
 fn start_caller<R: Threads + Wait + Clock + Copy + Send + 'static>(
     rt: &R,
     alloc: Global,
     processor: Processor<Work>,
     gate: &Arc<Barrier>,
     plan: Plan,
-) -> Option<JoinHandle<Called<Processor<Work>>>> {
+) -> Option<JoinHandle<Called>> {
     let own = *rt;
     let gate = Arc::try_clone(gate).ok()?;
-    let call = move || -> Called<Processor<Work>>
+    let call = move || -> Called
         requires { IsSend R.row }
-    { call_all(&own, alloc, processor, &gate, plan) };
-    let Ok(thread) = thread::spawn(rt, call) else {
-        return None;
-    };
-    Some(thread)
+    { call_and_run(&own, alloc, processor, &gate, plan) };
+    thread::spawn(rt, call).ok()
 }
 
-/// Starts a thread for each processor, in which it calls once the gate is open. None where not all can be made.
+/// Starts a thread for each processor, in which it calls and runs. None where not all can be made.
 pub(crate) fn start_callers<R: Threads + Wait + Clock + Copy + Send + 'static>(
     rt: &R,
     alloc: Global,
     processors: Vec<Processor<Work>>,
     gate: &Arc<Barrier>,
     plan: Plan,
-) -> Option<Vec<JoinHandle<Called<Processor<Work>>>>> {
+) -> Option<Vec<JoinHandle<Called>>> {
     let mut threads = Vec::new(alloc);
     for processor in processors {
         let thread = start_caller(rt, alloc, processor, gate, plan)?;
@@ -140,75 +151,14 @@ pub(crate) fn start_callers<R: Threads + Wait + Clock + Copy + Send + 'static>(
     Some(threads)
 }
 
-/// The processors that called, in order, and the longest time that the calls of one took.
-#[derive(Drop)]
-pub(crate) struct AllCalled<P> {
-    pub(crate) processors: Vec<P>,
-    pub(crate) spent: u64,
-}
-
-/// Joins all threads in which processors called. None for want of memory.
-pub(crate) fn join_callers<P: Send + Drop, R: Threads>(
-    rt: &R,
-    alloc: Global,
-    threads: Vec<JoinHandle<Called<P>>>,
-) -> Option<AllCalled<P>> {
-    let mut processors = Vec::new(alloc);
-    let mut most: u64 = 0;
+/// Joins the threads of all processors. Answers how many callbacks these ran themselves, and the longest time that the calls
+/// of one took.
+pub(crate) fn join_callers<R: Threads>(rt: &R, threads: Vec<JoinHandle<Called>>) -> Called {
+    let mut all = Called { ran: 0, spent: 0 };
     for thread in threads {
-        let Called { processor, spent } = thread.join(rt);
-        processors.push(processor).ok()?;
-        most = most.max(spent);
+        let Called { ran, spent } = thread.join(rt);
+        all.ran = all.ran.saturating_add(ran);
+        all.spent = all.spent.max(spent);
     }
-    Some(AllCalled {
-        processors,
-        spent: most,
-    })
-}
-
-/// Runs a processor until the runtime is halted.
-fn run_processor<R: Wait + Clock>(processor: Processor<Work>, rt: &R) -> Processor<Work> {
-    processor.run(rt)
-}
-
-/// Starts a thread that runs a processor. None where none can be made.
-fn start_processor<R: Threads + Wait + Clock + Copy + Send + 'static>(
-    rt: &R,
-    processor: Processor<Work>,
-) -> Option<JoinHandle<Processor<Work>>> {
-    let own = *rt;
-    let run = move || -> Processor<Work>
-        requires { IsSend R.row }
-    { run_processor(processor, &own) };
-    let Ok(thread) = thread::spawn(rt, run) else {
-        return None;
-    };
-    Some(thread)
-}
-
-/// Starts a thread for each processor, which runs it. None where not all can be made.
-pub(crate) fn start_processors<R: Threads + Wait + Clock + Copy + Send + 'static>(
-    rt: &R,
-    alloc: Global,
-    processors: Vec<Processor<Work>>,
-) -> Option<Vec<JoinHandle<Processor<Work>>>> {
-    let mut threads = Vec::new(alloc);
-    for processor in processors {
-        let thread = start_processor(rt, processor)?;
-        threads.push(thread).ok()?;
-    }
-    Some(threads)
-}
-
-/// Joins all threads that run processors. Answers how many callbacks these ran themselves.
-pub(crate) fn join_processors<R: Threads>(
-    rt: &R,
-    threads: Vec<JoinHandle<Processor<Work>>>,
-) -> u64 {
-    let mut ran: u64 = 0;
-    for thread in threads {
-        let processor = thread.join(rt);
-        ran = ran.saturating_add(processor.ran() as u64);
-    }
-    ran
+    all
 }

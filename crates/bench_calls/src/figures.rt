@@ -1,15 +1,15 @@
-//! A run of all parts: each processor calls in a thread of its own, and then all of them run until a barrier has passed.
+//! A run of all parts: each processor calls in a thread of its own, and then all of them run there until a barrier has passed.
 
-use crate::calls::{join_callers, join_processors, start_callers, start_processors};
+use crate::beside::{join_beside, ran_by, start_beside};
+use crate::calls::{Called, join_callers, start_callers};
 use crate::helper::{Helper, start_helper};
 use crate::jobs::{Work, nanoseconds};
 use crate::plan::Plan;
-use rcu_parts::{AllParts, Control, Hand, Parts, Processor};
-use rcu_threads::{join_all, join_driver, start_driver, start_groups, start_hands};
+use rcu_parts::{AllParts, Control, Parts, Processor};
 use std::alloc::Global;
 use std::rt::Clock;
 use std::sync::{Arc, Barrier, Wait};
-use std::thread::Threads;
+use std::thread::{JoinHandle, Threads};
 
 /// What a run measured, in nanoseconds.
 #[derive(Clone, Copy)]
@@ -31,8 +31,31 @@ fn drain<R: Wait + Clock>(rt: &R, control: &mut Control) {
     }
 }
 
-/// Has each processor call, and then runs them until all callbacks have run. None where a thread can't be made, or for want
-/// of memory.
+/// Opens the gate to the processors' threads, and drains and halts the runtime once all have made their calls.
+fn time_run<R: Threads + Wait + Clock>(
+    rt: &R,
+    control: &mut Control,
+    gate: &Barrier,
+    callers: Vec<JoinHandle<Called>>,
+) -> Figures {
+    gate.wait(rt);
+    let began = nanoseconds(rt);
+    gate.wait(rt);
+    let called = nanoseconds(rt).saturating_sub(began);
+    drain(rt, control);
+    let whole = nanoseconds(rt).saturating_sub(began);
+    control.finish();
+    let Called { ran, spent } = join_callers(rt, callers);
+    Figures {
+        ran,
+        called,
+        own: spent,
+        whole,
+    }
+}
+
+/// Has each processor call in a thread of its own, and then run there until all callbacks have run. None where a thread can't
+/// be made, or for want of memory.
 fn call_and_drain<R: Threads + Wait + Clock + Copy + Send + 'static>(
     rt: &R,
     alloc: Global,
@@ -43,37 +66,13 @@ fn call_and_drain<R: Threads + Wait + Clock + Copy + Send + 'static>(
     let waiting = processors.len().saturating_add(1);
     let gate = Arc::new(alloc, Barrier::new(waiting)).ok()?;
     let callers = start_callers(rt, alloc, processors, &gate, plan)?;
-    gate.wait(rt);
-    let began = nanoseconds(rt);
-    let all = join_callers(rt, alloc, callers)?;
-    let called = nanoseconds(rt).saturating_sub(began);
-    let own = all.spent;
-    let running = start_processors(rt, alloc, all.processors)?;
-    drain(rt, control);
-    let whole = nanoseconds(rt).saturating_sub(began);
-    control.finish();
-    let ran = join_processors(rt, running);
-    Some(Figures {
-        ran,
-        called,
-        own,
-        whole,
-    })
-}
-
-/// How many callbacks hands ran.
-fn ran_by(hands: &[Hand<Work>]) -> u64 {
-    let mut ran: u64 = 0;
-    for hand in hands {
-        ran = ran.saturating_add(hand.ran() as u64);
-    }
-    ran
+    Some(time_run(rt, control, &gate, callers))
 }
 
 /// The figures with what hands ran, of a run that came to its end.
-fn with_hands(figures: Option<Figures>, hands: &[Hand<Work>]) -> Option<Figures> {
+fn with_hands(figures: Option<Figures>, ran: Option<u64>) -> Option<Figures> {
     let mut figures = figures?;
-    figures.ran = figures.ran.saturating_add(ran_by(hands));
+    figures.ran = figures.ran.saturating_add(ran?);
     Some(figures)
 }
 
@@ -92,17 +91,10 @@ fn measure_threads<R: Threads + Wait + Clock + Copy + Send + 'static>(
         hands,
         mut control,
     } = parts;
-    let driver = start_driver(rt, driver);
-    let groups = start_groups(rt, alloc, groups);
-    let hands = start_hands(rt, alloc, hands);
+    let beside = start_beside(rt, alloc, driver, groups, hands);
     let figures = call_and_drain(rt, alloc, &mut control, processors, plan);
     control.finish();
-    let _driver = join_driver(rt, driver);
-    let _groups = join_all(rt, groups);
-    let Ok(hands) = join_all(rt, hands) else {
-        return None;
-    };
-    with_hands(figures, hands.as_slice())
+    with_hands(figures, join_beside(rt, beside))
 }
 
 /// Runs all parts by a plan, driver, groups and hands in one thread. None where a thread can't be made, or for want of
@@ -129,7 +121,7 @@ fn measure_helper<R: Threads + Wait + Clock + Copy + Send + 'static>(
     let figures = call_and_drain(rt, alloc, &mut control, processors, plan);
     control.finish();
     let helper = thread.join(rt);
-    with_hands(figures, helper.hands.as_slice())
+    with_hands(figures, Some(ran_by(helper.hands.as_slice())))
 }
 
 /// Runs all parts by a plan. None where a thread can't be made, or for want of memory.

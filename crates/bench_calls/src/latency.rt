@@ -1,11 +1,12 @@
 //! How long a single callback waits, from its call to its run.
 
 ghost use Rattle.std.specs.Prelude.{◌≡◌, IfOk, length, vec_len};
+ghost use Rattle.std.specs.Arc.{arc_value};
 
+use crate::beside::{join_beside, start_beside};
 use crate::jobs::{Timing, Work, nanoseconds};
 use crate::plan::Plan;
 use rcu_parts::{AllParts, Control, Parts, Processor};
-use rcu_threads::{join_all, join_driver, start_driver, start_groups, start_hands};
 use std::alloc::{AllocError, Global};
 use std::rt::Clock;
 use std::sync::atomic::{AtomicU64, Ordering};
@@ -29,6 +30,13 @@ fn places(alloc: Global, many: u64) -> Result<Vec<AtomicU64>, AllocError>
         places.push(AtomicU64::new(0))?;
     }
     Ok(places)
+}
+
+/// The same, to be shared with the jobs that note them.
+fn shared_places(alloc: Global, many: u64) -> Result<Arc<Vec<AtomicU64>>, AllocError>
+    ensures { IfOk result (λ places. vec_len (arc_value places) ≡ many) }
+{
+    Ok(Arc::new(alloc, places(alloc, many)?)?)
 }
 
 /// Reports and ticks until the clock reads this time.
@@ -67,6 +75,21 @@ fn timed(
     Some(Work::Timed(Box::new(alloc, timing).ok()?))
 }
 
+/// Calls with a job that notes how long it waits. Answers whether the call was accepted.
+fn call_timed(
+    clock: &HostRuntime,
+    alloc: Global,
+    processor: &mut Processor<Work>,
+    moment: u64,
+    place: u64,
+    times: &Arc<Vec<AtomicU64>>,
+) -> bool {
+    match timed(clock, alloc, place, times) {
+        Some(job) => processor.call_rcu(moment, job).is_ok(),
+        None => false,
+    }
+}
+
 /// Calls by the plan, each call at a moment of its own.
 fn call_spaced(
     clock: &HostRuntime,
@@ -78,10 +101,7 @@ fn call_spaced(
     let mut until = nanoseconds(clock);
     let mut moment: u64 = 1;
     for place in 0..plan.calls {
-        let Some(job) = timed(clock, alloc, place, times) else {
-            return;
-        };
-        if processor.call_rcu(moment, job).is_err() {
+        if !call_timed(clock, alloc, processor, moment, place, times) {
             return;
         }
         until = until.saturating_add(plan.spacing.saturating_mul(1_000));
@@ -135,13 +155,9 @@ fn run_beside<R: Threads + Wait + Clock + Copy + Send + 'static>(
         hands,
         mut control,
     } = parts;
-    let driver = start_driver(rt, driver);
-    let groups = start_groups(rt, alloc, groups);
-    let hands = start_hands(rt, alloc, hands);
+    let beside = start_beside(rt, alloc, driver, groups, hands);
     lead(clock, alloc, &mut control, processors, times, plan);
-    let _driver = join_driver(rt, driver);
-    let _groups = join_all(rt, groups);
-    let _hands = join_all(rt, hands);
+    join_beside(rt, beside);
 }
 
 /// How long each callback waited, in nanoseconds; 0 where it didn't run.
@@ -158,7 +174,7 @@ pub fn wait_times<R: Threads + Wait + Clock + Copy + Send + 'static>(
 ) -> Result<Vec<u64>, AllocError>
     ensures { IfOk result (λ times. vec_len times ≡ plan.now.calls) }
 {
-    let times = Arc::new(alloc, places(alloc, plan.calls)?)?;
+    let times = shared_places(alloc, plan.calls)?;
     run_beside(clock, rt, alloc, parts, &times, plan);
     noted(alloc, times.as_slice())
 }

@@ -23,6 +23,7 @@
 ghost use Rattle.std.specs.Prelude.{◌≡◌};
 ghost use Rattle.bench_calls.specs.declared.Fault.TheVariants.{CannotRun, Refused, Write};
 
+mod beside;
 mod calls;
 mod figures;
 mod helper;
@@ -34,7 +35,7 @@ use figures::{Figures, measure};
 use jobs::Work;
 use latency::wait_times;
 use plan::{Plan, Refusal, read_plan};
-use rcu_parts::open;
+use rcu_parts::{Parts, open};
 use std::alloc::AllocError;
 use std::io;
 use std::process::ExitCode;
@@ -81,18 +82,11 @@ impl From<io::Error> for Fault {
 
 /// The words of the command line after the program's name.
 fn words(rt: &HostRuntime) -> Result<Vec<String>, Refusal> {
-    let mut words = Vec::new(rt.alloc());
-    let given = match std::env::args(rt) {
-        Ok(given) => given,
-        Err(error) if error.kind() == io::ErrorKind::OutOfMemory => return Err(Refusal::Memory),
-        Err(_) => return Err(Refusal::NoText),
-    };
-    for word in given.skip(1) {
-        let Ok(()) = words.push(word) else {
-            return Err(Refusal::Memory);
-        };
+    match std::env::args(rt) {
+        Ok(given) => Ok(given.skip(1).collect(rt.alloc())?),
+        Err(error) if error.kind() == io::ErrorKind::OutOfMemory => Err(Refusal::Memory),
+        Err(_) => Err(Refusal::NoText),
     }
-    Ok(words)
 }
 
 /// Prints what calls took, or how many callbacks ran.
@@ -122,55 +116,79 @@ fn print_times(rt: &impl Print, plan: &Plan, times: &[u64]) -> io::Result<()> {
     Ok(())
 }
 
+/// What the words of the command line ask for.
+fn given_plan(host: &HostRuntime) -> Result<Plan, Refusal> {
+    let words = words(host)?;
+    read_plan(host.alloc(), words.as_slice())
+}
+
+/// Measures how long each callback waits, and prints it.
+fn run_latency<R: Threads + Wait + Clock + Copy + Send + 'static>(
+    host: &HostRuntime,
+    rt: &R,
+    parts: Parts<Work>,
+    plan: &Plan,
+) -> Result<(), Fault> {
+    let times = wait_times(host, rt, host.alloc(), parts, plan)?;
+    Ok(print_times(host, plan, times.as_slice())?)
+}
+
+/// Measures what calls take, and prints it.
+fn run_calls<R: Threads + Wait + Clock + Copy + Send + 'static>(
+    host: &HostRuntime,
+    rt: &R,
+    parts: Parts<Work>,
+    plan: &Plan,
+) -> Result<(), Fault> {
+    let Some(figures) = measure(rt, host.alloc(), parts, *plan) else {
+        return Err(Fault::CannotRun);
+    };
+    Ok(print_figures(host, plan, &figures)?)
+}
+
 /// Runs what the words say.
 fn run<R: Threads + Wait + Clock + Copy + Send + 'static>(
     host: &HostRuntime,
     rt: &R,
 ) -> Result<(), Fault> {
-    let alloc = host.alloc();
-    let words = words(host)?;
-    let plan = read_plan(alloc, words.as_slice())?;
+    let plan = given_plan(host)?;
     let Some(shape) = plan.shape() else {
         return Err(Fault::NoShape);
     };
-    let parts = open::<Work>(alloc, &shape.for_parts())?;
+    let parts = open::<Work>(host.alloc(), &shape.for_parts())?;
     if plan.latency {
-        let times = wait_times(host, rt, alloc, parts, &plan)?;
-        print_times(host, &plan, times.as_slice())?;
+        run_latency(host, rt, parts, &plan)
     } else {
-        let Some(figures) = measure(rt, alloc, parts, plan) else {
-            return Err(Fault::CannotRun);
-        };
-        print_figures(host, &plan, &figures)?;
+        run_calls(host, rt, parts, &plan)
     }
-    Ok(())
 }
 
-/// Says why the program ends without its figures. Answers its status.
-fn tell(rt: &impl Eprint, fault: Fault) -> io::Result<u8> {
-    match fault {
-        Fault::Refused(Refusal::Words(error)) => rt.eprint(&error)?,
-        Fault::Refused(Refusal::NoText) => eprintln!(rt;
-            "error: a word of the command line is no text"
-        )?,
-        Fault::NoShape => eprintln!(rt;
-            "error: a runtime has 1 to 32 processors, and limits of at most 1000000"
-        )?,
+/// Says why the program ends without its figures.
+fn tell(rt: &impl Eprint, fault: &Fault) -> io::Result<()> {
+    let text = match fault {
+        Fault::Refused(Refusal::Words(error)) => return rt.eprint(error),
+        Fault::Write(error) => return eprintln!(rt; "error: {error}"),
+        Fault::Refused(Refusal::NoText) => "a word of the command line is no text",
+        Fault::NoShape => "a runtime has 1 to 32 processors, and limits of at most 1000000",
         Fault::Refused(Refusal::Memory) | Fault::CannotRun => {
-            eprintln!(rt; "error: no memory, or a thread can't be made")?;
-            return Ok(1);
+            "no memory, or a thread can't be made"
         }
-        Fault::Write(error) => {
-            eprintln!(rt; "error: {error}")?;
-            return Ok(1);
-        }
+    };
+    eprintln!(rt; "error: {text}")
+}
+
+/// The status with which the program ends once that is told.
+fn status(fault: &Fault) -> u8 {
+    match fault {
+        Fault::Refused(Refusal::Memory) | Fault::CannotRun | Fault::Write(_) => 1,
+        Fault::Refused(Refusal::Words(_) | Refusal::NoText) | Fault::NoShape => 2,
     }
-    Ok(2)
 }
 
 fn main(rt: HostRuntime) -> ExitCode {
     match run(&rt, &rt) {
         Ok(()) => ExitCode::SUCCESS,
-        Err(fault) => ExitCode::from(tell(&rt, fault).unwrap_or(1)),
+        Err(fault) if tell(&rt, &fault).is_ok() => ExitCode::from(status(&fault)),
+        Err(_) => ExitCode::FAILURE,
     }
 }

@@ -9,7 +9,7 @@ ghost use Rattle.rcu_numbers.specs.declared.shape.TheConstants.{MOST_CALLBACKS, 
 ghost use Rattle.bench_calls.specs.declared.plan.Refusal.TheVariants.{Memory, Words};
 
 use clap::error::ErrorKind;
-use clap::{Arg, ArgAction, value_parser};
+use clap::{Arg, ArgAction, ArgMatches, value_parser};
 use rcu_numbers::{MOST_CALLBACKS, MOST_PROCESSORS, Shape, all_processors, default_stride};
 use std::alloc::{AllocError, Global};
 
@@ -130,54 +130,91 @@ impl Plan {
     }
 }
 
-/// An option that takes a number from `least` on.
-fn number<'a>(alloc: Global, name: &'a str, least: i64, help: &'a str) -> Arg<'a> {
-    Arg::new(alloc, name)
-        .long(name)
-        .help(help)
-        .value_parser(value_parser!(u64).range(least..))
+/// What an option takes.
+#[derive(Clone, Copy)]
+enum Takes {
+    Nothing,
+    /// A number from this one on.
+    Number(i64),
 }
 
-/// An option that takes nothing.
-fn flag<'a>(alloc: Global, name: &'a str, help: &'a str) -> Arg<'a> {
-    Arg::new(alloc, name)
-        .long(name)
-        .help(help)
-        .action(ArgAction::SetTrue)
-}
+use Takes::{Nothing, Number};
 
-/// The options of both kinds of run.
-fn common<'a>(alloc: Global) -> Result<clap::Command<'a>, AllocError> {
-    clap::Command::new(alloc, "bench_calls")
-        .no_binary_name(true)
-        .arg(flag(alloc, "latency", "measure how long a single callback waits"))?
-        .arg(flag(alloc, "offloaded", "the processors are offloadable"))?
-        .arg(flag(alloc, "boxed", "each job is allocated for its call"))?
-        .arg(flag(alloc, "times", "print the times, in nanoseconds"))?
-        .arg(number(alloc, "calls", 0, "the calls of each processor"))
+/// The options: the name of each, what it takes, and what its help says.
+static OPTIONS: [(&str, Takes, &str); 14] = [
+    (
+        "latency",
+        Nothing,
+        "measure how long a single callback waits",
+    ),
+    ("offloaded", Nothing, "the processors are offloadable"),
+    ("boxed", Nothing, "each job is allocated for its call"),
+    ("times", Nothing, "print the times, in nanoseconds"),
+    ("calls", Number(0), "the calls of each processor"),
+    (
+        "one-helper",
+        Nothing,
+        "one thread turns driver, groups and hands",
+    ),
+    ("threads", Number(1), "the processors, each with a thread"),
+    (
+        "stride",
+        Number(1),
+        "the neighbouring processors of a group",
+    ),
+    ("blimit", Number(1), "the callbacks of a turn"),
+    (
+        "qhimark",
+        Number(1),
+        "the length that releases a bypass list",
+    ),
+    ("every", Number(1), "the calls from one tick to the next"),
+    ("pace", Number(1), "the ticks of one moment"),
+    ("spacing", Number(1), "microseconds from call to call"),
+    ("nap", Number(0), "microseconds of sleep between ticks"),
+];
+
+/// An option.
+fn option(alloc: Global, name: &'static str, takes: Takes, help: &'static str) -> Arg<'static> {
+    let option = Arg::new(alloc, name).long(name).help(help);
+    match takes {
+        Nothing => option.action(ArgAction::SetTrue),
+        Number(least) => option.value_parser(value_parser!(u64).range(least..)),
+    }
 }
 
 /// The command line.
 fn command<'a>(alloc: Global) -> Result<clap::Command<'a>, AllocError> {
-    common(alloc)?
-        .arg(flag(
-            alloc,
-            "one-helper",
-            "one thread turns driver, groups and hands",
-        ))?
-        .arg(number(alloc, "threads", 1, "the processors, each with a thread"))?
-        .arg(number(alloc, "stride", 1, "the neighbouring processors of a group"))?
-        .arg(number(alloc, "blimit", 1, "the callbacks of a turn"))?
-        .arg(number(
-            alloc,
-            "qhimark",
-            1,
-            "the length that releases a bypass list",
-        ))?
-        .arg(number(alloc, "every", 1, "the calls from one tick to the next"))?
-        .arg(number(alloc, "pace", 1, "the ticks of one moment"))?
-        .arg(number(alloc, "spacing", 1, "microseconds from call to call"))?
-        .arg(number(alloc, "nap", 0, "microseconds of sleep between ticks"))
+    let mut command = clap::Command::new(alloc, "bench_calls").no_binary_name(true);
+    for (name, takes, help) in &OPTIONS {
+        command = command.arg(option(alloc, name, *takes, help))?;
+    }
+    Ok(command)
+}
+
+/// The number that the words give to an option, or else the usual one.
+fn number(matches: &ArgMatches, name: &str, usual: u64) -> u64 {
+    matches.get_one(name).unwrap_or(usual)
+}
+
+/// What these options say.
+fn plan_of(matches: &ArgMatches) -> Plan {
+    Plan {
+        latency: matches.get_flag("latency"),
+        offloaded: matches.get_flag("offloaded"),
+        boxed: matches.get_flag("boxed"),
+        one_helper: matches.get_flag("one-helper"),
+        times: matches.get_flag("times"),
+        threads: number(matches, "threads", 1),
+        stride: matches.get_one("stride"),
+        calls: number(matches, "calls", 1_000),
+        blimit: number(matches, "blimit", BLIMIT),
+        qhimark: number(matches, "qhimark", QHIMARK),
+        every: number(matches, "every", EVERY),
+        pace: number(matches, "pace", 1),
+        spacing: number(matches, "spacing", SPACING),
+        nap: number(matches, "nap", 0),
+    }
 }
 
 /// What the words after the program's name say.
@@ -187,20 +224,5 @@ fn command<'a>(alloc: Global) -> Result<clap::Command<'a>, AllocError> {
 /// `Words` where clap refuses the words, help included; want of memory.
 pub fn read_plan(alloc: Global, words: &[String]) -> Result<Plan, Refusal> {
     let matches = command(alloc)?.try_get_matches_from(words)?;
-    Ok(Plan {
-        latency: matches.get_flag("latency"),
-        offloaded: matches.get_flag("offloaded"),
-        boxed: matches.get_flag("boxed"),
-        one_helper: matches.get_flag("one-helper"),
-        times: matches.get_flag("times"),
-        threads: matches.get_one("threads").unwrap_or(1),
-        stride: matches.get_one("stride"),
-        calls: matches.get_one("calls").unwrap_or(1_000),
-        blimit: matches.get_one("blimit").unwrap_or(BLIMIT),
-        qhimark: matches.get_one("qhimark").unwrap_or(QHIMARK),
-        every: matches.get_one("every").unwrap_or(EVERY),
-        pace: matches.get_one("pace").unwrap_or(1),
-        spacing: matches.get_one("spacing").unwrap_or(SPACING),
-        nap: matches.get_one("nap").unwrap_or(0),
-    })
+    Ok(plan_of(&matches))
 }
