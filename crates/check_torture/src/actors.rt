@@ -4,6 +4,7 @@ ghost use Rattle.std.specs.Prelude.{◌≡◌, ◌≢◌, ◌+◌, ◌/◌, ◌%
 ghost use Rattle.std.specs.List.{AllZip};
 ghost use Rattle.check_torture.specs.Acts.{ActsBeside};
 ghost use Rattle.check_torture.specs.Endings.{place_of, more_of};
+ghost use Rattle.check_torture.specs.Ends.{CpuKeeps};
 ghost use Rattle.check_torture.specs.Kept.{GoesOn, Keeps};
 
 use crate::acts::{Actor, Called};
@@ -13,7 +14,7 @@ use crate::plan::{Ending, Plan};
 use crate::retire::Retire;
 use crate::shared::Shared;
 use rcu_parts::Processor;
-use rcu_threads::Crew;
+use rcu_threads::{Crew, ThreadsFault, join_all};
 use std::alloc::{AllocError, Global};
 use std::rt::Clock;
 use std::snapshot::Snapshot;
@@ -217,17 +218,20 @@ fn drive<R: Wait + Clock>(
     go_on(actor, orders, rt)
 }
 
-/// Starts a thread that drives a processor. None where none can be made.
+/// Starts a thread that drives a processor. None where none can be made, or for want of memory.
 fn start_actor<R: Threads + Wait + Clock + Copy + Send + 'static>(
     rt: &R,
     alloc: Global,
     processor: Processor<Retire>,
-    shared: Arc<Shared>,
+    shared: &Arc<Shared>,
     orders: Orders,
 ) -> Option<Driving>
     ensures { IfSome result (λ thread. thread.promise.0.value ≡ processor) }
 {
     let own = *rt;
+    let Ok(shared) = Arc::try_clone(shared) else {
+        return None;
+    };
     let drives = Drives(Snapshot::of(&processor));
     let drive = move || -> Driven
         ensures { Keeps 0 (length result.log.keys.items) processor result.processor }
@@ -256,11 +260,8 @@ pub(crate) fn start_actors<R: Threads + Wait + Clock + Copy + Send + 'static>(
     };
     let mut cpu: u64 = 0;
     for processor in processors {
-        let Ok(own) = Arc::try_clone(shared) else {
-            return Crew::partial(threads);
-        };
         let orders = Orders::of(plan, run, cpu);
-        let Some(thread) = start_actor(rt, alloc, processor, own, orders) else {
+        let Some(thread) = start_actor(rt, alloc, processor, shared, orders) else {
             return Crew::partial(threads);
         };
         threads.push_reserved(thread);
@@ -281,7 +282,7 @@ pub(crate) struct Parted {
 /// # Errors
 ///
 /// Want of memory.
-pub(crate) fn part(alloc: Global, all: Vec<Driven>) -> Result<Parted, AllocError>
+fn part(alloc: Global, all: Vec<Driven>) -> Result<Parted, AllocError>
     ensures { IfOk result (λ parted.
         AllZip (λ d p. d.processor ≡ p) all.items parted.processors.items) }
 {
@@ -293,4 +294,25 @@ pub(crate) fn part(alloc: Global, all: Vec<Driven>) -> Result<Parted, AllocError
         logs.push_reserved(log);
     }
     Ok(Parted { processors, logs })
+}
+
+/// Joins the threads of processors, and parts what they gave back.
+///
+/// # Errors
+///
+/// Not all threads could be made, or want of memory.
+pub(crate) fn join_actors<R: Threads>(
+    rt: &R,
+    alloc: Global,
+    actors: Crew<Driving>,
+) -> Result<Parted, ThreadsFault>
+    ensures whole { IfOk result (λ _. actors.fault ≡ None) }
+    ensures kept { IfOk result (λ parted.
+        AllZip (λ thread p. CpuKeeps thread.promise.0.value p) actors.threads.items
+        parted.processors.items) }
+{
+    match part(alloc, join_all(rt, actors)?) {
+        Ok(parted) => Ok(parted),
+        Err(_) => Err(ThreadsFault::Memory),
+    }
 }

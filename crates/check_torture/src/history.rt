@@ -25,6 +25,22 @@ fn many_marks(closed: &Closed<Retire>, logs: &[Log]) -> u64 {
     many
 }
 
+/// The account of processor `cpu`.
+fn account_of_one(
+    alloc: Global,
+    cpu: usize,
+    log: &Log,
+    closed: &Closed<Retire>,
+    farewell: &Farewell,
+) -> Result<Account, AllocError> {
+    let mut account = account_of(alloc, cpu, log.keys.as_slice(), closed)?;
+    if let Some(counts) = farewell.shut {
+        let count = counts.of_processors().get(cpu).copied();
+        account.shuts.push(count.unwrap_or(0))?;
+    }
+    Ok(account)
+}
+
 /// The account of each processor.
 fn accounts_of_run(
     alloc: Global,
@@ -34,12 +50,7 @@ fn accounts_of_run(
 ) -> Result<Vec<Account>, AllocError> {
     let mut accounts = Vec::new(alloc);
     for (cpu, log) in logs.iter().enumerate() {
-        let mut account = account_of(alloc, cpu, log.keys.as_slice(), closed)?;
-        if let Some(counts) = farewell.shut {
-            let count = counts.of_processors().get(cpu).copied();
-            account.shuts.push(count.unwrap_or(0))?;
-        }
-        accounts.push(account)?;
+        accounts.push(account_of_one(alloc, cpu, log, closed, farewell)?)?;
     }
     Ok(accounts)
 }

@@ -101,18 +101,17 @@ impl From<io::Error> for Fault {
 
 /// The words of the command line after the program's name.
 fn words(rt: &HostRuntime) -> Result<Vec<String>, Refusal> {
-    let given = match std::env::args(rt) {
-        Ok(given) => given,
-        Err(error) if error.kind() == io::ErrorKind::OutOfMemory => return Err(Refusal::Memory),
-        Err(_) => return Err(Refusal::NoText),
-    };
-    let mut words = Vec::new(rt.alloc());
-    for word in given.skip(1) {
-        let Ok(()) = words.push(word) else {
-            return Err(Refusal::Memory);
-        };
+    match std::env::args(rt) {
+        Ok(given) => Ok(given.skip(1).collect(rt.alloc())?),
+        Err(error) if error.kind() == io::ErrorKind::OutOfMemory => Err(Refusal::Memory),
+        Err(_) => Err(Refusal::NoText),
     }
-    Ok(words)
+}
+
+/// What the words of the command line ask for.
+fn given_plan(host: &HostRuntime) -> Result<Plan, Refusal> {
+    let words = words(host)?;
+    read_plan(host.alloc(), words.as_slice())
 }
 
 /// A run of a plan, or in its place each flaw, met on purpose.
@@ -147,53 +146,80 @@ fn run_all<R: Threads + Wait + Clock + Copy + Send + 'static>(
     Ok(counters)
 }
 
+/// Prints the line of so many runs.
+fn print_line(
+    host: &HostRuntime,
+    runs: u64,
+    counters: &Counters,
+    errors: u64,
+) -> Result<(), Fault> {
+    let line = line(host.alloc(), runs, counters, errors)?;
+    Ok(host.print(&line)?)
+}
+
+/// Says how often each flaw was met, if it was.
+fn tell_flaws(rt: &impl Eprint, flaws: &Flaws) -> io::Result<()> {
+    for flaw in Flaw::ALL {
+        let times = flaws.count(flaw);
+        if times > 0 {
+            eprintln!(rt; "error: {} ({times} times)", flaw.text())?;
+        }
+    }
+    Ok(())
+}
+
+/// Runs a plan, notes the flaws that are met, and prints the line.
+fn run_and_print<R: Threads + Wait + Clock + Copy + Send + 'static>(
+    host: &HostRuntime,
+    rt: &R,
+    plan: &Plan,
+    flaws: &Flaws,
+) -> Result<(), Fault> {
+    let counters = run_all(rt, host.alloc(), plan, flaws)?;
+    print_line(host, plan.runs, &counters, flaws.sum())?;
+    Ok(tell_flaws(host, flaws)?)
+}
+
 /// Runs what the words say, and prints the line. Answers whether no error was met.
 fn run<R: Threads + Wait + Clock + Copy + Send + 'static>(
     host: &HostRuntime,
     rt: &R,
 ) -> Result<bool, Fault> {
-    let alloc = host.alloc();
-    let words = words(host)?;
-    let plan = read_plan(alloc, words.as_slice())?;
-    let flaws = Flaws::new(alloc)?;
-    let counters = run_all(rt, alloc, &plan, &flaws)?;
-    let errors = flaws.sum();
-    host.print(&line(alloc, plan.runs, &counters, errors)?)?;
-    for flaw in Flaw::ALL {
-        let times = flaws.count(flaw);
-        if times > 0 {
-            eprintln!(host; "error: {} ({times} times)", flaw.text())?;
-        }
-    }
-    Ok(errors == 0)
+    let plan = given_plan(host)?;
+    let flaws = Flaws::new(host.alloc())?;
+    run_and_print(host, rt, &plan, &flaws)?;
+    Ok(flaws.sum() == 0)
 }
 
-/// Says why the program ends without its line. Answers its status.
-fn tell(rt: &impl Eprint, fault: Fault) -> io::Result<u8> {
-    match fault {
-        Fault::Refused(Refusal::Words(error)) => rt.eprint(&error)?,
-        Fault::Refused(Refusal::NoText) => eprintln!(rt;
-            "error: a word of the command line is no text"
-        )?,
-        Fault::Refused(Refusal::TooMany) => eprintln!(rt;
-            "error: there are at most 32 processors, each of which accepts at most 1000000 callbacks"
-        )?,
+/// Says why the program ends without its line.
+fn tell(rt: &impl Eprint, fault: &Fault) -> io::Result<()> {
+    let text = match fault {
+        Fault::Refused(Refusal::Words(error)) => return rt.eprint(error),
+        Fault::Write(error) => return eprintln!(rt; "error: {error}"),
+        Fault::Refused(Refusal::NoText) => "a word of the command line is no text",
+        Fault::Refused(Refusal::TooMany) => {
+            "there are at most 32 processors, each of which accepts at most 1000000 callbacks"
+        }
         Fault::Refused(Refusal::Memory) | Fault::CannotRun => {
-            eprintln!(rt; "error: no memory, or a thread can't be made")?;
-            return Ok(1);
+            "no memory, or a thread can't be made"
         }
-        Fault::Write(error) => {
-            eprintln!(rt; "error: {error}")?;
-            return Ok(1);
-        }
+    };
+    eprintln!(rt; "error: {text}")
+}
+
+/// The status with which the program ends once that is told.
+fn status(fault: &Fault) -> u8 {
+    match fault {
+        Fault::Refused(Refusal::Memory) | Fault::CannotRun | Fault::Write(_) => 1,
+        Fault::Refused(Refusal::Words(_) | Refusal::NoText | Refusal::TooMany) => 2,
     }
-    Ok(2)
 }
 
 fn main(rt: HostRuntime) -> ExitCode {
     match run(&rt, &rt) {
         Ok(true) => ExitCode::SUCCESS,
         Ok(false) => ExitCode::FAILURE,
-        Err(fault) => ExitCode::from(tell(&rt, fault).unwrap_or(1)),
+        Err(fault) if tell(&rt, &fault).is_ok() => ExitCode::from(status(&fault)),
+        Err(_) => ExitCode::FAILURE,
     }
 }

@@ -43,11 +43,19 @@ fn wrong_counts() -> Counts {
     counts
 }
 
+/// A processor of a runtime of its own.
+fn one_processor(alloc: Global) -> Option<Processor<Retire>> {
+    let shape = Shape::new(1, 0, 1, 1, 1, 1)?;
+    let Ok(mut parts) = open(alloc, &shape.for_parts()) else {
+        return None;
+    };
+    parts.processors.pop()
+}
+
 /// A processor, with what its thread keeps beside it, which takes it for another one.
 fn mistaken(alloc: Global, shared: &Arc<Shared>) -> Option<Actor> {
     let own = Arc::try_clone(shared).ok()?;
-    let mut parts = open(alloc, &Shape::new(1, 0, 1, 1, 1, 1)?.for_parts()).ok()?;
-    let processor = parts.processors.pop()?;
+    let processor = one_processor(alloc)?;
     Some(Actor::new(alloc, processor, WRONG, own, Chance::new(0, 0, 0)))
 }
 
@@ -73,26 +81,59 @@ fn wrong_record() -> Record<u64> {
     }
 }
 
-/// What a `close` might answer of one processor that accepted nothing: a record and a job, and no report.
-fn wrong_closed(alloc: Global, shared: &Arc<Shared>) -> Result<Closed<Retire>, AllocError> {
+/// What ran of one processor, by what a `close` might answer.
+fn wrong_ran(alloc: Global) -> Result<Vec<Vec<Record<u64>>>, AllocError> {
+    let records = vec![in alloc; wrong_record()]?;
+    Ok(vec![in alloc; records]?)
+}
+
+/// The job of a version that is in the table.
+fn wrong_job(shared: &Arc<Shared>) -> Result<Retire, AllocError> {
     let Ok(shared) = Arc::try_clone(shared) else {
         return Err(AllocError);
     };
-    let job = Retire {
+    Ok(Retire {
         version: 0,
         ticket: Ticket { cpu: 0, number: 0 },
         yields: 0,
         shared,
-    };
-    Ok(Closed {
-        ran: vec![in alloc; vec![in alloc; wrong_record()]?]?,
-        back: vec![in alloc; vec![in alloc; job]?]?,
-        reports: vec![in alloc; 0]?,
     })
+}
+
+/// What it handed back.
+fn wrong_back(alloc: Global, shared: &Arc<Shared>) -> Result<Vec<Vec<Retire>>, AllocError> {
+    let jobs = vec![in alloc; wrong_job(shared)?]?;
+    Ok(vec![in alloc; jobs]?)
+}
+
+/// What a `close` might answer of one processor that accepted nothing: a record and a job, and no report.
+fn wrong_closed(alloc: Global, shared: &Arc<Shared>) -> Result<Closed<Retire>, AllocError> {
+    let ran = wrong_ran(alloc)?;
+    let reports = vec![in alloc; 0]?;
+    let back = wrong_back(alloc, shared)?;
+    Ok(Closed { ran, back, reports })
+}
+
+/// Hands this to the checks at the end of a run.
+fn check_all(
+    alloc: Global,
+    shared: &Shared,
+    closed: &Closed<Retire>,
+    log: Log,
+    passes: &[Vec<u64>],
+) -> Result<Counters, AllocError> {
+    let farewell = Farewell {
+        shut: Some(wrong_counts()),
+        drained: true,
+    };
+    let logs = [log];
+    check_history(alloc, shared, closed, &logs, &farewell, passes)?;
+    Ok(check(shared, closed, &logs, &farewell))
 }
 
 /// What is met at the end of a run, after which nothing should have been handed back and one version be freed.
 fn meet_at_end(alloc: Global, shared: &Arc<Shared>) -> Result<Counters, AllocError> {
+    let passes = vec![in alloc; vec![in alloc; WRONG]?]?;
     let closed = wrong_closed(alloc, shared)?;
     let log = Log {
         keys: Vec::new(alloc),
@@ -101,14 +142,7 @@ fn meet_at_end(alloc: Global, shared: &Arc<Shared>) -> Result<Counters, AllocErr
             ..Counters::NONE
         },
     };
-    let farewell = Farewell {
-        shut: Some(wrong_counts()),
-        drained: true,
-    };
-    let passes = vec![in alloc; vec![in alloc; WRONG]?]?;
-    let logs = [log];
-    check_history(alloc, shared, &closed, &logs, &farewell, passes.as_slice())?;
-    Ok(check(shared, &closed, &logs, &farewell))
+    check_all(alloc, shared, &closed, log, passes.as_slice())
 }
 
 /// Meets each flaw once.

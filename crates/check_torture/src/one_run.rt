@@ -1,6 +1,6 @@
 //! One run: all parts of one open in threads of their own, from the first call to `close`, and the checks at the end.
 
-ghost use Rattle.std.specs.Prelude.{◌≡◌, IfErr, IfOk};
+ghost use Rattle.std.specs.Prelude.{◌≡◌, IfErr, IfOk, OnOk, is_ok, true};
 ghost use Rattle.rcu_parts.specs.AtClose.{ClosesWith};
 ghost use Rattle.rcu_parts.specs.OneOpen.{AreOfOneOpen, AreSoundParts};
 ghost use Rattle.rcu_threads.specs.Ends.{ClosesSame};
@@ -8,7 +8,7 @@ ghost use Rattle.check_torture.specs.Ends.{HaveKept};
 ghost use Rattle.check_torture.specs.Retired.{IsVersion, version_of};
 ghost use Rattle.rcu_part_control.specs.Parts.{SameControl};
 
-use crate::actors::{Log, MORE, MOST_REFUSED, Parted, part, start_actors};
+use crate::actors::{Log, MORE, MOST_REFUSED, Parted, join_actors, start_actors};
 use crate::chance::Chance;
 use crate::checks::check;
 use crate::counters::Counters;
@@ -87,6 +87,26 @@ fn lead<R: Wait + Clock>(
     (control, course)
 }
 
+/// The first fault, if there is one.
+fn first_fault<D, G, H, P>(
+    driver: &Result<D, ThreadsFault>,
+    groups: &Result<G, ThreadsFault>,
+    hands: &Result<H, ThreadsFault>,
+    parted: &Result<P, ThreadsFault>,
+) -> Result<(), ThreadsFault>
+    ensures driver { OnOk result (is_ok driver.now ≡ true) }
+    ensures groups { OnOk result (is_ok groups.now ≡ true) }
+    ensures hands { OnOk result (is_ok hands.now ≡ true) }
+    ensures parted { OnOk result (is_ok parted.now ≡ true) }
+{
+    match (driver, groups, hands, parted) {
+        (Err(fault), ..) | (_, Err(fault), ..) | (_, _, Err(fault), _) | (.., Err(fault)) => {
+            Err(*fault)
+        }
+        _ => Ok(()),
+    }
+}
+
 /// Runs all parts of an open in threads of their own.
 ///
 /// # Errors
@@ -124,18 +144,22 @@ fn run_parts<R: Threads + Wait + Clock + Copy + Send + 'static>(
     let driver = join_driver(rt, driver);
     let groups = join_all(rt, groups);
     let hands = join_all(rt, hands);
-    let driven = join_all(rt, actors);
-    let Ok(Parted { processors, logs }) = part(alloc, driven?) else {
-        return Err(ThreadsFault::Memory);
+    let parted = join_actors(rt, alloc, actors);
+    // (asked of all four at once: each `?` of its own would have to drop what the others gave)
+    first_fault(&driver, &groups, &hands, &parted)?;
+    let driver = driver.unwrap();
+    let groups = groups.unwrap();
+    let hands = hands.unwrap();
+    let Parted { processors, logs } = parted.unwrap();
+    let parts = AllParts {
+        driver,
+        groups,
+        hands,
+        processors,
+        control,
     };
     Ok(Ended {
-        parts: AllParts {
-            driver: driver?,
-            groups: groups?,
-            hands: hands?,
-            processors,
-            control,
-        },
+        parts,
         logs,
         course,
     })

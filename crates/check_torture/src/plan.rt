@@ -8,7 +8,7 @@ ghost use Rattle.check_torture.specs.declared.plan.Refusal.TheVariants.{Memory};
 
 use crate::chance::Chance;
 use clap::error::ErrorKind;
-use clap::{Arg, ArgAction, value_parser};
+use clap::{Arg, ArgAction, ArgMatches, value_parser};
 use rcu_numbers::{MOST_CALLBACKS, MOST_PROCESSORS, Shape, all_processors};
 use std::alloc::{AllocError, Global};
 
@@ -165,29 +165,60 @@ impl Plan {
     }
 }
 
+/// The options that take a number: the name of each, the least number, and what its help says, if anything.
+static NUMBERS: [(&str, i64, Option<&str>); 4] = [
+    (
+        "callbacks",
+        0,
+        Some(
+            "how many callbacks each run accepts; of short runs the history is checked by the law, too",
+        ),
+    ),
+    ("processors", 1, None),
+    ("runs", 1, None),
+    ("seed", 0, None),
+];
+
 /// An option that takes a number from `least` on.
-fn number<'a>(alloc: Global, name: &'a str, least: i64) -> Arg<'a> {
-    Arg::new(alloc, name)
+fn number(
+    alloc: Global,
+    name: &'static str,
+    least: i64,
+    help: Option<&'static str>,
+) -> Arg<'static> {
+    let option = Arg::new(alloc, name)
         .long(name)
-        .value_parser(value_parser!(u64).range(least..))
+        .value_parser(value_parser!(u64).range(least..));
+    match help {
+        Some(help) => option.help(help),
+        None => option,
+    }
 }
 
-/// The command line: each option has a number.
+/// The command line.
 fn command<'a>(alloc: Global) -> Result<clap::Command<'a>, AllocError> {
-    clap::Command::new(alloc, "check_torture")
-        .no_binary_name(true)
-        .arg(number(alloc, "callbacks", 0).help(
-            "how many callbacks each run accepts; of short runs the history is checked by the law, too",
-        ))?
-        .arg(number(alloc, "processors", 1))?
-        .arg(number(alloc, "runs", 1))?
-        .arg(number(alloc, "seed", 0))?
-        .arg(
-            Arg::new(alloc, "flaws")
-                .long("flaws")
-                .help("meet each flaw once, by cases that the checks must refuse")
-                .action(ArgAction::SetTrue),
-        )
+    let mut command = clap::Command::new(alloc, "check_torture").no_binary_name(true);
+    for (name, least, help) in &NUMBERS {
+        command = command.arg(number(alloc, name, *least, *help))?;
+    }
+    command.arg(
+        Arg::new(alloc, "flaws")
+            .long("flaws")
+            .help("meet each flaw once, by cases that the checks must refuse")
+            .action(ArgAction::SetTrue),
+    )
+}
+
+/// The plan that these options ask for. None where there are more processors than a runtime has, or more callbacks than they
+/// accept.
+fn plan_of(matches: &ArgMatches) -> Option<Plan> {
+    let callbacks = matches.get_one("callbacks").unwrap_or(CALLBACKS);
+    let processors = matches.get_one("processors").unwrap_or(PROCESSORS);
+    let runs = matches.get_one("runs").unwrap_or(1);
+    let seed = matches.get_one("seed").unwrap_or(SEED);
+    let mut plan = Plan::new(callbacks, processors, runs, seed)?;
+    plan.flawed = matches.get_flag("flaws");
+    Some(plan)
 }
 
 /// What the words after the program's name say: `--callbacks N`, `--processors N`, `--runs N`, `--seed N` and `--flaws`.
@@ -198,11 +229,5 @@ fn command<'a>(alloc: Global) -> Result<clap::Command<'a>, AllocError> {
 /// callbacks than they accept; want of memory.
 pub fn read_plan(alloc: Global, words: &[String]) -> Result<Plan, Refusal> {
     let matches = command(alloc)?.try_get_matches_from(words)?;
-    let callbacks = matches.get_one("callbacks").unwrap_or(CALLBACKS);
-    let processors = matches.get_one("processors").unwrap_or(PROCESSORS);
-    let runs = matches.get_one("runs").unwrap_or(1);
-    let seed = matches.get_one("seed").unwrap_or(SEED);
-    let mut plan = Plan::new(callbacks, processors, runs, seed).ok_or(Refusal::TooMany)?;
-    plan.flawed = matches.get_flag("flaws");
-    Ok(plan)
+    plan_of(&matches).ok_or(Refusal::TooMany)
 }
