@@ -19,7 +19,7 @@ fn job(alloc: Global, key: u64) -> Result<Work, AllocError> {
 }
 
 /// Jobs with the keys 0, 1, ..
-pub(crate) fn jobs(alloc: Global, many: u64) -> Result<Vec<Work>, AllocError> {
+fn jobs(alloc: Global, many: u64) -> Result<Vec<Work>, AllocError> {
     let mut jobs = Vec::new(alloc);
     for key in 0..many {
         jobs.push(job(alloc, key)?)?;
@@ -39,4 +39,15 @@ pub(crate) fn run<R: Abort + Threads + Wait + Clock + Copy + Send + 'static>(
     run_in_threads(rt, alloc, parts, jobs)
         .ok()
         .expect(rt, "a run")
+}
+
+/// The same, with so many jobs, which have the keys 0, 1, ..
+pub(crate) fn run_keyed<R: Abort + Threads + Wait + Clock + Copy + Send + 'static>(
+    rt: &R,
+    alloc: Global,
+    shape: Option<Shape>,
+    many: u64,
+) -> ThreadsEnd<Work> {
+    let jobs = jobs(alloc, many).expect(rt, "memory");
+    run(rt, alloc, shape, jobs)
 }

@@ -1,15 +1,17 @@
 //! All parts in threads.
 
-use crate::runs::{Work, jobs, run};
+use crate::runs::{Work, run, run_keyed};
 use crate::same::assert_same;
 use rcu_jobs::{BoxedJob, Closed, Job, Refused};
 use rcu_numbers::Shape;
 use rcu_threads::ThreadsEnd;
 use std::alloc::{AllocError, Global};
 use std::process::Abort;
-use std::sync::Arc;
+use std::rt::Clock;
 use std::sync::atomic::{AtomicU64, Ordering};
+use std::sync::{Arc, Wait};
 use std::thread;
+use std::thread::Threads;
 
 /// Whether processor `p` ran, of jobs that were dealt in so many rounds to `many` processors, just its own, in order, and
 /// none came back.
@@ -30,40 +32,42 @@ fn ran_its_own(closed: &Closed<Work>, p: usize, many: u64, rounds: usize) -> boo
     ran.len() == rounds && back.is_empty()
 }
 
-/// That each of `many` processors ran just its own, as `ran_its_own`.
-fn assert_all_ran(rt: &impl Abort, closed: &Closed<Work>, many: u64, rounds: usize) {
-    for p in 0..many {
-        let ran = ran_its_own(closed, p as usize, many, rounds);
+/// That processor `p` ran just its own, as `ran_its_own`, of jobs that were dealt in `rounds[p]` rounds to it.
+fn assert_all_ran(rt: &impl Abort, closed: &Closed<Work>, rounds: &[usize]) {
+    for p in 0..rounds.len() {
+        let ran = ran_its_own(closed, p, rounds.len() as u64, rounds[p]);
         assert_same(rt, (p, ran), (p, true));
     }
 }
 
+/// The same of a run of so many jobs by the parts of a shape.
+fn assert_runs<R: Abort + Threads + Wait + Clock + Copy + Send + 'static>(
+    rt: &R,
+    alloc: Global,
+    shape: Option<Shape>,
+    jobs: u64,
+    rounds: &[usize],
+) {
+    let ended = run_keyed(rt, alloc, shape, jobs);
+    assert_all_ran(rt, &ended.closed, rounds);
+}
+
 #[test]
 fn four_processors_in_threads(rt: HostRuntime) {
-    let alloc = rt.alloc();
     let shape = Shape::new(4, 0b1110, 2, 10, 10000, 1000);
-    let ended = run(&rt, alloc, shape, jobs(alloc, 8).expect(&rt, "memory"));
-    assert_all_ran(&rt, &ended.closed, 4, 2);
+    assert_runs(&rt, rt.alloc(), shape, 8, &[2; 4]);
 }
 
 #[test]
 fn thirty_two_processors_in_threads(rt: HostRuntime) {
-    let alloc = rt.alloc();
     let shape = Shape::new(32, u32::MAX, 6, 10, 10000, 1000);
-    let ended = run(&rt, alloc, shape, jobs(alloc, 32).expect(&rt, "memory"));
-    assert_all_ran(&rt, &ended.closed, 32, 1);
+    assert_runs(&rt, rt.alloc(), shape, 32, &[1; 32]);
 }
 
 #[test]
 fn more_jobs_than_rounds(rt: HostRuntime) {
-    let alloc = rt.alloc();
     let shape = Shape::new(2, 0b01, 1, 10, 10000, 1000);
-    let ended = run(&rt, alloc, shape, jobs(alloc, 5).expect(&rt, "memory"));
-    let ran = [
-        ran_its_own(&ended.closed, 0, 2, 3),
-        ran_its_own(&ended.closed, 1, 2, 2),
-    ];
-    assert_same(&rt, ran, [true, true]);
+    assert_runs(&rt, rt.alloc(), shape, 5, &[3, 2]);
 }
 
 /// Whether the answers of processor `p`, whose limit is 2, are tickets of the numbers 0 and 1, and then the jobs with the keys
@@ -94,29 +98,26 @@ fn refused_its_last(ended: &ThreadsEnd<Work>, p: u64, key: u64, many: u64) -> bo
     number == 2 && answers.len() == 4
 }
 
+/// That of two processors, whose limit is 2 and to which 8 jobs were dealt, each ran its first two and refused the others.
+fn assert_ran_to_the_limit(rt: &impl Abort, ended: &ThreadsEnd<Work>) {
+    assert_all_ran(rt, &ended.closed, &[2, 2]);
+    let refused = [
+        refused_its_last(ended, 0, 4, 2),
+        refused_its_last(ended, 1, 5, 2),
+    ];
+    assert_same(rt, refused, [true, true]);
+}
+
 #[test]
 fn refused_jobs_come_back(rt: HostRuntime) {
-    let alloc = rt.alloc();
     let shape = Shape::new(2, 0b10, 1, 10, 10000, 2);
-    let ended = run(&rt, alloc, shape, jobs(alloc, 8).expect(&rt, "memory"));
-    let ran = [
-        ran_its_own(&ended.closed, 0, 2, 2),
-        ran_its_own(&ended.closed, 1, 2, 2),
-    ];
-    assert_same(&rt, ran, [true, true]);
-    let refused = [
-        refused_its_last(&ended, 0, 4, 2),
-        refused_its_last(&ended, 1, 5, 2),
-    ];
-    assert_same(&rt, refused, [true, true]);
+    assert_ran_to_the_limit(&rt, &run_keyed(&rt, rt.alloc(), shape, 8));
 }
 
 #[test]
 fn no_jobs(rt: HostRuntime) {
-    let alloc = rt.alloc();
     let shape = Shape::new(3, 0b010, 2, 10, 10000, 1000);
-    let ended = run(&rt, alloc, shape, jobs(alloc, 0).expect(&rt, "memory"));
-    assert_all_ran(&rt, &ended.closed, 3, 0);
+    assert_runs(&rt, rt.alloc(), shape, 0, &[0; 3]);
 }
 
 /// Raises a flag, and looks for the other at most a million times. Answers 1 where it is seen, else 0.
@@ -141,14 +142,33 @@ fn meeting(
     Ok(BoxedJob::new(key, Box::new(alloc, move || meet(&own, &other))?))
 }
 
+/// A job that meets another, by clones of these flags.
+fn meeting_by(
+    alloc: Global,
+    key: u64,
+    own: &Arc<AtomicU64, Global>,
+    other: &Arc<AtomicU64, Global>,
+) -> Result<Work, AllocError> {
+    meeting(alloc, key, Arc::try_clone(own)?, Arc::try_clone(other)?)
+}
+
+/// Two jobs, of which each meets the other by these flags.
+fn two_meeting(
+    alloc: Global,
+    first: &Arc<AtomicU64, Global>,
+    second: &Arc<AtomicU64, Global>,
+) -> Result<Vec<Work>, AllocError> {
+    let mut jobs = Vec::new(alloc);
+    jobs.push(meeting_by(alloc, 0, first, second)?)?;
+    jobs.push(meeting_by(alloc, 1, second, first)?)?;
+    Ok(jobs)
+}
+
 /// Two jobs, of which each meets the other.
 fn meeting_jobs(alloc: Global) -> Result<Vec<Work>, AllocError> {
     let first = Arc::new(alloc, AtomicU64::new(0))?;
     let second = Arc::new(alloc, AtomicU64::new(0))?;
-    let mut jobs = Vec::new(alloc);
-    jobs.push(meeting(alloc, 0, Arc::try_clone(&first)?, Arc::try_clone(&second)?)?)?;
-    jobs.push(meeting(alloc, 1, second, first)?)?;
-    Ok(jobs)
+    two_meeting(alloc, &first, &second)
 }
 
 /// That each processor ran one callback, of which each gave 1.

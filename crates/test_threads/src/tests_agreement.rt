@@ -1,6 +1,6 @@
 //! What threads did, by the law of the core: the history in the order of numbers, made of what `close` answered after them.
 
-use crate::runs::{Work, jobs, run};
+use crate::runs::{Work, run_keyed};
 use crate::same::assert_same;
 use rcu_agreement_checker::{accounts_of, agrees, witness};
 use rcu_jobs::Closed;
@@ -46,7 +46,7 @@ fn judged_as_dealt(
 fn four_processors_keep_the_law(rt: HostRuntime) {
     let alloc = rt.alloc();
     let shape = Shape::new(4, 0b1110, 2, 10, 10000, 1000);
-    let ended = run(&rt, alloc, shape, jobs(alloc, 100).expect(&rt, "memory"));
+    let ended = run_keyed(&rt, alloc, shape, 100);
     let found = judged_as_dealt(alloc, 4, 100, 1000, &ended.closed);
     assert_same(&rt, found, Some((true, true)));
 }
@@ -55,7 +55,7 @@ fn four_processors_keep_the_law(rt: HostRuntime) {
 fn refused_jobs_keep_the_law(rt: HostRuntime) {
     let alloc = rt.alloc();
     let shape = Shape::new(2, 0b10, 1, 10, 10000, 2);
-    let ended = run(&rt, alloc, shape, jobs(alloc, 8).expect(&rt, "memory"));
+    let ended = run_keyed(&rt, alloc, shape, 8);
     let found = judged_as_dealt(alloc, 2, 8, 2, &ended.closed);
     // (two more jobs than there are are none that it accepted)
     let wrong = judged_as_dealt(alloc, 2, 8, 3, &ended.closed);
@@ -80,7 +80,7 @@ fn swap_two(closed: &mut Closed<Work>) -> Option<()> {
 fn records_that_are_swapped(rt: HostRuntime) {
     let alloc = rt.alloc();
     let shape = Shape::new(2, 0b10, 1, 10, 10000, 1000);
-    let mut ended = run(&rt, alloc, shape, jobs(alloc, 8).expect(&rt, "memory"));
+    let mut ended = run_keyed(&rt, alloc, shape, 8);
     assert_same(&rt, swap_two(&mut ended.closed), Some(()));
     let found = judged_as_dealt(alloc, 2, 8, 1000, &ended.closed);
     assert_same(&rt, found, Some((true, false)));
