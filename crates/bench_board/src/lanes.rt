@@ -125,6 +125,14 @@ fn cross<X: Load, R: Threads + Wait + Sync>(
 }
 
 // Prints how many loads crossed a second.
+fn print_rate<R: Print>(rt: &R, name: &str, crossed: u64, seconds: f64) -> io::Result<()> {
+    println!(rt;
+        "{crossed} {name}: {:.0} a second",
+        nearest_u64_to_f64(crossed) / seconds
+    )
+}
+
+// Measures how many loads cross a second.
 fn time_crossing<X: Load, R: Threads + Wait + Sync + Clock + Print>(
     rt: &R,
     alloc: Global,
@@ -133,11 +141,7 @@ fn time_crossing<X: Load, R: Threads + Wait + Sync + Clock + Print>(
 ) -> io::Result<()> {
     let start = Instant::now(rt)?;
     let crossed = cross(rt, alloc, loads)?;
-    let seconds = start.elapsed(rt)?.as_secs_f64();
-    println!(rt;
-        "{crossed} {name}: {:.0} a second",
-        nearest_u64_to_f64(crossed) / seconds
-    )
+    print_rate(rt, name, crossed, start.elapsed(rt)?.as_secs_f64())
 }
 
 /// Prints how many items, and how many batches, crossed a second.
@@ -149,9 +153,27 @@ pub(crate) fn time<R: Threads + Wait + Sync + Clock + Print>(
     time_crossing(rt, alloc, "batches of 64 items", batches(alloc, 20_000)?)
 }
 
+// How many items of so many crossed in order.
+fn cross_items<R: Threads + Wait + Sync>(
+    rt: &R,
+    alloc: Global,
+    count: u64,
+) -> Result<u64, AllocError> {
+    cross(rt, alloc, items(alloc, count)?)
+}
+
+// How many batches of so many crossed in order.
+fn cross_batches<R: Threads + Wait + Sync>(
+    rt: &R,
+    alloc: Global,
+    count: u64,
+) -> Result<u64, AllocError> {
+    cross(rt, alloc, batches(alloc, count)?)
+}
+
 /// Hands over a fixed number of items and of batches, and prints how many came, each once and in order.
 pub(crate) fn count<R: Threads + Wait + Sync + Print>(rt: &R, alloc: Global) -> io::Result<()> {
-    let single = cross(rt, alloc, items(alloc, 10_000)?)?;
-    let batched = cross(rt, alloc, batches(alloc, 500)?)?;
+    let single = cross_items(rt, alloc, 10_000)?;
+    let batched = cross_batches(rt, alloc, 500)?;
     println!(rt; "{single} items and {batched} batches crossed in order")
 }

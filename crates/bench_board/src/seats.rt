@@ -1,10 +1,10 @@
 //! A new board for one processor, which is offloadable, and its seats.
 
-ghost use Rattle.std.specs.Prelude.{◌≡◌, ◌<◌, [], ◌∷◌, IfOk, IfSome};
-ghost use Rattle.rcu_numbers.specs.Words.{owes_of};
+ghost use Rattle.std.specs.Prelude.{◌≡◌, [], ◌∷◌, IfOk, IfSome};
 ghost use Rattle.rcu_board.specs.Opened.{AreNew, IsNewProcessor};
 ghost use Rattle.rcu_board.specs.Roles.{MayClaim};
 ghost use Rattle.rcu_board.specs.Seats.{view, AtBoard};
+ghost use Rattle.bench_board.specs.Pairs.{AreOneOfEach, pair_of};
 
 use rcu_board::{Board, Role, Seat, Seats, open_board};
 use rcu_numbers::{PartsShape, Shape};
@@ -17,6 +17,37 @@ pub(crate) struct OneOfEach {
     pub(crate) hand: Seat,
     pub(crate) driver: Seat,
     pub(crate) control: Seat,
+}
+
+/// Which seats step in a row: the one that is measured, and the one beside it.
+#[derive(Clone, Copy)]
+pub(crate) enum Pair {
+    ProcessorHand,
+    ProcessorDriver,
+    ProcessorControl,
+    DriverProcessor,
+    DriverControl,
+    ControlProcessor,
+    ControlHand,
+    ControlDriver,
+}
+
+impl OneOfEach {
+    /// The seats of a row.
+    pub(crate) fn pair(self, pair: Pair) -> (Seat, Seat)
+        ensures seats { result ≡ pair_of self pair }
+    {
+        match pair {
+            Pair::ProcessorHand => (self.processor, self.hand),
+            Pair::ProcessorDriver => (self.processor, self.driver),
+            Pair::ProcessorControl => (self.processor, self.control),
+            Pair::DriverProcessor => (self.driver, self.processor),
+            Pair::DriverControl => (self.driver, self.control),
+            Pair::ControlProcessor => (self.control, self.processor),
+            Pair::ControlHand => (self.control, self.hand),
+            Pair::ControlDriver => (self.control, self.driver),
+        }
+    }
 }
 
 /// The only seat of a list.
@@ -57,17 +88,7 @@ fn take_apart(shape: &PartsShape, board: &Board, seats: Seats) -> Option<OneOfEa
 
 /// Opens a board, and takes its seats apart; None where it is not as its shape asks.
 pub(crate) fn open_one(alloc: Global) -> Result<Option<(Board, OneOfEach)>, AllocError>
-    ensures board { IfOk result (λ found.
-        IfSome found (λ t. (t.0.processors ≡ 1) × (owes_of t.0.offloadable 0 ≡ 1))) }
-    ensures processor { IfOk result (λ found.
-        IfSome found (λ t. IsNewProcessor t.0 0 t.1.processor)) }
-    ensures hand { IfOk result (λ found.
-        IfSome found (λ t.
-        AtBoard t.0 t.1.hand × MayClaim t.1.hand.role × ((view t.1.hand).running ≡ []))) }
-    ensures driver { IfOk result (λ found.
-        IfSome found (λ t. AtBoard t.0 t.1.driver × (t.1.driver.role ≡ Role.Driver))) }
-    ensures control { IfOk result (λ found.
-        IfSome found (λ t. AtBoard t.0 t.1.control × (t.1.control.role ≡ Role.Control))) }
+    ensures seats { IfOk result (λ found. IfSome found (λ t. AreOneOfEach t.0 t.1)) }
 {
     let Some(shape) = Shape::new(1, 1, 1, 10, 16, 1000) else {
         return Ok(None);
