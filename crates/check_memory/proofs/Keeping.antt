@@ -1,11 +1,8 @@
 -- The parts stay those of one open, and sound, where those of one kind do and no other changes.
-use Rattle.std.proofs.Common.{ℕ, All, refl}
+use Rattle.std.proofs.Common.{ℕ, All}
 use Rattle.std.specs.Global.{Vec}
 use Rattle.std.specs.List.{AllZip}
 use Rattle.rcu_part_control.specs.Parts.{control_board, control_seat, driver_board, driver_seat}
-use Rattle.rcu_board.specs.Frames.{SamePart}
-use Rattle.rcu_board.specs.declared.board.Board.{Board}
-use Rattle.rcu_board.specs.declared.board.Seat.{Seat}
 use Rattle.rcu_part_group.specs.Groups.{SameGroup}
 use Rattle.rcu_part_hand.specs.Hands.{IsSoundHand, SameHand}
 use Rattle.rcu_parts.specs.OneOpen.{Parts, groups_in, hands_in, processors_in}

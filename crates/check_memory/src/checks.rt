@@ -40,23 +40,20 @@ impl Step {
     fn is_unchanged(&self) -> bool {
         self.before == self.after
     }
-
-    fn refused_by(self, growth: Growth) -> Step
-        ensures { result ≡ record self { refused = Some growth } }
-    {
-        Step {
-            refused: Some(growth),
-            ..self
-        }
-    }
 }
 
 /// Checks what stands after a call, and says which growth was refused, if one was.
-pub fn check(step: Step) -> Result<Step, Broken> {
-    if let Answer::Memory(growth) = step.answer {
-        return check_memory(step, growth);
-    }
+pub fn check(step: Step) -> Result<Step, Broken>
+    ensures same { IfOk result (λ s. s ≡ record step { refused = s.refused }) }
+{
+    let refused = check_call(&step)?;
+    Ok(Step { refused, ..step })
+}
+
+/// Checks what stands after a call. Answers the growth that was refused, if one was.
+fn check_call(step: &Step) -> Result<Option<Growth>, Broken> {
     match (step.action, step.answer) {
+        (_, Answer::Memory(growth)) => check_memory(step, growth),
         (Action::Call(cpu), Answer::Accepted(ticket)) => {
             check_accepted(step, Growth::CallRcu, cpu, ticket)
         }
@@ -84,53 +81,55 @@ pub fn check_again(again: &Step, growth: Growth) -> Result<(), Broken> {
 }
 
 /// A call that answered want of memory, and hands nothing back.
-fn check_memory(step: Step, growth: Growth) -> Result<Step, Broken>
-    ensures refused { IfOk result (λ s. s ≡ record step { refused = Some growth }) }
+fn check_memory(step: &Step, growth: Growth) -> Result<Option<Growth>, Broken>
+    ensures refused { IfOk result (λ refused. refused ≡ Some growth) }
 {
     stands(step.is_unchanged(), growth, "a refused call changed a list")?;
-    Ok(step.refused_by(growth))
+    Ok(Some(growth))
 }
 
 /// A call whose job came back.
-fn check_refused(step: Step, growth: Growth, key: u64) -> Result<Step, Broken>
-    ensures refused { IfOk result (λ s. s ≡ record step { refused = Some growth }) }
+fn check_refused(step: &Step, growth: Growth, key: u64) -> Result<Option<Growth>, Broken>
+    ensures refused { IfOk result (λ refused. refused ≡ Some growth) }
 {
     let same_job = key == next_key(step.action, &step.before);
     stands(same_job, growth, "another job came back")?;
     stands(step.is_unchanged(), growth, "a refused call changed a list")?;
-    Ok(step.refused_by(growth))
+    Ok(Some(growth))
 }
 
 /// A call that was accepted. Each has a moment of its own, so a plain callback releases the bypass list, unless the lane has
 /// no room for it.
-fn check_accepted(step: Step, growth: Growth, cpu: Cpu, ticket: Ticket) -> Result<Step, Broken> {
+fn check_accepted(
+    step: &Step,
+    growth: Growth,
+    cpu: Cpu,
+    ticket: Ticket,
+) -> Result<Option<Growth>, Broken> {
     let (old, new) = (step.before.of(cpu), step.after.of(cpu));
     let number = accepted(old);
     let named = (ticket.cpu, ticket.number) == (cpu.number(), number);
+    let counted = accepted(new) == number.wrapping_add(1);
     stands(named, growth, "another ticket")?;
-    stands(
-        accepted(new) == number.wrapping_add(1),
-        growth,
-        "another count",
-    )?;
+    stands(counted, growth, "another count")?;
     if mode(old) != Mode::Offloaded {
         let longer = length(new) == length(old).wrapping_add(1);
         stands(longer, growth, "the callback isn't in the own list")?;
-        return Ok(step);
+        return Ok(None);
     }
     if growth == Growth::CallRcu && bypass(new) == 0 {
-        return Ok(step);
+        return Ok(None);
     }
     let kept = bypass(new) == bypass(old).wrapping_add(1);
     stands(kept, growth, "the callback isn't in the bypass list")?;
     if growth == Growth::CallRcu {
-        return Ok(step.refused_by(Growth::CallPut));
+        return Ok(Some(Growth::CallPut));
     }
-    Ok(step)
+    Ok(None)
 }
 
 /// A tick of the local processor.
-fn check_local(step: Step, ran: u64, stop: Stop) -> Result<Step, Broken> {
+fn check_local(step: &Step, ran: u64, stop: Stop) -> Result<Option<Growth>, Broken> {
     let (old, new) = (step.before.local, step.after.local);
     let left = length(new).wrapping_add(ran) == length(old);
     stands(left, Growth::TickRecord, "a callback is lost")?;
@@ -141,18 +140,18 @@ fn check_local(step: Step, ran: u64, stop: Stop) -> Result<Step, Broken> {
                 Growth::TickRecord,
                 "the callback isn't first",
             )?;
-            Ok(step.refused_by(Growth::TickRecord))
+            Ok(Some(Growth::TickRecord))
         }
         Stop::Turn | Stop::Again => Err(Broken {
             at: Growth::TickRecord,
             what: "no other part claims",
         }),
-        Stop::Limit | Stop::Empty => Ok(step),
+        Stop::Limit | Stop::Empty => Ok(None),
     }
 }
 
 /// A tick of the offloadable processor, late for any bypass list.
-fn check_tick(step: Step, ran: u64, stop: Stop) -> Result<Step, Broken> {
+fn check_tick(step: &Step, ran: u64, stop: Stop) -> Result<Option<Growth>, Broken> {
     let (old, new) = (step.before.offloadable, step.after.offloadable);
     let left = length(new).wrapping_add(ran) == length(old);
     let others = (step.before.local, step.before.member) == (step.after.local, step.after.member);
@@ -160,7 +159,7 @@ fn check_tick(step: Step, ran: u64, stop: Stop) -> Result<Step, Broken> {
     if stop == Stop::Memory {
         let first = left && done(new) > 0;
         stands(first, Growth::TickRecord, "the callback isn't first")?;
-        return Ok(step.refused_by(Growth::TickRecord));
+        return Ok(Some(Growth::TickRecord));
     }
     if bypass(new) > 0 {
         return check_put(step);
@@ -169,7 +168,7 @@ fn check_tick(step: Step, ran: u64, stop: Stop) -> Result<Step, Broken> {
 }
 
 /// A tick whose batch came back: the bypass list is what it was, or what was poured into it.
-fn check_put(step: Step) -> Result<Step, Broken> {
+fn check_put(step: &Step) -> Result<Option<Growth>, Broken> {
     let (old, new) = (step.before.offloadable, step.after.offloadable);
     let has = (mode(new), bypass(new), length(new));
     let (expected, what) = if mode(old) == Mode::Offloaded {
@@ -184,15 +183,15 @@ fn check_put(step: Step) -> Result<Step, Broken> {
         )
     };
     stands(has == expected, Growth::TickPut, what)?;
-    Ok(step.refused_by(Growth::TickPut))
+    Ok(Some(Growth::TickPut))
 }
 
 /// A tick that left nothing in the bypass list: it heeded what was asked of it, unless the own list could not be poured.
-fn check_switch(step: Step, left: bool) -> Result<Step, Broken> {
+fn check_switch(step: &Step, left: bool) -> Result<Option<Growth>, Broken> {
     let new = step.after.offloadable;
     if mode(new) == Mode::Offloading {
         stands(left, Growth::TickPour, "something moved")?;
-        return Ok(step.refused_by(Growth::TickPour));
+        return Ok(Some(Growth::TickPour));
     }
     let heeded = if step.asked_on {
         mode(new) == Mode::Offloaded && length(new) == 0
@@ -200,46 +199,46 @@ fn check_switch(step: Step, left: bool) -> Result<Step, Broken> {
         left && mode(new) != Mode::Offloaded
     };
     stands(heeded, Growth::TickPour, "the switch isn't heeded")?;
-    Ok(step)
+    Ok(None)
 }
 
 /// A turn of the group: what it took, or had held, is in its list, held or given.
-fn check_group(step: Step, turn: GroupTurn) -> Result<Step, Broken> {
+fn check_group(step: &Step, turn: GroupTurn) -> Result<Option<Growth>, Broken> {
     let GroupTurn { took, gave, held } = turn;
     let (old, new) = (step.before.member, step.after.member);
     let had = length(old).wrapping_add(step.held).wrapping_add(took);
     let has = length(new).wrapping_add(held).wrapping_add(gave);
-    stands(had == has, Growth::GroupPut, "a callback is lost")?;
     let processors = (step.before.local, step.before.offloadable);
     let others = processors == (step.after.local, step.after.offloadable);
+    stands(had == has, Growth::GroupPut, "a callback is lost")?;
     stands(others, Growth::GroupPut, "a turn changed another list")?;
     if held > 0 && took > 0 {
-        return Ok(step.refused_by(Growth::GroupJoin));
+        return Ok(Some(Growth::GroupJoin));
     }
     if held > 0 {
-        return Ok(step.refused_by(Growth::GroupPut));
+        return Ok(Some(Growth::GroupPut));
     }
     if done(new) > 0 && gave == 0 {
-        return Ok(step.refused_by(Growth::GroupBatch));
+        return Ok(Some(Growth::GroupBatch));
     }
-    Ok(step)
+    Ok(None)
 }
 
 /// A turn of the hand.
-fn check_hand(step: Step, stop: Stop) -> Result<Step, Broken> {
+fn check_hand(step: &Step, stop: Stop) -> Result<Option<Growth>, Broken> {
     stands(
         step.is_unchanged(),
         Growth::HandRecord,
         "a turn changed another list",
     )?;
     if stop == Stop::Memory {
-        return Ok(step.refused_by(Growth::HandRecord));
+        return Ok(Some(Growth::HandRecord));
     }
-    Ok(step)
+    Ok(None)
 }
 
 /// A call that changes no list.
-fn check_other(step: Step) -> Result<Step, Broken> {
+fn check_other(step: &Step) -> Result<Option<Growth>, Broken> {
     let (growth, expected) = match (step.action, step.answer) {
         (Action::Report(_), Answer::Reported(_)) => (Growth::Quiescent, true),
         (Action::Drive, Answer::Done) => (Growth::DriverTurn, true),
@@ -254,5 +253,5 @@ fn check_other(step: Step) -> Result<Step, Broken> {
     };
     stands(expected, growth, "another answer")?;
     stands(step.is_unchanged(), growth, "the call changed a list")?;
-    Ok(step)
+    Ok(None)
 }

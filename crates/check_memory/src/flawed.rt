@@ -234,8 +234,8 @@ pub fn tell_flawed(rt: &HostRuntime) -> io::Result<()> {
     tell_all(rt, &ticks())?;
     tell_all(rt, &turns())?;
     tell_all(rt, &other_calls())?;
-    for (growth, step) in stuck() {
-        tell(rt, check_again(&step, growth))?;
+    for (growth, step) in &stuck() {
+        tell(rt, check_again(step, *growth))?;
     }
     Ok(())
 }

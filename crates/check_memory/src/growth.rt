@@ -7,7 +7,7 @@ use std::fmt;
 use thiserror::Error;
 
 /// A growth of the table "After want of memory" (docs/specification/surface.md), by the call that wanted it.
-#[derive(Clone, Copy, Debug, PartialEq, Eq)]
+#[derive(Clone, Copy, PartialEq, Eq)]
 pub enum Growth {
     OpenBoard,
     Lane,
@@ -90,8 +90,14 @@ impl fmt::Display for Growth {
     }
 }
 
+impl fmt::Debug for Growth {
+    fn fmt<W: fmt::Write>(&self, f: &mut fmt::Formatter<W>) -> fmt::Result {
+        f.write_str(self.name())
+    }
+}
+
 /// What the specification says of a call did not stand.
-#[derive(Debug, Drop, Error)]
+#[derive(Clone, Copy, Debug, Error)]
 #[error("{at}: {what}")]
 pub struct Broken {
     /// The growth after which it did not.
@@ -101,7 +107,7 @@ pub struct Broken {
 }
 
 /// Why a scenario ended early.
-#[derive(Debug, Drop, Error)]
+#[derive(Clone, Copy, Debug, Error)]
 pub enum Fault {
     /// What the specification says of a call did not stand.
     #[error(transparent)]
@@ -132,6 +138,16 @@ pub fn stands(holds: bool, at: Growth, what: &'static str) -> Result<(), Broken>
         Ok(())
     } else {
         Err(Broken { at, what })
+    }
+}
+
+/// A growth was refused where one had been refused before.
+pub fn refused_again(at: Growth) -> Broken
+    ensures named { result.at ≡ at }
+{
+    Broken {
+        at,
+        what: "refused again",
     }
 }
 
@@ -170,5 +186,21 @@ impl Refusals {
         )?;
         self.first = Some(growth);
         Ok(())
+    }
+
+    /// Notes a refusal, after which all has to be the same.
+    pub fn note_same(
+        &mut self,
+        growth: Growth,
+        same: bool,
+        what: &'static str,
+    ) -> Result<(), Broken>
+        ensures once { IfOk result (λ _. self.old.first ≡ None) }
+        ensures same { IfOk result (λ _. IsTrue same) }
+        ensures noted { IfOk result (λ _. self.new.first ≡ Some growth) }
+        ensures named { IfErr result (λ broken. broken.at ≡ growth) }
+    {
+        self.note(growth)?;
+        stands(same, growth, what)
     }
 }

@@ -1,8 +1,10 @@
 //! The scenario of the list types.
 
-ghost use Rattle.std.specs.Prelude.{◌≡◌};
+ghost use Rattle.std.specs.Prelude.{◌≡◌, IfOk};
+ghost use Rattle.rcu_lists.specs.Bypasses.{BypassRoom};
+ghost use Rattle.rcu_lists.specs.Segments.{SegmentsRoom};
 
-use crate::growth::{Broken, Growth, Refusals, stands};
+use crate::growth::{Broken, Growth, Refusals, refused_again, stands};
 use crate::work::Work;
 use rcu_jobs::Callback;
 use rcu_lists::{Batch, Bypass, Kind, Placed, Segments};
@@ -28,22 +30,22 @@ fn callback(number: u64) -> Callback<Work>
     }
 }
 
+/// Finds room for a callback, again where it was refused.
+fn find_room(refusals: &mut Refusals, list: &mut Segments<Work>) -> Result<(), Broken>
+    ensures room { IfOk result (λ _. SegmentsRoom list.new 1) }
+{
+    let before = list.lengths();
+    if list.reserve(1).is_ok() {
+        return Ok(());
+    }
+    let same = list.lengths() == before;
+    refusals.note_same(Growth::Reserve, same, "the list changed")?;
+    stands(list.reserve(1).is_ok(), Growth::Reserve, "refused again")
+}
+
 /// Adds a callback, in room that is found before.
 fn enqueue(refusals: &mut Refusals, list: &mut Segments<Work>, number: u64) -> Result<(), Broken> {
-    let before = list.lengths();
-    if list.reserve(1).is_err() {
-        refusals.note(Growth::Reserve)?;
-        stands(
-            list.lengths() == before,
-            Growth::Reserve,
-            "the list changed",
-        )?;
-        let again = list.reserve(1);
-        again.map_err(|_| Broken {
-            at: Growth::Reserve,
-            what: "refused again",
-        })?;
-    }
+    find_room(refusals, list)?;
     list.enqueue(callback(number));
     Ok(())
 }
@@ -66,15 +68,11 @@ fn take_batch(refusals: &mut Refusals, list: &mut Segments<Work>) -> Result<Batc
     if let Ok(batch) = list.take_batch(TAKEN) {
         return Ok(batch);
     }
-    refusals.note(Growth::TakeBatch)?;
     let same = before == (list.lengths(), list.numbers());
-    stands(same, Growth::TakeBatch, "the list changed")?;
+    refusals.note_same(Growth::TakeBatch, same, "the list changed")?;
     match list.take_batch(TAKEN) {
         Ok(batch) => Ok(batch),
-        Err(_) => Err(Broken {
-            at: Growth::TakeBatch,
-            what: "refused again",
-        }),
+        Err(_) => Err(refused_again(Growth::TakeBatch)),
     }
 }
 
@@ -88,29 +86,31 @@ fn pour(
     if list.pour(bypass).is_ok() {
         return Ok(());
     }
-    refusals.note(Growth::Pour)?;
     let same = before == (list.lengths(), list.numbers(), bypass.len());
-    stands(same, Growth::Pour, "a list changed")?;
-    let again = list.pour(bypass).is_ok();
-    stands(again, Growth::Pour, "refused again")
+    refusals.note_same(Growth::Pour, same, "a list changed")?;
+    stands(list.pour(bypass).is_ok(), Growth::Pour, "refused again")
+}
+
+/// Finds room for a lazy callback, again where it was refused.
+fn find_bypass_room(refusals: &mut Refusals, bypass: &mut Bypass<Work>) -> Result<(), Broken>
+    ensures room { IfOk result (λ _. BypassRoom bypass.new 1) }
+{
+    let before = bypass.len();
+    if bypass.reserve().is_ok() {
+        return Ok(());
+    }
+    let same = bypass.len() == before;
+    refusals.note_same(Growth::BypassReserve, same, "the list changed")?;
+    stands(
+        bypass.reserve().is_ok(),
+        Growth::BypassReserve,
+        "refused again",
+    )
 }
 
 /// Adds a lazy callback to a bypass list, in room that is found before.
 fn hold(refusals: &mut Refusals, bypass: &mut Bypass<Work>, number: u64) -> Result<(), Broken> {
-    let before = bypass.len();
-    if bypass.reserve().is_err() {
-        refusals.note(Growth::BypassReserve)?;
-        stands(
-            bypass.len() == before,
-            Growth::BypassReserve,
-            "the list changed",
-        )?;
-        let again = bypass.reserve();
-        again.map_err(|_| Broken {
-            at: Growth::BypassReserve,
-            what: "refused again",
-        })?;
-    }
+    find_bypass_room(refusals, bypass)?;
     match bypass.place(0, Kind::Lazy, callback(number)) {
         Placed::Kept => Ok(()),
         Placed::Out(_) => Err(Broken {

@@ -58,7 +58,7 @@ enum Scenario {
     Status,
 }
 
-const SCENARIOS: [Scenario; 7] = [
+static SCENARIOS: [Scenario; 7] = [
     Scenario::Lists,
     Scenario::Lanes,
     Scenario::Board,
@@ -114,10 +114,10 @@ fn run_one(rt: &HostRuntime, alloc: Global, scenario: Scenario) -> io::Result<bo
 /// Plays the scenario of this name, or all. Answers whether there was one, and all stood.
 fn run_named(rt: &HostRuntime, word: Option<&str>) -> io::Result<bool> {
     let (mut is_there, mut all_stood) = (false, true);
-    for scenario in SCENARIOS {
+    for scenario in &SCENARIOS {
         if word.is_none() || word == Some(scenario.name()) {
             is_there = true;
-            all_stood &= run_one(rt, rt.alloc(), scenario)?;
+            all_stood &= run_one(rt, rt.alloc(), *scenario)?;
         }
     }
     if !is_there {

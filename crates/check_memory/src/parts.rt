@@ -11,7 +11,7 @@ ghost use Rattle.rcu_part_group.specs.Groups.{SameGroup};
 ghost use Rattle.rcu_part_hand.specs.Hands.{IsSoundHand, SameHand};
 ghost use Rattle.rcu_part_processor.specs.Processors.{IsSound, SameProcessor};
 
-use crate::growth::{Broken, Growth, Refusals};
+use crate::growth::{Broken, Growth, Refusals, refused_again};
 use crate::machine::{Answer, Machine, Shown, check_closed, shape};
 use crate::script::Action;
 use crate::steps::{Progress, shown};
@@ -149,10 +149,16 @@ impl Machine for Parts<Work> {
     }
 
     fn shown(&self) -> Option<Shown> {
+        let [local, offloadable] = self.processors.as_slice() else {
+            return None;
+        };
+        let [group] = self.groups.as_slice() else {
+            return None;
+        };
         Some(Shown {
-            local: self.processors.get(0)?.lists(),
-            offloadable: self.processors.get(1)?.lists(),
-            member: self.groups.get(0)?.lists(1)?,
+            local: local.lists(),
+            offloadable: offloadable.lists(),
+            member: group.lists(1)?,
         })
     }
 }
@@ -171,10 +177,7 @@ fn open_parts(alloc: Global, refusals: &mut Refusals) -> Result<Parts<Work>, Bro
     refusals.note(Growth::Open)?;
     match open(alloc, &shape.for_parts()) {
         Ok(parts) => Ok(parts),
-        Err(_) => Err(Broken {
-            at: Growth::Open,
-            what: "refused again",
-        }),
+        Err(_) => Err(refused_again(Growth::Open)),
     }
 }
 
@@ -193,10 +196,7 @@ fn close_parts(
     refusals.note(Growth::Close)?;
     match closing.again(alloc) {
         Ok(closed) => Ok(closed),
-        Err(_) => Err(Broken {
-            at: Growth::Close,
-            what: "refused again",
-        }),
+        Err(_) => Err(refused_again(Growth::Close)),
     }
 }
 

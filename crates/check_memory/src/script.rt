@@ -101,7 +101,7 @@ const THE_END: Steps = &[
 
 /// All actions, in order. A batch has sixteen places without memory, and a lane sixteen for batches; so each list is made
 /// longer than that.
-pub const SCRIPT: [Steps; 13] = [
+pub static SCRIPT: [Steps; 13] = [
     ON_THE_LOCAL_ONE,
     GRACE,
     RELEASES,

@@ -13,8 +13,11 @@ const BAD_LINE: &str = "processors = 2\nscript = [\"show\", \"shown\"]\n";
 
 const NO_TOML: &str = "processors = 2\nroutes = [\"a=1\", \n";
 
+/// A line of a script.
+const LINE: &str = "call 1 5 abc 7";
+
 /// Each text with the test of its answer.
-const TEXTS: [(&str, Expected); 4] = [
+static TEXTS: [(&str, Expected); 4] = [
     (TEXT, Expected::Setup),
     (UNKNOWN_KEY, Expected::UnknownKey),
     (BAD_LINE, Expected::BadLine),
@@ -30,21 +33,31 @@ enum Expected {
     NotToml,
 }
 
-/// Whether it is the setup of `TEXT`.
-fn is_whole(setup: &Setup) -> bool {
-    let routes = match setup.routes.as_slice() {
+/// Whether they are the routes of `TEXT`.
+fn are_routes(routes: &[(String, u32)]) -> bool {
+    match routes {
         [(a, first), (b, second)] => {
             a.as_str() == "a" && b.as_str() == "b" && (*first, *second) == (1, 2)
         }
         _ => false,
-    };
-    let calls = match setup.script.as_slice() {
+    }
+}
+
+/// Whether they are the calls of `TEXT`.
+fn are_calls(script: &[Command]) -> bool {
+    match script {
         [Command::Call { name: a, .. }, Command::Lazy { name: c, .. }] => {
             a.as_str() == "a" && c.as_str() == "c"
         }
         _ => false,
-    };
-    routes && calls && (setup.shape.processors, setup.shape.offloadable) == (2, 0b10)
+    }
+}
+
+/// Whether it is the setup of `TEXT`.
+fn is_whole(setup: &Setup) -> bool {
+    are_routes(setup.routes.as_slice())
+        && are_calls(setup.script.as_slice())
+        && (setup.shape.processors, setup.shape.offloadable) == (2, 0b10)
 }
 
 /// Whether an answer is the expected one.
@@ -58,6 +71,14 @@ fn is_expected(expected: Expected, answer: &Result<Setup, SetupFault>) -> bool {
     }
 }
 
+/// Reads a text. Whether the answer is the expected one; None where memory was wanted.
+fn reads(alloc: Global, text: &str, expected: Expected) -> Option<bool> {
+    match &read_setup(alloc, text) {
+        Err(SetupFault::Memory) => None,
+        answer => Some(is_expected(expected, answer)),
+    }
+}
+
 /// Reads a text, again where memory was wanted.
 fn read(
     alloc: Global,
@@ -65,44 +86,51 @@ fn read(
     text: &str,
     expected: Expected,
 ) -> Result<(), Broken> {
-    let mut answer = read_setup(alloc, text);
-    if matches!(answer, Err(SetupFault::Memory)) {
+    let mut answer = reads(alloc, text, expected);
+    if answer.is_none() {
         refusals.note(Growth::ReadSetup)?;
-        answer = read_setup(alloc, text);
+        answer = reads(alloc, text, expected);
     }
-    stands(
-        is_expected(expected, &answer),
-        Growth::ReadSetup,
-        "another answer",
-    )
+    stands(answer == Some(true), Growth::ReadSetup, "another answer")
+}
+
+/// Whether it is the call that `LINE` says.
+fn is_line(command: &Command) -> bool {
+    match command {
+        Command::Call {
+            cpu,
+            moment,
+            name,
+            hop,
+        } => (*cpu, *moment, *hop) == (1, 5, 7) && name.as_str() == "abc",
+        _ => false,
+    }
+}
+
+/// Reads the line of a script. Whether it is what it says; None where memory was wanted.
+fn reads_line(alloc: Global) -> Option<bool> {
+    match &script_line(alloc, LINE) {
+        Ok(command) => Some(is_line(command)),
+        Err(SetupFault::Memory) => None,
+        Err(_) => Some(false),
+    }
 }
 
 /// Reads a line of a script, again where memory was wanted.
 fn read_line(alloc: Global, refusals: &mut Refusals) -> Result<(), Broken> {
-    let mut answer = script_line(alloc, "call 1 5 abc 7");
-    if matches!(answer, Err(SetupFault::Memory)) {
+    let mut answer = reads_line(alloc);
+    if answer.is_none() {
         refusals.note(Growth::ScriptLine)?;
-        answer = script_line(alloc, "call 1 5 abc 7");
+        answer = reads_line(alloc);
     }
-    let whole = match &answer {
-        Ok(
-            Command::Call {
-                cpu,
-                moment,
-                name,
-                hop,
-            },
-        ) => { (*cpu, *moment, *hop) == (1, 5, 7) && name.as_str() == "abc" }
-        _ => false,
-    };
-    stands(whole, Growth::ScriptLine, "another answer")
+    stands(answer == Some(true), Growth::ScriptLine, "another answer")
 }
 
 /// The scenario: a text that is a setup, texts with faults, a line of a script.
 pub fn play_setup(alloc: Global) -> Result<Refusals, Broken> {
     let mut refusals = Refusals::new();
-    for (text, expected) in TEXTS {
-        read(alloc, &mut refusals, text, expected)?;
+    for (text, expected) in &TEXTS {
+        read(alloc, &mut refusals, text, *expected)?;
     }
     read_line(alloc, &mut refusals)?;
     Ok(refusals)

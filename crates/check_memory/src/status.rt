@@ -8,7 +8,7 @@ use rcu_jobs::{Closed, Lists, Mode, Record};
 use rcu_status::{line, totals};
 use std::alloc::{AllocError, Global};
 
-const SHOWN: Lists = Lists::Cpu {
+static SHOWN: Lists = Lists::Cpu {
     mode: Mode::Deoffloading,
     accepted: 1000000,
     bypass: 12,
@@ -21,8 +21,8 @@ const LINE: &str =
 
 const TOTALS: &str = "cpu 0 ran 1 back 1 routes 7\nreports 3\n";
 
-/// What was closed: a callback that ran, one that is handed back, three reports.
-fn closed(alloc: Global) -> Result<Closed<Work>, Fault> {
+/// The records of one processor, which ran a callback.
+fn ran(alloc: Global) -> Result<Vec<Vec<Record<u64>>>, Fault> {
     let record = Record {
         number: 0,
         key: 7,
@@ -30,9 +30,19 @@ fn closed(alloc: Global) -> Result<Closed<Work>, Fault> {
         ready: 4,
         receipt: 7,
     };
+    Ok(vec![in alloc; vec![in alloc; record]?]?)
+}
+
+/// The jobs of one processor that are handed back.
+fn back(alloc: Global) -> Result<Vec<Vec<Work>>, Fault> {
+    Ok(vec![in alloc; vec![in alloc; Work { key: 8 }]?]?)
+}
+
+/// What was closed: a callback that ran, one that is handed back, three reports.
+fn closed(alloc: Global) -> Result<Closed<Work>, Fault> {
     Ok(Closed {
-        ran: vec![in alloc; vec![in alloc; record]?]?,
-        back: vec![in alloc; vec![in alloc; Work { key: 8 }]?]?,
+        ran: ran(alloc)?,
+        back: back(alloc)?,
         reports: vec![in alloc; 3]?,
     })
 }

@@ -49,7 +49,7 @@ impl Progress {
         requires { M.holds machine.old }
         ensures holds { M.holds machine.new }
     {
-        for steps in SCRIPT {
+        for steps in &SCRIPT {
             self.perform(machine, steps)?;
         }
         Ok(())

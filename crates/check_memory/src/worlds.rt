@@ -5,7 +5,7 @@ ghost use Rattle.check_memory.specs.Driven.{IsDrivenWorld, LeavesDriven};
 ghost use Rattle.check_memory.specs.Works.{IsOwnKey, key_of_work};
 ghost use Rattle.rcu_world.specs.Worlds.{IsWorld};
 
-use crate::growth::{Broken, Fault, Growth, Refusals, stands};
+use crate::growth::{Broken, Fault, Growth, Refusals, refused_again, stands};
 use crate::machine::{Answer, Cpu, Machine, Shown, check_closed, shape};
 use crate::parts::called;
 use crate::script::{Action, ONE_MARK, SHORT_SCRIPT};
@@ -13,7 +13,7 @@ use crate::steps::{Progress, shown};
 use crate::work::Work;
 use rcu_jobs::{BarrierFault, Closed};
 use rcu_world::{Event, World};
-use std::alloc::Global;
+use std::alloc::{AllocError, Global};
 
 /// How many events are handed to `run` at the end.
 const EVENTS: usize = 4;
@@ -183,11 +183,29 @@ fn open_world(alloc: Global, refusals: &mut Refusals) -> Result<World<Work>, Bro
     refusals.note(Growth::WorldNew)?;
     match World::new(alloc, shape) {
         Ok(world) => Ok(world),
-        Err(_) => Err(Broken {
-            at: Growth::WorldNew,
-            what: "refused again",
-        }),
+        Err(_) => Err(refused_again(Growth::WorldNew)),
     }
+}
+
+/// The events that are handed to `run`.
+fn make_events(alloc: Global) -> Result<Vec<Event<Work>>, AllocError> {
+    let mut events = Vec::new(alloc);
+    for _ in 0..EVENTS {
+        events.push(Event::Urge)?;
+    }
+    Ok(events)
+}
+
+/// So many events came back of a `run` that was refused, and no list changed.
+fn check_back(
+    refusals: &mut Refusals,
+    world: &World<Work>,
+    before: &Shown,
+    back: usize,
+) -> Result<(), Broken> {
+    refusals.note_same(Growth::WorldRun, back == EVENTS, "not all events came back")?;
+    let same = *before == shown(world)?;
+    stands(same, Growth::WorldRun, "a list changed")
 }
 
 /// Hands events to `run`, which change no list.
@@ -195,44 +213,46 @@ fn run_events(alloc: Global, refusals: &mut Refusals, world: &mut World<Work>) -
     requires { IsWorld key_of_work IsOwnKey world.old.core }
     ensures { IsWorld key_of_work IsOwnKey world.new.core }
 {
-    let mut events = Vec::new(alloc);
-    for _ in 0..EVENTS {
-        events.push(Event::Urge)?;
-    }
     let before = shown(world)?;
+    let events = make_events(alloc)?;
     let Err(back) = world.run(events) else {
         return Ok(());
     };
-    refusals.note(Growth::WorldRun)?;
-    stands(
-        back.len() == EVENTS,
-        Growth::WorldRun,
-        "not all events came back",
-    )?;
-    stands(before == shown(world)?, Growth::WorldRun, "a list changed")?;
+    check_back(refusals, world, &before, back.len())?;
     stands(world.run(back).is_ok(), Growth::WorldRun, "refused again")?;
     Ok(())
 }
 
-/// Closes the world, or tries it again.
-fn close_world(refusals: &mut Refusals, world: World<Work>) -> Result<Closed<Work>, Broken>
+/// A world that came back of its `close` shows what it showed before, and its history has as many marks.
+fn check_kept(
+    refusals: &mut Refusals,
+    back: &World<Work>,
+    last: &Shown,
+    marks: usize,
+) -> Result<(), Broken>
+    requires { IsWorld key_of_work IsOwnKey back.now.core }
+{
+    let same = *last == shown(back)? && marks == back.history().len();
+    refusals.note_same(Growth::WorldClose, same, "the world changed")
+}
+
+/// Closes the world, or tries it again. `last` is what it shows.
+fn close_world(
+    refusals: &mut Refusals,
+    world: World<Work>,
+    last: &Shown,
+) -> Result<Closed<Work>, Broken>
     requires { IsWorld key_of_work IsOwnKey world.core }
 {
-    let before = shown(&world)?;
     let marks = world.history().len();
     let back = match world.close() {
         Ok((_, closed)) => return Ok(closed),
         Err(back) => back,
     };
-    refusals.note(Growth::WorldClose)?;
-    let same = before == shown(&back)? && marks == back.history().len();
-    stands(same, Growth::WorldClose, "the world changed")?;
+    check_kept(refusals, &back, last, marks)?;
     match back.close() {
         Ok((_, closed)) => Ok(closed),
-        Err(_) => Err(Broken {
-            at: Growth::WorldClose,
-            what: "refused again",
-        }),
+        Err(_) => Err(refused_again(Growth::WorldClose)),
     }
 }
 
@@ -275,7 +295,7 @@ pub fn play_world(alloc: Global) -> Result<Refusals, Fault> {
     let mut world = open_world(alloc, &mut refusals)?;
     let mut progress = Progress::new(refusals);
     let last = perform_all(alloc, &mut progress, &mut world)?;
-    let closed = close_world(&mut progress.refusals, world)?;
+    let closed = close_world(&mut progress.refusals, world, &last)?;
     check_closed(Growth::WorldClose, &closed, &last)?;
     Ok(progress.refusals)
 }
