@@ -14,7 +14,7 @@ const LINE: u64 = 20;
 const WIDE: u64 = 250;
 
 /// What each mark means.
-const MARKS: [(Mark, &str); 11] = [
+static MARKS: [(Mark, &str); 11] = [
     (Mark::Call, "call_rcu"),
     (Mark::Lazy, "call_rcu_lazy"),
     (Mark::Counted, "a report that counted"),
@@ -29,7 +29,7 @@ const MARKS: [(Mark, &str); 11] = [
 ];
 
 /// What each colour means, by its class.
-const COLOURS: [(&str, &str); 7] = [
+static COLOURS: [(&str, &str); 7] = [
     ("own", "waits in the processor's own list"),
     ("bypass", "waits in the bypass list"),
     ("group", "with its group or hand"),
@@ -40,13 +40,13 @@ const COLOURS: [(&str, &str); 7] = [
 ];
 
 /// How a callback's run is shown, by its path.
-const RUNS: [(&str, &str); 2] = [
+static RUNS: [(&str, &str); 2] = [
     ("M-5 0A5 5 0 1 0 5 0A5 5 0 1 0 -5 0Z", "run by the tick"),
     ("M0 -6L6 0L0 6L-6 0Z", "run by the hand"),
 ];
 
 /// What the strip below a processor's row means, by its class.
-const MODES: [(&str, &str); 4] = [
+static MODES: [(&str, &str); 4] = [
     ("Local", "mode Local"),
     ("Offloading", "mode Offloading"),
     ("Offloaded", "mode Offloaded"),

@@ -141,6 +141,27 @@ fn job_of(command: &Command, key: u64) -> Option<KeyJob>
     }
 }
 
+/// The text of an answer, or of the command that has none.
+fn text_of(alloc: Global, line: &Option<Line>) -> Result<String, AllocError>
+    ensures text { IfOk result (λ text. string_bytes text ≡ step_text line.now) }
+{
+    match line {
+        Some(line) => format!(in alloc; "{line}"),
+        None => format!(in alloc; "show"),
+    }
+}
+
+/// A step of this answer, with what each processor shows after it.
+fn step_of(alloc: Global, world: &World<KeyJob>, line: Option<Line>) -> Result<Step, AllocError>
+    requires world { IsWorld key_in IsKey world.now.core }
+    ensures line { IfOk result (λ step. step.line ≡ line) }
+    ensures text { IfOk result (λ step. string_bytes step.text ≡ step_text line) }
+{
+    let text = text_of(alloc, &line)?;
+    let shown = all_shown(alloc, world)?;
+    Ok(Step { text, line, shown })
+}
+
 /// One command, with a job of this key if it is a call, and what it answers. `opened` is the name of the barrier that is open.
 fn perform(
     alloc: Global,
@@ -160,22 +181,10 @@ fn perform(
     ensures text { IfOk result (λ step. string_bytes step.text ≡ step_text step.line) }
 {
     if is_show(command) {
-        let text = format!(in alloc; "show")?;
-        let shown = all_shown(alloc, world)?;
-        return Ok(Step {
-            text,
-            line: None,
-            shown,
-        });
+        return step_of(alloc, world, None);
     }
     let line = answer(alloc, world, opened, command, job_of(command, key))?;
-    let text = format!(in alloc; "{line}")?;
-    let shown = all_shown(alloc, world)?;
-    Ok(Step {
-        text,
-        line: Some(line),
-        shown,
-    })
+    step_of(alloc, world, Some(line))
 }
 
 /// Of each processor whether it has a hand.
