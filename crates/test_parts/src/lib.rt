@@ -9,6 +9,8 @@ mod opening;
 #[cfg(test)]
 mod same;
 #[cfg(test)]
+mod steps;
+#[cfg(test)]
 mod tests;
 #[cfg(test)]
 mod tests_away;

@@ -1,11 +1,10 @@
-//! A runtime of one processor, as most tests open it.
+//! The parts of a runtime, as the tests open them.
 //!
 //! Where something is wanting the test ends here. So no test has a way out of its own, at which all that it has is dropped.
 
 use rcu_jobs::{BoxedJob, Ticket};
-use rcu_numbers::Shape;
-use rcu_part_control::{Control, Driver};
-use rcu_parts::{AllParts, Group, Hand, Parts, Processor, open};
+use rcu_numbers::{PartsShape, Shape};
+use rcu_parts::{Kept, Parts, Processor, open_with};
 use std::alloc::Global;
 use std::process::Abort;
 
@@ -37,79 +36,34 @@ pub fn call_lazy(
     processor.call_rcu_lazy(moment, job(alloc, key)?).ok()
 }
 
-/// The parts of a runtime of a Local processor. Like the others below it is dropped by hand, which is proved once, and not
-/// in each test.
-pub struct Local {
-    pub processor: Processor<Work>,
-    pub driver: Driver,
-    pub control: Control,
+/// The parts of a runtime. They are dropped by hand, which is proved once, and not in each test.
+pub struct Opened {
+    pub parts: Parts<Work>,
 }
 
-impl Drop for Local {
+impl Drop for Opened {
     fn drop(self) {
-        let Local {
-            processor: _,
-            driver: _,
-            control: _,
-        } = self;
+        let Opened { parts: _ } = self;
     }
 }
 
-/// The parts of a runtime of an offloadable processor.
-pub struct Offloaded {
-    pub processor: Processor<Work>,
-    pub group: Group<Work>,
-    pub hand: Hand<Work>,
-    pub driver: Driver,
-    pub control: Control,
-}
-
-impl Offloaded {
-    /// The processor and its group alone.
-    pub fn into_processor_and_group(self) -> (Processor<Work>, Group<Work>) {
-        let Offloaded {
-            processor,
-            group,
-            hand: _,
-            driver: _,
-            control: _,
-        } = self;
-        (processor, group)
+/// Opens a runtime of a shape, with this choice of what is kept.
+pub fn open_kept(rt: &impl Abort, alloc: Global, shape: Option<PartsShape>, kept: Kept) -> Opened {
+    let shape = shape.expect(rt, "a shape");
+    Opened {
+        parts: open_with(alloc, &shape, kept).expect(rt, "memory"),
     }
 }
 
-impl Drop for Offloaded {
-    fn drop(self) {
-        let Offloaded {
-            processor: _,
-            group: _,
-            hand: _,
-            driver: _,
-            control: _,
-        } = self;
-    }
-}
-
-/// Opens a runtime of one processor.
-fn open_one(rt: &impl Abort, alloc: Global, shape: Option<Shape>) -> Parts<Work> {
+/// Opens a runtime of a shape, which keeps what ran.
+pub fn open_shape(rt: &impl Abort, alloc: Global, shape: Option<Shape>) -> Opened {
     let shape = shape.expect(rt, "a shape").for_parts();
-    open(alloc, &shape).expect(rt, "memory")
+    open_kept(rt, alloc, Some(shape), Kept::Whole)
 }
 
 /// Opens a runtime of a Local processor, which runs `blimit` callbacks at most in a tick and accepts `limit` in all.
-pub fn open_local(rt: &impl Abort, alloc: Global, blimit: u64, limit: u64) -> Local {
-    let AllParts {
-        mut processors,
-        driver,
-        groups: _,
-        hands: _,
-        control,
-    } = open_one(rt, alloc, Shape::new(1, 0, 1, blimit, 16, limit));
-    Local {
-        processor: processors.pop().expect(rt, "a processor"),
-        driver,
-        control,
-    }
+pub fn open_local(rt: &impl Abort, alloc: Global, blimit: u64, limit: u64) -> Opened {
+    open_shape(rt, alloc, Shape::new(1, 0, 1, blimit, 16, limit))
 }
 
 /// The same of an offloadable one, of which a turn of the group or of the hand gives or runs `blimit` at most.
@@ -119,19 +73,11 @@ pub fn open_offloaded(
     blimit: u64,
     qhimark: u64,
     limit: u64,
-) -> Offloaded {
-    let AllParts {
-        mut processors,
-        driver,
-        mut groups,
-        mut hands,
-        control,
-    } = open_one(rt, alloc, Shape::new(1, 1, 1, blimit, qhimark, limit));
-    Offloaded {
-        processor: processors.pop().expect(rt, "a processor"),
-        group: groups.pop().expect(rt, "a group"),
-        hand: hands.pop().expect(rt, "a hand"),
-        driver,
-        control,
-    }
+) -> Opened {
+    open_shape(rt, alloc, Shape::new(1, 1, 1, blimit, qhimark, limit))
+}
+
+/// The last of some parts of a kind: the only one, where a runtime has one.
+pub fn last<'a, T>(rt: &impl Abort, parts: &'a mut Vec<T>) -> &'a mut T {
+    parts.last_mut().expect(rt, "a part")
 }

@@ -9,14 +9,16 @@ ghost use Rattle.rcu_board.specs.Frames.{IsBare};
 ghost use Rattle.rcu_lanes.specs.Ends.{items_put};
 ghost use Rattle.rcu_part_processor.specs.Opened.{IsEmpty};
 
-use crate::opening::{Work, call, call_lazy, job, open_local, open_offloaded};
+use crate::opening::{Work, call, job, last, open_local, open_offloaded};
 use crate::same::assert_same;
+use crate::steps::Step::{Calls, Deoffload, Drive, Lazy, Offload, Report, Show, Tick};
+use crate::steps::{Step, play};
 use rcu_board::{Board, Role, Seat, Seats, need, open_board};
-use rcu_jobs::{HandTurn, Lists, Mode, Refused, Stop, Ticked, Ticket};
+use rcu_jobs::{DriverTurn, HandTurn, Mode, Refused, Stop, Ticket};
 use rcu_lanes::{Rear, ruled_lane};
 use rcu_lists::Parcel;
 use rcu_numbers::{PartsShape, Shape};
-use rcu_part_control::{Control, Driver};
+use rcu_part_control::Driver;
 use rcu_part_lists::{Held, LaneLimits, ProcessorLists};
 use rcu_parts::{Hand, Kept, Processor};
 use std::alloc::Global;
@@ -77,68 +79,53 @@ fn no_lists(
     ProcessorLists::new(alloc, rear, board.is_offloadable(0), qhimark).expect(rt, "memory")
 }
 
-/// The tickets of a plain call and of a lazy one.
-fn plain_and_lazy(alloc: Global, processor: &mut Processor<Work>) -> [Option<Ticket>; 2] {
-    let plain = call(alloc, processor, 1, 7);
-    [plain, call_lazy(alloc, processor, 1, 8)]
-}
-
 /// The tickets of the first two calls.
-const TWO_TICKETS: [Option<Ticket>; 2] = [
-    Some(Ticket { cpu: 0, number: 0 }),
-    Some(Ticket { cpu: 0, number: 1 }),
-];
+const FIRST: Ticket = Ticket { cpu: 0, number: 0 };
 
-/// Whether a call is refused at the limit, and by which number.
-fn third_call(alloc: Global, processor: &mut Processor<Work>) -> Option<(bool, u64)> {
-    let refused = processor.call_rcu(1, job(alloc, 9)?).err()?;
-    Some((matches!(&refused, Refused::Limit(_)), refused.number()))
+const SECOND: Ticket = Ticket { cpu: 0, number: 1 };
+
+/// Whether a refusal is that of the limit, and its number.
+fn of_the_limit(refused: Refused<Work>) -> (bool, u64) {
+    (matches!(&refused, Refused::Limit(_)), refused.number())
 }
+
+/// How a call is refused. None where it is not, or memory is wanted.
+fn refusal(alloc: Global, processor: &mut Processor<Work>) -> Option<(bool, u64)> {
+    let refused = processor.call_rcu(1, job(alloc, 9)?).err()?;
+    Some(of_the_limit(refused))
+}
+
+static TWO_CALLS: [Step; 3] = [
+    Calls(1, 1, FIRST),
+    Lazy(1, SECOND),
+    Show(Mode::Local, 2, 0, 2),
+];
 
 #[test]
 fn local_processor_accepts_up_to_its_limit(rt: HostRuntime) {
     let mut all = open_local(&rt, rt.alloc(), 10, 2);
-    assert_same(
+    play(&rt, rt.alloc(), &mut all.parts, &TWO_CALLS);
+    let processor = last(&rt, &mut all.parts.processors);
+    assert_same(&rt, refusal(rt.alloc(), processor), Some((true, 4)));
+    let _reading = processor.reading();
+    play(
         &rt,
-        plain_and_lazy(rt.alloc(), &mut all.processor),
-        TWO_TICKETS,
+        rt.alloc(),
+        &mut all.parts,
+        &[Show(Mode::Local, 2, 0, 2), Report(None)],
     );
-    assert_same(
-        &rt,
-        third_call(rt.alloc(), &mut all.processor),
-        Some((true, 4)),
-    );
-    let shown = Lists::Cpu {
-        mode: Mode::Local,
-        accepted: 2,
-        bypass: 0,
-        lengths: [0, 0, 0, 2],
-        numbers: [0, 0],
-    };
-    assert_same(
-        &rt,
-        (all.processor.lists(), all.processor.quiescent()),
-        (shown, None),
-    );
-    let _reading = all.processor.reading();
 }
+
+static ONE_HELD_BACK: [Step; 3] = [
+    Calls(1, 1, FIRST),
+    Lazy(1, SECOND),
+    Show(Mode::Offloaded, 2, 1, 0),
+];
 
 #[test]
 fn offloaded_processor_holds_a_lazy_call_back(rt: HostRuntime) {
     let mut all = open_offloaded(&rt, rt.alloc(), 10, 16, 2);
-    assert_same(
-        &rt,
-        plain_and_lazy(rt.alloc(), &mut all.processor),
-        TWO_TICKETS,
-    );
-    let shown = Lists::Cpu {
-        mode: Mode::Offloaded,
-        accepted: 2,
-        bypass: 1,
-        lengths: [0, 0, 0, 0],
-        numbers: [0, 0],
-    };
-    assert_same(&rt, all.processor.lists(), shown);
+    play(&rt, rt.alloc(), &mut all.parts, &ONE_HELD_BACK);
 }
 
 /// A processor, its hand, which draws from the processor's own lane, and the driver.
@@ -210,78 +197,40 @@ fn hand_runs_after_the_grace_period(rt: HostRuntime) {
     assert_same(&rt, turns_by_hand(rt.alloc(), &mut parts), Some(turns));
 }
 
-/// What a Local processor's ticks answered that runs at most two callbacks in each: before a grace period, and after it,
-/// which it runs in order.
-fn ticks_of(
-    alloc: Global,
-    processor: &mut Processor<Work>,
-    driver: &mut Driver,
-) -> Option<[Ticked; 4]> {
-    for key in 7..10 {
-        call(alloc, processor, 1, key)?;
-    }
-    let early = processor.tick(1);
-    driver.turn();
-    processor.quiescent();
-    driver.turn();
-    let first = processor.tick(2);
-    let second = processor.tick(3);
-    Some([early, first, second, processor.tick(4)])
-}
+/// A Local processor that runs at most two callbacks in each tick: none before a grace period, and then all in order.
+static RUN_IN_TICKS: [Step; 8] = [
+    Calls(1, 3, Ticket { cpu: 0, number: 2 }),
+    Tick(1, 0, Stop::Empty),
+    Drive(DriverTurn::Started(1)),
+    Report(Some(1)),
+    Drive(DriverTurn::Ended(4)),
+    Tick(2, 2, Stop::Limit),
+    Tick(3, 1, Stop::Empty),
+    Tick(4, 0, Stop::Empty),
+];
 
 #[test]
 fn local_processor_runs_in_its_tick(rt: HostRuntime) {
-    let ticked = |ran, stop| Ticked { ran, stop };
     let mut all = open_local(&rt, rt.alloc(), 2, 3);
-    let ticks = [
-        ticked(0, Stop::Empty),
-        ticked(2, Stop::Limit),
-        ticked(1, Stop::Empty),
-        ticked(0, Stop::Empty),
-    ];
-    assert_same(
-        &rt,
-        ticks_of(rt.alloc(), &mut all.processor, &mut all.driver),
-        Some(ticks),
-    );
+    play(&rt, rt.alloc(), &mut all.parts, &RUN_IN_TICKS);
 }
 
-/// What an offloaded processor shows with a lazy call, once it is asked off, and asked on again: it releases its bypass list
-/// in the tick, and the mode is Deoffloading until the hand has run what went over the lane.
-fn switched(
-    alloc: Global,
-    processor: &mut Processor<Work>,
-    control: &mut Control,
-) -> Option<[Lists; 3]> {
-    call_lazy(alloc, processor, 1, 7)?;
-    processor.tick(1);
-    let held = processor.lists();
-    control.deoffload(0).ok()?;
-    processor.tick(1);
-    let left = processor.lists();
-    control.offload(0).ok()?;
-    processor.tick(1);
-    Some([held, left, processor.lists()])
-}
+/// An offloaded processor with a lazy call is asked off, and asked on again: it releases its bypass list in the tick, and the
+/// mode is Deoffloading until the hand has run what went over the lane.
+static OFF_AND_ON: [Step; 9] = [
+    Lazy(1, FIRST),
+    Tick(1, 0, Stop::Empty),
+    Show(Mode::Offloaded, 1, 1, 0),
+    Deoffload,
+    Tick(1, 0, Stop::Empty),
+    Show(Mode::Deoffloading, 1, 0, 0),
+    Offload,
+    Tick(1, 0, Stop::Empty),
+    Show(Mode::Offloaded, 1, 0, 0),
+];
 
 #[test]
 fn processor_leaves_as_it_is_asked(rt: HostRuntime) {
     let mut all = open_offloaded(&rt, rt.alloc(), 10, 16, 3);
-    let lists = |mode, bypass| Lists::Cpu {
-        mode,
-        accepted: 1,
-        bypass,
-        lengths: [0, 0, 0, 0],
-        numbers: [0, 0],
-    };
-    let shown = [
-        lists(Mode::Offloaded, 1),
-        lists(Mode::Deoffloading, 0),
-        lists(Mode::Offloaded, 0),
-    ];
-    assert_same(
-        &rt,
-        switched(rt.alloc(), &mut all.processor, &mut all.control),
-        Some(shown),
-    );
+    play(&rt, rt.alloc(), &mut all.parts, &OFF_AND_ON);
 }

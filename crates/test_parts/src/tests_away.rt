@@ -1,48 +1,26 @@
 //! Processors that are away, and grace periods without a callback.
 
-use crate::opening::{Work, call};
+use crate::opening::{Opened, Work, call, last, open_shape};
 use crate::same::assert_same;
 use rcu_jobs::DriverTurn;
 use rcu_numbers::Shape;
-use rcu_parts::{AllParts, Away, Driver, Processor, open};
+use rcu_parts::{Away, Driver, Processor};
 use std::alloc::Global;
 use std::process::Abort;
 
-/// Two Local processors, of which the second is away, and the driver.
-#[derive(Drop)]
-struct OneAway {
-    here: Processor<Work>,
-    away: Away<Work>,
-    driver: Driver,
+/// The parts of two Local processors, of which the second is away.
+fn one_away(rt: &impl Abort, alloc: Global) -> (Opened, Away<Work>) {
+    let mut all = open_shape(rt, alloc, Shape::new(2, 0, 1, 10, 16, 10));
+    let second = all.parts.processors.pop().expect(rt, "the second");
+    let Ok(away) = second.leave() else {
+        panic!(rt; "it didn't leave");
+    };
+    (all, away)
 }
 
-fn one_away(rt: &impl Abort, alloc: Global) -> OneAway {
-    let shape = Shape::new(2, 0, 1, 10, 16, 10)
-        .expect(rt, "a shape")
-        .for_parts();
-    let AllParts {
-        mut processors,
-        driver,
-        groups: _,
-        hands: _,
-        control: _,
-    } = open(alloc, &shape).expect(rt, "memory");
-    let second = processors.pop().expect(rt, "the second");
-    OneAway {
-        here: processors.pop().expect(rt, "the first"),
-        away: second.leave().ok().expect(rt, "one that left"),
-        driver,
-    }
-}
-
-/// What a grace period beside a processor that is away came to.
-#[derive(Clone, Copy, Debug, PartialEq, Eq)]
-struct Beside {
-    turns: [DriverTurn; 3],
-    /// Whether the grace period of a cookie was over, before and after.
-    polls: [bool; 2],
-    ran: u64,
-}
+/// What a grace period beside a processor that is away came to: the driver's turns, whether the grace period of a cookie was
+/// over, before and after, and how many callbacks ran.
+type Beside = ([DriverTurn; 3], [bool; 2], u64);
 
 /// A grace period of a callback, in which the other processor is away.
 fn beside_one_that_is_away(
@@ -56,11 +34,7 @@ fn beside_one_that_is_away(
     let before = here.poll_state(cookie);
     let turns = turns_of(here, driver);
     let ran = here.tick(2).ran;
-    Some(Beside {
-        turns,
-        polls: [before, here.poll_state(cookie)],
-        ran,
-    })
+    Some((turns, [before, here.poll_state(cookie)], ran))
 }
 
 /// The driver's turns of a grace period in which one processor reports.
@@ -79,25 +53,18 @@ fn report_once_back(away: Away<Work>) -> Option<u64> {
 
 #[test]
 fn one_that_is_away_holds_nobody_back(rt: HostRuntime) {
-    let OneAway {
-        mut here,
-        away,
-        mut driver,
-    } = one_away(&rt, rt.alloc());
-    let beside = beside_one_that_is_away(rt.alloc(), &mut here, &mut driver);
-    let expected = Beside {
-        turns: [
-            DriverTurn::Started(1),
-            DriverTurn::Waits(0),
-            DriverTurn::Ended(4),
-        ],
-        polls: [false, true],
-        ran: 1,
-    };
+    let (mut all, away) = one_away(&rt, rt.alloc());
+    let here = last(&rt, &mut all.parts.processors);
+    let beside = beside_one_that_is_away(rt.alloc(), here, &mut all.parts.driver);
+    let turns = [
+        DriverTurn::Started(1),
+        DriverTurn::Waits(0),
+        DriverTurn::Ended(4),
+    ];
     assert_same(
         &rt,
         (beside, report_once_back(away)),
-        (Some(expected), None),
+        (Some((turns, [false, true], 1)), None),
     );
 }
 
@@ -118,14 +85,11 @@ fn back_before_it_is_met(
 
 #[test]
 fn one_that_is_back_owes_its_report(rt: HostRuntime) {
-    let OneAway {
-        mut here,
-        away,
-        mut driver,
-    } = one_away(&rt, rt.alloc());
+    let (mut all, away) = one_away(&rt, rt.alloc());
+    let here = last(&rt, &mut all.parts.processors);
     assert_same(
         &rt,
-        back_before_it_is_met(&mut here, away, &mut driver),
+        back_before_it_is_met(here, away, &mut all.parts.driver),
         [
             DriverTurn::Started(1),
             DriverTurn::Waits(1),

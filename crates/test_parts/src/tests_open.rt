@@ -1,30 +1,18 @@
 //! Which parts `open` makes.
 
-use crate::opening::{Work, call_lazy};
+use crate::opening::{Opened, Work, open_kept, open_shape};
 use crate::same::assert_same;
-use rcu_jobs::{Lists, Mode};
+use crate::steps::Step::{Barrier, Lazy, Show, Tick};
+use crate::steps::{Step, play};
+use rcu_jobs::{Lists, Mode, Stop, Ticket};
 use rcu_numbers::{MOST_CALLS, PartsShape, ProcessorSet, Shape};
-use rcu_parts::{Control, Group, Hand, Parts, Processor, open};
+use rcu_parts::{Group, Hand, Kept, Parts, Processor};
 use std::alloc::Global;
 use std::process::Abort;
 
-/// The parts of a runtime of four processors.
-struct OfFour {
-    parts: Parts<Work>,
-}
-
-impl Drop for OfFour {
-    fn drop(self) {
-        let OfFour { parts: _ } = self;
-    }
-}
-
 /// The parts of four processors, of which these are offloadable. Neighbours are a group of two.
-fn opened(rt: &impl Abort, alloc: Global, offloadable: u32) -> OfFour {
-    let shape = Shape::new(4, offloadable, 2, 10, 16, 20).expect(rt, "a shape");
-    OfFour {
-        parts: open(alloc, &shape.for_parts()).expect(rt, "memory"),
-    }
+fn opened(rt: &impl Abort, alloc: Global, offloadable: u32) -> Opened {
+    open_shape(rt, alloc, Shape::new(4, offloadable, 2, 10, 16, 20))
 }
 
 /// How many processors, groups and hands there are.
@@ -52,33 +40,45 @@ const EMPTY_MEMBER: Lists = Lists::Folk {
     numbers: [0; 2],
 };
 
+/// What a processor shows. None past the last.
+fn shown(processors: &[Processor<Work>], at: usize) -> Option<Lists> {
+    Some(processors.get(at)?.lists())
+}
+
 /// That these are so many empty processors as modes, each of its mode.
-fn assert_empty(rt: &impl Abort, processors: &[Processor<Work>], modes: &[Mode]) {
-    assert_same(rt, processors.len(), modes.len());
-    for (processor, mode) in processors.iter().zip(modes) {
-        assert_same(rt, processor.lists(), empty(*mode));
-    }
+fn assert_empty(rt: &impl Abort, processors: &[Processor<Work>], modes: [Mode; 4]) {
+    let found = [
+        shown(processors, 0),
+        shown(processors, 1),
+        shown(processors, 2),
+        shown(processors, 3),
+    ];
+    let wanted = modes.map(|mode| Some(empty(mode)));
+    assert_same(rt, (processors.len(), found), (4, wanted));
 }
 
 #[test]
 fn offloadable_ones_are_offloaded(rt: HostRuntime) {
     let all = opened(&rt, rt.alloc(), 0b1010);
     let modes = [Mode::Local, Mode::Offloaded, Mode::Local, Mode::Offloaded];
-    assert_empty(&rt, all.parts.processors.as_slice(), &modes);
+    assert_empty(&rt, all.parts.processors.as_slice(), modes);
 }
 
-/// That these are the hands of these processors.
-fn assert_hands(rt: &impl Abort, hands: &[Hand<Work>], cpus: &[u64]) {
-    assert_same(rt, hands.len(), cpus.len());
-    for (hand, cpu) in hands.iter().zip(cpus) {
-        assert_same(rt, hand.cpu(), *cpu);
-    }
+/// Whose a hand is. None past the last.
+fn cpu(hands: &[Hand<Work>], at: usize) -> Option<u64> {
+    Some(hands.get(at)?.cpu())
+}
+
+/// That these are the hands of two processors.
+fn assert_hands(rt: &impl Abort, hands: &[Hand<Work>], cpus: [u64; 2]) {
+    let found = [cpu(hands, 0), cpu(hands, 1)];
+    assert_same(rt, (hands.len(), found), (2, cpus.map(|cpu| Some(cpu))));
 }
 
 #[test]
 fn each_offloadable_one_has_a_hand(rt: HostRuntime) {
     let all = opened(&rt, rt.alloc(), 0b1010);
-    assert_hands(&rt, all.parts.hands.as_slice(), &[1, 3]);
+    assert_hands(&rt, all.parts.hands.as_slice(), [1, 3]);
 }
 
 /// The number of the first of so many groups, and what it shows of each processor.
@@ -122,34 +122,26 @@ fn with_none_offloadable_there_is_no_group(rt: HostRuntime) {
     assert_same(&rt, counts(&all.parts), [4, 0, 0]);
 }
 
-/// How long a processor's bypass list is: after a lazy call, after a tick, and after a barrier and a tick.
-fn bypass_lengths(
-    alloc: Global,
-    processor: &mut Processor<Work>,
-    control: &mut Control,
-) -> Option<[u64; 3]> {
-    call_lazy(alloc, processor, 1, 8)?;
-    let called = bypass_of(processor.lists());
-    processor.tick(2);
-    let waits = bypass_of(processor.lists());
-    control.barrier(&[]).ok()?;
-    processor.tick(2);
-    Some([called, waits, bypass_of(processor.lists())])
-}
+const OF_THE_LAST: Ticket = Ticket {
+    cpu: 1023,
+    number: 0,
+};
 
-fn bypass_of(lists: Lists) -> u64 {
-    match lists {
-        Lists::Cpu { bypass, .. } => bypass,
-        Lists::Folk { .. } => 0,
-    }
-}
+/// A barrier after a lazy call: the next tick releases the bypass list, and none before it does.
+static BARRIER_URGES: [Step; 7] = [
+    Lazy(1, OF_THE_LAST),
+    Show(Mode::Offloaded, 1, 1, 0),
+    Tick(2, 0, Stop::Empty),
+    Show(Mode::Offloaded, 1, 1, 0),
+    Barrier(None, None),
+    Tick(2, 0, Stop::Empty),
+    Show(Mode::Offloaded, 1, 0, 0),
+];
 
 #[test]
 fn a_barrier_urges_the_last_of_1024(rt: HostRuntime) {
-    let all = ProcessorSet::of_first(1024);
-    let shape = PartsShape::new(1024, &all, 64, 10, 16, MOST_CALLS).expect(&rt, "a shape");
-    let mut parts: Parts<Work> = open(rt.alloc(), &shape).expect(&rt, "memory");
-    let mut last = parts.processors.pop().expect(&rt, "a processor");
-    let lengths = bypass_lengths(rt.alloc(), &mut last, &mut parts.control);
-    assert_same(&rt, lengths, Some([1, 1, 0]));
+    let offloadable = ProcessorSet::of_first(1024);
+    let shape = PartsShape::new(1024, &offloadable, 64, 10, 16, MOST_CALLS);
+    let mut all = open_kept(&rt, rt.alloc(), shape, Kept::Whole);
+    play(&rt, rt.alloc(), &mut all.parts, &BARRIER_URGES);
 }

@@ -5,6 +5,7 @@ use crate::same::assert_same;
 use rcu_jobs::Lists;
 use rcu_parts::{Group, Processor};
 use std::alloc::Global;
+use std::process::Abort;
 use std::thread;
 
 /// Has a processor make 100 calls, some of them held back by their moments. Answers how many were accepted.
@@ -49,10 +50,16 @@ fn bypassed(processor: &Processor<Work>) -> u64 {
     }
 }
 
+/// An offloaded processor and its group.
+fn processor_and_group(rt: &impl Abort, alloc: Global) -> (Processor<Work>, Group<Work>) {
+    let mut all = open_offloaded(rt, alloc, 10, 10000, 100);
+    let processor = all.parts.processors.pop().expect(rt, "a processor");
+    (processor, all.parts.groups.pop().expect(rt, "a group"))
+}
+
 #[test]
 fn group_beside_caller(rt: HostRuntime) {
-    let parts = open_offloaded(&rt, rt.alloc(), 10, 10000, 100);
-    let (processor, group) = parts.into_processor_and_group();
+    let (processor, group) = processor_and_group(&rt, rt.alloc());
     let alloc = rt.alloc();
     let ((processor, accepted), (mut group, beside)) = thread::join(
         &rt,
