@@ -5,6 +5,10 @@
 #![tactic(auto)]
 
 #[cfg(test)]
+mod lines;
+#[cfg(test)]
+mod played;
+#[cfg(test)]
 mod same;
 #[cfg(test)]
 mod tests;

@@ -1,72 +1,98 @@
 //! Rows of docs/specification/rows.md in threads: "A stop after any turn", and `passed-tickets`.
 
+use crate::played::{Work, job, played};
 use crate::same::assert_same;
-use crate::tests::{Work, job, played};
 use rcu_jobs::{Closed, Ticket};
 use rcu_numbers::Shape;
-use std::alloc::{AllocError, Global};
+use std::alloc::Global;
 use std::process::Abort;
+use std::thread::Threads;
 use test_phases_harness::{Act, Move, Phase, Reply, Step};
 
 /// A call of a processor at its turn of this number: every second one is lazy. The job has the number as its key.
-fn call_of(alloc: Global, turn: u64) -> Result<Act<Work>, AllocError> {
-    let work = job(alloc, turn)?;
+fn call_of(rt: &impl Abort, alloc: Global, turn: u64) -> Act<Work> {
+    let job = job(rt, alloc, turn);
     let moment = turn / 4;
     if turn % 2 == 0 {
-        return Ok(Act::Call { moment, job: work });
+        return Act::Call { moment, job };
     }
-    Ok(Act::Lazy { moment, job: work })
+    Act::Lazy { moment, job }
+}
+
+/// What a processor does next.
+fn add_act(rt: &impl Abort, steps: &mut Vec<Step<Work>>, cpu: usize, act: Act<Work>) {
+    steps.push(Step::On { cpu, act }).expect(rt, "memory");
 }
 
 /// The turn of this number of each of so many processors: it calls, if so asked, reports, and ticks.
 fn add_turn(
+    rt: &impl Abort,
     alloc: Global,
     steps: &mut Vec<Step<Work>>,
     processors: usize,
     turn: u64,
     calls: bool,
-) -> Result<(), AllocError> {
+) {
     for cpu in 0..processors {
         if calls {
-            let act = call_of(alloc, turn)?;
-            steps.push(Step::On { cpu, act })?;
+            add_act(rt, steps, cpu, call_of(rt, alloc, turn));
         }
-        let act = Act::Report;
-        steps.push(Step::On { cpu, act })?;
-        let act = Act::Tick { moment: turn / 4 };
-        steps.push(Step::On { cpu, act })?;
+        add_act(rt, steps, cpu, Act::Report);
+        add_act(rt, steps, cpu, Act::Tick { moment: turn / 4 });
     }
-    Ok(())
 }
 
-/// Adds so many turns of each of so many processors, and of the driver. The processors call in the first of them.
+/// Adds so many turns of each of so many processors. The processors call in the first of them.
 fn add_turns(
+    rt: &impl Abort,
     alloc: Global,
-    phase: &mut Phase<Work>,
+    steps: &mut Vec<Step<Work>>,
     processors: usize,
     turns: u64,
     calls: u64,
-) -> Result<(), AllocError> {
+) {
     for turn in 0..turns {
-        add_turn(alloc, &mut phase.steps, processors, turn, turn < calls)?;
-        phase.moves.push(Move::Drive)?;
+        add_turn(rt, alloc, steps, processors, turn, turn < calls);
     }
-    Ok(())
+}
+
+/// What the driver and control do next.
+fn add_move(rt: &impl Abort, moves: &mut Vec<Move>, next: Move) {
+    moves.push(next).expect(rt, "memory");
+}
+
+/// Adds so many turns of the driver, after each of which control polls if so asked.
+fn add_drives(rt: &impl Abort, moves: &mut Vec<Move>, turns: u64, polls: bool) {
+    for _ in 0..turns {
+        add_move(rt, moves, Move::Drive);
+        if polls {
+            add_move(rt, moves, Move::Poll);
+        }
+    }
+}
+
+/// A phase in which each of so many processors, and each other part but the driver, takes so many turns. The processors call in
+/// the first of them.
+fn turns_but_drives(
+    rt: &impl Abort,
+    alloc: Global,
+    processors: usize,
+    turns: u64,
+    calls: u64,
+) -> Phase<Work> {
+    let mut phase = Phase::new(alloc);
+    phase.group_turns = turns;
+    phase.hand_turns = turns;
+    add_turns(rt, alloc, &mut phase.steps, processors, turns, calls);
+    phase
 }
 
 /// A phase in which each of so many processors, and each other part, takes so many turns. The processors call in the first
 /// of them.
-fn turns(
-    alloc: Global,
-    processors: usize,
-    turns: u64,
-    calls: u64,
-) -> Result<Phase<Work>, AllocError> {
-    let mut phase = Phase::new(alloc);
-    phase.group_turns = turns;
-    phase.hand_turns = turns;
-    add_turns(alloc, &mut phase, processors, turns, calls)?;
-    Ok(phase)
+fn turns(rt: &impl Abort, alloc: Global, processors: usize, turns: u64, calls: u64) -> Phase<Work> {
+    let mut phase = turns_but_drives(rt, alloc, processors, turns, calls);
+    add_drives(rt, &mut phase.moves, turns, false);
+    phase
 }
 
 /// Whether of processor `cpu`, which accepted jobs of the keys 0, 1, .., so many, the first have records, in order, and the
@@ -101,9 +127,25 @@ fn are_whole(closed: &Closed<Work>, processors: usize, accepted: u64) -> bool {
     true
 }
 
-/// The one phase in which each of so many processors, and each other part, takes so many turns, and calls in each.
-fn one_phase(alloc: Global, processors: usize, many: u64) -> Result<Vec<Phase<Work>>, AllocError> {
-    Ok(vec![in alloc; turns(alloc, processors, many, many)?]?)
+/// The next phase.
+fn add_phase(rt: &impl Abort, phases: &mut Vec<Phase<Work>>, phase: Phase<Work>) {
+    phases.push(phase).expect(rt, "memory");
+}
+
+/// That the ends are whole where in one phase each of so many processors, and each other part, takes so many turns, and calls in
+/// each.
+fn assert_whole<R: Abort + Threads + Sync>(
+    rt: &R,
+    alloc: Global,
+    shape: Option<Shape>,
+    processors: usize,
+    many: u64,
+) {
+    let mut phases = Vec::new(alloc);
+    add_phase(rt, &mut phases, turns(rt, alloc, processors, many, many));
+    let played = played(rt, alloc, shape, phases);
+    let whole = are_whole(&played.closed, processors, many);
+    assert_same(rt, (many, whole), (many, true));
 }
 
 // Each part has a thread of its own here.
@@ -111,13 +153,7 @@ fn one_phase(alloc: Global, processors: usize, many: u64) -> Result<Vec<Phase<Wo
 fn cut_threads(rt: HostRuntime) {
     let shape = Shape::new(1, 1, 1, 10, 10000, 100);
     for many in 0..=40 {
-        let phases = one_phase(rt.alloc(), 1, many).expect(&rt, "memory");
-        let played = played(&rt, rt.alloc(), shape, phases);
-        assert_same(
-            &rt,
-            (many, are_whole(&played.closed, 1, many)),
-            (many, true),
-        );
+        assert_whole(&rt, rt.alloc(), shape, 1, many);
     }
 }
 
@@ -126,13 +162,7 @@ fn cut_threads(rt: HostRuntime) {
 fn cut_threads_of_four_processors(rt: HostRuntime) {
     let shape = Shape::new(4, 0b0110, 2, 3, 5, 100);
     for many in 0..=40 {
-        let phases = one_phase(rt.alloc(), 4, many).expect(&rt, "memory");
-        let played = played(&rt, rt.alloc(), shape, phases);
-        assert_same(
-            &rt,
-            (many, are_whole(&played.closed, 4, many)),
-            (many, true),
-        );
+        assert_whole(&rt, rt.alloc(), shape, 4, many);
     }
 }
 
@@ -142,54 +172,52 @@ const PROCESSORS: usize = 4;
 const TICKETS: u64 = 3;
 
 /// The tickets of the first callbacks of each processor.
-fn first_tickets(alloc: Global) -> Result<Vec<Ticket>, AllocError> {
-    let mut tickets = Vec::new(alloc);
-    for cpu in 0..PROCESSORS {
-        for number in 0..TICKETS {
-            tickets.push(Ticket {
-                cpu: cpu as u64,
-                number,
-            })?;
-        }
-    }
-    Ok(tickets)
-}
+static FIRST_TICKETS: [Ticket; 12] = [
+    Ticket { cpu: 0, number: 0 },
+    Ticket { cpu: 0, number: 1 },
+    Ticket { cpu: 0, number: 2 },
+    Ticket { cpu: 1, number: 0 },
+    Ticket { cpu: 1, number: 1 },
+    Ticket { cpu: 1, number: 2 },
+    Ticket { cpu: 2, number: 0 },
+    Ticket { cpu: 2, number: 1 },
+    Ticket { cpu: 2, number: 2 },
+    Ticket { cpu: 3, number: 0 },
+    Ticket { cpu: 3, number: 1 },
+    Ticket { cpu: 3, number: 2 },
+];
 
-/// What control does that opens a barrier with these tickets and polls it after each of 200 turns of the driver.
-fn polls(alloc: Global, tickets: Vec<Ticket>) -> Result<Vec<Move>, AllocError> {
-    let mut moves = vec![in alloc; Move::Open(tickets)]?;
-    for _ in 0..200 {
-        moves.push(Move::Drive)?;
-        moves.push(Move::Poll)?;
-    }
-    Ok(moves)
-}
-
-/// A phase of many turns, in which control opens a barrier with these tickets and polls it after each turn of the driver.
-fn polled_turns(alloc: Global, tickets: Vec<Ticket>) -> Result<Phase<Work>, AllocError> {
-    let moves = polls(alloc, tickets)?;
-    let mut phase = turns(alloc, PROCESSORS, 200, 20)?;
-    phase.moves = moves;
-    Ok(phase)
+/// A phase of many turns, in which control opens a barrier with the tickets and polls it after each turn of the driver.
+fn polled_turns(rt: &impl Abort, alloc: Global) -> Phase<Work> {
+    let tickets = Vec::from_slice(alloc, &FIRST_TICKETS).expect(rt, "memory");
+    let mut phase = turns_but_drives(rt, alloc, PROCESSORS, 200, 20);
+    add_move(rt, &mut phase.moves, Move::Open(tickets));
+    add_drives(rt, &mut phase.moves, 200, true);
+    phase
 }
 
 /// A phase in which control polls.
-fn one_poll(alloc: Global) -> Result<Phase<Work>, AllocError> {
+fn one_poll(rt: &impl Abort, alloc: Global) -> Phase<Work> {
     let mut phase = Phase::new(alloc);
-    phase.moves.push(Move::Poll)?;
-    Ok(phase)
+    add_move(rt, &mut phase.moves, Move::Poll);
+    phase
 }
 
-/// Adds the phases of the row: the calls of the tickets; many turns with a barrier that has them; then as many phases of one
-/// turn as always suffice, and one more poll.
-fn push_ticket_phases(phases: &mut Vec<Phase<Work>>, alloc: Global) -> Result<(), AllocError> {
-    phases.push(turns(alloc, PROCESSORS, TICKETS, TICKETS)?)?;
-    phases.push(polled_turns(alloc, first_tickets(alloc)?)?)?;
+/// The phases of the row: the calls of the tickets; many turns with a barrier that has them; then as many phases of one turn as
+/// always suffice, and one more poll.
+fn ticket_phases(rt: &impl Abort, alloc: Global) -> Vec<Phase<Work>> {
+    let mut phases = Vec::new(alloc);
+    add_phase(
+        rt,
+        &mut phases,
+        turns(rt, alloc, PROCESSORS, TICKETS, TICKETS),
+    );
+    add_phase(rt, &mut phases, polled_turns(rt, alloc));
     for _ in 0..20 {
-        phases.push(turns(alloc, PROCESSORS, 1, 0)?)?;
+        add_phase(rt, &mut phases, turns(rt, alloc, PROCESSORS, 1, 0));
     }
-    phases.push(one_poll(alloc)?)?;
-    Ok(())
+    add_phase(rt, &mut phases, one_poll(rt, alloc));
+    phases
 }
 
 /// Whether control's barrier was opened, and passed at last, and once it had passed never waited again.
@@ -216,12 +244,8 @@ fn assert_all_ran(rt: &impl Abort, closed: &Closed<Work>, tickets: &[Ticket]) {
 
 #[test]
 fn passed_tickets(rt: HostRuntime) {
-    let alloc = rt.alloc();
-    let mut phases = Vec::new(alloc);
-    push_ticket_phases(&mut phases, alloc).expect(&rt, "memory");
     let shape = Shape::new(4, 0b1110, 2, 10, 10000, 100);
-    let played = played(&rt, alloc, shape, phases);
+    let played = played(&rt, rt.alloc(), shape, ticket_phases(&rt, rt.alloc()));
     assert_same(&rt, has_passed(played.replies.as_slice()), true);
-    let tickets = first_tickets(alloc).expect(&rt, "memory");
-    assert_all_ran(&rt, &played.closed, tickets.as_slice());
+    assert_all_ran(&rt, &played.closed, &FIRST_TICKETS);
 }
