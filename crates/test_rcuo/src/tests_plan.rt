@@ -26,26 +26,38 @@ impl Read for Broken {
     }
 }
 
-// Why there is no plan, by one word.
-fn refusal<R: Read>(rt: &impl Abort, alloc: Global, word: &str, reader: &mut R) -> Option<Refusal> {
+// What a refusal is of.
+fn kind_of(refusal: &Refusal) -> &'static str {
+    match refusal {
+        Refusal::Words(_) => "words",
+        Refusal::Fault(Fault::CannotRead) => "a failed read",
+        Refusal::Fault(Fault::Setup(SetupFault::NotToml)) => "no document",
+        _ => "another",
+    }
+}
+
+// What the refusal of a plan is of, by one word. "a plan" where there is one.
+fn refused<R: Read>(rt: &impl Abort, alloc: Global, word: &str, reader: &mut R) -> &'static str {
     let words = [String::from_str(alloc, word).expect(rt, "memory")];
-    read_plan(alloc, &words, reader).err()
+    match read_plan(alloc, &words, reader) {
+        Ok(_) => "a plan",
+        Err(refusal) => kind_of(&refusal),
+    }
 }
 
 #[test]
 fn fails_at_each_read(rt: HostRuntime) {
     for left in 0..3u64 {
-        let refused = refusal(&rt, rt.alloc(), "replay", &mut Broken { left });
-        let is_read = matches!(refused, Some(Refusal::Fault(Fault::CannotRead)));
-        expect_same(&rt, "of a failed read", is_read, true);
+        let found = refused(&rt, rt.alloc(), "replay", &mut Broken { left });
+        expect_same(&rt, "of a failed read", found, "a failed read");
     }
 }
 
 #[test]
 fn other_words_are_refused_before_reading(rt: HostRuntime) {
     for word in ["thread", "replays", "--help", ""] {
-        let refused = refusal(&rt, rt.alloc(), word, &mut Broken { left: 0 });
-        expect_same(&rt, word, matches!(refused, Some(Refusal::Words(_))), true);
+        let found = refused(&rt, rt.alloc(), word, &mut Broken { left: 0 });
+        expect_same(&rt, word, found, "words");
     }
 }
 
@@ -55,11 +67,7 @@ fn a_text_that_is_too_long_or_no_text(rt: HostRuntime) {
         b"processors = 1 # \xff".as_slice(),
         b"processors".as_slice(),
     ] {
-        let refused = refusal(&rt, rt.alloc(), "replay", &mut Cursor::new(bytes));
-        let is_no_toml = matches!(
-            refused,
-            Some(Refusal::Fault(Fault::Setup(SetupFault::NotToml)))
-        );
-        expect_same(&rt, "no document", is_no_toml, true);
+        let found = refused(&rt, rt.alloc(), "replay", &mut Cursor::new(bytes));
+        expect_same(&rt, "no document", found, "no document");
     }
 }
