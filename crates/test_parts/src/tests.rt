@@ -8,6 +8,7 @@ ghost use Rattle.rcu_board.specs.declared.board.Role.{Role};
 ghost use Rattle.rcu_board.specs.Frames.{IsBare};
 ghost use Rattle.rcu_lanes.specs.Ends.{items_put};
 ghost use Rattle.rcu_part_processor.specs.Opened.{IsEmpty};
+ghost use Rattle.std.specs.Arc.{arc_value};
 
 use crate::opening::{Work, call, job, last, open_local, open_offloaded};
 use crate::same::assert_same;
@@ -145,6 +146,22 @@ impl Drop for ByHand {
     }
 }
 
+/// A board for three parts.
+fn for_three(
+    rt: &impl Abort,
+    alloc: Global,
+    board: Board,
+) -> (Arc<Board, Global>, Arc<Board, Global>, Arc<Board, Global>)
+    ensures first { arc_value result.0 ≡ board }
+    ensures second { arc_value result.1 ≡ board }
+    ensures third { arc_value result.2 ≡ board }
+{
+    let first = Arc::new(alloc, board).expect(rt, "memory");
+    let second = Arc::try_clone(&first).expect(rt, "a board");
+    let third = Arc::try_clone(&first).expect(rt, "a board");
+    (first, second, third)
+}
+
 /// The parts of one processor, made of their seats. The group asked for grace period 4.
 fn made_by_hand(rt: &impl Abort, alloc: Global) -> ByHand {
     let shape = Shape::new(1, 1, 1, 10, 16, 2)
@@ -163,9 +180,7 @@ fn made_by_hand(rt: &impl Abort, alloc: Global) -> ByHand {
     };
     let (front, rear) = ruled_lane(alloc).expect(rt, "a lane");
     let lists = no_lists(rt, alloc, &board, rear, shape.qhimark);
-    let board = Arc::new(alloc, board).expect(rt, "memory");
-    let drivers = Arc::try_clone(&board).expect(rt, "a board");
-    let hands = Arc::try_clone(&board).expect(rt, "a board");
+    let (board, drivers, hands) = for_three(rt, alloc, board);
     let held = Held::new(alloc, front);
     ByHand {
         driver: Driver::new(drivers, driver),
@@ -175,26 +190,39 @@ fn made_by_hand(rt: &impl Abort, alloc: Global) -> ByHand {
 }
 
 /// What the hand's turns answered, before a call, after it, and after its grace period.
-fn turns_by_hand(alloc: Global, parts: &mut ByHand) -> Option<[HandTurn; 3]> {
-    let before = parts.hand.turn();
-    call(alloc, &mut parts.processor, 1, 7)?;
-    let early = parts.hand.turn();
-    parts.driver.turn();
-    parts.processor.quiescent();
-    parts.driver.turn();
-    Some([before, early, parts.hand.turn()])
+fn turns_by_hand(
+    rt: &impl Abort,
+    alloc: Global,
+    processor: &mut Processor<Work>,
+    hand: &mut Hand<Work>,
+    driver: &mut Driver,
+) -> [HandTurn; 3] {
+    let before = hand.turn();
+    let ticket = call(alloc, processor, 1, 7);
+    assert_same(rt, ticket, Some(FIRST));
+    let early = hand.turn();
+    driver.turn();
+    processor.quiescent();
+    driver.turn();
+    [before, early, hand.turn()]
 }
 
 #[test]
 fn hand_runs_after_the_grace_period(rt: HostRuntime) {
     let turn = |ran, stop| HandTurn { ran, stop };
     let mut parts = made_by_hand(&rt, rt.alloc());
-    let turns = [
+    let ByHand {
+        processor,
+        hand,
+        driver,
+    } = &mut parts;
+    let turns = turns_by_hand(&rt, rt.alloc(), processor, hand, driver);
+    let wanted = [
         turn(0, Stop::Empty),
         turn(0, Stop::Turn),
         turn(1, Stop::Empty),
     ];
-    assert_same(&rt, turns_by_hand(rt.alloc(), &mut parts), Some(turns));
+    assert_same(&rt, turns, wanted);
 }
 
 /// A Local processor that runs at most two callbacks in each tick: none before a grace period, and then all in order.
