@@ -51,10 +51,12 @@ struct Flags {
     seen: Flag,
 }
 
+/// A flag that isn't raised.
 fn new_flag(rt: &impl Abort, alloc: Global) -> Flag {
     Arc::new(alloc, AtomicU64::new(0)).expect(rt, "memory")
 }
 
+/// The same flag, once more.
 fn another(rt: &impl Abort, flag: &Flag) -> Flag {
     Arc::try_clone(flag).expect(rt, "a flag")
 }
@@ -76,10 +78,12 @@ fn add_act(rt: &impl Abort, phase: &mut Phase<Work>, act: Act<Work>) {
     phase.steps.push(step).expect(rt, "memory");
 }
 
+/// Processor 0 makes a call of this job next.
 fn add_call(rt: &impl Abort, phase: &mut Phase<Work>, moment: u64, job: Work) {
     add_act(rt, phase, Act::Call { moment, job });
 }
 
+/// Processor 0 ticks so often next.
 fn add_ticks(rt: &impl Abort, phase: &mut Phase<Work>, many: u64) {
     for _ in 0..many {
         add_act(rt, phase, Act::Tick { moment: 0 });
@@ -91,12 +95,14 @@ fn add_move(rt: &impl Abort, phase: &mut Phase<Work>, next: Move) {
     phase.moves.push(next).expect(rt, "memory");
 }
 
+/// Control polls so often next.
 fn add_polls(rt: &impl Abort, phase: &mut Phase<Work>, many: u64) {
     for _ in 0..many {
         add_move(rt, phase, Move::Poll);
     }
 }
 
+/// Control opens a barrier next, with the ticket of the first callback.
 fn add_open(rt: &impl Abort, alloc: Global, phase: &mut Phase<Work>) {
     let tickets = vec![in alloc; Ticket { cpu: 0, number: 0 }];
     add_move(rt, phase, Move::Open(tickets.expect(rt, "memory")));

@@ -132,8 +132,8 @@ fn add_phase(rt: &impl Abort, phases: &mut Vec<Phase<Work>>, phase: Phase<Work>)
     phases.push(phase).expect(rt, "memory");
 }
 
-/// That the ends are whole where in one phase each of so many processors, and each other part, takes so many turns, and calls in
-/// each.
+/// That the ends are whole where in one phase each of so many processors, and each other part, takes so many turns. The
+/// processors call in each.
 fn assert_whole<R: Abort + Threads + Sync>(
     rt: &R,
     alloc: Global,
