@@ -1,4 +1,4 @@
-//! Laws over a processor's part, which have no code. 
+//! Laws over a processor's part, which have no code.
 
 ghost use Rattle.std.specs.Prelude.{◌≡◌, ℕ, ◌+◌};
 ghost use Rattle.rcu_part_processor.specs.Ticks.{RanDone};
