@@ -78,13 +78,6 @@ class Edit:
         """Whether all that it turns is code: what else it turns, a definition say, other functions' proofs may rest on too."""
         return all(place.startswith("src/") for place, _, _ in self.pairs)
 
-    @functools.cached_property
-    def body(self):
-        """The text of the functions in which its old texts stand, and its new texts: all that these functions may call."""
-        texts = {place: (self.folder / place).read_text(encoding="utf-8") for place, _, _ in self.pairs}
-        found = [function_text(texts[place], texts[place].find(old)) for place, old, _ in self.pairs if old in texts[place]]
-        return "\n".join(found + [new for _, _, new in self.pairs])
-
 
 def edits_of(crate, kinds=KINDS):
     """The edits of a crate, kind by kind, in the order of their names."""
@@ -173,15 +166,3 @@ def functions_of(folder):
                 found.append([*homes.get(path[-2], path[:-2]), *path[-2:]] if len(path) > 1 else path)
             at += len(line)
     return found
-
-
-def function_text(text, at):
-    """The text of the function in which a place of a source file stands: from its name to the brace that ends it."""
-    lines = text.splitlines()
-    first = text.count("\n", 0, at)
-    while first > 0 and not FUNCTION.match(lines[first]):
-        first -= 1
-    found = FUNCTION.match(lines[first])
-    ends = f"{found['in']}}}" if found else "}"
-    last = next((n for n in range(first, len(lines)) if lines[n] == ends), len(lines) - 1)
-    return "\n".join(lines[first : last + 1])

@@ -3,6 +3,7 @@ import importlib.machinery
 import importlib.util
 import pathlib
 import tempfile
+import types
 import unittest
 
 import programs  # (it finds tools/)
@@ -119,6 +120,16 @@ class Holes(unittest.TestCase):
             left_out = (trial.folder / "proofs/word/BoardWord/pack/Proof.antt").read_text(encoding="utf-8")
         self.assertIn("pack_spec = ?", left_out)
 
+    def test_what_turns_a_callee_alone(self):
+        program, crate = edits_program(), crates.read()["rcu_numbers"]
+        named = {it.name: it for it in edit_files.edits_of(crate)}
+        same, callee = named["foreign-report"], named["all-but-is-the-bit"]
+        same.pairs = [(place, old, old) for place, old, _ in same.pairs]
+        with tempfile.TemporaryDirectory() as room:
+            crates.fill_lane(crate, pathlib.Path(room))
+            trial = program.Trial(crate, [callee, same], pathlib.Path(room))
+            self.assertEqual(trial.judge([callee, same]), {callee: program.End.REFUSED, same: program.End.WAITS}, trial.said)
+
 
 class Reads(unittest.TestCase):
     """An edit by its file: which function it turns, and why it can't be applied."""
@@ -140,7 +151,6 @@ class Reads(unittest.TestCase):
     def test_the_function_of_its_text(self):
         edit = self.edit("file: src/turn.rt", "old: by + 1", "new: by + 2")
         self.assertEqual((edit.fault(), edit.function), ("", "Hand::look"))
-        self.assertIn("by + 2", edit.body)
 
     def test_an_import_beside_it(self):
         edit = self.edit("file: src/turn.rt", "old: use crate::hand::Hand;", "new: use crate::hand::{Hand, Fault};", "old: by + 1", "new: by")
@@ -152,6 +162,18 @@ class Reads(unittest.TestCase):
         self.assertEqual(self.edit("file: specs/Turns.antt", "old: turns = 1", "new: turns = 2").function, "")
         said = self.edit("function: Hand::turn", "file: specs/Turns.antt", "old: turns = 1", "new: turns = 2")
         self.assertEqual((said.function, said.turns_code, two.turns_code), ("Hand::turn", False, True))
+
+    def test_those_that_cannot_stand_together(self):
+        program = edits_program()
+        one = self.edit("file: src/turn.rt", "old: by + 1", "new: by + 1 + self.look(1)")
+        other = self.edit("file: src/turn.rt", "old:         self.look(1)", "new:         self.look(2)")
+        clashes = self.edit("file: src/turn.rt", "old: self.look(1)", "new: self.look(3)")
+        trial = program.Trial(types.SimpleNamespace(name="some_crate", folder=self.crate), [], self.crate / "room")
+        self.assertEqual(trial.put([one, other]), [one, other])
+        self.assertEqual(trial.put([one, clashes]), [one])
+        self.assertEqual(trial.put([clashes]), [clashes])
+        with self.assertRaises(edit_files.Unappliable):
+            trial.put([self.edit("file: src/turn.rt", "old: by + 9", "new: by")])
 
     def test_what_cannot_be_applied(self):
         self.assertIn("0 times", self.edit("file: src/turn.rt", "old: by + 9", "new: by").fault())
@@ -197,25 +219,28 @@ class Ends(unittest.TestCase):
         self.assertEqual(edits_program().end_of("fmt", said).name, "UNKNOWN")
 
 
-class Mentions(unittest.TestCase):
-    """`mentions`: whether a text may call a function, by how it is named."""
+class Own(unittest.TestCase):
+    """`fails_itself`: whether a function's own proof fails, where another that it calls isn't proved either."""
 
-    def test_a_method(self):
-        mentions = edits_program().mentions
-        for text in ("self.new()", "Hand::new(1)", "Self::new(1)"):
-            self.assertTrue(mentions(text, "Hand::new"), text)
-        for text in ("Vec::new(1)", "let new = 1;", "self.newest()"):
-            self.assertFalse(mentions(text, "Hand::new"), text)
+    WORD, CALLS = "rcu_numbers::word::BoardWord::reported", "it calls `rcu_numbers::word::all_but`, which is not proved"
 
-    def test_a_function_of_a_module(self):
-        mentions = edits_program().mentions
-        for text in ("look(1)", "turn::look(1)", "map(look)"):
-            self.assertTrue(mentions(text, "turn::look"), text)
-        self.assertFalse(mentions("self.look(1)", "turn::look"))
+    def stands(self, *names):
+        of = ", ".join(f"`Rattle.rcu_numbers.proofs.{it}.Answers.returns`" for it in names)
+        return edits_program().fails_itself(self.WORD, f"not proved; it stands on {of}, which antt refuses; {self.CALLS}")
+
+    def test_an_answer_of_its_own(self):
+        self.assertTrue(self.stands("word.BoardWord.reported", "word.all_but"))
+        self.assertFalse(self.stands("word.all_but"))
+        self.assertFalse(self.stands("set.word.BoardWord.reported"))
+
+    def test_a_goal_of_its_own(self):
+        fails = edits_program().fails_itself
+        self.assertTrue(fails(self.WORD, f"no proof: expected answers in ./proofs/word; `search` did not prove `returns`; {self.CALLS}"))
+        self.assertFalse(fails(self.WORD, f"no proof: {self.CALLS}"))
 
 
 class Rounds(unittest.TestCase):
-    """`round_of`: the first that is left, and others of functions that don't name each other; `shares_of`: those that share a copy."""
+    """`round_of`: the first that is left, and others of other functions; `shares_of`: those that share a copy."""
 
     class Edit:
         def __init__(self, function, body, turns_code=True):
@@ -225,8 +250,8 @@ class Rounds(unittest.TestCase):
         turn, again, look = self.Edit("Hand::turn", "self.look()"), self.Edit("Hand::turn", "self.look()"), self.Edit("Hand::look", "1")
         other, none, defines = self.Edit("Hand::cpu", "2"), self.Edit("", ""), self.Edit("Hand::ran", "", turns_code=False)
         round_of = edits_program().round_of
-        self.assertEqual(round_of([turn, again, look, other, none, defines]), [turn, other])
-        self.assertEqual(round_of([again, look, none]), [again])
+        self.assertEqual(round_of([turn, again, look, other, none, defines]), [turn, look, other])
+        self.assertEqual(round_of([again, turn, none]), [again])
         self.assertEqual(round_of([none, look]), [none])
         self.assertEqual(round_of([defines, look]), [defines])
 
