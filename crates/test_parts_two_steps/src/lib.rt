@@ -20,7 +20,8 @@ mod opening;
 mod outcomes;
 #[cfg(test)]
 mod same;
-pub mod steps;
+#[cfg(test)]
+mod steps;
 #[cfg(test)]
 mod tests;
 #[cfg(test)]
