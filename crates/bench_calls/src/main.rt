@@ -4,7 +4,8 @@
 //! beside a peer.
 //!
 //! With `--times` it prints the times, in nanoseconds: of calls one line, of waiting a line for each callback. Without it
-//! it says how many callbacks ran, of how many calls, which is the same in each run.
+//! it says how many callbacks ran, of how many calls, which is the same in each run. With `--idle` all parts wait in threads
+//! of their own while one job sleeps; tools/idle measures what processor time each thread takes.
 //!
 //! # What is proved
 //!
@@ -27,11 +28,13 @@ mod beside;
 mod calls;
 mod figures;
 mod helper;
+mod idle;
 mod jobs;
 mod latency;
 mod plan;
 
 use figures::{Figures, measure};
+use idle::{Sleep, run_idle};
 use jobs::Work;
 use latency::wait_times;
 use plan::{Plan, Refusal, read_plan};
@@ -42,6 +45,7 @@ use std::process::ExitCode;
 use std::rt::Clock;
 use std::sync::Wait;
 use std::thread::Threads;
+use std::time::Duration;
 
 /// Why the program can't end with its figures.
 #[derive(Drop)]
@@ -146,12 +150,29 @@ fn run_calls<R: Threads + Wait + Clock + Copy + Send + 'static>(
     Ok(print_figures(host, plan, &figures)?)
 }
 
+/// Runs all parts while the only job sleeps, and prints how many callbacks ran.
+fn rest<R: Threads + Wait + Clock + Copy + Send + 'static>(
+    host: &HostRuntime,
+    rt: &R,
+    milliseconds: u64,
+) -> Result<(), Fault> {
+    let job = Sleep {
+        clock: *host,
+        time: Duration::from_millis(milliseconds),
+    };
+    let ran = run_idle(rt, host.alloc(), job)?;
+    Ok(println!(host; "ran {ran} of 1")?)
+}
+
 /// Runs what the words say.
 fn run<R: Threads + Wait + Clock + Copy + Send + 'static>(
     host: &HostRuntime,
     rt: &R,
 ) -> Result<(), Fault> {
     let plan = given_plan(host)?;
+    if let Some(milliseconds) = plan.idle {
+        return rest(host, rt, milliseconds);
+    }
     let Some(shape) = plan.shape() else {
         return Err(Fault::NoShape);
     };

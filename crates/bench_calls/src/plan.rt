@@ -88,6 +88,8 @@ pub struct Plan {
     pub spacing: u64,
     /// Of a latency: for how many microseconds the processor sleeps between two ticks.
     pub nap: u64,
+    /// For how many milliseconds the only job sleeps, where nothing is measured but what idle parts take.
+    pub idle: Option<u64>,
 }
 
 impl Plan {
@@ -141,7 +143,7 @@ enum Takes {
 use Takes::{Nothing, Number};
 
 /// The options: the name of each, what it takes, and what its help says.
-static OPTIONS: [(&str, Takes, &str); 14] = [
+static OPTIONS: [(&str, Takes, &str); 15] = [
     (
         "latency",
         Nothing,
@@ -172,6 +174,11 @@ static OPTIONS: [(&str, Takes, &str); 14] = [
     ("pace", Number(1), "the ticks of one moment"),
     ("spacing", Number(1), "microseconds from call to call"),
     ("nap", Number(0), "microseconds of sleep between ticks"),
+    (
+        "idle",
+        Number(0),
+        "all parts wait while one job sleeps for so many milliseconds",
+    ),
 ];
 
 /// An option.
@@ -214,6 +221,7 @@ fn plan_of(matches: &ArgMatches) -> Plan {
         pace: number(matches, "pace", 1),
         spacing: number(matches, "spacing", SPACING),
         nap: number(matches, "nap", 0),
+        idle: matches.get_one("idle"),
     }
 }
 

@@ -1,4 +1,6 @@
-//! Tests of `rcu_world` and `rcu_world_checker` through their public calls, on written histories and real runs.
+//! Tests of `rcu_world`, `rcu_world_checker` and `rcu_agreement_checker` through their public calls.
+//!
+//! On written accounts and histories, and on real runs.
 //!
 //! They stand in a crate of their own, so that the functions of those are proved once, and not with their tests once more.
 #![tactic(auto)]
@@ -7,6 +9,8 @@
 mod rounds;
 #[cfg(test)]
 mod steps;
+#[cfg(test)]
+mod tests_agreement;
 #[cfg(test)]
 mod tests_agreement_core;
 #[cfg(test)]

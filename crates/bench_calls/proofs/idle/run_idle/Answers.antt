@@ -1,5 +1,5 @@
 use Rattle.std.proofs.Common.{rules}
-use Rattle.bench_idle.proofs.idle.run.Goals as goal
+use Rattle.bench_calls.proofs.idle.run_idle.Goals as goal
 
 pub run_in_threads-requires-send-J : goal.run_in_threads-requires-send-J
 run_in_threads-requires-send-J g c κs within = search rules

@@ -1,4 +1,6 @@
-//! The run of all parts, and the job that sleeps meanwhile.
+//! All parts in threads of their own, which have nothing to do while one job sleeps.
+//!
+//! Of the four processors two are offloadable, and the only job is of processor 0.
 
 use rcu_jobs::Job;
 use rcu_numbers::Shape;
@@ -36,7 +38,7 @@ impl Job for Sleep {
 }
 
 /// Runs all parts until this job of processor 0 has run. Answers how many callbacks of processor 0 ran.
-pub fn run<R: Threads + Wait + Clock + Copy + Send + 'static>(
+pub fn run_idle<R: Threads + Wait + Clock + Copy + Send + 'static>(
     rt: &R,
     alloc: Global,
     job: Sleep,
