@@ -1,4 +1,4 @@
-use Rattle.std.proofs.Common.{◌≡◌, ℕ, inl, inr, ◌∙◌, ap, sym, subst, refl, arith}
+use Rattle.std.proofs.Common.{◌≡◌, ◌<◌, ◌≤◌, ℕ, inl, inr, ◌∙◌, ap, sym, subst, refl, arith}
 use Rattle.rcu_board.proofs.Facts.{same_seat}
 use Rattle.rcu_board.specs.Seats.{view}
 use Rattle.rcu_board.specs.Views.{seen_at}
@@ -47,7 +47,7 @@ returns-then-snap-seen-clause-stops g c = let f = c.in-Some.ensures.first in rec
   keeps = record { accepted = refl; fresh = refl; word = refl; claims = refl; running = refl };
   sight = refl;
   steps = steps_none _ _ _ refl;
-  why = λ q cpu at same n. (c.in-Some.first.now, f.0, ap (λ (h : Held g.row.J.Denot). held_by h) same ∙ f.1, inl (omega (arith, c.if-snap-seen.true, c.snap.ensures.value), omega arith));
+  why = λ q cpu at same n. (c.in-Some.first.now, f.0, ap (λ (h : Held g.row.J.Denot). held_by h) same ∙ f.1, inl (subst (λ (n : ℕ). c.args.seen < n) c.snap.ensures.value c.if-snap-seen.true, omega arith));
   counts = ((λ e. (let f : Turn ≡ Limit = e in cc)), λ e. (let f : Turn ≡ Again = e in cc));
 }
 
@@ -58,7 +58,7 @@ returns-in_default-find_room-clause-stops g c = let f = c.in-Some.ensures.first 
   keeps = record { accepted = refl; fresh = refl; word = refl; claims = refl; running = refl };
   sight = refl;
   steps = steps_none _ _ _ refl;
-  why = λ q cpu at same n. ((c.in-Some.first.now, f.0, ap (λ (h : Held g.row.J.Denot). held_by h) same ∙ f.1, omega (arith, c.if-snap-seen.false, c.snap.ensures.value)), omega arith);
+  why = λ q cpu at same n. ((c.in-Some.first.now, f.0, ap (λ (h : Held g.row.J.Denot). held_by h) same ∙ f.1, subst (λ (n : ℕ). n ≤ c.args.seen) c.snap.ensures.value c.if-snap-seen.false), omega arith);
   counts = ((λ e. (let f : Memory ≡ Limit = e in cc)), λ e. (let f : Memory ≡ Again = e in cc));
 }
 
@@ -84,7 +84,7 @@ returns-clause-takes g c =
     let first = same_first c.in-Some.first.now x f.0 (held_by c.take.new.self) (sym f.1 ∙ t.first) in record {
       held = t.first;
       taken = t.taken;
-      over = omega (arith, c.if-snap-seen.false, c.snap.ensures.value, ap (λ (y : Callback g.row.J.Denot). snap_of y.stamp) first);
+      over = subst (λ (n : ℕ). n ≤ c.args.seen) (c.snap.ensures.value ∙ ap (λ (y : Callback g.row.J.Denot). snap_of y.stamp) first) c.if-snap-seen.false;
       small = t.safe.1;
       won = subst (λ (y : Callback g.row.J.Denot). Claims c.args.cpu y.number v w) first (c.if-not-try_claim.ensures.won refl);
       steps = c.if-not-try_claim.ensures.only;
@@ -101,3 +101,6 @@ returns-then-snap-seen-clause-same g c = same_seat _
 
 pub returns-in_default-find_room-clause-same : goal.returns-in_default-find_room-clause-same
 returns-in_default-find_room-clause-same g c = same_seat _
+
+pub returns-clause-stops : goal.returns-clause-stops
+returns-clause-stops g c = tt

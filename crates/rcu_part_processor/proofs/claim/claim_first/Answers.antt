@@ -88,3 +88,6 @@ returns-in_default-clause-same g c = same_seat _
 
 pub returns-in_default-find_room-clause-same : goal.returns-in_default-find_room-clause-same
 returns-in_default-find_room-clause-same g c = same_seat _
+
+pub returns-clause-stops : goal.returns-clause-stops
+returns-clause-stops g c = tt

@@ -10,3 +10,12 @@ returns-clause-same g c = record { part = record { board = refl; seat = same_sea
 pub returns-clause-sound : goal.returns-clause-sound
 returns-clause-sound g c = let s = c.args.self.now.state in
     hand_sound_kept g.J.Job.key_of g.J.Job.gives (drawn_by s.hand.held) (drawn_by s.hand.held) s.hand.ran.all.items c.take.new.self.all.items refl (all_as _ _ c.take.ensures.rest)
+
+pub returns-clause-taken : goal.returns-clause-taken
+returns-clause-taken g c = c.take.ensures.taken
+
+pub returns-clause-records : goal.returns-clause-records
+returns-clause-records g c = c.take.ensures.rest
+
+pub returns-clause-others : goal.returns-clause-others
+returns-clause-others g c = record { view = refl; held = refl }

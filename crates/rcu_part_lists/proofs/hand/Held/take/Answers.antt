@@ -31,3 +31,6 @@ returns-clause-safe g c = head-safe c.take_first.result (batch_items c.args.self
 
 pub take_first-requires : goal.take_first-requires
 take_first-requires g c = held-batch (param 0 g.row.J) assumption
+
+pub returns-clause-first : goal.returns-clause-first
+returns-clause-first g c = c.take_first.ensures

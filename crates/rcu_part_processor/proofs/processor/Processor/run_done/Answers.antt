@@ -1,3 +1,4 @@
+use Rattle.std.proofs.Math.Nat.{le_antisymm, le_of_lt, le_refl}
 use Rattle.std.proofs.Common.{◌≡◌, ℕ, ◌+◌, ◌∙◌, subst, sym, refl, arith}
 use Rattle.rcu_part_processor.specs.Ticks.{RanDone}
 use Rattle.rcu_part_processor.proofs.TickRuns.{done_more, done_none, same_processor, same_processor_again}
@@ -33,10 +34,10 @@ pub returns-clause-first : goal.returns-clause-first
 returns-clause-first g c = refl
 
 pub returns-in-Some-clause-few : goal.returns-in-Some-clause-few
-returns-in-Some-clause-few g c = let low = c.loop-ran-test.true in omega arith
+returns-in-Some-clause-few g c = le_of_lt c.loop-ran-test.true
 
 pub returns-clause-few : goal.returns-clause-few
-returns-clause-few g c = omega arith
+returns-clause-few g c = le_refl _
 
 pub returns-in-Some-clause-runs : goal.returns-in-Some-clause-runs
 returns-in-Some-clause-runs g c = record {
@@ -49,7 +50,7 @@ returns-in-Some-clause-runs g c = record {
 
 pub returns-clause-runs : goal.returns-clause-runs
 returns-clause-runs g c = record {
-  does = let i = c.loop-ran.invariant in let b = c.args.self.now.state.blimit in let same : c.loop-ran.ran ≡ b = omega (arith, c.loop-ran-test.false, c.loop-ran.auto.ran-end) in
+  does = let i = c.loop-ran.invariant in let b = c.args.self.now.state.blimit in let same : c.loop-ran.ran ≡ b = le_antisymm c.loop-ran.auto.ran-end c.loop-ran-test.false in
       (b, subst (λ (m : ℕ). RanDone m m c.args.seen c.args.self.now.state c.loop-ran.self.state) same i.ran, (sym i.same.blimit, refl));
   same = c.loop-ran.invariant.same;
   count = c.loop-ran.invariant.accepted;
