@@ -1,0 +1,4 @@
+pub mod Zipped
+pub mod Placed
+pub mod Keeping
+pub mod Called

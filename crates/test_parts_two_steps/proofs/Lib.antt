@@ -1,2 +1,0 @@
-pub mod Zipped
-pub mod Placed

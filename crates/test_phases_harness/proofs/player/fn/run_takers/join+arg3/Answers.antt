@@ -1,4 +1,0 @@
-use Rattle.test_phases_harness.proofs.player.fn.run_takers.join+arg3.Goals as goal
-
-pub turn_hands-requires-after_bounds : goal.turn_hands-requires-after_bounds
-turn_hands-requires-after_bounds g c κs within = assumption

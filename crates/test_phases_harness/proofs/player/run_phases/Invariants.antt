@@ -1,5 +1,0 @@
-use Rattle.test_phases_harness.specs.Company.{CompanyKeeps}
-use Rattle.test_phases_harness.proofs.player.run_phases.Given as goal
-
-abbrev pub invariant-loop-phase : goal.invariant-loop-phase
-invariant-loop-phase g l = CompanyKeeps g.J.Job.key_of g.J.Job.gives l.fn.company l.company

@@ -1,9 +1,0 @@
-use Rattle.std.proofs.Common.{◌≡◌, length}
-use Rattle.test_phases_harness.specs.Kept.{HandsKeep}
-use Rattle.test_phases_harness.proofs.turns.turn_each_hand.Given as goal
-
-abbrev pub invariant-loop-place : goal.invariant-loop-place
-invariant-loop-place g l = record {
-  keeps : HandsKeep g.J.Job.key_of g.J.Job.gives l.fn.hands.items l.hands.items;
-  long : length l.hands.items ≡ length l.fn.hands.items;
-}

@@ -1,4 +1,0 @@
-pub mod Kept
-pub mod Company
-pub mod Acts
-pub mod Moves
