@@ -2,3 +2,4 @@ pub mod Zipped
 pub mod Placed
 pub mod Keeping
 pub mod Called
+pub mod Gathered

@@ -16,6 +16,11 @@ pub fn job(alloc: Global, key: u64) -> Option<Work> {
     Some(BoxedJob::new(key, Box::new(alloc, move || key).ok()?))
 }
 
+/// The same. The test ends where memory is wanted.
+pub fn made_job(rt: &impl Abort, alloc: Global, key: u64) -> Work {
+    job(alloc, key).expect(rt, "memory")
+}
+
 /// One call, of a job that gives its key. None where it is refused, or memory is wanted.
 pub fn call(
     alloc: Global,

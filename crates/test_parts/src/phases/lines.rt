@@ -1,6 +1,6 @@
 //! Phases as they are written down: lines that say what each thread does, one after another.
 
-use crate::opening::{Work, job};
+use crate::opening::{Work, made_job};
 use crate::phases::phase::{Act, Move, Phase, Step};
 use crate::phases::signal::{Flag, Signal, raise, sees};
 use rcu_jobs::Ticket;
@@ -118,12 +118,7 @@ fn add_sign(rt: &impl Abort, phase: &mut Phase<Work>, signal: Signal) {
 fn add_line(rt: &impl Abort, alloc: Global, flags: &Flags, phase: &mut Phase<Work>, line: Line) {
     match line {
         Line::Next => {}
-        Line::Call(moment, key) => add_call(
-            rt,
-            phase,
-            moment,
-            job(alloc, key).expect(rt, "memory"),
-        ),
+        Line::Call(moment, key) => add_call(rt, phase, moment, made_job(rt, alloc, key)),
         Line::CallWaiting(key) => add_call(rt, phase, 0, waiting_job(rt, alloc, key, flags)),
         Line::Report => add_act(rt, phase, Act::Report),
         Line::Tick(many) => add_ticks(rt, phase, many),

@@ -16,6 +16,8 @@ pub mod phase;
 mod played;
 #[cfg(test)]
 mod player;
+#[cfg(test)]
+mod shown;
 pub mod signal;
 #[cfg(test)]
 mod tests;

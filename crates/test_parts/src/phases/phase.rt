@@ -29,7 +29,7 @@ pub enum Step<J> {
 }
 
 /// What a call of a processor answered.
-#[derive(Clone, Copy, Debug, PartialEq, Eq)]
+#[derive(Clone, Copy, PartialEq, Eq)]
 pub enum Answer {
     /// A job was accepted.
     Accepted(Ticket),
@@ -59,7 +59,7 @@ pub enum Move {
 }
 
 /// What control's barrier answered.
-#[derive(Clone, Copy, Debug, PartialEq, Eq)]
+#[derive(Clone, Copy, PartialEq, Eq)]
 pub enum Reply {
     /// It was opened.
     Opened,

@@ -1,6 +1,6 @@
 //! The phases, one after another, and the end.
 
-ghost use Rattle.std.specs.Prelude.{◌≡◌, IfOk};
+ghost use Rattle.std.specs.Prelude.{◌≡◌, IfOk, Ok};
 ghost use denote.Param.Send.{IsSend};
 ghost use Rattle.std.specs.Thread.{IsSync};
 ghost use Rattle.rcu_parts.specs.OneOpen.{AreOfOneOpen, AreSoundParts};
@@ -18,6 +18,17 @@ use rcu_parts::{AllParts, Group, Hand, Parts, Processor, close, same_parts};
 use std::alloc::{AllocError, Global};
 use std::thread;
 use std::thread::Threads;
+
+/// Both, where both are there.
+fn both<A: Drop, B: Drop>(
+    first: Result<A, AllocError>,
+    second: Result<B, AllocError>,
+) -> Result<(A, B), AllocError>
+    ensures first { IfOk result (λ t. first ≡ Ok t.0) }
+    ensures second { IfOk result (λ t. second ≡ Ok t.1) }
+{
+    Ok((first?, second?))
+}
 
 /// The processors in one thread, and the driver with control in another.
 fn run_callers<J: Job<Receipt = u64>, R: Threads + Sync>(
@@ -44,7 +55,7 @@ fn run_callers<J: Job<Receipt = u64>, R: Threads + Sync>(
                 SameDriver center.driver new.driver × SameControl center.control new.control) }
         { move_all(center, moves) },
     );
-    Ok((callers?, center?))
+    both(callers, center)
 }
 
 /// The groups in one thread, and the hands in another.
@@ -68,6 +79,24 @@ fn run_takers<J: Job<Receipt = u64>, R: Threads + Sync>(
             ensures { HandsKeep J.key_of J.gives hands.items result.items }
         { turn_hands(hands, hand_turns) },
     )
+}
+
+/// All parts after a phase, where memory sufficed.
+fn gather<P: Drop, G: Drop, H: Drop>(
+    near: Result<(Callers<P>, Center), AllocError>,
+    far: (Vec<G>, Vec<H>),
+) -> Result<Company<P, G, H>, AllocError>
+    ensures near { IfOk result (λ new. near ≡ Ok (new.callers, new.center)) }
+    ensures far { IfOk result (λ new. far ≡ (new.groups, new.hands)) }
+{
+    let (callers, center) = near?;
+    let (groups, hands) = far;
+    Ok(Company {
+        callers,
+        groups,
+        hands,
+        center,
+    })
 }
 
 /// One phase: the four threads are started together, and joined.
@@ -104,14 +133,7 @@ fn run_phase<J: Job<Receipt = u64>, R: Threads + Sync>(
                 × HandsKeep J.key_of J.gives hands.items result.1.items }
         { run_takers(rt, groups, group_turns, hands, hand_turns) },
     );
-    let (callers, center) = near?;
-    let (groups, hands) = far;
-    Ok(Company {
-        callers,
-        groups,
-        hands,
-        center,
-    })
+    gather(near, far)
 }
 
 /// All phases, one after another.

@@ -1,6 +1,6 @@
 //! Rows of docs/specification/rows.md in threads: "A stop after any turn", and `passed-tickets`.
 
-use crate::opening::{Work, job};
+use crate::opening::{Work, made_job};
 use crate::phases::phase::{Act, Move, Phase, Reply, Step};
 use crate::phases::played::played;
 use crate::same::assert_same;
@@ -12,7 +12,7 @@ use std::thread::Threads;
 
 /// A call of a processor at its turn of this number: every second one is lazy. The job has the number as its key.
 fn call_of(rt: &impl Abort, alloc: Global, turn: u64) -> Act<Work> {
-    let job = job(alloc, turn).expect(rt, "memory");
+    let job = made_job(rt, alloc, turn);
     let moment = turn / 4;
     if turn % 2 == 0 {
         return Act::Call { moment, job };

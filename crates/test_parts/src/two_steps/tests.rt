@@ -1,6 +1,6 @@
 //! Callbacks in two steps, through a local processor and through a hand.
 
-use crate::opening::{Work, job};
+use crate::opening::{Work, job, made_job};
 use crate::same::assert_same;
 use crate::two_steps::echo::Echo;
 use crate::two_steps::opening::{AllOfOne, open_local, open_offloaded};
@@ -121,11 +121,8 @@ fn report_while_a_callback_runs(rt: HostRuntime) {
     grace_period(&mut processor, &mut driver);
     let (mut first, work) = running(processor.begin(2)).expect(&rt, "the first");
     assert_same(&rt, first.quiescent(), None);
-    assert!(rt;
-        first
-            .call_rcu(2, job(alloc, 9).expect(&rt, "memory"))
-            .is_ok()
-    );
+    let called = first.call_rcu(2, made_job(&rt, alloc, 9)).is_ok();
+    assert_same(&rt, called, true);
     let mut processor = first.finish(work.run());
     processor.tick(3);
     driver.turn();
