@@ -36,3 +36,18 @@ returns g c = record {
         (all_changed (IsSoundPresence g.J.Job.key_of g.J.Job.gives) c.args.processors.now.items c.args.cpu c.remove.result c.leave_one-processor.result.0 there c.remove.ensures.value c.leave_one-processor.ensures.kept.sound all);
   };
 }
+
+pub leave_one-processor-requires-send-J : goal.leave_one-processor-requires-send-J
+leave_one-processor-requires-send-J g c κs within = c.type_bounds.send-J
+
+pub leave_one-processor-requires-send-J-Receipt : goal.leave_one-processor-requires-send-J-Receipt
+leave_one-processor-requires-send-J-Receipt g c κs within = c.type_bounds.send-J-Receipt
+
+pub leave_one-processor-requires-after_bounds : goal.leave_one-processor-requires-after_bounds
+leave_one-processor-requires-after_bounds g c κs within = assumption
+
+pub put_back-requires-send-J : goal.put_back-requires-send-J
+put_back-requires-send-J g c κs within = c.type_bounds.send-J
+
+pub put_back-requires-send-J-Receipt : goal.put_back-requires-send-J-Receipt
+put_back-requires-send-J-Receipt g c κs within = c.type_bounds.send-J-Receipt

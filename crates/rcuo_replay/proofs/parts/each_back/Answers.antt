@@ -31,3 +31,30 @@ returns-clause-back g c = let l = c.loop-processor in subst (λ ps. AllZip IsBac
 
 pub returns-clause-kept : goal.returns-clause-kept
 returns-clause-kept g c = let l = c.loop-processor in subst (λ ps. KeepEachBack g.J.Job.key_of g.J.Job.gives ps l.all.items) (all_came l.yielded l.processor-iterator.rest.items c.args.processors.items l.invariant.order (sym l.processor-iterator.rest.ok.0 ∙ c.in-None.ensures.steps.0)) l.invariant.kept
+
+pub next-requires-room-T-Destruct : goal.next-requires-room-T-Destruct
+next-requires-room-T-Destruct g c κs within = assumption
+
+pub next-requires-room-T-Destruct-2 : goal.next-requires-room-T-Destruct-2
+next-requires-room-T-Destruct-2 g c κs within = assumption
+
+pub bring_back-requires-send-J : goal.bring_back-requires-send-J
+bring_back-requires-send-J g c κs within = c.type_bounds.send-J
+
+pub bring_back-requires-send-J-Receipt : goal.bring_back-requires-send-J-Receipt
+bring_back-requires-send-J-Receipt g c κs within = c.type_bounds.send-J-Receipt
+
+pub bring_back-requires-after_bounds : goal.bring_back-requires-after_bounds
+bring_back-requires-after_bounds g c κs within = assumption
+
+pub into_iter-processor-iterator-requires-room-T-Destruct : goal.into_iter-processor-iterator-requires-room-T-Destruct
+into_iter-processor-iterator-requires-room-T-Destruct g c κs within = assumption
+
+pub into_iter-processor-iterator-requires-room-T-Destruct-2 : goal.into_iter-processor-iterator-requires-room-T-Destruct-2
+into_iter-processor-iterator-requires-room-T-Destruct-2 g c κs within = assumption
+
+pub drop-processor-iterator-requires-room-T-Destruct : goal.drop-processor-iterator-requires-room-T-Destruct
+drop-processor-iterator-requires-room-T-Destruct g c κs within = assumption
+
+pub drop-processor-iterator-requires-room-T-Destruct-2 : goal.drop-processor-iterator-requires-room-T-Destruct-2
+drop-processor-iterator-requires-room-T-Destruct-2 g c κs within = assumption

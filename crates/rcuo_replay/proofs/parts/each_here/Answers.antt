@@ -25,3 +25,12 @@ loop-processor-preserved g c = let l = c.loop-processor in let i = l.invariant i
 
 pub returns : goal.returns
 returns g c = let l = c.loop-processor in subst (λ ps. AllZip IsHere ps l.all.items) (all_came l.yielded l.processor-iterator.rest.items c.args.processors.items l.invariant.order (sym l.processor-iterator.rest.ok.0 ∙ c.in-None.ensures.steps.0)) l.invariant.here
+
+pub next-requires-room-T-Destruct : goal.next-requires-room-T-Destruct
+next-requires-room-T-Destruct g c κs within = assumption
+
+pub into_iter-processor-iterator-requires-room-T-Destruct : goal.into_iter-processor-iterator-requires-room-T-Destruct
+into_iter-processor-iterator-requires-room-T-Destruct g c κs within = assumption
+
+pub drop-processor-iterator-requires-room-T-Destruct : goal.drop-processor-iterator-requires-room-T-Destruct
+drop-processor-iterator-requires-room-T-Destruct g c κs within = assumption

@@ -10,3 +10,12 @@ returns-in-Here-clause-kept g c = keeps_same g.J.Job.key_of g.J.Job.gives c.args
 
 pub returns-in-Away-clause-line : goal.returns-in-Away-clause-line
 returns-in-Away-clause-line g c = subst (λ x. ReturnsOne c.args.cpu (Returned c.args.cpu) x (Here c.return_away.result)) (sym c.in-Away.is) (refl, (c.return_away.result, refl, c.return_away.ensures.back))
+
+pub return_away-requires-send-J : goal.return_away-requires-send-J
+return_away-requires-send-J g c κs within = c.type_bounds.send-J
+
+pub return_away-requires-send-J-Receipt : goal.return_away-requires-send-J-Receipt
+return_away-requires-send-J-Receipt g c κs within = c.type_bounds.send-J-Receipt
+
+pub return_away-requires-after_bounds : goal.return_away-requires-after_bounds
+return_away-requires-after_bounds g c κs within = assumption

@@ -54,3 +54,9 @@ returns-in_err-perform-clause-prints g c = record {
   written = if_ok_never _ _ c.from_residual.ensures;
   why = why_output c.from_residual.result c.in_err-perform.field-0.0 c.from_residual.ensures c.in_err-perform.ensures.prints.why;
 }
+
+pub perform-requires-send-J : goal.perform-requires-send-J
+perform-requires-send-J g c κs within = c.type_bounds.send-J
+
+pub perform-requires-after_bounds : goal.perform-requires-after_bounds
+perform-requires-after_bounds g c κs within = assumption
