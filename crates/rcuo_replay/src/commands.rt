@@ -145,10 +145,8 @@ fn put_back<J: Job>(
     requires room { vec_len processors.old < vec_capacity processors.old }
     ensures { processors.new.items ≡ insert processors.old.items place processor }
 {
-    let Ok(()) = processors.insert(place, processor) else {
-        // (where there is room it can't fail)
-        unreachable!()
-    };
+    // (where there is room it can't fail)
+    processors.insert(place, processor).unwrap();
 }
 
 /// `leave`: the processor is away from now on. It is here still where its lane has no room for its bypass list.

@@ -1,4 +1,4 @@
-use Rattle.std.proofs.Common.{[], arith, rules}
+use Rattle.std.proofs.Common.{[], arith}
 use Rattle.std.proofs.lemmas.List.{take_all}
 use Rattle.rcuo_script.proofs.Written.{Appends-none}
 use Rattle.rcu_lists.proofs.Outcomes.{if_ok_never}

@@ -1,4 +1,4 @@
-use Rattle.std.proofs.Common.{◌≡◌, ◌∙◌, sym, inr, rules, inl}
+use Rattle.std.proofs.Common.{◌≡◌, ◌∙◌, sym, inr, inl}
 use Rattle.std.proofs.lemmas.Result.{IfErr-weaker}
 use Rattle.std.specs.Mem.{FitsInMemory}
 use denote.Builtin.{u64 as receipt}

@@ -1,4 +1,4 @@
-use Rattle.std.proofs.Common.{◌≡◌, ◌≤◌, ap, arith, count_by, length, take, rules}
+use Rattle.std.proofs.Common.{◌≡◌, ◌≤◌, ap, arith, count_by, length, take}
 use Rattle.std.proofs.lemmas.List.{take_all}
 use Rattle.std.specs.VecDeque.{deque_len}
 use Rattle.rcu_lists.proofs.Outcomes.{if_ok_never}
