@@ -15,35 +15,46 @@ use thiserror::Error;
 /// call's own fault.
 #[derive(Drop, Error)]
 pub enum AnyFault {
-    #[error("no memory")]
     Memory(#[from(alloc)] AllocError),
-    #[error("cannot read or write: {0}")]
     Io(#[from] io::Error),
     /// [`Shape::new`](crate::Shape::new) has none.
-    #[error("no shape of these numbers")]
     NoShape,
-    #[error("{0}")]
     NoProcessor(#[from] NoProcessor),
-    #[error("{0}")]
     OtherBarrier(#[from] OtherBarrier),
     /// By its number: docs/specification/surface.md, "Refusals by number".
-    #[error("refusal {0}")]
     Refused(u64),
     /// The turns that were to be made are over, and some callback that the barrier counts hasn't run.
-    #[error("the barrier has not passed")]
     NotPassed,
     /// A run in threads came to its end, and some callback hasn't run.
-    #[error("not all that was accepted has run")]
     NotDrained,
     /// Some part of a run in threads could not have one.
-    #[error("no thread for each part")]
     NoThread,
     /// There is another number of workers than of processors.
-    #[error("{workers} workers for {processors} processors")]
     OtherNumber { processors: u64, workers: u64 },
     /// What the program itself found.
-    #[error("{0}")]
     Own(&'static str),
+}
+
+impl fmt::Display for AnyFault {
+    fn fmt<W: fmt::Write>(&self, f: &mut fmt::Formatter<W>) -> fmt::Result {
+        let text = match self {
+            AnyFault::Memory(_) => "no memory",
+            AnyFault::Io(fault) => return write!(f, "cannot read or write: {fault}"),
+            AnyFault::NoShape => "no shape of these numbers",
+            AnyFault::NoProcessor(fault) => return fmt::Display::fmt(fault, f),
+            AnyFault::OtherBarrier(fault) => return fmt::Display::fmt(fault, f),
+            AnyFault::Refused(number) => return write!(f, "refusal {number}"),
+            AnyFault::NotPassed => "the barrier has not passed",
+            AnyFault::NotDrained => "not all that was accepted has run",
+            AnyFault::NoThread => "no thread for each part",
+            AnyFault::OtherNumber {
+                processors,
+                workers,
+            } => return write!(f, "{workers} workers for {processors} processors"),
+            AnyFault::Own(text) => text,
+        };
+        f.write_str(text)
+    }
 }
 
 /// The same words as `Display`, so that a `main` that returns it ends with them.
