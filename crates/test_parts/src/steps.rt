@@ -73,6 +73,29 @@ fn fault_of(control: &mut Control, ticket: Option<Ticket>) -> Option<BarrierFaul
     }
 }
 
+/// What is asked of control, and what is shown.
+fn play_aside(rt: &impl Abort, parts: &mut Parts<Work>, at: usize, step: Step) {
+    match step {
+        Step::Offload => assert_same(rt, (at, parts.control.offload(0)), (at, Ok(()))),
+        Step::Deoffload => assert_same(rt, (at, parts.control.deoffload(0)), (at, Ok(()))),
+        Step::Barrier(ticket, fault) => {
+            let found = fault_of(&mut parts.control, ticket);
+            assert_same(rt, (at, found), (at, fault))
+        }
+        Step::Show(mode, accepted, bypass, next) => {
+            let found = last(rt, &mut parts.processors).lists();
+            assert_same(rt, (at, found), (at, shown(mode, accepted, bypass, next)))
+        }
+        Step::ShowMember(cpu, wanted) => {
+            let found = last(rt, &mut parts.groups).lists(cpu);
+            let wanted = wanted.map(|(many, number)| waiting(many, number));
+            assert_same(rt, (at, found), (at, wanted))
+        }
+        // (the others are those of `play_one`)
+        _ => {}
+    }
+}
+
 /// One step.
 fn play_one(rt: &impl Abort, alloc: Global, parts: &mut Parts<Work>, at: usize, step: Step) {
     match step {
@@ -102,21 +125,7 @@ fn play_one(rt: &impl Abort, alloc: Global, parts: &mut Parts<Work>, at: usize, 
             let found = last(rt, &mut parts.hands).turn();
             assert_same(rt, (at, found), (at, HandTurn { ran, stop }))
         }
-        Step::Offload => assert_same(rt, (at, parts.control.offload(0)), (at, Ok(()))),
-        Step::Deoffload => assert_same(rt, (at, parts.control.deoffload(0)), (at, Ok(()))),
-        Step::Barrier(ticket, fault) => {
-            let found = fault_of(&mut parts.control, ticket);
-            assert_same(rt, (at, found), (at, fault))
-        }
-        Step::Show(mode, accepted, bypass, next) => {
-            let found = last(rt, &mut parts.processors).lists();
-            assert_same(rt, (at, found), (at, shown(mode, accepted, bypass, next)))
-        }
-        Step::ShowMember(cpu, wanted) => {
-            let found = last(rt, &mut parts.groups).lists(cpu);
-            let wanted = wanted.map(|(many, number)| waiting(many, number));
-            assert_same(rt, (at, found), (at, wanted))
-        }
+        _ => play_aside(rt, parts, at, step),
     }
 }
 
