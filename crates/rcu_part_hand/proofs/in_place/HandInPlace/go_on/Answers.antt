@@ -14,3 +14,15 @@ returns-clause-goes_on g c = let w = some_of _ c.requires.runs in record {
   finishes_sound = c.finish.ensures.sound;
   begins_sound = c.begin.ensures.sound;
 }
+
+pub returns-clause-counts : goal.returns-clause-counts
+returns-clause-counts g c = c.begin.ensures.counts
+
+pub returns-clause-keyed : goal.returns-clause-keyed
+returns-clause-keyed g c = c.begin.ensures.keyed
+
+pub returns-then-is_followed-clause-goes_on : goal.returns-then-is_followed-clause-goes_on
+returns-then-is_followed-clause-goes_on g c = c.pass_on.ensures.goes_on
+
+pub returns-then-is_followed-clause-keyed : goal.returns-then-is_followed-clause-keyed
+returns-then-is_followed-clause-keyed g c = c.pass_on.ensures.keyed

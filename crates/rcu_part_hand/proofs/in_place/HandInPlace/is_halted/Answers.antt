@@ -1,8 +1,11 @@
-use Rattle.std.proofs.Common.{◌≡◌, None, Some, ◌∙◌, ap, sym, refl}
+use Rattle.std.proofs.Common.{◌≡◌, None, Some, ◌∙◌, ap, sym, refl, subst}
+use Rattle.std.specs.Arc.{arc_value}
+use Rattle.rcu_board.specs.Roles.{MayHalt}
 use Rattle.rcu_board.specs.Seats.{view}
 use Rattle.rcu_board.specs.declared.view.View.{View}
 use Rattle.rcu_part_lists.specs.Helds.{taken_by}
 use Rattle.rcu_part_hand.proofs.HandRuns.{hand_watched}
+use Rattle.rcu_part_hand.proofs.Standing.{stands}
 use Rattle.rcu_part_hand.proofs.in_place.HandInPlace.is_halted.Goals as goal
 
 pub invariant_of-hand : goal.invariant_of-hand
@@ -25,3 +28,9 @@ returns g c = record {
     sound = λ sound. sound;
   };
 }
+
+pub halted-requires-clause-board : goal.halted-requires-clause-board
+halted-requires-clause-board g c = let s = c.args.self.now.state.hand in stands (arc_value s.board) c.deref.result.now s.seat c.deref.ensures s.here
+
+pub halted-requires-clause-who : goal.halted-requires-clause-who
+halted-requires-clause-who g c = subst MayHalt (sym c.args.self.now.state.hand.role) tt
