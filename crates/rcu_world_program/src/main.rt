@@ -15,8 +15,7 @@ ghost use Rattle.std.specs.Prelude.{◌≡◌};
 
 use rcu_jobs::BoxedJob;
 use rcu_world_replay::replay;
-use rcuo_script::{Fault, setup_of, write_fault};
-use rcuo_versions::{Retired, versions_by_script};
+use rcuo_script::{Fault, Retired, setup_of, versions_by_script, write_fault};
 use std::io;
 use std::process::ExitCode;
 

@@ -4,7 +4,7 @@ use Rattle.rcuo_script.specs.Calls.{is_call}
 use Rattle.rcuo_script.specs.Reading.{IsFaultOf}
 use Rattle.rcu_setup.specs.Words.{Route}
 use Rattle.rcu_setup.specs.declared.setup.Setup.{Setup}
-use Rattle.rcuo_versions.specs.Routes.{routes_of_calls, routes_of_rounds}
+use Rattle.rcuo_script.specs.Routes.{routes_of_calls, routes_of_rounds}
 use Rattle.rcuo_plan.specs.declared.plan.Refusal.{Refusal}
 use Rattle.rcuo_plan.specs.declared.plan.Refusal.TheVariants as refusal
 use Rattle.rcuo_plan.specs.declared.plan.Subcommand.{Subcommand}

@@ -2,11 +2,11 @@
 
 ghost use Rattle.std.specs.Prelude.{◌≡◌, IfOk, vec_len};
 ghost use Rattle.rcu_setup.specs.Arrays.{routes_view};
-ghost use Rattle.rcuo_versions.specs.Versions.{AreVersions};
+ghost use Rattle.rcuo_script.specs.Versions.{AreVersions};
 ghost use Rattle.rcuo_plan.specs.Plan.{calls_for, jobs_for};
 
 use crate::plan::{Plan, Subcommand};
-use rcuo_versions::{Retired, versions_by_rounds, versions_by_script};
+use rcuo_script::{Retired, versions_by_rounds, versions_by_script};
 use std::alloc::{AllocError, Global};
 
 /// The versions of the route table that are retired, in order: in `replay` one for each call line of the script, in

@@ -4,3 +4,6 @@ pub mod Written
 pub mod Scripts
 pub mod Known
 pub mod Whole
+mod Tables
+mod Retirements
+mod Budget

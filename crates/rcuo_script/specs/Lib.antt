@@ -4,3 +4,5 @@ pub mod Faults
 pub mod Lines
 pub mod Scripts
 pub mod Reading
+pub mod Routes
+pub mod Versions

@@ -2,7 +2,7 @@
 
 use crate::expect::{expect_same, expect_text};
 use crate::tests_setup::setup_of;
-use rcuo_versions::{Retired, versions_by_rounds, versions_by_script};
+use rcuo_script::{Retired, versions_by_rounds, versions_by_script};
 use std::alloc::Global;
 use std::process::Abort;
 

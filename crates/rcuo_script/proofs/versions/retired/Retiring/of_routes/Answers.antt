@@ -1,0 +1,18 @@
+use Rattle.std.proofs.Common.{arith, ap, map, ◌≡◌, ◌∙◌, []}
+use Rattle.rcu_setup.specs.Arrays.{route_view, routes_view}
+use Rattle.rcuo_script.specs.Routes.{bytes_of, routes_in, with_routes}
+use Rattle.rcuo_script.specs.Versions.{shown}
+use Rattle.rcuo_script.proofs.versions.retired.Retiring.of_routes.Goals as goal
+
+pub returns-clause-first : goal.returns-clause-first
+returns-clause-first c =
+    let current : routes_in c.in_ok-current.current ≡ with_routes [] (routes_view c.args.setup.now.routes) =
+    c.in_ok-current.ensures.routes ∙ ap (λ routes. with_routes [] (map route_view routes)) c.as_slice.ensures.value in
+    let bytes : c.in_ok-current.bytes ≡ bytes_of (with_routes [] (routes_view c.args.setup.now.routes)) = c.in_ok-current.ensures.bytes ∙ ap bytes_of current in
+    let room = c.in-Some.ensures in
+    record {
+      current = current;
+      versions = ap (map shown) c.new.ensures.items;
+      bytes = bytes;
+      budget = omega (arith, room.0, room.1, bytes);
+    }
