@@ -1,5 +1,6 @@
 use Rattle.std.proofs.Common.{map, rules}
 use Rattle.rcu_threads.proofs.Ending.{all_have_run, all_same, all_sound, none_handed_back}
+use Rattle.rcu_lists.proofs.Outcomes.{if_ok_never}
 use Rattle.rcu_threads.proofs.threads.run_in_threads.Goals as goal
 
 pub run_parts-requires-send-J : goal.run_parts-requires-send-J
@@ -37,3 +38,24 @@ returns-clause-refused g c = λ unused. let key_of = g.J.Job.key_of in let gives
   closes = c.in-Ok.ensures.closes (all_sound key_of gives old new ran c.requires.sound);
   why = c.in_ok-ended.ensures.refused unused;
 }
+
+pub returns-in_err-ended-clause-closes : goal.returns-in_err-ended-clause-closes
+returns-in_err-ended-clause-closes g c = if_ok_never _ _ c.from_residual.ensures
+
+pub returns-in_err-ended-clause-ran : goal.returns-in_err-ended-clause-ran
+returns-in_err-ended-clause-ran g c = λ unused. if_ok_never _ _ c.from_residual.ensures
+
+pub returns-in_err-ended-clause-refused : goal.returns-in_err-ended-clause-refused
+returns-in_err-ended-clause-refused g c = λ unused. if_ok_never _ _ c.from_residual.ensures
+
+pub returns-in_err-ended-clause-all : goal.returns-in_err-ended-clause-all
+returns-in_err-ended-clause-all g c = λ unused keep. if_ok_never _ _ c.from_residual.ensures
+
+pub drop-requires-room-T-Destruct : goal.drop-requires-room-T-Destruct
+drop-requires-room-T-Destruct g c κs within = assumption
+
+pub drop-requires-in_default-3-room-T-Destruct : goal.drop-requires-in_default-3-room-T-Destruct
+drop-requires-in_default-3-room-T-Destruct g c κs within = assumption
+
+pub drop-requires-in_default-4-room-T-Destruct : goal.drop-requires-in_default-4-room-T-Destruct
+drop-requires-in_default-4-room-T-Destruct g c κs within = assumption

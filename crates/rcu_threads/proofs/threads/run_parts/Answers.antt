@@ -13,6 +13,7 @@ use Rattle.rcu_part_threads.proofs.Zips.{zip_kept}
 use Rattle.rcu_threads.proofs.Ending.{tickets_of_each}
 use Rattle.rcu_threads.proofs.threads.run_parts.Goals as goal
 use Rattle.rcu_lemmas.proofs.All.{All-unmap}
+use Rattle.rcu_lists.proofs.Outcomes.{if_ok_never}
 
 pub start_groups-groups-requires-send-J : goal.start_groups-groups-requires-send-J
 start_groups-groups-requires-send-J g c κs within = assumption
@@ -103,3 +104,45 @@ drop-hands-requires-room-T-Destruct g c κs within = assumption
 
 pub drop-groups-requires-room-T-Destruct : goal.drop-groups-requires-room-T-Destruct
 drop-groups-requires-room-T-Destruct g c κs within = assumption
+
+pub ready-requires-room-P-Destruct : goal.ready-requires-room-P-Destruct
+ready-requires-room-P-Destruct g c κs within = assumption
+
+pub drop-hands-requires-in_err-first_fault-room-T-Destruct : goal.drop-hands-requires-in_err-first_fault-room-T-Destruct
+drop-hands-requires-in_err-first_fault-room-T-Destruct g c κs within = assumption
+
+pub drop-groups-requires-in_err-first_fault-room-T-Destruct : goal.drop-groups-requires-in_err-first_fault-room-T-Destruct
+drop-groups-requires-in_err-first_fault-room-T-Destruct g c κs within = assumption
+
+pub drop-answered-requires-room-T-Destruct : goal.drop-answered-requires-room-T-Destruct
+drop-answered-requires-room-T-Destruct g c κs within = assumption
+
+pub returns-in_err-callers-clause-ran : goal.returns-in_err-callers-clause-ran
+returns-in_err-callers-clause-ran g c = if_ok_never _ _ c.from_residual.ensures
+
+pub returns-in_err-callers-clause-answered : goal.returns-in_err-callers-clause-answered
+returns-in_err-callers-clause-answered g c = λ unused. if_ok_never _ _ c.from_residual.ensures
+
+pub returns-in_err-callers-clause-refused : goal.returns-in_err-callers-clause-refused
+returns-in_err-callers-clause-refused g c = λ unused. if_ok_never _ _ c.from_residual.ensures
+
+pub returns-in_err-first_fault-clause-ran : goal.returns-in_err-first_fault-clause-ran
+returns-in_err-first_fault-clause-ran g c = if_ok_never _ _ c.from_residual-in_err-first_fault.ensures
+
+pub returns-in_err-first_fault-clause-answered : goal.returns-in_err-first_fault-clause-answered
+returns-in_err-first_fault-clause-answered g c = λ unused. if_ok_never _ _ c.from_residual-in_err-first_fault.ensures
+
+pub returns-in_err-first_fault-clause-refused : goal.returns-in_err-first_fault-clause-refused
+returns-in_err-first_fault-clause-refused g c = λ unused. if_ok_never _ _ c.from_residual-in_err-first_fault.ensures
+
+pub unwrap-driver-requires : goal.unwrap-driver-requires
+unwrap-driver-requires g c = c.in_ok-first_fault.ensures.driver
+
+pub unwrap-groups-requires : goal.unwrap-groups-requires
+unwrap-groups-requires g c = c.in_ok-first_fault.ensures.groups
+
+pub unwrap-hands-requires : goal.unwrap-hands-requires
+unwrap-hands-requires g c = c.in_ok-first_fault.ensures.hands
+
+pub unwrap-answered-requires : goal.unwrap-answered-requires
+unwrap-answered-requires g c = c.in_ok-first_fault.ensures.answered
