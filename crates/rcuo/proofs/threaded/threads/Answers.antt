@@ -11,6 +11,7 @@ use Rattle.rcuo_script.specs.Faults.{IsFaultOfOutput}
 use Rattle.rcuo_script.specs.Lines.{whole_totals}
 use Rattle.rcuo_script.specs.Scripts.{Writes}
 use Rattle.rcuo.specs.Totals.{IsFaultOfThreads, RunsInThreads}
+use Rattle.std.proofs.lemmas.Result.{IfOk-from_err}
 use Rattle.rcuo.proofs.threaded.threads.Goals as goal
 
 pub returns-in-Ok : goal.returns-in-Ok
@@ -43,3 +44,12 @@ returns-in-Ok g c =
           c.print_totals.result (λ written. (whole_totals false closed, runs, written)) c.print_totals.ensures.writes;
       why = IfErr-weaker c.print_totals.result IsFaultOfOutput IsFaultOfThreads (λ fault why. inl why) c.print_totals.ensures.why;
     }
+
+pub run_in_threads-requires-send-R : goal.run_in_threads-requires-send-R
+run_in_threads-requires-send-R g c κs within = assumption
+
+pub returns-in_err-parts-clause-prints : goal.returns-in_err-parts-clause-prints
+returns-in_err-parts-clause-prints g c = IfOk-from_err _ _ c.from_residual.ensures.0
+
+pub returns-in-Err-clause-why : goal.returns-in-Err-clause-why
+returns-in-Err-clause-why g c = c.not_run.ensures.why
