@@ -2,6 +2,7 @@ use Rattle.std.proofs.Common.{arith, ap, map, ◌≡◌, ◌∙◌, []}
 use Rattle.rcu_setup.specs.Arrays.{route_view, routes_view}
 use Rattle.rcuo_script.specs.Routes.{bytes_of, routes_in, with_routes}
 use Rattle.rcuo_script.specs.Versions.{shown}
+use Rattle.std.proofs.lemmas.Result.{IfOk-from_err}
 use Rattle.rcuo_script.proofs.versions.retired.Retiring.of_routes.Goals as goal
 
 pub returns-clause-first : goal.returns-clause-first
@@ -16,3 +17,12 @@ returns-clause-first c =
       bytes = bytes;
       budget = omega (arith, room.0, room.1, bytes);
     }
+
+pub returns-in_err-current-clause-none : goal.returns-in_err-current-clause-none
+returns-in_err-current-clause-none c = IfOk-from_err _ _ c.from_residual.ensures.0
+
+pub returns-in_err-current-clause-first : goal.returns-in_err-current-clause-first
+returns-in_err-current-clause-first c = IfOk-from_err _ _ c.from_residual.ensures.0
+
+pub returns-in_err-current-clause-small : goal.returns-in_err-current-clause-small
+returns-in_err-current-clause-small c = IfOk-from_err _ _ c.from_residual.ensures.0

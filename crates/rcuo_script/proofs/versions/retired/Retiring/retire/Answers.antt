@@ -8,6 +8,7 @@ use Rattle.rcuo_script.specs.declared.versions.table.TheConstants.{KEY_STEP}
 use Rattle.rcuo_script.proofs.Budget.{run_one_more}
 use Rattle.rcuo_script.proofs.Retirements.{length-retired_from, retires_one_more}
 use Rattle.rcuo_script.proofs.Tables.{set_one_more}
+use Rattle.std.proofs.lemmas.Result.{IfOk-from_err}
 use Rattle.rcuo_script.proofs.versions.retired.Retiring.retire.Goals as goal
 
 pub returns-clause-version : goal.returns-clause-version
@@ -38,3 +39,21 @@ returns-clause-version c first calls was =
       bytes = bytes;
       budget = omega (arith, room.0, room.1, was.budget, bytes, run_one_more first calls call);
     }
+
+pub returns-in_err-next-clause-more : goal.returns-in_err-next-clause-more
+returns-in_err-next-clause-more c = IfOk-from_err _ _ c.from_residual.ensures.0
+
+pub returns-in_err-next-clause-small : goal.returns-in_err-next-clause-small
+returns-in_err-next-clause-small c = IfOk-from_err _ _ c.from_residual.ensures.0
+
+pub returns-in_err-next-clause-version : goal.returns-in_err-next-clause-version
+returns-in_err-next-clause-version c = λ first calls has. IfOk-from_err _ _ c.from_residual.ensures.0
+
+pub returns-in_err-push-clause-more : goal.returns-in_err-push-clause-more
+returns-in_err-push-clause-more c = IfOk-from_err _ _ c.from_residual-in_err-push.ensures.0
+
+pub returns-in_err-push-clause-small : goal.returns-in_err-push-clause-small
+returns-in_err-push-clause-small c = IfOk-from_err _ _ c.from_residual-in_err-push.ensures.0
+
+pub returns-in_err-push-clause-version : goal.returns-in_err-push-clause-version
+returns-in_err-push-clause-version c = λ first calls has. IfOk-from_err _ _ c.from_residual-in_err-push.ensures.0
