@@ -1,5 +1,6 @@
 use Rattle.std.proofs.Common.{◌≡◌, ◌++◌, ◌<◌, ◌≤◌, ◌-◌, ap, length, arith, length-append, vec_len}
 use Rattle.std.proofs.lemmas.Grind.{common_steps}
+use Rattle.std.proofs.lemmas.Result.{IfOk-from_err}
 use Rattle.rcuo_script.proofs.Known.{Consumes-append, took_all, took_most}
 use Rattle.rcuo_script.proofs.read.read_text.Goals.{else-loop-text-test, then-loop-text-test+in_ok-read_piece+then-not-branch}
 use Rattle.rcuo_script.proofs.read.read_text.Goals as goal
@@ -45,3 +46,15 @@ returns-clause-whole g c = elim c.loop-text-test.branch [
       let longer : w.read_piece.new.text.items ≡ c.loop-text.text.items ++ piece.0 = piece.3.0 in
       rw (w.text-is, longer) (took_all _ _ _ _ (Consumes-append _ _ _ _ _ c.loop-text.invariant.taken piece.1) (piece.3.1 w.if-not-branch.true) (simp length-append (omega (arith, c.loop-text.text.ok.0, short, c.loop-text.invariant.within))))
 ]
+
+pub returns-in_err-buffer-clause-short : goal.returns-in_err-buffer-clause-short
+returns-in_err-buffer-clause-short g c = IfOk-from_err _ _ c.from_residual.ensures.0
+
+pub returns-in_err-buffer-clause-whole : goal.returns-in_err-buffer-clause-whole
+returns-in_err-buffer-clause-whole g c = IfOk-from_err _ _ c.from_residual.ensures.0
+
+pub returns-in_err-read_piece-clause-short : goal.returns-in_err-read_piece-clause-short
+returns-in_err-read_piece-clause-short g c = IfOk-from_err _ _ c.from_residual-in_err-read_piece.ensures.0
+
+pub returns-in_err-read_piece-clause-whole : goal.returns-in_err-read_piece-clause-whole
+returns-in_err-read_piece-clause-whole g c = IfOk-from_err _ _ c.from_residual-in_err-read_piece.ensures.0
