@@ -2,6 +2,7 @@ use Rattle.std.proofs.Common.{ℕ, List, ◌≡◌, ◌+◌, ◌∙◌, ◌∷�
 use Rattle.rcu_board.specs.Views.{first_from, first_word}
 use Rattle.rcu_board.specs.Words.{words_of}
 use Rattle.rcu_board.proofs.Opening.{first_more, first_none, first-long}
+use Rattle.std.proofs.lemmas.Result.{IfOk-from_err}
 use Rattle.rcu_board.proofs.open.first_words.Goals as goal
 
 pub word_count-i-end-requires : goal.word_count-i-end-requires
@@ -23,3 +24,9 @@ returns-clause-words c = let n = c.args.shape.now.processors in let over = c.loo
 pub returns-clause-long : goal.returns-clause-long
 returns-clause-long c = let n = c.args.shape.now.processors in let over = c.loop-i-test.false in let last = c.loop-i.auto.i-end in let many = c.word_count-i-end.ensures in
     let same : c.loop-i.i ≡ words_of n = omega arith in ap (λ (l : List ℕ). length l) c.loop-i.invariant ∙ first-long c.args.shape.now.offloadable 0 c.loop-i.i ∙ same
+
+pub returns-in_err-push-clause-words : goal.returns-in_err-push-clause-words
+returns-in_err-push-clause-words c = IfOk-from_err _ _ c.from_residual.ensures.0
+
+pub returns-in_err-push-clause-long : goal.returns-in_err-push-clause-long
+returns-in_err-push-clause-long c = IfOk-from_err _ _ c.from_residual.ensures.0
