@@ -60,3 +60,12 @@ move_first-requires-clause-room g c = c.in_ok-first.ensures.room
 
 pub returns-clause-inline : goal.returns-clause-inline
 returns-clause-inline g c = λ _. refl
+
+pub returns-then-number-le-INLINE_PLACES-clause-refused : goal.returns-then-number-le-INLINE_PLACES-clause-refused
+returns-then-number-le-INLINE_PLACES-clause-refused g c = tt
+
+pub returns-then-load_first-clause-refused : goal.returns-then-load_first-clause-refused
+returns-then-load_first-clause-refused g c = tt
+
+pub returns-clause-refused : goal.returns-clause-refused
+returns-clause-refused g c = tt

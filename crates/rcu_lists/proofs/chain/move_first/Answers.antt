@@ -1,4 +1,4 @@
-use Rattle.std.proofs.Common.{◌≡◌, [], ◌++◌, ◌-◌, ◌≤◌, ◌∙◌, drop, length, sym, ap, refl, arith}
+use Rattle.std.proofs.Common.{◌≡◌, [], ◌++◌, ◌-◌, ◌≤◌, ◌∙◌, drop, length, sym, ap, refl, arith, length-drop, length-set}
 use Rattle.std.proofs.lemmas.List.{append-nil}
 use Rattle.std.proofs.lemmas.Bool.{false≢true}
 use Rattle.rcu_lists.specs.Blocks.{blocks_items}
@@ -53,3 +53,15 @@ move_into-requires-clause-few g c = omega (arith, c.min-part.ensures, c.len.ensu
 
 pub move_into-requires-clause-room : goal.move_into-requires-clause-room
 move_into-requires-clause-room g c = omega (arith, c.loop-more.invariant.room, c.min-part.ensures)
+
+pub loop-more-smaller-then-len-eq0 : goal.loop-more-smaller-then-len-eq0
+loop-more-smaller-then-len-eq0 g c = let bs = c.loop-more.blocks.items in
+    let some = more-blocks _ _ _ _ _ bs c.loop-more.invariant.moving c.requires.few c.loop-more-test.true in
+    let fewer = ap length (c.pop_front.ensures.rest ∙ first-gone bs c.move_into.new.self) ∙ length-drop 1 bs in
+    omega (arith, some, fewer, c.min-part.ensures)
+
+pub loop-more-smaller : goal.loop-more-smaller
+loop-more-smaller g c = let first = places_items c.in-Some.first.now in
+    let rest = ap length c.move_into.ensures.left ∙ length-drop c.min-part.result first in
+    let as_many = length-set c.loop-more.blocks.items 0 c.move_into.new.self in
+    omega (arith, as_many, rest, c.min-part.ensures, c.len.ensures, c.len-in-loop-more.ensures, c.if-len-eq0.false, c.loop-more-test.true)

@@ -1,4 +1,4 @@
-use Rattle.std.proofs.Common.{◌≡◌, ◌∙◌, max, Some, ap, sym, rules}
+use Rattle.std.proofs.Common.{◌≡◌, ◌∙◌, max, Some, ap, sym, rules, refl}
 use Rattle.rcu_lists.specs.Stamps.{greater}
 use Rattle.rcu_lists.proofs.Stamps.{newest-more}
 use Rattle.rcu_lists.proofs.segments.greatest_stamp.Goals as goal
@@ -11,3 +11,6 @@ loop-callback-preserved-in-Some-greatest g c = let stamp = c.in-Some.callback.no
 pub loop-callback-preserved : goal.loop-callback-preserved
 loop-callback-preserved g c = let stamp = c.in-Some.callback.now.stamp in
     ap (λ o. Some (greater stamp o)) (sym c.in-None-greatest.is) ∙ newest-more (λ r. r.now) c.loop-callback.yielded c.in-Some.callback c.loop-callback.greatest c.loop-callback.invariant
+
+pub loop-callback-init : goal.loop-callback-init
+loop-callback-init g c = refl

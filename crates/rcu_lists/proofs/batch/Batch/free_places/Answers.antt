@@ -1,3 +1,4 @@
+use Rattle.std.proofs.lemmas.Bool.{false≢true}
 use Rattle.std.proofs.Common.{refl, sym, ap, ◌∙◌, arith, length, zero-le}
 use Rattle.std.specs.Mem.{FitsInMemory}
 use Rattle.rcu_lists.specs.Filled.{filled}
@@ -33,7 +34,7 @@ pub returns-else-is_empty-clause-items : goal.returns-else-is_empty-clause-items
 returns-else-is_empty-clause-items g c = refl
 
 pub returns-else-is_empty-clause-inline : goal.returns-else-is_empty-clause-inline
-returns-else-is_empty-clause-inline g c = λ e. absurd (let t = c.is_empty.ensures.1 e in let f = c.if-is_empty.false in cc)
+returns-else-is_empty-clause-inline g c = λ e. absurd (false≢true (sym c.if-is_empty.false ∙ c.is_empty.ensures.1 e))
 
 pub returns-else-is_empty-clause-room : goal.returns-else-is_empty-clause-room
 returns-else-is_empty-clause-room g c = λ k h. h

@@ -1,3 +1,4 @@
+use Rattle.std.proofs.lemmas.Bool.{false≢true}
 use Rattle.std.proofs.Common.{refl, ◌∙◌, arith}
 use Rattle.rcu_lists.proofs.Fills.{single-taken, none-after}
 use Rattle.rcu_lists.proofs.batch.Batch.take_single.Goals as goal
@@ -9,7 +10,7 @@ pub returns-then-len-ne1-clause-taken : goal.returns-then-len-ne1-clause-taken
 returns-then-len-ne1-clause-taken g c = (λ e. c.if-len-ne1.true (c.len.ensures ∙ e), refl)
 
 pub returns-then-len-ne1-clause-room : goal.returns-then-len-ne1-clause-room
-returns-then-len-ne1-clause-room g c = λ h. absurd cc
+returns-then-len-ne1-clause-room g c = λ h. absurd (false≢true h)
 
 pub take_first-single-requires : goal.take_first-single-requires
 take_first-single-requires g c = assumption

@@ -84,3 +84,6 @@ pub returns-in_err-fill_batch-clause-inline : goal.returns-in_err-fill_batch-cla
 returns-in_err-fill_batch-clause-inline g c = λ few. let s = c.args.self.now in let b = s.bounds in
     let small = subst (λ n. min c.args.max n ≤ INLINE_PLACES) (count-done b.wait_number b.ready_number b.done b.wait b.ready (chain_items s.list) s.within) few in
     absurd (false≢true (c.in_err-fill_batch.ensures.inline (omega (arith, c.min-number.ensures, small))))
+
+pub returns-clause-refused : goal.returns-clause-refused
+returns-clause-refused g c = tt

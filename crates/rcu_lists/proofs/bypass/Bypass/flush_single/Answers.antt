@@ -1,3 +1,4 @@
+use Rattle.std.proofs.lemmas.Bool.{false≢true}
 use Rattle.std.proofs.Common.{refl, ap}
 use Rattle.rcu_lists.specs.Batches.{batch_items}
 use Rattle.rcu_lists.specs.declared.pace.Pace.{Pace}
@@ -25,7 +26,7 @@ pub returns-in-None-clause-qhimark : goal.returns-in-None-clause-qhimark
 returns-in-None-clause-qhimark g c = refl
 
 pub returns-in-None-clause-room : goal.returns-in-None-clause-room
-returns-in-None-clause-room g c = λ h. absurd cc
+returns-in-None-clause-room g c = λ h. absurd (false≢true h)
 
 pub returns-in-Some-clause-single : goal.returns-in-Some-clause-single
 returns-in-Some-clause-single g c = (c.in-Some.ensures.taken.0, c.in-Some.ensures.taken.1, c.emptied-rested.ensures)

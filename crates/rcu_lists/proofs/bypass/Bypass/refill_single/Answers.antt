@@ -1,4 +1,5 @@
-use Rattle.std.proofs.Common.{refl, sym, ◌∙◌, ◌≡◌, true, false, arith}
+use Rattle.std.proofs.lemmas.Bool.{false≢true}
+use Rattle.std.proofs.Common.{refl, sym, ◌∙◌, arith}
 use Rattle.rcu_lists.specs.Batches.{batch_items}
 use Rattle.rcu_lists.proofs.Fills.{no-snoc}
 use Rattle.rcu_lists.proofs.Sizes.{bypass-batch}
@@ -11,7 +12,7 @@ add-requires g c = (bypass-batch (param 0 g.row.J) assumption, let room = c.args
 pub invariant_of-self : goal.invariant_of-self
 invariant_of-self g c = record {
   unmarked = λ e. absurd (no-snoc (batch_items c.args.self.now.held) c.args.single (sym c.add.ensures.items ∙ e));
-  marked = λ (p : true ≡ false). absurd cc;
+  marked = λ p. absurd (false≢true (sym p));
   roomy = λ e. absurd (no-snoc (batch_items c.args.self.now.held) c.args.single (sym c.add.ensures.items ∙ e));
 }
 

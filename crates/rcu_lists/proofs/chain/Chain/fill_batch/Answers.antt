@@ -45,3 +45,6 @@ returns-clause-left g c = c.in_ok-fill_from.ensures.left
 
 pub returns-clause-inline : goal.returns-clause-inline
 returns-clause-inline g c = λ _. refl
+
+pub returns-clause-refused : goal.returns-clause-refused
+returns-clause-refused g c = tt

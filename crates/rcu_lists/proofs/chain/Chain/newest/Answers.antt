@@ -1,4 +1,4 @@
-use Rattle.std.proofs.Common.{◌<◌, ◌∙◌, Some, ap, sym, arith}
+use Rattle.std.proofs.Common.{◌<◌, ◌∙◌, Some, ap, sym, arith, refl}
 use Rattle.rcu_lists.specs.Chains.{chain_items}
 use Rattle.rcu_lists.proofs.Stamps.{newest-ordered}
 use Rattle.rcu_lists.proofs.Blocks.{newest-blocks}
@@ -10,3 +10,6 @@ returns-then-self g c = let s = c.args.self.now in let some : 0 < s.len = omega 
 
 pub loop-block-preserved : goal.loop-block-preserved
 loop-block-preserved g c = newest-blocks (λ r. r.now) c.loop-block.yielded c.in-Some.block c.loop-block.greatest _ c.loop-block.invariant c.newer_than-greatest.ensures
+
+pub loop-block-init : goal.loop-block-init
+loop-block-init g c = refl

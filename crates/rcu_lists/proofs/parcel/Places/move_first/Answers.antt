@@ -1,3 +1,4 @@
+use Rattle.std.proofs.lemmas.Bool.{false≢true}
 use Rattle.std.proofs.Common.{◌≡◌, ◌<◌, ◌+◌, [], ◌∷◌, ◌++◌, length, take, drop, ap, suc, sym, ◌∙◌, subst, arith, add-one, length-set, length-drop, length-append}
 use Rattle.std.proofs.Math.Seq.{drop-cons}
 use Rattle.std.proofs.lemmas.List.{drop-append-le, drop-set-lt}
@@ -39,3 +40,14 @@ returns-clause-left g c = let p = c.args.self.now in let xs = p.slots.items in l
     let lt : p.next < length xs = let n = length-drop p.next xs in omega (arith, n, p.full, c.requires.some) in
     let e : drop p.next xs ≡ slot ∷ drop (p.next + 1) xs = rw add-one (drop-cons xs p.next slot lt ∙ ap (λ x. x ∷ drop (suc p.next) xs) (sym c.in-Some.ensures.value)) in
     ap filled (drop-set-lt (p.next + 1) xs p.next c.take.new.self (omega arith)) ∙ rest-filled slot (drop (p.next + 1) xs) (subst AreFilled e p.full) ∙ ap (λ z. drop 1 (filled z)) (sym e)
+
+pub unreachable-requires : goal.unreachable-requires
+unreachable-requires g c = let p = c.args.self.now in let n = length-drop p.next p.slots.items in
+    absurd (false≢true (c.in_default.ensures.variant.1 (omega (arith, n, p.full, c.requires.some, p.slots.ok.0))))
+
+pub push_reserved-requires : goal.push_reserved-requires
+push_reserved-requires g c = omega (arith, c.requires.room, c.args.to.now.slots.ok.0)
+
+pub returns-clause-left_room : goal.returns-clause-left_room
+returns-clause-left_room g c = let more = ap length c.push_reserved.ensures.items ∙ length-append c.args.to.now.slots.items (c.take.result ∷ []) in
+    λ k room. omega (arith, room, more, c.push_reserved.ensures.capacity)

@@ -1,3 +1,4 @@
+use Rattle.std.proofs.lemmas.Bool.{false≢true}
 use Rattle.std.proofs.Common.{rules, ◌≡◌, ◌<◌, ◌+◌, ◌∷◌, length, drop, ap, suc, sym, ◌∙◌, subst, arith, add-one, length-set}
 use Rattle.std.proofs.Math.Seq.{drop-cons}
 use Rattle.std.proofs.lemmas.List.{drop-set-lt, drop_all}
@@ -23,3 +24,6 @@ returns g c = let p = c.args.self.now in let xs = p.slots.items in let slot = c.
 pub returns-then-next-len : goal.returns-then-next-len
 returns-then-next-len g c = let p = c.args.self.now in
     let none = ap filled (drop_all p.next p.slots.items (omega (arith, c.if-next-len.true, c.len.ensures))) in (none, none)
+
+pub unreachable-requires : goal.unreachable-requires
+unreachable-requires g c = absurd (false≢true (c.in_default.ensures.variant.1 (omega (arith, c.if-next-len.false, c.len.ensures))))

@@ -105,3 +105,15 @@ returns-clause-advanced g c = refl
 
 pub returns-clause-inline : goal.returns-clause-inline
 returns-clause-inline g c = λ _. refl
+
+pub free_places-requires : goal.free_places-requires
+free_places-requires g c = assumption
+
+pub reserve-requires : goal.reserve-requires
+reserve-requires g c = assumption
+
+pub take_from-requires : goal.take_from-requires
+take_from-requires g c = (assumption, (let few = fewest _ _ _ c.min-number.ensures in omega (arith, few, c.args.self.now.within), c.in_ok-reserve.ensures.found))
+
+pub returns-clause-refused : goal.returns-clause-refused
+returns-clause-refused g c = tt

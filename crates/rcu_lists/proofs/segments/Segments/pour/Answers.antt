@@ -72,3 +72,9 @@ returns-clause-had g c = λ _. refl
 
 pub returns-clause-none : goal.returns-clause-none
 returns-clause-none g c = λ _. refl
+
+pub make_room-requires : goal.make_room-requires
+make_room-requires g c = assumption
+
+pub returns-clause-refused : goal.returns-clause-refused
+returns-clause-refused g c = tt

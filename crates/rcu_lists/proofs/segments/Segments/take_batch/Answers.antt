@@ -54,3 +54,6 @@ returns-clause-room g c = c.in_ok-fill_batch.ensures.room
 
 pub returns-clause-inline : goal.returns-clause-inline
 returns-clause-inline g c = λ _. refl
+
+pub returns-clause-refused : goal.returns-clause-refused
+returns-clause-refused g c = tt
