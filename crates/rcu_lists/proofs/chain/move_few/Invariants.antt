@@ -1,4 +1,4 @@
-use Rattle.std.proofs.Common.{◌≡◌, ℕ, ◌+◌, ◌-◌, ◌++◌, take, drop}
+use Rattle.std.proofs.Common.{◌≡◌, ◌-◌, ◌++◌, take, drop}
 use Rattle.rcu_lists.specs.Batches.{batch_items, HasRoom}
 use Rattle.rcu_lists.specs.Blocks.{blocks_items}
 use Rattle.rcu_lists.proofs.chain.move_few.Given as goal

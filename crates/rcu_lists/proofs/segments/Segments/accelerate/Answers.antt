@@ -1,4 +1,4 @@
-use Rattle.std.proofs.Common.{◌≡◌, length, sym, subst, rules, arith}
+use Rattle.std.proofs.Common.{◌≡◌, length, sym, subst, arith, ◌∙◌}
 use Rattle.rcu_lists.specs.Labels.{IsGraced}
 use Rattle.rcu_lists.proofs.Counts.{may-numbers}
 use Rattle.rcu_lists.proofs.Graced.{graced-accelerate}
@@ -11,7 +11,7 @@ accelerate-requires g c = let s = c.args.self.now in let b = s.bounds in
 
 pub invariant_of-self : goal.invariant_of-self
 invariant_of-self g c = let s = c.args.self.now in let new = c.accelerate.new.self in
-    let len : length s.list.items ≡ c.len.result = search rules in record {
+    let len : length s.list.items ≡ c.len.result = sym (c.len.ensures ∙ s.list.ok.0) in record {
       within = omega (arith, len, c.accelerate.ensures.within);
       stamps = s.stamps;
       graced = rw c.accelerate.ensures.advanced (subst (IsGraced s.bounds.advanced) (sym (c.accelerate.ensures.list s.list.items len))
@@ -19,7 +19,7 @@ invariant_of-self g c = let s = c.args.self.now in let new = c.accelerate.new.se
     }
 
 pub returns-clause-list : goal.returns-clause-list
-returns-clause-list g c = let s = c.args.self.now in let len : length s.list.items ≡ c.len.result = search rules in c.accelerate.ensures.list s.list.items len
+returns-clause-list g c = let s = c.args.self.now in let len : length s.list.items ≡ c.len.result = sym (c.len.ensures ∙ s.list.ok.0) in c.accelerate.ensures.list s.list.items len
 
 pub returns-clause-carried : goal.returns-clause-carried
-returns-clause-carried g c = let s = c.args.self.now in let len : length s.list.items ≡ c.len.result = search rules in c.accelerate.ensures.carried s.list.items len
+returns-clause-carried g c = let s = c.args.self.now in let len : length s.list.items ≡ c.len.result = sym (c.len.ensures ∙ s.list.ok.0) in c.accelerate.ensures.carried s.list.items len

@@ -1,4 +1,4 @@
-use Rattle.std.proofs.Common.{◌<◌, ◌∙◌, length, ap, sym, rules}
+use Rattle.std.proofs.Common.{◌<◌, ◌∙◌, length, ap, sym, subst, get_or, ◌-◌, ◌≡◌}
 use Rattle.rcu_lists.specs.Stamps.{newest_of}
 use Rattle.rcu_lists.proofs.Stamps.{newest-back}
 use Rattle.rcu_lists.proofs.Cuts.{callbacks-cut}
@@ -9,6 +9,7 @@ returns-then-not-self g c = let s = c.args.self.now in c.greatest_stamp.ensures 
 
 pub returns : goal.returns
 returns g c = let s = c.args.self.now in
-    let some : 0 < length s.list.items = search rules in
+    let some : 0 < length s.list.items = c.in_ok-last.ensures.item.3.0 in
+    let last = subst (λ n. c.in_ok-last.last.now ≡ get_or s.list.items (n - 1) c.in_ok-last.last.now) s.list.ok.0 c.in_ok-last.ensures.lookup in
     rw (callbacks-cut s.bounds.wait_number s.bounds.ready_number s.bounds.done s.bounds.wait s.bounds.ready s.list.items s.within)
-    (sym (newest-back s.list.items c.in_ok-last.last.now (s.stamps (search rules)) some (search rules)))
+    (sym (newest-back s.list.items c.in_ok-last.last.now (s.stamps c.if-not-self.false) some last))
