@@ -23,3 +23,6 @@ returns-clause-list g c = let s = c.args.self.now in let len : length (chain_ite
 
 pub returns-clause-carried : goal.returns-clause-carried
 returns-clause-carried g c = let s = c.args.self.now in let len : length (chain_items s.list) ≡ c.len.result = sym c.len.ensures in c.accelerate.ensures.carried (chain_items s.list) len
+
+pub returns-clause-advanced : goal.returns-clause-advanced
+returns-clause-advanced g c = c.accelerate.ensures.advanced

@@ -13,3 +13,6 @@ invariant_of-self g c = let s = c.args.self.now in let new = c.advance.new.self 
 
 pub returns-clause-list : goal.returns-clause-list
 returns-clause-list g c = let s = c.args.self.now in c.advance.ensures.list (chain_items s.list) s.within
+
+pub returns-clause-advanced : goal.returns-clause-advanced
+returns-clause-advanced g c = c.advance.ensures.advanced

@@ -1,4 +1,4 @@
-use Rattle.std.proofs.Common.{◌∙◌, ap}
+use Rattle.std.proofs.Common.{◌∙◌, ap, refl}
 use Rattle.rcu_lists.specs.Batches.{batch_items}
 use Rattle.rcu_lists.specs.Bounds.{cut_by}
 use Rattle.rcu_lists.specs.Chains.{chain_items}
@@ -18,3 +18,9 @@ returns-clause-joined g c = λ t. let s = c.args.self.now in let b = s.bounds in
 
 pub returns-clause-refused : goal.returns-clause-refused
 returns-clause-refused g c = λ f. let j = c.join.ensures.refused f in (ap (cut_by c.args.self.now.bounds) j.0, j.1)
+
+pub join-requires : goal.join-requires
+join-requires g c = assumption
+
+pub returns-clause-advanced : goal.returns-clause-advanced
+returns-clause-advanced g c = refl

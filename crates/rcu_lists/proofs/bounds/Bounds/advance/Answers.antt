@@ -11,3 +11,9 @@ returns-clause-list g c = λ cs le. let s = c.args.self.now in elim c.if-self-se
   | then-self-seq-2 w ↦ rw w.self-is (advance-wait c.args.seq s.wait_number s.ready_number s.done s.wait s.ready cs c.if-self-seq.false w.if-self-seq-2.true le)
   | else-self-seq-2 w ↦ rw w.self-is (advance-all c.args.seq s.wait_number s.ready_number s.done s.wait s.ready cs c.if-self-seq.false w.if-self-seq-2.false le)
 ]
+
+pub invariant_of-self : goal.invariant_of-self
+invariant_of-self g c = let b = c.args.self.now in record { counted = b.counted; filled = b.filled; single = b.single; rising = b.rising }
+
+pub returns-then-self-seq-clause-within : goal.returns-then-self-seq-clause-within
+returns-then-self-seq-clause-within g c = λ _ within. within

@@ -23,3 +23,9 @@ returns-clause-list g c = let s = c.args.self.now in let len : length s.list.ite
 
 pub returns-clause-carried : goal.returns-clause-carried
 returns-clause-carried g c = let s = c.args.self.now in let len : length s.list.items ≡ c.len.result = sym (c.len.ensures ∙ s.list.ok.0) in c.accelerate.ensures.carried s.list.items len
+
+pub returns-clause-advanced : goal.returns-clause-advanced
+returns-clause-advanced g c = c.accelerate.ensures.advanced
+
+pub returns-clause-room : goal.returns-clause-room
+returns-clause-room g c = λ _ room. room

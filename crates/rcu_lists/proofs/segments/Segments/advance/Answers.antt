@@ -13,3 +13,9 @@ invariant_of-self g c = let s = c.args.self.now in let new = c.advance.new.self 
 
 pub returns-clause-list : goal.returns-clause-list
 returns-clause-list g c = let s = c.args.self.now in c.advance.ensures.list s.list.items s.within
+
+pub returns-clause-room : goal.returns-clause-room
+returns-clause-room g c = λ _ room. room
+
+pub returns-clause-advanced : goal.returns-clause-advanced
+returns-clause-advanced g c = c.advance.ensures.advanced
