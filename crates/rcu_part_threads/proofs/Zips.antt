@@ -1,7 +1,6 @@
 -- Lists place by place: what was started, what threads gave back, and what came of it.
-use Rattle.std.proofs.Common.{◌≡◌, ℕ, ◌+◌, ◌<◌, ◌≤◌, List, [], ◌∷◌, ◌++◌, map, length, append-nil, append_assoc, ap, sym, ◌∙◌, subst, arith, Option, Some, None}
-use Rattle.std.specs.Prelude.{All, IfOk, IfSome, Ok, Err, Option, Result}
-use Rattle.std.specs.Result.{result_ok}
+use Rattle.std.proofs.Common.{◌≡◌, List, [], ◌∷◌, ◌++◌, map, length, append_assoc, ap, sym, ◌∙◌, subst, Some, None}
+use Rattle.std.specs.Prelude.{All}
 use Rattle.std.specs.List.{AllZip}
 use Rattle.std.proofs.lemmas.List.{nil_from_length}
 use Rattle.std.proofs.lemmas.List.Elements.{All-cons, All-head, All-nil, All-tail}
@@ -50,8 +49,3 @@ module _ {A H : Type 0} (of : H → A) where
   -- all parts have a thread, where none is left
   pub all_started : (done rest all : List A) (hs is : List H) → done ++ rest ≡ all → length rest ≡ 0 → is ≡ hs → AllZip (λ p t. of t ≡ p) done hs → AllZip (λ p t. of t ≡ p) all is
   all_started done rest all hs is order none same its = subst (λ l. AllZip (λ p t. of t ≡ p) l is) (all_of done rest all order (nil_from_length rest none)) (subst (λ l. AllZip (λ p t. of t ≡ p) done l) (sym same) its)
-
--- what is said of the thread that could be made
-pub if_started : {H E : Type 0} (P Q : H → Type 0) (r : Result H E) (o : Option H) → o ≡ result_ok r → IfOk r P → ((h : H) → P h → Q h) → IfSome o Q
-if_started P Q (Ok h) o e p f = subst (λ x. IfSome x Q) (sym e) (f h p)
-if_started P Q (Err x) o e p f = subst (λ x. IfSome x Q) (sym e) tt

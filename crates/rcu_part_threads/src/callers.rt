@@ -1,29 +1,29 @@
 //! Processors that call with their jobs in threads of their own.
 
-ghost use Rattle.std.specs.Prelude.{◌≡◌, ◌<◌, ◌≤◌, [], ◌∷◌, ◌++◌, map, IfOk, IfSome, OnOk, None};
+ghost use Rattle.std.specs.Prelude.{◌≡◌, ◌<◌, ◌≤◌, [], ◌∷◌, ◌++◌, map, IfOk, OnOk, None};
 ghost use Rattle.std.specs.List.{AllZip};
+ghost use denote.Param.Send.{IsSend};
 ghost use Rattle.rcu_part_threads.specs.Calls.{CallsInTurn, CallsThenTurns, HasAnswered, HasCalled};
 ghost use Rattle.rcu_part_threads.specs.Dealing.{tickets_in};
 
 use crate::answer::Answer;
 use crate::crew::Crew;
 use crate::fault::ThreadsFault;
-use crate::promises::{Calling, Calls};
+use crate::promises::Stays;
 use crate::shares::Caller;
+use crate::threads::start_all;
 use rcu_jobs::{Job, Ticket};
 use rcu_part_processor::Processor;
 use std::alloc::{AllocError, Global};
 use std::rt::Clock;
-use std::snapshot::Snapshot;
 use std::sync::Wait;
-use std::thread;
-use std::thread::Threads;
+use std::thread::{PromisedHandle, Threads};
 
 /// What the thread of a processor that called gives back: the processor, and what each of its calls answered, in order.
 #[derive(Drop)]
-pub(crate) struct Called<P, J> {
-    pub(crate) processor: P,
-    pub(crate) answers: Vec<Answer<J>>,
+pub struct Called<P, J> {
+    pub processor: P,
+    pub answers: Vec<Answer<J>>,
 }
 
 /// One call, after which the processor reports and ticks.
@@ -60,23 +60,11 @@ fn call_all<J: Job<Receipt = u64>>(caller: Caller<Processor<J>, J>) -> Called<Pr
     Called { processor, answers }
 }
 
-/// Starts a thread in which a processor calls with its jobs. None where none can be made.
-fn start_caller<J: Job<Receipt = u64> + 'static, R: Threads + Wait + Clock + Copy + Send + 'static>(
-    rt: &R,
-    caller: Caller<Processor<J>, J>,
-) -> Option<Calling<J>>
-    ensures { IfSome result (λ thread. thread.promise.0.value ≡ caller) }
-{
-    let calls = Calls(Snapshot::of(&caller));
-    let call = move || -> Called<Processor<J>, J>
-        ensures { HasAnswered J.key_of J.gives caller.jobs.items result.answers.items
-            caller.processor result.processor }
-    { call_all(caller) };
-    let Ok(thread) = thread::spawn_with(rt, calls, call) else {
-        return None;
-    };
-    Some(thread)
-}
+/// A thread in which a processor calls.
+pub(crate) type Calling<J> = PromisedHandle<
+    Called<Processor<J>, J>,
+    Stays<Caller<Processor<J>, J>>,
+>;
 
 /// Starts a thread for each processor, in which it calls with its jobs.
 pub(crate) fn start_callers<
@@ -87,16 +75,12 @@ pub(crate) fn start_callers<
         → AllZip (λ caller thread. thread.promise.0.value ≡ caller) callers.items
         result.threads.items }
 {
-    let Ok(mut threads) = Vec::with_capacity(alloc, callers.len()) else {
-        return Crew::none(alloc);
-    };
-    for caller in callers {
-        let Some(thread) = start_caller(rt, caller) else {
-            return Crew::partial(threads);
-        };
-        threads.push_reserved(thread);
-    }
-    Crew::whole(threads)
+    let call = |caller: Caller<Processor<J>, J>, _own: R| -> Called<Processor<J>, J>
+        requires { IsSend J.row × IsSend R.row }
+        ensures { HasAnswered J.key_of J.gives caller.jobs.items result.answers.items
+            caller.processor result.processor }
+    { call_all(caller) };
+    start_all(rt, alloc, callers, call)
 }
 
 /// Puts what a thread gave back to what there is already, and its tickets to all tickets.

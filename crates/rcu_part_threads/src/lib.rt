@@ -27,6 +27,7 @@ mod crew;
 mod fault;
 mod processors;
 mod promises;
+mod runs;
 mod shares;
 mod threads;
 

@@ -7,7 +7,8 @@ ghost use Rattle.rcu_part_threads.specs.Parts.{GivesBack, GroupStays, HandStays,
 
 use crate::crew::Crew;
 use crate::fault::ThreadsFault;
-use crate::promises::{RunningDriver, RunningGroup, RunningHand, RunningProcessor, Stays};
+use crate::promises::{Running, RunningDriver, RunningGroup, RunningHand, Stays};
+use crate::runs::Runs;
 use rcu_jobs::Job;
 use rcu_part_control::Driver;
 use rcu_part_group::Group;
@@ -57,46 +58,11 @@ fn run_group<J: Job<Receipt = u64>, R: Wait + Clock>(group: Group<J>, rt: &R) ->
     group.run(rt)
 }
 
-/// Starts a thread that runs a group. None where none can be made.
-fn start_group<J: Job<Receipt = u64> + 'static, R: Threads + Wait + Clock + Copy + Send + 'static>(
-    rt: &R,
-    group: Group<J>,
-) -> Option<RunningGroup<J>>
-    ensures { IfSome result (λ thread. thread.promise.0.value ≡ group) }
-{
-    let own = *rt;
-    let stays = Stays(Snapshot::of(&group));
-    let run = move || -> Group<J>
-        requires { IsSend J.row × IsSend R.row }
-        ensures { GroupStays group result }
-    { run_group(group, &own) };
-    thread::spawn_with(rt, stays, run).ok()
-}
-
 /// Runs a hand until the runtime is halted.
 fn run_hand<J: Job<Receipt = u64>, R: Wait + Clock>(hand: Hand<J>, rt: &R) -> Hand<J>
     ensures { HandStays J.key_of J.gives hand result }
 {
     hand.run(rt)
-}
-
-/// Starts a thread that runs a hand. None where none can be made.
-fn start_hand<J: Job<Receipt = u64> + 'static, R: Threads + Wait + Clock + Copy + Send + 'static>(
-    rt: &R,
-    hand: Hand<J>,
-) -> Option<RunningHand<J>>
-    ensures { IfSome result (λ thread. thread.promise.0.value ≡ hand) }
-{
-    let own = *rt;
-    let stays = Stays(Snapshot::of(&hand));
-    let run = move || -> Hand<J>
-        requires { IsSend J.row × IsSend R.row }
-        ensures { HandStays J.key_of J.gives hand result }
-    { run_hand(hand, &own) };
-    let Ok(thread) = thread::spawn_with(rt, stays, run) else {
-        return None;
-    };
-    Some(thread)
 }
 
 /// Runs a processor until the runtime is halted.
@@ -109,23 +75,54 @@ fn run_processor<J: Job<Receipt = u64>, R: Wait + Clock>(
     processor.run(rt)
 }
 
-/// Starts a thread that runs a processor. None where none can be made.
-fn start_processor<
-    J: Job<Receipt = u64> + 'static,
-    R: Threads + Wait + Clock + Copy + Send + 'static,
->(rt: &R, processor: Processor<J>) -> Option<RunningProcessor<J>>
-    ensures { IfSome result (λ thread. thread.promise.0.value ≡ processor) }
+/// Starts a thread that runs a part so. None where none can be made.
+fn start<
+    P: Runs + 'static,
+    R: Threads + Copy + Send + 'static,
+    F: FnOnce(P, R) -> P::Back + Send + 'static,
+>(rt: &R, part: P, run: F) -> Option<Running<P>>
+where
+    P::Back: 'static,
+    requires runs { F.pre run part rt.now }
+    requires keeps { (b : P.Back) → F.post run part rt.now b → P.comes_back part b }
+    ensures { IfSome result (λ thread. thread.promise.0.value ≡ part) }
 {
     let own = *rt;
-    let stays = Stays(Snapshot::of(&processor));
-    let run = move || -> Processor<J>
-        requires { IsSend J.row × IsSend R.row }
-        ensures { ProcessorStays J.key_of J.gives processor result }
-    { run_processor(processor, &own) };
-    let Ok(thread) = thread::spawn_with(rt, stays, run) else {
+    let stays = Stays(Snapshot::of(&part));
+    let run_part = move || -> P::Back
+        requires { F.pre run part own }
+        ensures { F.post run part own result }
+    { run(part, own) };
+    let Ok(thread) = thread::spawn_with(rt, stays, run_part) else {
         return None;
     };
     Some(thread)
+}
+
+/// Starts a thread for each part, which runs it so.
+pub(crate) fn start_all<
+    P: Runs + 'static,
+    R: Threads + Copy + Send + 'static,
+    F: FnOnce(P, R) -> P::Back + Copy + Send + 'static,
+>(rt: &R, alloc: Global, parts: Vec<P>, run: F) -> Crew<Running<P>>
+where
+    P::Back: 'static,
+    requires runs { (part : P) → F.pre run part rt.now }
+    requires keeps { (part : P) (b : P.Back) → F.post run part rt.now b → P.comes_back part b }
+    ensures { result.fault ≡ None
+        → AllZip (λ part thread. thread.promise.0.value ≡ part) parts.items
+        result.threads.items }
+{
+    let Ok(mut threads) = Vec::with_capacity(alloc, parts.len()) else {
+        return Crew::none(alloc);
+    };
+    for part in parts {
+        let Some(thread) = start(rt, part, run) else {
+            return Crew::partial(threads);
+        };
+        threads.push_reserved(thread);
+    }
+    Crew::whole(threads)
 }
 
 /// Starts a thread for each group.
@@ -137,16 +134,11 @@ pub fn start_groups<
         → AllZip (λ group thread. thread.promise.0.value ≡ group) groups.items
         result.threads.items }
 {
-    let Ok(mut threads) = Vec::with_capacity(alloc, groups.len()) else {
-        return Crew::none(alloc);
-    };
-    for group in groups {
-        let Some(thread) = start_group(rt, group) else {
-            return Crew::partial(threads);
-        };
-        threads.push_reserved(thread);
-    }
-    Crew::whole(threads)
+    let run = |group: Group<J>, own: R| -> Group<J>
+        requires { IsSend J.row × IsSend R.row }
+        ensures { GroupStays group result }
+    { run_group(group, &own) };
+    start_all(rt, alloc, groups, run)
 }
 
 /// Starts a thread for each hand.
@@ -157,35 +149,25 @@ pub fn start_hands<
     ensures { result.fault ≡ None
         → AllZip (λ hand thread. thread.promise.0.value ≡ hand) hands.items result.threads.items }
 {
-    let Ok(mut threads) = Vec::with_capacity(alloc, hands.len()) else {
-        return Crew::none(alloc);
-    };
-    for hand in hands {
-        let Some(thread) = start_hand(rt, hand) else {
-            return Crew::partial(threads);
-        };
-        threads.push_reserved(thread);
-    }
-    Crew::whole(threads)
+    let run = |hand: Hand<J>, own: R| -> Hand<J>
+        requires { IsSend J.row × IsSend R.row }
+        ensures { HandStays J.key_of J.gives hand result }
+    { run_hand(hand, &own) };
+    start_all(rt, alloc, hands, run)
 }
 
 /// Starts a thread for each processor.
 pub(crate) fn start_processors<
     J: Job<Receipt = u64> + 'static,
     R: Threads + Wait + Clock + Copy + Send + 'static,
->(rt: &R, alloc: Global, processors: Vec<Processor<J>>) -> Crew<RunningProcessor<J>>
+>(rt: &R, alloc: Global, processors: Vec<Processor<J>>) -> Crew<Running<Processor<J>>>
     ensures { result.fault ≡ None
         → AllZip (λ processor thread. thread.promise.0.value ≡ processor) processors.items
         result.threads.items }
 {
-    let Ok(mut threads) = Vec::with_capacity(alloc, processors.len()) else {
-        return Crew::none(alloc);
-    };
-    for processor in processors {
-        let Some(thread) = start_processor(rt, processor) else {
-            return Crew::partial(threads);
-        };
-        threads.push_reserved(thread);
-    }
-    Crew::whole(threads)
+    let run = |processor: Processor<J>, own: R| -> Processor<J>
+        requires { IsSend J.row × IsSend R.row }
+        ensures { ProcessorStays J.key_of J.gives processor result }
+    { run_processor(processor, &own) };
+    start_all(rt, alloc, processors, run)
 }

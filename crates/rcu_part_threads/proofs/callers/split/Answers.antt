@@ -1,4 +1,4 @@
-use Rattle.std.proofs.Common.{◌≡◌, [], ◌∷◌, ◌++◌, map, length, append_assoc, ap, refl, sym, ◌∙◌}
+use Rattle.std.proofs.Common.{◌≡◌, [], ◌∷◌, ◌++◌, map, append_assoc, ap, refl, sym, ◌∙◌}
 use Rattle.std.proofs.lemmas.List.{map-append, nil_from_length}
 use Rattle.rcu_part_threads.proofs.Dealt.{mapped_more}
 use Rattle.rcu_part_threads.proofs.callers.split.Goals as goal

@@ -1,4 +1,4 @@
-use Rattle.std.proofs.Common.{◌≡◌, ◌<◌, length, ◌∷◌, [], ◌++◌, append_assoc, ap, map, subst, sym, ◌∙◌}
+use Rattle.std.proofs.Common.{◌<◌, ◌∷◌, [], ◌++◌, append_assoc, ap, map, subst, sym, ◌∙◌}
 use Rattle.std.proofs.lemmas.List.{nil_from_length}
 use Rattle.rcu_part_threads.specs.Dealing.{AreDealt}
 use Rattle.rcu_part_threads.proofs.Dealt.{deal_step, next_turn}

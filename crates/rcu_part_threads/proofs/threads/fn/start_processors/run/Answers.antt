@@ -1,4 +1,4 @@
-use Rattle.rcu_part_threads.proofs.threads.fn.start_processor.run.Goals as goal
+use Rattle.rcu_part_threads.proofs.threads.fn.start_processors.run.Goals as goal
 
 pub run_processor-requires-send-J : goal.run_processor-requires-send-J
 run_processor-requires-send-J g c κs within = record { owned = c.requires.0.owned; leaving = c.requires.0.leaving }

@@ -1,4 +1,4 @@
-use Rattle.rcu_part_threads.proofs.threads.fn.start_group.run.Goals as goal
+use Rattle.rcu_part_threads.proofs.threads.fn.start_groups.run.Goals as goal
 
 pub run_group-requires-send-J : goal.run_group-requires-send-J
 run_group-requires-send-J g c κs within = record { owned = c.requires.0.owned; leaving = c.requires.0.leaving }
