@@ -1,5 +1,5 @@
 -- Lists that are passed on, element by element.
-use Rattle.std.proofs.Common.{◌≡◌, ◌∙◌, ℕ, suc, ◌+◌, ◌<◌, ◌≤◌, List, drop, [], ◌∷◌, ◌++◌, length, length-append, sym, ap, arith}
+use Rattle.std.proofs.Common.{◌≡◌, ◌∙◌, ℕ, suc, ◌+◌, ◌<◌, ◌≤◌, List, drop, [], ◌∷◌, ◌++◌, length, sym, ap, arith}
 use Rattle.std.proofs.lemmas.List.{append_assoc, append-nil}
 
 module _ {A : Type 0} where
@@ -12,13 +12,9 @@ module _ {A : Type 0} where
   pub one_passed : (done rest left whole : List A) (x : A) → done ++ rest ≡ whole → rest ≡ x ∷ left → (done ++ x ∷ []) ++ left ≡ whole
   one_passed done rest left whole x e split = append_assoc done (x ∷ []) left ∙ (ap (λ l. done ++ l) (sym split) ∙ e)
 
-  -- how many are passed on, once one more is
-  pub longer : (done : List A) (x : A) (start len now : ℕ) → len ≡ start + 1 + length done → now ≡ len + 1 → now ≡ start + 1 + length (done ++ x ∷ [])
-  longer done x start len now e f = let a = length-append done (x ∷ []) in omega (arith, a, e, f)
-
-  -- where there is room for all, and not all are passed on, there is room for one more
-  pub room_left : (done rest left whole : List A) (x : A) (start len cap all : ℕ) → done ++ rest ≡ whole → rest ≡ x ∷ left → start + suc (length whole) ≤ all → len ≡ start + 1 + length done → cap ≡ all → len < cap
-  room_left done rest left whole x start len cap all e split room l same = let a = length-append done rest in let b = ap (λ (ys : List A). length ys) e in let c = ap (λ (ys : List A). length ys) split in omega (arith, a, b, c, room, l, same)
+  -- one is put behind, and then all others
+  pub put_behind : (all more now others whole : List A) (x first : A) → more ≡ all ++ x ∷ [] → now ≡ more ++ others → x ≡ first → others ≡ whole → now ≡ all ++ first ∷ whole
+  put_behind all more now others whole x first e f same rest = f ∙ (ap (λ l. l ++ others) e ∙ (append_assoc all (x ∷ []) others ∙ (ap (λ y. all ++ y ∷ others) same ∙ ap (λ l. all ++ first ∷ l) rest)))
 
   -- of a list that has one, one more than nothing is taken off the front
   pub never_popped : (all left : List A) (n : ℕ) → all ≡ left → left ≡ drop 1 all → length all ≡ suc n → ⊥
@@ -28,10 +24,6 @@ module _ {A : Type 0} where
   -- one less is left
   pub one_less : (x : A) (all left : List A) → all ≡ x ∷ left → length left < length all
   one_less x all left e = let a = ap (λ (l : List A). length l) e in omega (arith, a)
-
--- one is passed on
-pub first_passed : (start now : ℕ) → now ≡ start + 1 → now ≡ start + 1 + 0
-first_passed start now e = omega arith
 
 -- all are there, where none is left
 pub all_there : (k r n len : ℕ) → k + r ≡ n → len ≡ 0 → len ≡ r → k ≡ n
@@ -45,6 +37,14 @@ room_of n len all cap e same h = omega arith
 pub room_first : (start more all : ℕ) → start + suc more ≤ all → start < all
 room_first start more all h = omega arith
 
--- how many there are once all are passed on
-pub all_long : (start done whole len : ℕ) → len ≡ start + 1 + done → done ≡ whole → len ≡ start + suc whole
-all_long start done whole len e f = omega arith
+-- how many there are with the first and all others
+pub all_long : (start len now more rest whole : ℕ) → len ≡ start + 1 → now ≡ len + more → more ≡ rest → rest ≡ whole → now ≡ start + suc whole
+all_long start len now more rest whole e f same here = omega (arith, e, f, same, here)
+
+-- where there is room for all, there is room for all but the first
+pub never_full : (start len cap all more rest whole : ℕ) → len ≡ start + 1 → cap ≡ all → more ≡ rest → rest ≡ whole → start + suc whole ≤ all → cap < len + more → ⊥
+never_full start len cap all more rest whole e f same here room full = omega (arith, e, f, same, here, room, full)
+
+-- there is room for the one at i, where there is room for all
+pub room_at : (i len cap all : ℕ) → len ≡ i → i < all → all ≤ cap → len < cap
+room_at i len cap all e low room = omega (arith, e, low, room)

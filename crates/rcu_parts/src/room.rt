@@ -55,9 +55,9 @@ fn count_reports<J: Job>(
     ensures { IfOk result (λ reports.
         reports.items ≡ map (λ p. reports_of (view_of p.state)) processors.now.items) }
 {
-    let mut reports = Vec::new(alloc);
+    let mut reports = Vec::with_capacity(alloc, processors.len())?;
     for processor in processors.iter() {
-        reports.push(processor.reports())?;
+        reports.push_reserved(processor.reports());
     }
     Ok(reports)
 }
@@ -71,12 +71,12 @@ fn find_ends<J: Job>(
     ensures { IfOk result (λ ends.
         AllZip FitsCpu (cpu_parts processors.now.items hands.now.items) ends.items) }
 {
-    let mut ends = Vec::new(alloc);
+    let mut ends = Vec::with_capacity(alloc, processors.len())?;
     let mut next = 0;
     for processor in processors.iter() {
         let left = left_by_hand(processor, hands, next);
         let (ran, after) = ran_by_hand(processor, hands, next);
-        ends.push(find_end(alloc, processor, ran, left)?)?;
+        ends.push_reserved(find_end(alloc, processor, ran, left)?);
         next = after;
     }
     Ok(ends)

@@ -28,15 +28,15 @@ fn gather_group<J: Job>(
     ensures rests { (gathered_view all.new).running ≡ [] }
     ensures members { members.new.items ≡ members.old.items ++ members_of group.state }
     ensures len { vec_len members.new ≡ vec_len members.old + length (members_of group.state) }
-    ensures room { vec_capacity members.new ≡ vec_capacity members.old }
+    ensures room { vec_capacity members.old ≤ vec_capacity members.new }
 {
     let (seat, group_members) = into_parts(group);
-    let (first, others) = group_members.into_parts();
+    let (first, mut others) = group_members.into_parts();
     merge(board, all, seat);
     members.push_reserved(first);
-    for group_member in others {
-        members.push_reserved(group_member);
-    }
+    let Ok(()) = members.append(&mut others) else {
+        unreachable!()
+    };
 }
 
 /// Takes in the seats of all groups, whose members become one list. There is room.

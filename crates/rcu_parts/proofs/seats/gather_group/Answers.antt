@@ -1,14 +1,14 @@
-use Rattle.std.proofs.Common.{arith, ◌≡◌, ◌∙◌, ap, append_assoc, length, List, ◌++◌, ◌∷◌, [], sym, subst}
+use Rattle.std.proofs.Common.{◌≡◌, ◌≤◌, ◌∙◌, ap, length, List, [], sym, subst, vec_capacity}
 use Rattle.std.specs.Global.{Vec}
 use Rattle.std.specs.Mem.{FitsInMemory}
 use denote.Param.{param}
 use Rattle.rcu_part_lists.proofs.Sizes.{in_struct}
-use Rattle.rcu_parts.proofs.Passing.{all_long, all_passed, first_passed, longer, one_passed, room_first, room_left}
+use Rattle.rcu_parts.proofs.Passing.{all_long, never_full, put_behind, room_first}
 use Rattle.rcu_part_group.specs.contracts.group.Group as row
 use Rattle.rcu_part_group.specs.declared.members.GroupMember.{GroupMember}
 use Rattle.rcu_part_group.specs.declared.members.GroupMembers.{GroupMembers}
 use Rattle.rcu_parts.proofs.seats.gather_group.Given.{Over}
-use Rattle.rcu_parts.proofs.seats.gather_group.Goals.{Start}
+use Rattle.rcu_parts.proofs.seats.gather_group.Goals.{After-append, Start}
 use Rattle.rcu_board.specs.Seats.{AtBoard, gathered_view, view}
 use Rattle.rcu_board.specs.Views.{joined}
 use Rattle.rcu_parts.proofs.Resting.{still_rests}
@@ -25,18 +25,24 @@ into_parts-seat-requires-after_bounds g c κs within = (group_fits g c, in_struc
 pub into_parts-first-requires : goal.into_parts-first-requires
 into_parts-first-requires g c = (in_struct _ _ _ (in_struct _ _ _ (group_fits g c.before)), in_struct _ _ _ (in_struct _ _ _ (in_struct _ _ _ (group_fits g c.before))))
 
--- none is left at the end
-passed : (g : Over) (c : goal.After-drop-group_member-iterator g) → c.loop-group_member.yielded ≡ c.args.group.state.members.others.items
-passed g c = all_passed _ _ _ c.loop-group_member.invariant.all (let o = c.loop-group_member.group_member-iterator.rest.ok.0 in let n = c.in-None.ensures.steps.0 in omega (arith, o, n))
+-- the others are those of the group
+others : (g : Over) (c : After-append g) → c.into_parts-first.result.1.items ≡ c.args.group.state.members.others.items
+others g c = ap (λ (v : Vec (GroupMember g.row.J.Denot)). v.items) (c.into_parts-first.ensures.1 ∙ ap (λ (x : GroupMembers g.row.J.Denot). x.others) c.into_parts-seat.ensures.1)
+
+pub unreachable-requires : goal.unreachable-requires
+unreachable-requires g c = let p = c.push_reserved.ensures in never_full _ _ _ _ _ _ _ p.len p.capacity c.into_parts-first.result.1.ok.0 (ap (λ (l : List (GroupMember g.row.J.Denot)). length l) (others g c.before)) c.requires.room c.in_default.ensures.full
+
+pub unreachable-unreachable : goal.unreachable-unreachable
+unreachable-unreachable g c = c.unreachable.result
 
 pub returns-clause-members : goal.returns-clause-members
-returns-clause-members g c = c.loop-group_member.invariant.items ∙ ap (λ (l : List (GroupMember g.row.J.Denot)). c.args.members.now.items ++ c.args.group.state.members.first ∷ l) (passed g c)
+returns-clause-members g c = put_behind _ _ _ _ _ _ _ c.push_reserved.ensures.items c.in-Ok.ensures.items (c.into_parts-first.ensures.0 ∙ ap (λ (x : GroupMembers g.row.J.Denot). x.first) c.into_parts-seat.ensures.1) (others g c.before.before)
 
 pub returns-clause-len : goal.returns-clause-len
-returns-clause-len g c = all_long _ _ _ _ c.loop-group_member.invariant.len (ap (λ (l : List (GroupMember g.row.J.Denot)). length l) (passed g c))
+returns-clause-len g c = all_long _ _ _ _ _ _ c.push_reserved.ensures.len c.in-Ok.ensures.len c.into_parts-first.result.1.ok.0 (ap (λ (l : List (GroupMember g.row.J.Denot)). length l) (others g c.before.before))
 
 pub returns-clause-room : goal.returns-clause-room
-returns-clause-room g c = c.loop-group_member.invariant.room
+returns-clause-room g c = subst (λ n. n ≤ vec_capacity c.append.new.self) c.push_reserved.ensures.capacity c.append.ensures.capacity
 
 pub returns-clause-same : goal.returns-clause-same
 returns-clause-same g c = c.merge.ensures.same
@@ -68,30 +74,5 @@ into_parts-seat-requires-send-J-Receipt g c κs within = c.type_bounds.send-J-Re
 pub push_reserved-requires : goal.push_reserved-requires
 push_reserved-requires g c = room_first _ _ _ c.requires.room
 
-pub into_iter-group_member-iterator-requires-room-T-Destruct : goal.into_iter-group_member-iterator-requires-room-T-Destruct
-into_iter-group_member-iterator-requires-room-T-Destruct g c κs within = let h : FitsInMemory (row.the_row (param 0 g.row.J) (param 1 g.row.J-Receipt)) = assumption in in_struct _ _ _ (in_struct _ _ _ (in_struct _ _ _ h))
-
-pub next-requires-room-T-Destruct : goal.next-requires-room-T-Destruct
-next-requires-room-T-Destruct g c κs within = let h : FitsInMemory (row.the_row (param 0 g.row.J) (param 1 g.row.J-Receipt)) = assumption in in_struct _ _ _ (in_struct _ _ _ (in_struct _ _ _ h))
-
-pub drop-group_member-iterator-requires-room-T-Destruct : goal.drop-group_member-iterator-requires-room-T-Destruct
-drop-group_member-iterator-requires-room-T-Destruct g c κs within = let h : FitsInMemory (row.the_row (param 0 g.row.J) (param 1 g.row.J-Receipt)) = assumption in in_struct _ _ _ (in_struct _ _ _ (in_struct _ _ _ h))
-
-pub loop-group_member-init : goal.loop-group_member-init
-loop-group_member-init g c = let m = c.into_parts-seat.ensures.1 in let p = c.push_reserved.ensures in let parts = c.into_parts-first.ensures in record {
-  items = p.items ∙ ap (λ (f : GroupMember g.row.J.Denot). c.args.members.now.items ++ f ∷ []) (parts.0 ∙ ap (λ (x : GroupMembers g.row.J.Denot). x.first) m);
-  len = first_passed _ _ p.len;
-  all = c.into_iter-group_member-iterator.ensures.into_iter_gives.0 ∙ ap (λ (v : Vec (GroupMember g.row.J.Denot)). v.items) (parts.1 ∙ ap (λ (x : GroupMembers g.row.J.Denot). x.others) m);
-  room = p.capacity;
-}
-
-pub push_reserved-requires-in-loop-group_member : goal.push_reserved-requires-in-loop-group_member
-push_reserved-requires-in-loop-group_member g c = let i = c.loop-group_member.invariant in room_left _ _ _ _ _ _ _ _ _ i.all c.in-Some.ensures.steps.0 c.requires.room i.len i.room
-
-pub loop-group_member-preserved : goal.loop-group_member-preserved
-loop-group_member-preserved g c = let i = c.loop-group_member.invariant in let p = c.push_reserved-in-loop-group_member.ensures in record {
-  items = p.items ∙ (ap (λ (l : List (GroupMember g.row.J.Denot)). l ++ c.in-Some.group_member ∷ []) i.items ∙ append_assoc c.args.members.now.items (c.args.group.state.members.first ∷ c.loop-group_member.yielded) (c.in-Some.group_member ∷ []));
-  len = longer _ _ _ _ _ i.len p.len;
-  all = one_passed _ _ _ _ _ i.all c.in-Some.ensures.steps.0;
-  room = p.capacity ∙ i.room;
-}
+pub drop-others-requires-room-T-Destruct : goal.drop-others-requires-room-T-Destruct
+drop-others-requires-room-T-Destruct g c κs within = let h : FitsInMemory (row.the_row (param 0 g.row.J) (param 1 g.row.J-Receipt)) = assumption in in_struct _ _ _ (in_struct _ _ _ (in_struct _ _ _ h))
