@@ -38,6 +38,12 @@ group_of_role Driver = 0
 group_of_role Control = 0
 
 module _ {J R : Type 0} where
+  pub processors_none : (shape : PartsShape) (kept : Kept) (b : Board) (ps : List (ProcessorPart J R)) (fronts : List (Front (Parcel J) LaneLimits)) → ps ≡ [] → fronts ≡ [] → AllZip (IsFirstProcessor shape kept b) (range_with_len 0 (length ps)) ps × AreFronts ps fronts
+  processors_none shape kept b ps fronts e f = (
+    subst (λ (l : List (ProcessorPart J R)). AllZip (IsFirstProcessor shape kept b) (range_with_len 0 (length l)) l) (sym e) tt,
+    subst (λ (l : List (Front (Parcel J) LaneLimits)). AreFronts ps l) (sym f) (subst (λ (l : List (ProcessorPart J R)). AreFronts l []) (sym e) tt),
+  )
+
   pub processors_more : (shape : PartsShape) (kept : Kept) (b : Board) (ps more : List (ProcessorPart J R)) (p : ProcessorPart J R) → AllZip (IsFirstProcessor shape kept b) (range_with_len 0 (length ps)) ps → IsFirstProcessor shape kept b (length ps) p → more ≡ ps ++ p ∷ []
       → AllZip (IsFirstProcessor shape kept b) (range_with_len 0 (length more)) more
   processors_more shape kept b ps more p all one e =
@@ -64,6 +70,12 @@ module _ {J R : Type 0} where
       (subst (λ (l : List (ProcessorPart J R)). AllZip LeadsTo l fronts) (sym (offloadable_more ps p false off ∙ append-nil (offloadable_in ps))) all)
 
   -- ---- hands
+
+  pub hands_none : (shape : PartsShape) (kept : Kept) (b : Board) (ms : List (GroupMember J)) (hs : List (HandPart J R)) → ms ≡ [] → hs ≡ [] → AllZip (IsFirstHand shape kept b) (cpus_of ms) hs × AllZip HasHand ms hs
+  hands_none shape kept b ms hs e f = (
+    subst (λ (l : List (GroupMember J)). AllZip (IsFirstHand shape kept b) (cpus_of l) hs) (sym e) (subst (λ (l : List (HandPart J R)). AllZip (IsFirstHand shape kept b) [] l) (sym f) tt),
+    subst (λ (l : List (GroupMember J)). AllZip HasHand l hs) (sym e) (subst (λ (l : List (HandPart J R)). AllZip HasHand [] l) (sym f) tt),
+  )
 
   pub hands_more : (shape : PartsShape) (kept : Kept) (b : Board) (k : ℕ) (m : GroupMember J) (ms more : List (GroupMember J)) (h : HandPart J R) (hs longer : List (HandPart J R)) → AllZip (IsFirstHand shape kept b) (cpus_of ms) hs → AllZip HasHand ms hs
       → m.cpu ≡ k → IsFirstHand shape kept b k h → HasHand m h → more ≡ ms ++ m ∷ [] → longer ≡ hs ++ h ∷ [] → AllZip (IsFirstHand shape kept b) (cpus_of more) longer × AllZip HasHand more longer

@@ -21,6 +21,22 @@ module _ {A : Type 0} where
   never_popped [] left n e f long = omega (arith, long)
   never_popped (x ∷ xs) left n e f long = let a = ap (λ (l : List A). length l) e in let b = ap (λ (l : List A). length l) f in omega (arith, a, b)
 
+  -- where there is room for all that are left, there is room for the first
+  pub room_now : (rest left : List A) (x : A) (len cap : ℕ) → rest ≡ x ∷ left → len + length rest ≤ cap → len < cap
+  room_now rest left x len cap e room = let a = ap (λ (l : List A). length l) e in omega (arith, a, room)
+
+  -- and then for the others, if it came in
+  pub room_kept : (rest left : List A) (x : A) (len cap now full : ℕ) → rest ≡ x ∷ left → len + length rest ≤ cap → now ≡ len + 1 → full ≡ cap → now + length left ≤ full
+  room_kept rest left x len cap now full e room one same = let a = ap (λ (l : List A). length l) e in omega (arith, a, room, one, same)
+
+  -- or didn't
+  pub room_spared : (rest left : List A) (x : A) (len cap : ℕ) → rest ≡ x ∷ left → len + length rest ≤ cap → len + length left ≤ cap
+  room_spared rest left x len cap e room = let a = ap (λ (l : List A). length l) e in omega (arith, a, room)
+
+  -- room that was asked for holds all, while there is none yet
+  pub room_begun : (rest whole : List A) (n many len cap : ℕ) → rest ≡ whole → n ≡ many → many ≡ length whole → len ≡ 0 → n ≤ cap → len + length rest ≤ cap
+  room_begun rest whole n many len cap e asked long none room = let a = ap (λ (l : List A). length l) e in omega (arith, a, asked, long, none, room)
+
   -- one less is left
   pub one_less : (x : A) (all left : List A) → all ≡ x ∷ left → length left < length all
   one_less x all left e = let a = ap (λ (l : List A). length l) e in omega (arith, a)

@@ -66,16 +66,17 @@ fn open_processors<J: Job>(
         AreFirstProcessors shape.now kept (arc_value board.now) t.0.items) }
     ensures fronts { IfOk result (λ t. AreFronts t.0.items t.1.items) }
 {
-    let mut processors = Vec::new(alloc);
-    let mut fronts = VecDeque::new(alloc);
+    let many = seats.len();
+    let mut processors = Vec::with_capacity(alloc, many)?;
+    let mut fronts = VecDeque::with_capacity(alloc, many)?;
     for seat in seats {
         let cpu = processors.len() as u64;
         let (processor, front) = open_processor(alloc, shape, board, seat, cpu, kept)?;
-        processors.push(processor)?;
+        processors.push_reserved(processor);
         if !board.is_offloadable(cpu) {
             continue;
         }
-        fronts.push_back(front)?;
+        fronts.push_back_reserved(front);
     }
     Ok((processors, fronts))
 }
@@ -129,8 +130,9 @@ fn open_hands<J: Job>(
         (λ t. AreFirstHands shape.now kept (arc_value board.now) t.1.items) }
     ensures lanes { IfOk result (λ t. AllZip HasHand t.0.items t.1.items) }
 {
-    let mut group_members = VecDeque::new(alloc);
-    let mut hands = Vec::new(alloc);
+    let many = seats.len();
+    let mut group_members = VecDeque::with_capacity(alloc, many)?;
+    let mut hands = Vec::with_capacity(alloc, many)?;
     for seat in seats {
         let Role::Hand(cpu) = seat.role() else {
             unreachable!()
@@ -139,8 +141,8 @@ fn open_hands<J: Job>(
             unreachable!()
         };
         let (group_member, hand) = open_hand(alloc, shape, board, seat, cpu, front, kept)?;
-        group_members.push_back(group_member)?;
-        hands.push(hand)?;
+        group_members.push_back_reserved(group_member);
+        hands.push_reserved(hand);
     }
     Ok((group_members, hands))
 }
@@ -204,14 +206,14 @@ fn open_groups<J: Job>(
         AreFirstGroups shape.now (arc_value board.now) groups.items) }
     ensures members { IfOk result (λ groups. members_in groups.items ≡ group_members.items) }
 {
-    let mut groups = Vec::new(alloc);
+    let mut groups = Vec::with_capacity(alloc, seats.len())?;
     for seat in seats {
         let Role::Group(number) = seat.role() else {
             unreachable!()
         };
         let own = Arc::try_clone(board)?;
         let members = take_members(alloc, &mut group_members, shape.stride, number)?;
-        groups.push(Group::new(shape, own, seat, number, members))?;
+        groups.push_reserved(Group::new(shape, own, seat, number, members));
     }
     Ok(groups)
 }

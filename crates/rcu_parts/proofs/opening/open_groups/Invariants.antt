@@ -1,4 +1,4 @@
-use Rattle.std.proofs.Common.{◌≡◌, ℕ, ◌++◌, List}
+use Rattle.std.proofs.Common.{◌≡◌, ℕ, ◌+◌, ◌≤◌, ◌++◌, List, length, vec_len, vec_capacity}
 use Rattle.std.specs.Prelude.{All}
 use Rattle.std.specs.Arc.{arc_value}
 use Rattle.std.specs.List.{AllZip}
@@ -20,4 +20,5 @@ invariant-loop-seat g l = record {
   members : members_in l.groups.items ++ l.group_members.items ≡ l.fn.group_members.items;
   empty : All IsEmptyGroupMember l.group_members.items;
   groups : AllZip (IsFirstGroup l.shape (arc_value l.board)) done l.groups.items;
+  room : vec_len l.groups + length l.seat-iterator.rest.items ≤ vec_capacity l.groups;
 }

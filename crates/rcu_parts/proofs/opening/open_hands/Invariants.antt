@@ -1,4 +1,5 @@
-use Rattle.std.proofs.Common.{◌≡◌, ℕ, ◌++◌, List, [], length}
+use Rattle.std.proofs.Common.{◌≡◌, ℕ, ◌+◌, ◌≤◌, ◌++◌, List, [], length, vec_len, vec_capacity}
+use Rattle.std.specs.VecDeque.{deque_len, deque_capacity}
 use Rattle.std.specs.Prelude.{All}
 use Rattle.std.specs.Arc.{arc_value}
 use Rattle.std.specs.List.{AllZip}
@@ -21,4 +22,6 @@ invariant-loop-seat g l = record {
   empty : All IsEmptyGroupMember l.group_members.items;
   hands : AllZip (IsFirstHand l.shape l.kept (arc_value l.board)) (cpus_of l.group_members.items) l.hands.items;
   lanes : AllZip HasHand l.group_members.items l.hands.items;
+  for_members : deque_len l.group_members + length l.seat-iterator.rest.items ≤ deque_capacity l.group_members;
+  for_hands : vec_len l.hands + length l.seat-iterator.rest.items ≤ vec_capacity l.hands;
 }

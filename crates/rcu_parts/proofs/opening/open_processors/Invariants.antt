@@ -1,4 +1,5 @@
-use Rattle.std.proofs.Common.{◌≡◌, ◌+◌, length}
+use Rattle.std.proofs.Common.{◌≡◌, ◌+◌, ◌≤◌, length, vec_len, vec_capacity}
+use Rattle.std.specs.VecDeque.{deque_len, deque_capacity}
 use Rattle.std.specs.Arc.{arc_value}
 use Rattle.std.specs.List.{AllZip, range_with_len}
 use Rattle.rcu_board.specs.Opened.{InOrder, IsNewProcessor}
@@ -11,4 +12,6 @@ invariant-loop-seat g l = record {
   many : length l.processors.items + length l.seat-iterator.rest.items ≡ (arc_value l.board).processors;
   processors : AllZip (IsFirstProcessor l.shape l.kept (arc_value l.board)) (range_with_len 0 (length l.processors.items)) l.processors.items;
   fronts : AreFronts l.processors.items l.fronts.items;
+  for_processors : vec_len l.processors + length l.seat-iterator.rest.items ≤ vec_capacity l.processors;
+  for_fronts : deque_len l.fronts + length l.seat-iterator.rest.items ≤ deque_capacity l.fronts;
 }
