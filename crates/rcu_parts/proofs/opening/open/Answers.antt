@@ -14,3 +14,6 @@ open_with-requires-send-J g c κs within = c.type_bounds.send-J
 
 pub open_with-requires-send-J-Receipt : goal.open_with-requires-send-J-Receipt
 open_with-requires-send-J-Receipt g c κs within = c.type_bounds.send-J-Receipt
+
+pub open_with-requires-after_bounds : goal.open_with-requires-after_bounds
+open_with-requires-after_bounds g c κs within = assumption

@@ -6,7 +6,7 @@ use denote.Param.{param}
 use Rattle.rcu_board.specs.Opened.{AreNew, IsNewGroup, IsNewHand, has_offloadable, is_offloadable, numbers_where}
 use Rattle.rcu_board.specs.Opened.{IsNew as IsNewSeat}
 use Rattle.rcu_board.specs.Plays.{all_seats}
-use Rattle.rcu_board.specs.Seats.{view}
+use Rattle.rcu_board.specs.Seats.{AtBoard, view}
 use Rattle.rcu_board.specs.declared.board.Board.{Board}
 use Rattle.rcu_board.specs.declared.board.Role.TheVariants.{Control, Driver}
 use Rattle.rcu_board.specs.declared.board.Seat.{Seat}
@@ -54,6 +54,15 @@ new-requires-clause-role g c = c.in_ok-board.ensures.seats.control.who
 
 pub new-requires-clause-bare : goal.new-requires-clause-bare
 new-requires-clause-bare g c = let b = arc_value c.in_ok-board.board in is_bare b.processors b.offloadable 1 false true (view c.in_ok-board.seats.control) c.in_ok-board.ensures.seats.control.first_view
+
+pub new-driver-requires-clause-here : goal.new-driver-requires-clause-here
+new-driver-requires-clause-here g c = let made = c.in_ok-board.ensures in subst (λ (b : Board). AtBoard b c.in_ok-board.seats.driver) (sym made.same) made.seats.driver.board
+
+pub new-driver-requires-clause-role : goal.new-driver-requires-clause-role
+new-driver-requires-clause-role g c = c.in_ok-board.ensures.seats.driver.who
+
+pub new-driver-requires-clause-bare : goal.new-driver-requires-clause-bare
+new-driver-requires-clause-bare g c = let b = arc_value c.in_ok-board.board in is_bare b.processors b.offloadable _ true false (view c.in_ok-board.seats.driver) c.in_ok-board.ensures.seats.driver.first_view
 
 pub returns-clause-opened : goal.returns-clause-opened
 returns-clause-opened g c = let shape = c.args.shape.now in let s = c.in_ok-board.seats in let b = arc_value c.in_ok-board.board in

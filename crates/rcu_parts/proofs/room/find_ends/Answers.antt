@@ -53,3 +53,6 @@ ran_by_hand-ran-requires g c = assumption
 
 pub left_by_hand-left-requires : goal.left_by_hand-left-requires
 left_by_hand-left-requires g c = assumption
+
+pub bounds-processor-items-processor-index : goal.bounds-processor-items-processor-index
+bounds-processor-items-processor-index g c = c.loop-processor-test.true

@@ -1,4 +1,4 @@
-use Rattle.std.proofs.Common.{◌∙◌, ◌≤◌, None, [], ◌∷◌, ◌++◌, map, ap, refl, sym, arith, length, ◌≡◌, ◌<◌}
+use Rattle.std.proofs.Common.{◌∙◌, ◌+◌, ◌≤◌, None, [], ◌∷◌, ◌++◌, map, ap, refl, sym, arith, length, ◌≡◌, ◌<◌}
 use Rattle.std.proofs.Math.Path.{subst}
 use Rattle.std.specs.Vec.{vec_capacity, vec_len}
 use Rattle.std.specs.Mem.{FitsInMemory}
@@ -15,7 +15,7 @@ use Rattle.rcu_parts.specs.AtClose.{cpu_part}
 use Rattle.rcu_parts.specs.Ending.{all_back, all_ran, all_view, board_at}
 use Rattle.rcu_part_processor.specs.Processors.{board_of}
 use Rattle.rcu_part_processor.specs.contracts.processor.Processor as row
-use Rattle.rcu_parts.proofs.Resting.{one_long, rests_alone}
+use Rattle.rcu_parts.proofs.Resting.{one_long, rests_alone, still_rests}
 use Rattle.rcu_parts.proofs.ends.Ending.end_alone.Given.{Over}
 use Rattle.rcu_parts.proofs.ends.Ending.end_alone.Goals.{Start}
 use Rattle.rcu_board.specs.declared.board.Board.{Board}
@@ -90,3 +90,13 @@ end_local-requires-send-J g c κs within = c.type_bounds.send-J
 
 pub end_local-requires-send-J-Receipt : goal.end_local-requires-send-J-Receipt
 end_local-requires-send-J-Receipt g c κs within = c.type_bounds.send-J-Receipt
+
+pub returns-clause-goes_on : goal.returns-clause-goes_on
+returns-clause-goes_on g c = let k = c.keep.ensures in let t = c.take_in.ensures in record {
+  board = ap board_at k.others ∙ ap board_at t.others;
+  same = ap (λ e. e.all.seat.table_id) k.others ∙ t.same;
+  rests = ap (λ e. (all_view e).running) k.others ∙ still_rests (all_view c.args.self.now) (view c.into_state-seat.result.seat) (all_view c.take_in.new.self) t.view c.requires.may.rests
+      (subst (λ s. (view s.seat).running ≡ []) (sym c.into_state-seat.ensures) c.args.processor.state.lawful.rests);
+  ran = (k.for_ran.0 ∙ ap (λ e. vec_len e.ran + 1) t.others, k.for_ran.1 ∙ ap (λ e. vec_capacity e.ran) t.others);
+  back = (k.for_back.0 ∙ ap (λ e. vec_len e.back + 1) t.others, k.for_back.1 ∙ ap (λ e. vec_capacity e.back) t.others);
+}
