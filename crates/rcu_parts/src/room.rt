@@ -74,46 +74,33 @@ fn find_ends<J: Job>(
     let mut ends = Vec::with_capacity(alloc, processors.len())?;
     let mut next = 0;
     for processor in processors.iter() {
-        let left = left_by_hand(processor, hands, next);
-        let (ran, after) = ran_by_hand(processor, hands, next);
+        let (ran, left, after) = counted_by_hand(processor, hands, next);
         ends.push_reserved(find_end(alloc, processor, ran, left)?);
         next = after;
     }
     Ok(ends)
 }
 
-/// How many callbacks the hand of a processor ran, if it has one, where this many hands are those of processors before it;
-/// and how many are not those of processors behind it.
-fn ran_by_hand<J: Job>(
+/// How many callbacks the hand of a processor ran, if it has one, where this many hands are those of processors before it; of how
+/// many of these the records are left; and how many hands are not those of processors behind it.
+fn counted_by_hand<J: Job>(
     processor: &Processor<J>,
     hands: &Vec<Hand<J>>,
     before: usize,
-) -> (usize, usize)
+) -> (usize, usize, usize)
     ensures ran { result.0
         ≡ length (hand_ran (hand_for processor.now (drop before hands.now.items))) }
-    ensures left { drop result.1 hands.now.items
+    ensures kept { result.1
+        ≡ length (hand_kept (hand_for processor.now (drop before hands.now.items))) }
+    ensures left { drop result.2 hands.now.items
         ≡ hands_after processor.now (drop before hands.now.items) }
 {
     if !processor.is_offloadable() {
-        return (0, before);
+        return (0, 0, before);
     }
     match hands.get(before) {
-        Some(hand) => (hand.ran(), before + 1),
-        None => (0, before),
-    }
-}
-
-/// How many records are left of what the hand of a processor ran, if it has one, where this many hands are those of processors
-/// before it.
-fn left_by_hand<J: Job>(processor: &Processor<J>, hands: &Vec<Hand<J>>, before: usize) -> usize
-    ensures { result ≡ length (hand_kept (hand_for processor.now (drop before hands.now.items))) }
-{
-    if !processor.is_offloadable() {
-        return 0;
-    }
-    match hands.get(before) {
-        Some(hand) => hand.records_left(),
-        None => 0,
+        Some(hand) => (hand.ran(), hand.records_left(), before + 1),
+        None => (0, 0, before),
     }
 }
 

@@ -29,9 +29,9 @@ loop-processor-preserved g c =
     let item : p ≡ get_or ps i p = c.processor-item.is ∙ ap (λ l. get_or l i p) c.deref-processor-items.ensures.value in
     let left = drop c.loop-processor.next c.args.hands.now.items in
     let put = c.push_reserved.ensures in record {
-      fits = fits_more i c.loop-processor.next c.ran_by_hand-ran.result.1 ps c.args.hands.now.items c.loop-processor.ends.items c.push_reserved.new.self.items p c.in_ok-find_end.field-0 c.loop-processor.invariant.fits
-          (at ∙ (ap (λ x. x ∷ drop (suc i) ps) (sym item) ∙ ap (λ k. p ∷ drop k ps) next)) c.ran_by_hand-ran.ensures.left put.items
-          (c.in_ok-find_end.ensures (hand_for p left) (sym c.left_by_hand-left.ensures) (taken_ran p left ∙ sym c.ran_by_hand-ran.ensures.ran));
+      fits = fits_more i c.loop-processor.next c.counted_by_hand-ran.result.2 ps c.args.hands.now.items c.loop-processor.ends.items c.push_reserved.new.self.items p c.in_ok-find_end.field-0 c.loop-processor.invariant.fits
+          (at ∙ (ap (λ x. x ∷ drop (suc i) ps) (sym item) ∙ ap (λ k. p ∷ drop k ps) next)) c.counted_by_hand-ran.ensures.left put.items
+          (c.in_ok-find_end.ensures (hand_for p left) (sym c.counted_by_hand-ran.ensures.kept) (taken_ran p left ∙ sym c.counted_by_hand-ran.ensures.ran));
       long = put.len ∙ ap (λ n. n + 1) c.loop-processor.invariant.long;
       room = subst (λ n. length ps ≤ n) (sym put.capacity) c.loop-processor.invariant.room;
     }
@@ -48,11 +48,8 @@ returns-in_err-find_end g c = if_ok_never _ _ c.from_residual-in_err-find_end.en
 pub find_end-requires : goal.find_end-requires
 find_end-requires g c = assumption
 
-pub ran_by_hand-ran-requires : goal.ran_by_hand-ran-requires
-ran_by_hand-ran-requires g c = assumption
-
-pub left_by_hand-left-requires : goal.left_by_hand-left-requires
-left_by_hand-left-requires g c = assumption
+pub counted_by_hand-ran-requires : goal.counted_by_hand-ran-requires
+counted_by_hand-ran-requires g c = assumption
 
 pub bounds-processor-items-processor-index : goal.bounds-processor-items-processor-index
 bounds-processor-items-processor-index g c = c.loop-processor-test.true
